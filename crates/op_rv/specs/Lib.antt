@@ -1,0 +1,5 @@
+pub mod Decoding
+pub mod Encoding
+pub mod Environment
+pub mod State
+pub mod Step
