@@ -29,6 +29,6 @@ instr_at word =
     if nat_eq (opcode_of word) 0b0110111
     then Some (Lui (rd_of word) (word / 2 ^ 12))
     else
-        (if nat_eq (opcode_of word) 0b0010011
-        then imm_row word
-        else (if nat_eq word 0x00000073 then Some Ecall else None))
+    (if nat_eq (opcode_of word) 0b0010011
+    then imm_row word
+    else (if nat_eq word 0x00000073 then Some Ecall else None))

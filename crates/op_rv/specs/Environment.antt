@@ -1,20 +1,26 @@
 -- Environment calls: the number in a7, the arguments in a0 to a2 and the result in a0.
-use Rattle.std.specs.Prelude.{ℕ, ◌%◌, ◌++◌, nat_eq, if◌then◌else◌}
+use Rattle.std.specs.Prelude.{ℕ, ◌%◌, ◌++◌, Bool, nat_eq, if◌then◌else◌}
 use Rattle.op_rv.specs.State.{State, Ended, register, with_register, advanced, faulted, bytes_from, all_from}
 use Rattle.op_rv.specs.declared.fault.FaultKind.TheVariants.{Load, Call}
 
--- write: the a2 bytes at a1 go to descriptor 1 or 2, and a0 is their number
+-- the a2 bytes at a1 may be read
+abbrev pub is_readable : State → Bool
+is_readable s = all_from s.rights.readable (register s 11) (register s 12)
+
+-- a0 becomes the result, and the machine goes on
+abbrev pub returned : ℕ → State → State
+returned result s = advanced (with_register s 10 result)
+
+-- write: the a2 bytes at a1 go to descriptor 1, the output, or 2, the errors, and their number comes back
 unfoldable pub write_call : State → State
 write_call s =
-    let bytes = bytes_from s.memory (register s 11) (register s 12)
-        done = advanced (with_register s 10 (register s 12))
-    in
-    if all_from s.rights.readable (register s 11) (register s 12)
-    then
-        (if nat_eq (register s 10) 1
-        then record done { output = s.output ++ bytes }
-        else (if nat_eq (register s 10) 2 then record done { errors = s.errors ++ bytes } else faulted Call s))
-    else (if nat_eq (register s 10) 1 then faulted Load s else (if nat_eq (register s 10) 2 then faulted Load s else faulted Call s))
+    let bytes = bytes_from s.memory (register s 11) (register s 12) in
+    if nat_eq (register s 10) 1
+    then (if is_readable s then record (returned (register s 12) s) { output = s.output ++ bytes } else faulted Load s)
+    else
+    (if nat_eq (register s 10) 2
+    then (if is_readable s then record (returned (register s 12) s) { errors = s.errors ++ bytes } else faulted Load s)
+    else faulted Call s)
 
 -- exit: the status is the low eight bits of a0
 unfoldable pub exit_call : State → State

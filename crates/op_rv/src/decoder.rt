@@ -7,6 +7,7 @@ ghost use Rattle.op_rv.specs.declared.instruction.Instr.{Instr as Row};
 use crate::{ImmOp, Instr};
 
 /// The instruction that a word is, if the table has a row for it.
+#[tactic(auto, unfolding(crate::specs::Decoding::instr_at, crate::specs::Decoding::imm_row))]
 pub fn decode(word: u32) -> Option<Instr>
     ensures exact { result ≡ instr_at word }
 
@@ -45,6 +46,7 @@ fn imm(word: u32) -> i32
     if field < 2048 { field } else { field - 4096 }
 }
 
+#[tactic(auto, unfolding(crate::specs::Decoding::imm_row))]
 fn decode_imm(word: u32) -> Option<Instr>
     ensures { result ≡ imm_row word }
 {

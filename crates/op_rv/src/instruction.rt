@@ -4,7 +4,10 @@
 #[derive(Clone, Copy, Debug, PartialEq, Eq)]
 pub enum Instr {
     /// `lui rd, upper`: `upper` is the field of 20 bits.
-    Lui { rd: u8, upper: u32 },
+    Lui {
+        rd: u8,
+        upper: u32,
+    },
     /// `addi rd, rs1, imm` and its like: `imm` is -2,048 to 2,047.
     Imm {
         op: ImmOp,
