@@ -1,0 +1,76 @@
+-- Runs of the emulator.
+use Rattle.std.proofs.Common.{◌≡◌, ◌≢◌, ℕ, suc, ◌+◌, ◌-◌, ◌^◌, ◌<◌, ◌≤◌, if◌then◌else◌, Option, List, refl, ap, sym, ◌∙◌, subst, arith, inl, inr}
+use Rattle.op_rv.specs.State.{Running, Ended, Faulted}
+use Rattle.op_rv.specs.Step.{step, after}
+use Rattle.op_emu.specs.declared.machine.Machine.{Machine}
+use Rattle.op_emu.specs.declared.stop.Stepped.{Stepped}
+use Rattle.op_emu.specs.declared.stop.Stepped.TheVariants as stepped
+use Rattle.op_emu.specs.declared.stop.Stop.{Stop}
+use Rattle.op_emu.specs.Acts.{moment, ending_of, streams, faults, Faults, Acts, OutputFailed, StepIs}
+use Rattle.op_emu.specs.Runs.{moment_of, one_more, is_done, stop_of, DoesSteps, RunIs}
+use Rattle.op_emu.proofs.Stretches.{Rose-from}
+use Rattle.op_emu.proofs.ActsLemmas.{Acts-quiet, after-step, after-step_in_part}
+
+-- no step
+pub does_nothing : (m : Machine) (i o e : Option (List ℕ)) → DoesSteps 0 m m (streams i i o o e e)
+unfolding after
+does_nothing m i o e =
+    record { acts = Acts-quiet (after 0) (moment_of m) (moment_of m) i o e (λ x o e. refl); counted = omega arith }
+
+moment_of-is : (m : Machine) (r : Stepped) → m.last ≡ r → moment_of m ≡ moment m.hart (ending_of r)
+moment_of-is m r is = ap (λ r. moment m.hart (ending_of r)) is
+
+failed_from : (o o' o'' e e' e'' : ℕ) → o ≤ o' → e ≤ e' → OutputFailed (faults o' o'' e' e'') → OutputFailed (faults o o'' e e'')
+failed_from o o' o'' e e' e'' p q (inl rose) = inl (Rose-from o o' o'' p rose)
+failed_from o o' o'' e e' e'' p q (inr rose) = inr (Rose-from e e' e'' q rose)
+
+counted_once : (steps m s : ℕ) → s ≡ m → steps ≡ one_more s → s < 2 ^ 64 - 1 → steps ≡ m + 1
+counted_once steps m s is counted below = omega arith
+
+module _ (m : ℕ) (old mid new : Machine) (i i' i'' o o' o'' e e' e'' : Option (List ℕ)) (does : DoesSteps m old mid (streams i i' o o' e e')) (goes : mid.last ≡ stepped.Went) (below : mid.steps < 2 ^ 64 - 1) where
+  first : Acts (after m) (moment_of old) (moment mid.hart Running) (streams i i' o o' e e')
+  first =
+      subst (λ b. Acts (after m) (moment_of old) b (streams i i' o o' e e')) (moment_of-is mid stepped.Went goes) does.acts
+
+  goes_on_by : new.last ≡ stepped.Went → new.steps ≡ one_more mid.steps → Acts step (moment mid.hart Running) (moment new.hart Running) (streams i' i'' o' o'' e' e'') → DoesSteps (suc m) old new (streams i i'' o o'' e e'')
+  goes_on_by last counted next =
+      record {
+        acts = subst (λ c. Acts (after (suc m)) (moment_of old) c (streams i i'' o o'' e e'')) (sym (moment_of-is new stepped.Went last)) (after-step m (moment_of old) (moment mid.hart Running) i i' i'' o o' o'' e e' e'' (moment new.hart Running) first next);
+        counted = omega (arith, does.counted);
+      }
+
+  -- a step of a run that goes on
+  pub goes_on : (r : Stepped) (k : ℕ) (counts : Faults) → k ≡ suc m → r ≡ stepped.Went → new.last ≡ r → new.steps ≡ (if is_done r then one_more mid.steps else mid.steps) → StepIs step r mid.hart new.hart (streams i' i'' o' o'' e' e'') counts → DoesSteps k old new (streams i i'' o o'' e e'')
+  goes_on stepped.Went k counts at went last counted is =
+      subst (λ k. DoesSteps k old new (streams i i'' o o'' e e'')) (sym at) (goes_on_by last counted is)
+  goes_on (stepped.Ended status) k counts at went last counted is = cc
+  goes_on (stepped.Fault kind pc) k counts at went last counted is = cc
+  goes_on stepped.ReadFault k counts at went last counted is = cc
+  goes_on stepped.WriteFault k counts at went last counted is = cc
+
+  stops_by : (n : ℕ) (r : Stepped) (f f' f'' h h' h'' : ℕ) → m < n → f ≤ f' → h ≤ h' → r ≢ stepped.Went → new.last ≡ r → new.steps ≡ (if is_done r then one_more mid.steps else mid.steps) → StepIs step r mid.hart new.hart (streams i' i'' o' o'' e' e'') (faults f' f'' h' h'') → RunIs n (stop_of r) old new (streams i i'' o o'' e e'') (faults f f'' h h'')
+  stops_by n stepped.Went f f' f'' h h' h'' more p q goes_not last counted is = absurd (goes_not refl)
+  stops_by n (stepped.Ended k) f f' f'' h h' h'' more p q goes_not last counted is = (
+    suc m,
+    omega arith,
+    record {
+      acts = subst (λ c. Acts (after (suc m)) (moment_of old) c (streams i i'' o o'' e e'')) (sym (moment_of-is new (stepped.Ended k) last)) (after-step m (moment_of old) (moment mid.hart Running) i i' i'' o o' o'' e e' e'' (moment new.hart (Ended k)) first is);
+      counted = omega (arith, does.counted);
+    },
+  )
+  stops_by n (stepped.Fault kind pc) f f' f'' h h' h'' more p q goes_not last counted is = (
+    m,
+    more,
+    record {
+      acts = subst (λ c. Acts (after (suc m)) (moment_of old) c (streams i i'' o o'' e e'')) (sym (moment_of-is new (stepped.Fault kind pc) last)) (after-step m (moment_of old) (moment mid.hart Running) i i' i'' o o' o'' e e' e'' (moment new.hart (Faulted kind pc)) first is);
+      counted = counted ∙ does.counted;
+    },
+  )
+  stops_by n stepped.ReadFault f f' f'' h h' h'' more p q goes_not last counted is = is
+  stops_by n stepped.WriteFault f f' f'' h h' h'' more p q goes_not last counted is =
+      (m, more, after-step_in_part m (moment_of old) (moment mid.hart Running) i i' i'' o o' o'' e e' e'' first is.0, failed_from f f' f'' h h' h'' p q is.1)
+
+  -- the step that stops a run
+  pub stops : (n : ℕ) (r : Stepped) (s : Stop) (f f' f'' h h' h'' : ℕ) → s ≡ stop_of r → m < n → f ≤ f' → h ≤ h' → r ≢ stepped.Went → new.last ≡ r → new.steps ≡ (if is_done r then one_more mid.steps else mid.steps) → StepIs step r mid.hart new.hart (streams i' i'' o' o'' e' e'') (faults f' f'' h' h'') → RunIs n s old new (streams i i'' o o'' e e'') (faults f f'' h h'')
+  stops n r s f f' f'' h h' h'' is more p q goes_not last counted step_is =
+      subst (λ s. RunIs n s old new (streams i i'' o o'' e e'') (faults f f'' h h'')) (sym is) (stops_by n r f f' f'' h h' h'' more p q goes_not last counted step_is)

@@ -1,0 +1,6 @@
+pub mod Acts
+pub mod Image
+pub mod Region
+pub mod Registers
+pub mod Runs
+pub mod Segments

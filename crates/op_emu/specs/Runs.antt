@@ -1,0 +1,57 @@
+-- Runs of the emulator, as runs of the machine's definition.
+use Rattle.std.specs.Prelude.{◌≡◌, ℕ, suc, ◌+◌, ◌-◌, ◌^◌, ◌<◌, ◌≤◌, ◌⊎◌, min, Bool, true, false, List}
+use Rattle.op_rv.specs.Step.{after}
+use Rattle.op_emu.specs.Acts.{Moment, moment, ending_of, Streams, Faults, Acts, ActsInPart, OutputFailed, BeginsAs}
+use Rattle.op_emu.specs.declared.machine.Machine.{Machine}
+use Rattle.op_emu.specs.declared.stop.Stepped.{Stepped}
+use Rattle.op_emu.specs.declared.stop.Stepped.TheVariants as stepped
+use Rattle.op_emu.specs.declared.stop.Stop.{Stop}
+use Rattle.op_emu.specs.declared.stop.Stop.TheVariants as stop
+
+abbrev pub moment_of : Machine → Moment
+moment_of machine = moment machine.hart (ending_of machine.last)
+
+-- the count of steps after one more, which stops at its greatest value
+abbrev pub one_more : ℕ → ℕ
+one_more steps = min (steps + 1) (2 ^ 64 - 1)
+
+-- a step that was done is counted, also one that ended the program, and a fault is not
+abbrev pub is_done : Stepped → Bool
+is_done stepped.Went = true
+is_done (stepped.Ended status) = true
+is_done (stepped.Fault kind pc) = false
+is_done stepped.ReadFault = false
+is_done stepped.WriteFault = false
+
+abbrev pub stop_of : Stepped → Stop
+stop_of stepped.Went = stop.Spent
+stop_of (stepped.Ended status) = stop.Ended status
+stop_of (stepped.Fault kind pc) = stop.Fault kind pc
+stop_of stepped.ReadFault = stop.ReadFault
+stop_of stepped.WriteFault = stop.WriteFault
+
+-- the call did m steps
+pub record DoesSteps (m : ℕ) (old new : Machine) (told : Streams) : Type 0 where
+  pub acts : Acts (after m) (moment_of old) (moment_of new) told
+  pub counted : new.steps ≡ old.steps + m
+
+-- the call did m steps, and the next one is a fault, which changes nothing
+pub record FaultsAfter (m : ℕ) (old new : Machine) (told : Streams) : Type 0 where
+  pub acts : Acts (after (suc m)) (moment_of old) (moment_of new) told
+  pub counted : new.steps ≡ old.steps + m
+
+-- a run of at most n steps of a machine that goes on
+abbrev pub RunIs : ℕ → Stop → Machine → Machine → Streams → Faults → Type 0
+RunIs n stop.Spent old new told counts =
+    (m : ℕ) × DoesSteps m old new told × ((m ≡ n) ⊎ (m ≤ n) × (new.steps ≡ 2 ^ 64 - 1))
+RunIs n (stop.Ended status) old new told counts = (m : ℕ) × (m ≤ n) × DoesSteps m old new told
+RunIs n (stop.Fault kind pc) old new told counts = (m : ℕ) × (m < n) × FaultsAfter m old new told
+RunIs n stop.ReadFault old new told counts = ⊥
+RunIs n stop.WriteFault old new told counts =
+    (m : ℕ) × (m < n) × ActsInPart (after (suc m)) (moment_of old) told × OutputFailed counts
+
+-- the machine has not begun, and begins as the image says
+pub record IsLoaded (image : List ℕ) (machine : Machine) : Type 0 where
+  pub begins : BeginsAs image machine.hart
+  pub fresh : machine.last ≡ stepped.Went
+  pub uncounted : machine.steps ≡ 0

@@ -1,0 +1,38 @@
+-- The segments of the code as regions, and what is read from them.
+use Rattle.std.specs.Prelude.{◌≡◌, ℕ, ◌+◌, ◌<◌, ◌≤◌, Bool, true, false, Some, List, map, length}
+use Rattle.op_rv.specs.State.{bytes_from, all_from}
+use Rattle.op_emu.specs.Region.{Region, range_of, are_apart, region_at, byte_in, readable_in}
+use Rattle.op_emu.specs.declared.memory.Segment.{Segment}
+
+abbrev pub region_of : Segment → Region
+region_of s =
+    record {
+      base = s.base;
+      readable = s.readable;
+      writable = s.writable;
+      executable = s.executable;
+      bytes = s.bytes.items;
+    }
+
+abbrev pub regions_of : List Segment → List Region
+regions_of segments = map region_of segments
+
+abbrev pub lie_apart : List Segment → Bool
+lie_apart segments = are_apart (map range_of (regions_of segments))
+
+-- an address lies in a segment
+pub record IsWithin (region : Region) (at : ℕ) : Type 0 where
+  pub above : region.base ≤ at
+  pub below : at < region.base + length region.bytes
+
+-- the segment at an address is this one
+pub record IsFoundAt (regions : List Region) (at : ℕ) (region : Region) : Type 0 where
+  pub found : region_at regions at ≡ Some region
+  pub within : IsWithin region at
+
+-- the longest front of a range that lies in one readable segment
+pub record IsReadableFront (regions : List Region) (at most : ℕ) (front : List ℕ) : Type 0 where
+  pub within : length front ≤ most
+  pub bytes : front ≡ bytes_from (byte_in regions) at (length front)
+  pub readable : all_from (readable_in regions) at (length front) ≡ true
+  pub stops : length front ≡ 0 → 0 < most → readable_in regions at ≡ false

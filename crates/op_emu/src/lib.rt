@@ -1,0 +1,23 @@
+//! The emulator: it loads an image and runs it, step by step, over a source and two sinks.
+//!
+//! A machine is made by `load`, and `step` and `run` do exactly what the table of instructions says, with the environment
+//! calls over the streams. A machine that has ended, faulted or met a failing stream answers the same again and changes
+//! nothing.
+#![tactic(auto)]
+
+mod elf;
+mod hart;
+mod loader;
+mod machine;
+mod memory;
+mod registers;
+mod stop;
+
+pub use elf::ProgramHeader;
+pub use hart::Hart;
+pub use loader::load;
+pub use machine::Machine;
+pub use memory::{Memory, Segment};
+pub use op_rv::FaultKind;
+pub use registers::Registers;
+pub use stop::{MachineError, Stepped, Stop};

@@ -1,0 +1,175 @@
+//! Memory: segments with rights.
+ghost use Rattle.std.specs.Prelude.{◌≡◌, ℕ, ◌+◌, ◌-◌, ◌^◌, ◌<◌, ◌≤◌, ◌&&◌, IsTrue, Some, None, true, MatchOption, slice_index, drop, find, length, vec_len, if◌then◌else◌};
+ghost use Rattle.std.specs.Option.{option_copied};
+ghost use Rattle.op_rv.specs.State.{bytes_from, all_from, word_at};
+ghost use Rattle.op_base.specs.Outside.{Rose, appended, AppendsFront};
+ghost use Rattle.op_emu.specs.Region.{region_at, covers, range_of, byte_in, readable_in, executable_in};
+ghost use Rattle.op_emu.specs.Segments.{region_of, regions_of, lie_apart, IsWithin, IsFoundAt, IsReadableFront};
+
+use op_base::{Put, Sink};
+
+/// A range of addresses with its rights and bytes.
+#[derive(Debug, Drop)]
+pub struct Segment {
+    pub base: u32,
+    pub readable: bool,
+    pub writable: bool,
+    pub executable: bool,
+    pub bytes: Vec<u8>,
+}
+
+/// Segments that lie apart.
+#[derive(Debug, Drop)]
+pub struct Memory {
+    pub segments: Vec<Segment>,
+    ghost apart: { IsTrue (lie_apart segments.items) },
+}
+
+impl Segment {
+    /// Whether an address lies in the segment.
+    #[inline(always)]
+    fn contains(&self, at: u64) -> bool
+        ensures { result ≡ covers (range_of (region_of self.now)) at }
+    {
+        let base = self.base as u64;
+        base <= at && at - base < self.bytes.len() as u64
+    }
+
+    /// The byte at an address of the segment.
+    #[inline(always)]
+    fn byte(&self, at: u64) -> u8
+        requires { IsWithin (region_of self.now) at }
+        ensures { result ≡ slice_index self.now.bytes.items (at - self.now.base) }
+    {
+        self.bytes[(at - self.base as u64) as usize]
+    }
+
+    /// The bytes from an address of the segment on.
+    #[inline(always)]
+    fn rest_from(&self, at: u64) -> &[u8]
+        requires { IsWithin (region_of self.now) at }
+        ensures { result.now ≡ drop (at - self.now.base) self.now.bytes.items }
+    {
+        let bytes = self.bytes.as_slice();
+        bytes.split_at((at - self.base as u64) as usize).1
+    }
+}
+
+/// The first segment that has an address.
+#[inline(always)]
+fn find_segment(segments: &[Segment], at: u64) -> Option<&Segment>
+    ensures { option_copied result ≡ find (λ s. covers (range_of (region_of s)) at) segments.now }
+{
+    segments.iter().find(|segment| segment.contains(at))
+}
+
+impl Memory {
+    /// The segment at an address.
+    #[inline(always)]
+    fn segment_at(&self, at: u64) -> Option<&Segment>
+        ensures { MatchOption result (region_at (regions_of self.now.segments.items) at ≡ None)
+            (λ segment. IsFoundAt (regions_of self.now.segments.items) at (region_of segment.now)) }
+    {
+        find_segment(&self.segments, at)
+    }
+
+    /// The longest front of the `most` bytes at an address that lies in one readable segment.
+    fn readable_front(&self, at: u64, most: u64) -> &[u8]
+        ensures { IsReadableFront (regions_of self.now.segments.items) at most result.now }
+    {
+        match self.segment_at(at) {
+            None => &[],
+            Some(segment) if !segment.readable => &[],
+            Some(segment) => {
+                let rest = segment.rest_from(at);
+                let count = most.min(rest.len() as u64) as usize;
+                rest.split_at(count).0
+            }
+        }
+    }
+
+    /// The byte at an address, 0 outside every segment.
+    fn byte(&self, at: u64) -> u8
+        ensures { result ≡ byte_in (regions_of self.now.segments.items) at }
+    {
+        match self.segment_at(at) {
+            None => 0,
+            Some(segment) => segment.byte(at),
+        }
+    }
+
+    /// Whether the byte at an address may be executed.
+    fn is_executable(&self, at: u64) -> bool
+        ensures { result ≡ executable_in (regions_of self.now.segments.items) at }
+    {
+        match self.segment_at(at) {
+            None => false,
+            Some(segment) => segment.executable,
+        }
+    }
+
+    /// Whether the four bytes at an address may be executed.
+    #[tactic(auto, using(crate::proofs::Regions::all_from_four))]
+    pub fn is_executable_word(&self, pc: u32) -> bool
+        ensures { result ≡ all_from (executable_in (regions_of self.now.segments.items)) pc 4 }
+    {
+        let at = pc as u64;
+        self.is_executable(at)
+            && self.is_executable(at + 1)
+            && self.is_executable(at + 2)
+            && self.is_executable(at + 3)
+    }
+
+    /// The word at an address, its lowest byte first.
+    pub fn word(&self, at: u32) -> u32
+        ensures { result ≡ word_at (byte_in (regions_of self.now.segments.items)) at }
+    {
+        let at = at as u64;
+        let byte0 = self.byte(at) as u32;
+        let byte1 = self.byte(at + 1) as u32;
+        let byte2 = self.byte(at + 2) as u32;
+        let byte3 = self.byte(at + 3) as u32;
+        byte0 + (byte1 << 8) + (byte2 << 16) + (byte3 << 24)
+    }
+
+    /// Whether each of the `count` bytes at an address may be read.
+    pub fn is_readable(&self, at: u32, count: u32) -> bool
+        ensures { result ≡ all_from (readable_in (regions_of self.now.segments.items)) at count }
+    {
+        let mut at = at as u64;
+        let mut left = count as u64;
+        while left > 0 {
+            let front = self.readable_front(at, left).len() as u64;
+            if front == 0 {
+                return false;
+            }
+            at += front;
+            left -= front;
+        }
+        true
+    }
+
+    /// Hands the `count` bytes at an address, which may be read, to a sink, a stretch at a time.
+    pub fn put<W: Sink>(&self, at: u32, count: u32, to: &mut W) -> Put
+        requires { IsTrue (all_from (readable_in (regions_of self.now.segments.items)) at count) }
+        ensures counts { W.faults to.old ≤ W.faults to.new }
+        ensures done { result ≡ Put.Done → W.written to.new
+            ≡ appended (W.written to.old) (bytes_from (byte_in (regions_of self.now.segments.items)) at count) }
+        ensures failed { result ≡ Put.Failed → Rose (W.faults to.old) (W.faults to.new) }
+        ensures front { result ≡ Put.Failed → AppendsFront (W.written to.old)
+            (bytes_from (byte_in (regions_of self.now.segments.items)) at count) (W.written to.new) }
+    {
+        let mut at = at as u64;
+        let mut left = count as u64;
+        while left > 0 {
+            let front = self.readable_front(at, left);
+            match to.put(front) {
+                Put::Done => {}
+                Put::Failed => return Put::Failed,
+            }
+            at += front.len() as u64;
+            left -= front.len() as u64;
+        }
+        Put::Done
+    }
+}
