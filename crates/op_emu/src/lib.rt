@@ -21,3 +21,6 @@ pub use memory::{Memory, Segment};
 pub use op_rv::FaultKind;
 pub use registers::Registers;
 pub use stop::{MachineError, Stepped, Stop};
+
+#[cfg(test)]
+mod tests;

@@ -22,7 +22,7 @@ fn imm_field(imm: i32) -> u32
 }
 
 /// The word of an instruction, whose registers and immediates fit their fields.
-#[tactic(auto, unfolding(crate::specs::Decoding::instr_at, crate::specs::Decoding::imm_row))]
+#[tactic(auto, using(crate::proofs::Table::round_trip), unfolding(crate::specs::Decoding::instr_at, crate::specs::Decoding::imm_row))]
 pub fn encode(i: Instr) -> u32
     requires { IsTrue (fits i) }
     ensures word { result ≡ word_of i }

@@ -1,0 +1,13 @@
+pub mod After
+pub mod Compiling
+pub mod Grows
+pub mod ImageLoads
+pub mod ImageRuns
+pub mod Lengths
+pub mod PartLemmas
+pub mod ProgramLemmas
+pub mod ReadingLemmas
+pub mod Running
+pub mod Saying
+pub mod Words
+pub mod WriterLemmas

@@ -1,0 +1,7 @@
+{$mode objfpc}{$H+}
+program hello;
+
+begin
+  WriteLn('Hello from opc.');
+  WriteLn('This line was compiled to RISC-V and run, and the proof says that it comes out as written.');
+end.
