@@ -1,0 +1,81 @@
+//! Symbols (Free Pascal Reference Guide, "Symbols").
+ghost use Rattle.std.specs.Prelude.{◌≡◌, ◌∷◌, []};
+ghost use Rattle.op_scan.specs.Class.{class_at};
+ghost use Rattle.op_scan.specs.Item.{IsFront};
+ghost use Rattle.op_scan.specs.Keyword.{kind_beside};
+ghost use Rattle.op_scan.specs.Symbol.{symbols_of_one, symbols_of_two};
+ghost use Rattle.op_scan.specs.declared.class.Class.TheVariants as class;
+
+use crate::{Switches, TokenKind};
+use crate::effect::{Effect, Front, NO_TOKEN};
+
+fn symbol_of_two(spelling: &[u8]) -> Option<TokenKind>
+    ensures { result ≡ kind_beside spelling.now symbols_of_two }
+{
+    if spelling == b"<=".as_slice() {
+        return Some(TokenKind::LessEqual);
+    }
+    if spelling == b">=".as_slice() {
+        return Some(TokenKind::GreaterEqual);
+    }
+    if spelling == b"<>".as_slice() {
+        return Some(TokenKind::NotEqual);
+    }
+    if spelling == b":=".as_slice() {
+        return Some(TokenKind::Assign);
+    }
+    if spelling == b"..".as_slice() {
+        return Some(TokenKind::DotDot);
+    }
+    None
+}
+
+fn symbol_of_one(byte: u8) -> Option<TokenKind>
+    ensures { result ≡ kind_beside (byte ∷ []) symbols_of_one }
+{
+    match byte {
+        b'+' => Some(TokenKind::Plus),
+        b'-' => Some(TokenKind::Minus),
+        b'*' => Some(TokenKind::Star),
+        b'/' => Some(TokenKind::Slash),
+        b'=' => Some(TokenKind::Equal),
+        b'<' => Some(TokenKind::Less),
+        b'>' => Some(TokenKind::Greater),
+        b'(' => Some(TokenKind::OpenParenthesis),
+        b')' => Some(TokenKind::CloseParenthesis),
+        b'[' => Some(TokenKind::OpenBracket),
+        b']' => Some(TokenKind::CloseBracket),
+        b',' => Some(TokenKind::Comma),
+        b';' => Some(TokenKind::Semicolon),
+        b':' => Some(TokenKind::Colon),
+        b'.' => Some(TokenKind::Dot),
+        _ => None,
+    }
+}
+
+/// The symbol at the front, the longest that stands there.
+pub fn symbol(bytes: &[u8], switches: Switches) -> Front
+    requires { class_at bytes.now ≡ class.Symbol }
+    ensures { IsFront switches bytes.now result.length result.effect }
+{
+    if bytes.len() > 1 {
+        if let Some(kind) = symbol_of_two(&bytes[..2]) {
+            return Front {
+                length: 2,
+                effect: Effect::Gives(kind),
+            };
+        }
+    }
+    if let Some(first) = bytes.first() {
+        if let Some(kind) = symbol_of_one(*first) {
+            return Front {
+                length: 1,
+                effect: Effect::Gives(kind),
+            };
+        }
+    }
+    Front {
+        length: 0,
+        effect: Effect::Breaks(NO_TOKEN),
+    }
+}
