@@ -1,0 +1,10 @@
+pub mod Classes
+pub mod Directives
+pub mod Fronts
+pub mod Items
+pub mod Lists
+pub mod Nesting
+pub mod Outer
+pub mod Quoting
+pub mod Strings
+pub mod SymbolFronts

@@ -22,9 +22,13 @@ pub record AreDigits (base : Base) (digits rest : List ℕ) : Type 0 where
   pub some : digits ≢ []
   pub longest : digits ≡ take_while (is_digit_in base) (digits ++ rest)
 
+-- a byte of a quoted part: a quote is doubled
+abbrev pub double_of : ℕ → List ℕ
+double_of byte = if nat_eq byte 39 then 39 ∷ 39 ∷ [] else byte ∷ []
+
 -- a text with each quote doubled
 abbrev pub doubled : List ℕ → List ℕ
-doubled text = flat_map (λ byte. if nat_eq byte 39 then 39 ∷ 39 ∷ [] else byte ∷ []) text
+doubled text = flat_map double_of text
 
 -- the inside of a quoted part, which stands on one line, and what follows its last quote
 pub record IsQuoted (bytes text rest : List ℕ) : Type 0 where
@@ -32,11 +36,16 @@ pub record IsQuoted (bytes text rest : List ℕ) : Type 0 where
   pub one_line : list_any is_line_end text ≡ false
   pub last : begins_with rest 39 ≡ false
 
+-- the number of a character
+pub record IsCharacter (base : Base) (digits rest : List ℕ) : Type 0 where
+  pub are_digits : AreDigits base digits rest
+  pub in_range : value_of base digits ≤ 255
+
 -- one part of a string: how it is spelled, what follows, and what it stands for
 pub data Part : List ℕ → List ℕ → List ℕ → Type 0 where
   quoted : {text rest : List ℕ} → list_any is_line_end text ≡ false → begins_with rest 39 ≡ false → Part (39 ∷ doubled text ++ 39 ∷ []) rest text
-  decimal : {digits rest : List ℕ} → AreDigits Decimal digits rest → value_of Decimal digits ≤ 255 → Part (35 ∷ digits) rest (value_of Decimal digits ∷ [])
-  hexadecimal : {digits rest : List ℕ} → AreDigits Hexadecimal digits rest → value_of Hexadecimal digits ≤ 255 → Part (35 ∷ 36 ∷ digits) rest (value_of Hexadecimal digits ∷ [])
+  decimal : {digits rest : List ℕ} → IsCharacter Decimal digits rest → Part (35 ∷ digits) rest (value_of Decimal digits ∷ [])
+  hexadecimal : {digits rest : List ℕ} → IsCharacter Hexadecimal digits rest → Part (35 ∷ 36 ∷ digits) rest (value_of Hexadecimal digits ∷ [])
 
 -- no part stands in front of the bytes
 abbrev pub NoPart : List ℕ → Type 0

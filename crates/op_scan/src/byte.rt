@@ -1,7 +1,7 @@
 //! Kinds of bytes, and runs of one kind.
-ghost use Rattle.std.specs.Prelude.{◌≡◌};
+ghost use Rattle.std.specs.Prelude.{◌≡◌, ◌≤◌, length};
 ghost use Rattle.std.specs.List.{prefix_len};
-ghost use Rattle.op_scan.specs.Byte.{begins_with, is_blank, is_name_byte, is_name_start, is_of};
+ghost use Rattle.op_scan.specs.Byte.{begins_with, is_blank, is_line_end, is_name_byte, is_name_start, is_of};
 
 use crate::number::{Base, is_digit};
 
@@ -39,6 +39,14 @@ pub fn is_blank(byte: u8) -> bool
     byte == b' ' || byte == b'\t' || byte == b'\n' || byte == 12 || byte == b'\r'
 }
 
+/// Carriage return or line feed.
+#[tactic(auto, unfolding(crate::specs::Byte::is_line_end))]
+pub fn is_line_end(byte: u8) -> bool
+    ensures { result ≡ is_line_end byte }
+{
+    byte == b'\r' || byte == b'\n'
+}
+
 /// The byte is of this kind.
 fn is_of(kind: ByteKind, byte: u8) -> bool
     ensures { result ≡ is_of kind byte }
@@ -54,7 +62,8 @@ fn is_of(kind: ByteKind, byte: u8) -> bool
 
 /// How many bytes of this kind stand at the front.
 pub fn run_length(kind: ByteKind, bytes: &[u8]) -> usize
-    ensures { result ≡ prefix_len (is_of kind) bytes.now }
+    ensures run { result ≡ prefix_len (is_of kind) bytes.now }
+    ensures within { result ≤ length bytes.now }
 {
     let mut length = 0;
     for byte in bytes {

@@ -87,12 +87,12 @@ fn after_comment<'a>(alloc: Global, first: Marks, bytes: &'a [u8]) -> Result<Opt
         match inside_at(marks, *byte, after) {
             Inside::Plain => rest = after,
             Inside::Opens(inner) => {
-                rest = &rest[mark_length(inner)..];
                 outer.push(marks)?;
                 marks = inner;
+                (_, rest) = rest.split_at(mark_length(inner));
             }
             Inside::Closes => {
-                rest = &rest[mark_length(marks)..];
+                (_, rest) = rest.split_at(mark_length(marks));
                 match outer.pop() {
                     Some(next) => marks = next,
                     None => return Ok(Some(rest)),
@@ -109,15 +109,19 @@ pub fn comment(alloc: Global, marks: Marks, bytes: &[u8], switches: Switches) ->
     ensures { IfOk result (λ front. IsFront switches bytes.now front.length front.effect) }
 {
     let width = mark_length(marks);
-    match after_comment(alloc, marks, &bytes[width..])? {
+    let (_, on) = bytes.split_at(width);
+    match after_comment(alloc, marks, on)? {
         None => Ok(Front {
             length: 0,
             effect: Effect::Breaks(COMMENT_NOT_CLOSED),
         }),
         Some(rest) => {
-            let length = bytes.len() - rest.len();
-            let effect = effect_of_comment(switches, &bytes[width..length - width]);
-            Ok(Front { length, effect })
+            let length = on.len() - rest.len();
+            let (inside, _) = on.split_at(length - width);
+            Ok(Front {
+                length: width + length,
+                effect: effect_of_comment(switches, inside),
+            })
         }
     }
 }
@@ -127,7 +131,11 @@ pub fn line_comment(bytes: &[u8], switches: Switches) -> Front
     requires { class_at bytes.now ≡ class.LineComment }
     ensures { IsFront switches bytes.now result.length result.effect }
 {
-    let length = run_length(ByteKind::NotLineFeed, bytes);
-    let effect = effect_of_comment(switches, &bytes[2..length]);
-    Front { length, effect }
+    let (_, line) = bytes.split_at(2);
+    let length = run_length(ByteKind::NotLineFeed, line);
+    let (inside, _) = line.split_at(length);
+    Front {
+        length: 2 + length,
+        effect: effect_of_comment(switches, inside),
+    }
 }

@@ -1,7 +1,7 @@
 //! Directives: comments that begin with `$` (Free Pascal Programmer's Guide, "Compiler directives").
 ghost use Rattle.std.specs.Prelude.{◌≡◌, length, map, codes};
 ghost use Rattle.std.specs.List.{take_while};
-ghost use Rattle.op_scan.specs.Directive.{argument_of, effect_of_comment, effect_of_directive, effect_of_interfaces, effect_of_letter, effect_of_mode, effect_of_name, effect_of_named, effect_of_state, is_conditional, switched, with_switch};
+ghost use Rattle.op_scan.specs.Directive.{argument_of, effect_of_comment, effect_of_directive, effect_of_interfaces, effect_of_letter, effect_of_mode, effect_of_name, effect_of_named, effect_of_state, is_conditional, is_switch, switched, with_switch};
 
 use crate::Switches;
 use crate::byte::{ByteKind, begins_with, run_length};
@@ -163,6 +163,13 @@ fn with_switch(switches: Switches, letter: u8, on: bool) -> Switches
     }
 }
 
+/// A letter with `+` or `-`.
+fn is_switch(letter: u8, sign: u8) -> bool
+    ensures { result ≡ is_switch letter sign }
+{
+    letter.is_ascii_alphabetic() && (sign == b'+' || sign == b'-')
+}
+
 /// The switches after those of a list such as `H+,Q-`, if it is one.
 #[tactic(auto, unfolding(crate::specs::Directive::switched))]
 fn switched(switches: Switches, list: &[u8]) -> Option<Switches>
@@ -170,16 +177,21 @@ fn switched(switches: Switches, list: &[u8]) -> Option<Switches>
 {
     let mut after = switches;
     let mut rest = list;
-    while let [letter, sign, more @ ..] = rest {
-        if !letter.is_ascii_alphabetic() || *sign != b'+' && *sign != b'-' {
+    while let Some((letter, signed)) = rest.split_first() {
+        let Some((sign, others)) = signed.split_first() else {
+            return None;
+        };
+        if !is_switch(*letter, *sign) {
             return None;
         }
         after = with_switch(after, *letter, *sign == b'+');
-        match more.split_first() {
-            None => return Some(after),
-            Some((b',', next)) => rest = next,
-            Some(_) => return None,
+        let Some((comma, next)) = others.split_first() else {
+            return Some(after);
+        };
+        if *comma != b',' {
+            return None;
         }
+        rest = next;
     }
     None
 }

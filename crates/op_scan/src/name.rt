@@ -33,6 +33,7 @@ pub fn name(alloc: Global, bytes: &[u8], switches: Switches) -> Result<Front, No
     ensures { IfOk result (λ front. IsFront switches bytes.now front.length front.effect) }
 {
     let length = run_length(ByteKind::NameByte, bytes);
-    let effect = effect_of_name(alloc, &bytes[..length], switches)?;
+    let (word, _) = bytes.split_at(length);
+    let effect = effect_of_name(alloc, word, switches)?;
     Ok(Front { length, effect })
 }

@@ -100,7 +100,7 @@ pub fn number(base: Base, bytes: &[u8], switches: Switches) -> Front
     ensures { IsFront switches bytes.now result.length result.effect }
 {
     let mark = mark_length(base);
-    let digits = &bytes[mark..];
+    let (_, digits) = bytes.split_at(mark);
     let count = run_length(ByteKind::Digit(base), digits);
     if count == 0 {
         return Front {
@@ -108,8 +108,9 @@ pub fn number(base: Base, bytes: &[u8], switches: Switches) -> Front
             effect: Effect::Breaks(BAD_NUMBER),
         };
     }
+    let (digits, _) = digits.split_at(count);
     Front {
         length: mark + count,
-        effect: effect_of_number(digits_value(base, &digits[..count])),
+        effect: effect_of_number(digits_value(base, digits)),
     }
 }

@@ -35,12 +35,14 @@ fn front(alloc: Global, bytes: &[u8], switches: Switches) -> Result<Front, NoMem
 }
 
 /// The bytes behind a byte order mark at the front, if there is one.
+#[tactic(auto, unfolding(crate::specs::Scan::mark_length))]
 fn without_mark(bytes: &[u8]) -> &[u8]
     ensures { result.now ≡ drop (mark_length bytes.now) bytes.now }
 {
-    match bytes {
-        [0xEF, 0xBB, 0xBF, text @ ..] => text,
-        _ => bytes,
+    if bytes.starts_with(b"\xEF\xBB\xBF") {
+        &bytes[3..]
+    } else {
+        bytes
     }
 }
 

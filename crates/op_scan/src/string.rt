@@ -2,11 +2,11 @@
 ghost use Rattle.std.specs.Prelude.{◌≡◌, ◌+◌, ◌≤◌, ℕ, List, [], ◌∷◌, ◌++◌, IfOk, IfSome, MatchOption, length, take};
 ghost use Rattle.op_scan.specs.Class.{class_at};
 ghost use Rattle.op_scan.specs.Item.{IsFront, a_string, effect_of};
-ghost use Rattle.op_scan.specs.Literal.{AddsPart, AddsParts, AddsQuoted, IsQuoted, NoPart, Part};
+ghost use Rattle.op_scan.specs.Literal.{AddsPart, AddsParts, AddsQuoted, IsCharacter, IsQuoted, NoPart, Part, value_of};
 ghost use Rattle.op_scan.specs.declared.class.Class.TheVariants as class;
 
 use crate::{Switches, TokenKind};
-use crate::byte::{ByteKind, begins_with, run_length};
+use crate::byte::{ByteKind, begins_with, is_line_end, run_length};
 use crate::effect::{BAD_CHARACTER, Effect, Front, LONG_STRING, STRING_NOT_CLOSED};
 use crate::number::{Base, digits_value};
 use op_base::{NoMemory, Text};
@@ -14,6 +14,9 @@ use std::alloc::Global;
 
 /// The greatest length of a string.
 const LONGEST: usize = 65535;
+
+/// The greatest number of a character.
+const GREATEST_CHARACTER: u64 = 255;
 
 /// What stands behind the quoted part whose inside begins with these bytes, if it is closed on its line. Then what it
 /// stands for has been put at the end of `value`.
@@ -25,37 +28,48 @@ fn quoted<'a>(value: &mut Vec<u8>, bytes: &'a [u8]) -> Result<Option<&'a [u8]>, 
 {
     let mut rest = bytes;
     while let Some((byte, after)) = rest.split_first() {
-        if *byte == b'\r' || *byte == b'\n' {
+        if is_line_end(*byte) {
             return Ok(None);
         }
-        rest = after;
-        if *byte == b'\'' {
-            if !begins_with(after, b'\'') {
-                return Ok(Some(after));
-            }
-            rest = &after[1..];
+        if *byte != b'\'' {
+            rest = after;
+        } else if begins_with(after, b'\'') {
+            (_, rest) = after.split_at(1);
+        } else {
+            return Ok(Some(after));
         }
         value.push(*byte)?;
     }
     Ok(None)
 }
 
+/// The character whose number these digits are, and what stands behind it.
+fn character_in(base: Base, bytes: &[u8]) -> Option<(u8, &[u8])>
+    ensures { MatchOption result
+        ((digits rest : List ℕ) → bytes.now ≡ digits ++ rest → IsCharacter base digits rest → ⊥)
+        (λ found. (digits : List ℕ) × (bytes.now ≡ digits ++ found.1.now)
+            × IsCharacter base digits found.1.now × (value_of base digits ≡ found.0)) }
+{
+    let count = run_length(ByteKind::Digit(base), bytes);
+    let (digits, rest) = bytes.split_at(count);
+    let value = digits_value(base, digits);
+    if count == 0 || GREATEST_CHARACTER < value {
+        return None;
+    }
+    Some((value as u8, rest))
+}
+
 /// The character whose number stands at the front, in decimal or behind `$`, and what stands behind it.
 fn character(bytes: &[u8]) -> Option<(u8, &[u8])>
     ensures { MatchOption result
-        ((piece rest text : List ℕ) → bytes.now ≡ piece ++ rest → Part (35 ∷ piece) rest text → ⊥)
-        (λ found. (piece : List ℕ) × (bytes.now ≡ piece ++ found.1.now) × Part (35 ∷ piece) found.1.now (found.0 ∷ [])) }
+        ((piece rest text : List ℕ) → 35 ∷ bytes.now ≡ piece ++ rest → Part piece rest text → ⊥)
+        (λ found. (piece : List ℕ) × (35 ∷ bytes.now ≡ piece ++ found.1.now) × Part piece found.1.now (found.0 ∷ [])) }
 {
-    let (base, digits) = match bytes.split_first() {
-        Some((b'$', digits)) => (Base::Hexadecimal, digits),
-        _ => (Base::Decimal, bytes),
-    };
-    let count = run_length(ByteKind::Digit(base), digits);
-    let value = digits_value(base, &digits[..count]);
-    if count == 0 || value > 255 {
-        return None;
+    if begins_with(bytes, b'$') {
+        let (_, digits) = bytes.split_at(1);
+        return character_in(Base::Hexadecimal, digits);
     }
-    Some((value as u8, &digits[count..]))
+    character_in(Base::Decimal, bytes)
 }
 
 /// What stands behind the part of a string at the front, if one does. Then what it stands for has been put at the end of
@@ -65,23 +79,46 @@ fn part<'a>(value: &mut Vec<u8>, bytes: &'a [u8]) -> Result<Option<&'a [u8]>, No
         (NoPart bytes.now × (value.new.items ≡ value.old.items))
         (λ rest. AddsPart bytes.now rest.now value.old.items value.new.items)) }
 {
-    match bytes.split_first() {
-        Some((b'\'', inside)) => {
-            let length = value.len();
-            let rest = quoted(value, inside)?;
-            if rest.is_none() {
-                value.truncate(length);
-            }
-            Ok(rest)
+    let Some((first, after)) = bytes.split_first() else {
+        return Ok(None);
+    };
+    if *first == b'\'' {
+        return quoted_part(value, after);
+    }
+    if *first == b'#' {
+        return numbered_part(value, after);
+    }
+    Ok(None)
+}
+
+/// The part that is quoted, behind its first quote.
+fn quoted_part<'a>(value: &mut Vec<u8>, bytes: &'a [u8]) -> Result<Option<&'a [u8]>, NoMemory>
+    ensures { IfOk result (λ found. MatchOption found
+        (NoPart (39 ∷ bytes.now) × (value.new.items ≡ value.old.items))
+        (λ rest. AddsPart (39 ∷ bytes.now) rest.now value.old.items value.new.items)) }
+{
+    let length = value.len();
+    match quoted(value, bytes)? {
+        Some(rest) => Ok(Some(rest)),
+        None => {
+            value.truncate(length);
+            Ok(None)
         }
-        Some((b'#', number)) => match character(number) {
-            Some((byte, rest)) => {
-                value.push(byte)?;
-                Ok(Some(rest))
-            }
-            None => Ok(None),
-        },
-        _ => Ok(None),
+    }
+}
+
+/// The part that is a character by its number, behind the `#`.
+fn numbered_part<'a>(value: &mut Vec<u8>, bytes: &'a [u8]) -> Result<Option<&'a [u8]>, NoMemory>
+    ensures { IfOk result (λ found. MatchOption found
+        (NoPart (35 ∷ bytes.now) × (value.new.items ≡ value.old.items))
+        (λ rest. AddsPart (35 ∷ bytes.now) rest.now value.old.items value.new.items)) }
+{
+    match character(bytes) {
+        Some((byte, rest)) => {
+            value.push(byte)?;
+            Ok(Some(rest))
+        }
+        None => Ok(None),
     }
 }
 
@@ -104,14 +141,20 @@ pub fn string(alloc: Global, bytes: &[u8], switches: Switches) -> Result<Front, 
     let mut value = Vec::new(alloc);
     let rest = parts(&mut value, bytes)?;
     let length = bytes.len() - rest.len();
-    let effect = if length > 0 {
-        effect_of_string(value, switches)
-    } else if begins_with(bytes, b'#') {
-        Effect::Breaks(BAD_CHARACTER)
-    } else {
-        Effect::Breaks(STRING_NOT_CLOSED)
-    };
-    Ok(Front { length, effect })
+    if length > 0 {
+        let effect = effect_of_string(value, switches);
+        return Ok(Front { length, effect });
+    }
+    if begins_with(bytes, b'#') {
+        return Ok(Front {
+            length: 0,
+            effect: Effect::Breaks(BAD_CHARACTER),
+        });
+    }
+    Ok(Front {
+        length: 0,
+        effect: Effect::Breaks(STRING_NOT_CLOSED),
+    })
 }
 
 fn effect_of_string(value: Vec<u8>, switches: Switches) -> Effect

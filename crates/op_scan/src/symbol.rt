@@ -1,5 +1,5 @@
 //! Symbols (Free Pascal Reference Guide, "Symbols").
-ghost use Rattle.std.specs.Prelude.{◌≡◌, ◌∷◌, []};
+ghost use Rattle.std.specs.Prelude.{◌≡◌, ◌∷◌, [], take};
 ghost use Rattle.op_scan.specs.Class.{class_at};
 ghost use Rattle.op_scan.specs.Item.{IsFront};
 ghost use Rattle.op_scan.specs.Keyword.{kind_beside};
@@ -9,9 +9,11 @@ ghost use Rattle.op_scan.specs.declared.class.Class.TheVariants as class;
 use crate::{Switches, TokenKind};
 use crate::effect::{Effect, Front, NO_TOKEN};
 
-fn symbol_of_two(spelling: &[u8]) -> Option<TokenKind>
-    ensures { result ≡ kind_beside spelling.now symbols_of_two }
+/// The symbol that the first two bytes are, if they are one.
+fn symbol_of_two(bytes: &[u8]) -> Option<TokenKind>
+    ensures { result ≡ kind_beside (take 2 bytes.now) symbols_of_two }
 {
+    let (spelling, _) = bytes.split_at(bytes.len().min(2));
     if spelling == b"<=".as_slice() {
         return Some(TokenKind::LessEqual);
     }
@@ -53,26 +55,32 @@ fn symbol_of_one(byte: u8) -> Option<TokenKind>
     }
 }
 
+/// The symbol that the first byte is, if it is one.
+fn symbol_of_first(bytes: &[u8]) -> Option<TokenKind>
+    ensures { result ≡ kind_beside (take 1 bytes.now) symbols_of_one }
+{
+    match bytes.split_first() {
+        Some((first, _)) => symbol_of_one(*first),
+        None => None,
+    }
+}
+
 /// The symbol at the front, the longest that stands there.
 pub fn symbol(bytes: &[u8], switches: Switches) -> Front
     requires { class_at bytes.now ≡ class.Symbol }
     ensures { IsFront switches bytes.now result.length result.effect }
 {
-    if bytes.len() > 1 {
-        if let Some(kind) = symbol_of_two(&bytes[..2]) {
-            return Front {
-                length: 2,
-                effect: Effect::Gives(kind),
-            };
-        }
+    if let Some(kind) = symbol_of_two(bytes) {
+        return Front {
+            length: 2,
+            effect: Effect::Gives(kind),
+        };
     }
-    if let Some(first) = bytes.first() {
-        if let Some(kind) = symbol_of_one(*first) {
-            return Front {
-                length: 1,
-                effect: Effect::Gives(kind),
-            };
-        }
+    if let Some(kind) = symbol_of_first(bytes) {
+        return Front {
+            length: 1,
+            effect: Effect::Gives(kind),
+        };
     }
     Front {
         length: 0,
