@@ -140,7 +140,7 @@ twos_start : RowsHold IsSymbolStart symbols_of_two
 unfolding class_of is_name_start is_blank RowsHold
 twos_start = (λ a n m. refl, (λ a n m. refl, (λ a n m. refl, (λ a n m. refl, (λ a n m. refl, tt)))))
 
-no_symbol_empty : symbol_of [] ≡ None
+pub no_symbol_empty : symbol_of [] ≡ None
 unfolding symbol_of
 no_symbol_empty = refl
 

@@ -5,6 +5,8 @@ pub mod Items
 pub mod Lists
 pub mod Nesting
 pub mod Outer
+pub mod Places
 pub mod Quoting
+pub mod Scanning
 pub mod Strings
 pub mod SymbolFronts

@@ -73,3 +73,12 @@ abbrev pub Answers : ℕ → List ℕ → Result Tokens ScanError → Type 0
 Answers file bytes (Ok tokens) = StandFor file bytes tokens
 Answers file bytes (Err (Refused refusal)) = IsFirstRefusal file bytes refusal
 Answers file bytes (Err NoMemory) = Unit {0}
+
+-- the answer is this outcome, but for want of memory
+abbrev pub IsAnswer : Outcome → Result Tokens ScanError → Type 0
+IsAnswer (whole tokens end) (Ok answer) = (answer.list ≡ tokens) × (answer.end ≡ end)
+IsAnswer (whole tokens end) (Err (Refused answer)) = ⊥
+IsAnswer (whole tokens end) (Err NoMemory) = Unit {0}
+IsAnswer (refused refusal) (Ok answer) = ⊥
+IsAnswer (refused refusal) (Err (Refused answer)) = answer ≡ refusal
+IsAnswer (refused refusal) (Err NoMemory) = Unit {0}

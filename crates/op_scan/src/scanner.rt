@@ -1,7 +1,7 @@
 //! From bytes to tokens.
-ghost use Rattle.std.specs.Prelude.{◌≡◌, ◌≤◌, ◌^◌, ◌⊎◌, Ok, Err, IfOk, length, drop};
+ghost use Rattle.std.specs.Prelude.{◌≡◌, ◌≤◌, ◌^◌, IfOk, length, drop};
 ghost use Rattle.op_scan.specs.Item.{IsFront};
-ghost use Rattle.op_scan.specs.Scan.{Answers, IsFirstRefusal, StandFor, mark_length};
+ghost use Rattle.op_scan.specs.Scan.{Answers, IsAnswer, IsOutcome, Outcome, mark_length};
 
 use crate::class::{Class, class_at};
 use crate::comment::{comment, line_comment};
@@ -37,7 +37,8 @@ fn front(alloc: Global, bytes: &[u8], switches: Switches) -> Result<Front, NoMem
 /// The bytes behind a byte order mark at the front, if there is one.
 #[tactic(auto, unfolding(crate::specs::Scan::mark_length))]
 fn without_mark(bytes: &[u8]) -> &[u8]
-    ensures { result.now ≡ drop (mark_length bytes.now) bytes.now }
+    ensures text { result.now ≡ drop (mark_length bytes.now) bytes.now }
+    ensures mark { mark_length bytes.now ≤ length bytes.now }
 {
     if bytes.starts_with(b"\xEF\xBB\xBF") {
         &bytes[3..]
@@ -53,7 +54,10 @@ fn without_mark(bytes: &[u8]) -> &[u8]
 /// 13 with feature 23. `NoMemory` comes where the allocator has no room.
 pub fn scan(alloc: Global, bytes: &[u8], file: u32) -> Result<Tokens, ScanError>
     requires { length bytes.now ≤ 2 ^ 31 }
+    // The tokens that stand for the bytes, or the first rule that they break and its place.
     ensures answer { Answers file bytes.now result }
+    // No other tokens stand for them, and no other refusal is the first.
+    ensures only { (outcome : Outcome) → IsOutcome file bytes.now outcome → IsAnswer outcome result }
 {
     let mut tokens = Vec::new(alloc);
     let mut rest = without_mark(bytes);

@@ -206,18 +206,33 @@ pub enum ScanError {
 }
 
 impl From<NoMemory> for ScanError {
+    ghost use Rattle.std.specs.Prelude.{◌≡◌};
+    ghost use Rattle.op_scan.specs.declared.token.ScanError.{ScanError};
+
+    ghost from_gives = { λ _ error. error ≡ ScanError.NoMemory };
+
     fn from(_error: NoMemory) -> ScanError {
         ScanError::NoMemory
     }
 }
 
 impl From<AllocError> for ScanError {
+    ghost use Rattle.std.specs.Prelude.{◌≡◌};
+    ghost use Rattle.op_scan.specs.declared.token.ScanError.{ScanError};
+
+    ghost from_gives = { λ _ error. error ≡ ScanError.NoMemory };
+
     fn from(_error: AllocError) -> ScanError {
         ScanError::NoMemory
     }
 }
 
 impl<T: Drop> From<AllocFailed<T>> for ScanError {
+    ghost use Rattle.std.specs.Prelude.{◌≡◌};
+    ghost use Rattle.op_scan.specs.declared.token.ScanError.{ScanError};
+
+    ghost from_gives = { λ _ error. error ≡ ScanError.NoMemory };
+
     fn from(_error: AllocFailed<T>) -> ScanError {
         ScanError::NoMemory
     }
