@@ -1,27 +1,15 @@
 -- The class of a place tells what kind of item can stand there.
-use Rattle.std.proofs.Common.{◌≡◌, ◌≢◌, ℕ, ◌+◌, ◌<◌, ◌≤◌, Bool, true, false, cond, eqb, ltb, ◌&&◌, ◌||◌, List, [], ◌∷◌, ◌++◌, take, drop, length, Option, Some, None, ◌⊎◌, inl, inr, ⊎_elim, refl, sym, ap, ◌∙◌, subst, append_assoc, length-append, arith}
-use Rattle.std.specs.Prelude.{nat_eq, not}
-use Rattle.std.specs.Char.{digit_value, is_ascii_digit}
-use Rattle.std.proofs.lemmas.Bool.{eqb-true, eqb-false, eq-eqb, false≢true}
+use Rattle.std.proofs.Common.{◌≡◌, ℕ, ◌<◌, ◌≤◌, true, false, cond, eqb, ◌&&◌, List, ◌∷◌, ◌++◌, drop, length, ◌⊎◌, inl, inr, ap, ◌∙◌, arith}
+use Rattle.std.specs.Char.{is_ascii_digit}
+use Rattle.std.proofs.lemmas.Bool.{eqb-true}
 use Rattle.std.proofs.lemmas.Bool.Decides.{nat_tests}
-use Rattle.std.proofs.lemmas.Grind.{common_steps}
-use Rattle.std.specs.List.{prefix_len, take_while}
-use Rattle.op_scan.proofs.Lists.{head_eq, tail_eq, cond_case, one_true, one_false, two_true, two_false}
-use Rattle.op_scan.proofs.Nesting.{Closes-unique, same_closing}
-use Rattle.op_scan.proofs.Strings.{digit_head, digits_are, Parts-unique, part_cases, PartCase, in_quotes, by_decimal, by_hexadecimal, no_part_empty, append_nil}
-use Rattle.op_scan.specs.Byte.{is_name_start, is_name_byte, is_blank, is_digit_in, begins_with}
-use Rattle.op_scan.specs.Class.{class_of, class_of_mark, class_at}
-use Rattle.op_scan.specs.Comment.{opening, closing, Closes}
-use Rattle.op_scan.specs.Item.{Item, a_blank, a_comment, a_name, a_number, a_string, a_symbol, Stands, blank, line_comment, comment, name, number, string, symbol}
-use Rattle.op_scan.specs.Literal.{AreDigits, mark_of, value_of, Parts, stop, more}
-use Rattle.op_scan.specs.Symbol.{symbol_of}
+use Rattle.op_scan.proofs.Lists.{cond_case, one_true, two_true}
+use Rattle.op_scan.specs.Byte.{is_name_start, is_blank, is_digit_in, begins_with}
+use Rattle.op_scan.specs.Class.{class_of, class_of_mark}
+use Rattle.op_scan.specs.Comment.{opening}
 use Rattle.op_scan.specs.declared.class.Class.{Class}
 use Rattle.op_scan.specs.declared.class.Class.TheVariants as class
-use Rattle.op_scan.specs.declared.comment.Marks.{Marks}
-use Rattle.op_scan.specs.declared.comment.Marks.TheVariants.{Braces, Stars}
-use Rattle.op_scan.specs.declared.number.Base.{Base}
 use Rattle.op_scan.specs.declared.number.Base.TheVariants.{Decimal, Hexadecimal, Octal, Binary}
-use Rattle.op_scan.specs.declared.token.TokenKind.{TokenKind}
 
 -- ---- what a class tells of the first bytes
 

@@ -1,36 +1,29 @@
 -- What the scanner finds in front of the bytes stands there, or nothing does.
-use Rattle.std.proofs.Common.{◌≡◌, ◌≢◌, ℕ, zero, suc, ◌+◌, ◌-◌, ◌<◌, ◌≤◌, Bool, true, false, cond, eqb, ltb, ◌&&◌, ◌||◌, List, [], ◌∷◌, ◌++◌, take, drop, length, min, Option, Some, None, ◌⊎◌, inl, inr, ⊎_elim, refl, sym, ap, ◌∙◌, subst, append_assoc, length-append, arith}
+use Rattle.std.proofs.Common.{◌≡◌, ◌≢◌, ℕ, suc, ◌+◌, ◌-◌, ◌<◌, ◌≤◌, Bool, true, false, cond, ltb, List, [], ◌∷◌, ◌++◌, take, drop, length, min, ⊎_elim, refl, sym, ap, ◌∙◌, subst, append_assoc, length-append, arith}
 use Rattle.std.specs.Prelude.{nat_eq, not}
 use Rattle.std.proofs.Math.Seq.{take-append_seam, take-append-add, drop-append-add, drop-append_seam}
-use Rattle.std.proofs.lemmas.Bool.{eqb-true, eqb-false, eq-eqb, false≢true}
+use Rattle.std.proofs.lemmas.Bool.{false≢true}
 use Rattle.std.proofs.lemmas.Bool.Decides.{nat_tests, Decides-ltb}
-use Rattle.std.proofs.lemmas.List.{take-append-drop, length-take, length-drop, drop-drop}
-use Rattle.std.proofs.lemmas.Option.{none-some}
+use Rattle.std.proofs.lemmas.List.{take-append-drop, length-take}
 use Rattle.std.specs.List.{prefix_len, take_while}
-use Rattle.op_base.specs.declared.rule.Rule.{Rule}
-use Rattle.op_scan.proofs.Classes.{Means, class_means, NoMark, ascii_is_digit}
-use Rattle.op_scan.proofs.Items.{Shape, shape_at, append_cancel}
-use Rattle.op_scan.proofs.Lists.{head_eq, begins_true, nil_of_length, two_false}
+use Rattle.op_scan.proofs.Classes.{Means, class_means, ascii_is_digit}
+use Rattle.op_scan.proofs.Items.{shape_at, append_cancel}
+use Rattle.op_scan.proofs.Lists.{head_eq, begins_true, nil_of_length}
 use Rattle.op_scan.proofs.Nesting.{closes_inside, length_marks}
 use Rattle.op_scan.proofs.Strings.{digits_front, digits_are, Parts-unique, parts_front}
 use Rattle.op_scan.specs.Byte.{is_name_start, is_name_byte, is_blank, is_digit_in, begins_with}
-use Rattle.op_scan.specs.Class.{class_of, class_at}
+use Rattle.op_scan.specs.Class.{class_at}
 use Rattle.op_scan.specs.Comment.{opening, closing, Closes}
 use Rattle.op_scan.specs.Directive.{rule}
-use Rattle.op_scan.specs.Item.{Item, a_blank, a_comment, a_name, a_number, a_string, a_symbol, Stands, blank, line_comment, comment, name, number, string, symbol, IsFront, stands, nothing, effect_of, rule_without}
-use Rattle.op_scan.specs.Keyword.{kind_beside}
-use Rattle.op_scan.specs.Literal.{AreDigits, mark_of, value_of, Parts, stop, more}
-use Rattle.op_scan.specs.Symbol.{symbol_of, symbols_of_one, symbols_of_two}
+use Rattle.op_scan.specs.Item.{Item, a_blank, a_comment, a_name, a_number, a_string, Stands, blank, line_comment, comment, name, number, string, rule_without}
+use Rattle.op_scan.specs.Literal.{mark_of, value_of, Parts}
 use Rattle.op_scan.specs.declared.class.Class.{Class}
 use Rattle.op_scan.specs.declared.class.Class.TheVariants as class
 use Rattle.op_scan.specs.declared.comment.Marks.{Marks}
 use Rattle.op_scan.specs.declared.comment.Marks.TheVariants.{Braces, Stars}
-use Rattle.op_scan.specs.declared.effect.Effect.{Effect}
-use Rattle.op_scan.specs.declared.effect.Effect.TheVariants.{Passes, Gives, Breaks}
+use Rattle.op_scan.specs.declared.effect.Effect.TheVariants.{Gives, Breaks}
 use Rattle.op_scan.specs.declared.number.Base.{Base}
 use Rattle.op_scan.specs.declared.number.Base.TheVariants.{Decimal, Hexadecimal, Octal, Binary}
-use Rattle.op_scan.specs.declared.token.Switches.{Switches}
-use Rattle.op_scan.specs.declared.token.TokenKind.{TokenKind}
 use Rattle.op_scan.specs.declared.token.TokenKind.TheVariants.{Number}
 
 -- ---- the bytes of a class
@@ -127,9 +120,10 @@ comment_rule Stars bytes on b = ap rule_without b
 -- where a list is cut
 cut : (bytes piece rest : List ℕ) (n : ℕ) → bytes ≡ piece ++ rest → n + length rest ≡ length bytes → (take n bytes ≡ piece) × (drop n bytes ≡ rest)
 cut bytes piece rest n b h =
-    let len : n ≡ length piece = omega (arith, h, ap length b, length-append piece rest) in
-    (ap (λ k. take k bytes) len ∙ ap (take (length piece)) b ∙ take-append_seam piece rest,
-    ap (λ k. drop k bytes) len ∙ ap (drop (length piece)) b ∙ drop-append_seam piece rest)
+    let len : n ≡ length piece = omega (arith, h, ap length b, length-append piece rest) in (
+      ap (λ k. take k bytes) len ∙ ap (take (length piece)) b ∙ take-append_seam piece rest,
+      ap (λ k. drop k bytes) len ∙ ap (drop (length piece)) b ∙ drop-append_seam piece rest,
+    )
 
 module _ (marks : Marks) (on rest : List ℕ) (d : Closes marks on rest) where
   pub comment_length : length (opening marks) + length rest ≤ length on

@@ -1,16 +1,16 @@
 -- One item stands at a place.
-use Rattle.std.proofs.Common.{◌≡◌, ◌≢◌, ℕ, suc, ◌+◌, ◌<◌, ◌≤◌, Bool, true, false, cond, eqb, ◌&&◌, ◌||◌, List, [], ◌∷◌, ◌++◌, take, drop, length, Option, Some, None, ◌⊎◌, inl, inr, ⊎_elim, refl, sym, ap, ◌∙◌, subst, append_assoc, length-append, arith}
+use Rattle.std.proofs.Common.{◌≡◌, ◌≢◌, ℕ, Bool, true, false, cond, eqb, ◌||◌, List, [], ◌∷◌, ◌++◌, take, length, Some, None, ◌⊎◌, inl, inr, ⊎_elim, refl, sym, ap, ◌∙◌, subst, append_assoc, length-append, arith}
 use Rattle.std.specs.Prelude.{nat_eq, not}
 use Rattle.std.specs.Str.{bytes_eq}
 use Rattle.std.proofs.Math.Seq.{take-append_seam}
-use Rattle.std.proofs.lemmas.Bool.{eqb-true, eqb-false, eq-eqb, false≢true}
+use Rattle.std.proofs.lemmas.Bool.{eqb-true, eq-eqb, false≢true}
 use Rattle.std.proofs.lemmas.Option.{none-some}
 use Rattle.std.specs.List.{take_while}
-use Rattle.op_scan.proofs.Lists.{head_eq, tail_eq, cond_case, both_true}
+use Rattle.op_scan.proofs.Lists.{head_eq, tail_eq, both_true}
 use Rattle.op_scan.proofs.Nesting.{Closes-unique}
-use Rattle.op_scan.proofs.Strings.{append_nil, digits_are, digit_head, Parts-unique, part_cases, PartCase, in_quotes, by_decimal, by_hexadecimal}
+use Rattle.op_scan.proofs.Strings.{append_nil, digits_are, digit_head, Parts-unique, part_cases, in_quotes, by_decimal, by_hexadecimal}
 use Rattle.op_scan.proofs.Classes.{class_name, class_blank, class_digit}
-use Rattle.op_scan.specs.Byte.{is_name_start, is_name_byte, is_blank, is_digit_in, begins_with}
+use Rattle.op_scan.specs.Byte.{is_name_start, is_name_byte, is_blank, begins_with}
 use Rattle.op_scan.specs.Class.{class_of, class_at}
 use Rattle.op_scan.specs.Comment.{opening, closing, Closes}
 use Rattle.op_scan.specs.Item.{Item, a_blank, a_comment, a_name, a_number, a_string, a_symbol, Stands, blank, line_comment, comment, name, number, string, symbol}
@@ -132,9 +132,34 @@ open_start after n m = ap (λ t. cond t (class.Comment Stars) class.Symbol) (not
 
 ones_start : RowsHold IsSymbolStart symbols_of_one
 unfolding class_of is_name_start is_blank RowsHold
-ones_start =
-    (λ a n m. refl, (λ a n m. refl, (λ a n m. refl, (slash_start, (λ a n m. refl, (λ a n m. refl, (λ a n m. refl, (open_start, (λ a n m. refl,
-    (λ a n m. refl, (λ a n m. refl, (λ a n m. refl, (λ a n m. refl, (λ a n m. refl, (λ a n m. refl, tt)))))))))))))))
+ones_start = (
+  λ a n m. refl,
+  (
+    λ a n m. refl,
+    (
+      λ a n m. refl,
+      (
+        slash_start,
+        (
+          λ a n m. refl,
+          (
+            λ a n m. refl,
+            (
+              λ a n m. refl,
+              (
+                open_start,
+                (
+                  λ a n m. refl,
+                  (λ a n m. refl, (λ a n m. refl, (λ a n m. refl, (λ a n m. refl, (λ a n m. refl, (λ a n m. refl, tt)))))),
+                ),
+              ),
+            ),
+          ),
+        ),
+      ),
+    ),
+  ),
+)
 
 twos_start : RowsHold IsSymbolStart symbols_of_two
 unfolding class_of is_name_start is_blank RowsHold
@@ -151,6 +176,7 @@ symbol_start first others kind e = one (eqb (length (first ∷ others)) 1) e
     two : (t : Bool) → kind_beside (first ∷ others) (cond t symbols_of_two []) ≡ Some kind → IsSymbolStart first
     two true g = first_elim IsSymbolStart symbols_of_two twos_start first (kind_first (first ∷ others) first others kind refl symbols_of_two g)
     two false g = absurd (none-some kind g)
+
     one : (t : Bool) → kind_beside (first ∷ others) (cond t symbols_of_one (cond (eqb (length (first ∷ others)) 2) symbols_of_two [])) ≡ Some kind → IsSymbolStart first
     one true g = first_elim IsSymbolStart symbols_of_one ones_start first (kind_first (first ∷ others) first others kind refl symbols_of_one g)
     one false g = two (eqb (length (first ∷ others)) 2) g
@@ -160,7 +186,7 @@ symbol_start first others kind e = one (eqb (length (first ∷ others)) 1) e
 string_start : (bytes rest text : List ℕ) → Parts bytes rest text → (first : ℕ) (after : List ℕ) → bytes ≡ first ∷ after → (rest ≡ bytes) ⊎ ((first ≡ 39) ⊎ (first ≡ 35))
 string_start bytes rest text (stop n) first after b = inl refl
 string_start bytes rest text (more piece m t e h d) first after b = inr (elim (part_cases first after piece m t (sym b ∙ e) h) [
-  in_quotes f q ↦ inl f
+  | in_quotes f q ↦ inl f
   | by_decimal ds f a g x ↦ inr f
   | by_hexadecimal ds f a g x ↦ inr f
 ])
@@ -293,9 +319,9 @@ module _ (bytes p r p' r' : List ℕ) (e : bytes ≡ p ++ r) (e' : bytes ≡ p' 
   unfolding Same
   unique_symbol i i' h h' =
       let q : p ≡ p' = ⊎_elim
-        (λ f. not_longer p r p' r' f.0 h.0 h'.0 h.1 h'.1 h.2 f.1 f.2)
-        (λ f. sym (not_longer p' r' p r f.0 h'.0 h.0 h'.1 h.1 h'.2 f.1 f.2))
-        (fronts p r p' r' (sym e ∙ e'))
+      (λ f. not_longer p r p' r' f.0 h.0 h'.0 h.1 h'.1 h.2 f.1 f.2)
+      (λ f. sym (not_longer p' r' p r f.0 h'.0 h.0 h'.1 h.1 h'.2 f.1 f.2))
+      (fronts p r p' r' (sym e ∙ e'))
       in
       let k : h.0 ≡ h'.0 = some_same (sym h.1 ∙ ap symbol_of q ∙ h'.1) in
       (q, h.3 ∙ ap a_symbol k ∙ sym h'.3)

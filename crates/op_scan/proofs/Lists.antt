@@ -1,5 +1,5 @@
 -- Lists of bytes, and tests of their first two.
-use Rattle.std.proofs.Common.{◌≡◌, ◌≢◌, ℕ, Bool, true, false, cond, eqb, ◌&&◌, List, [], ◌∷◌, ◌++◌, length, get_or, drop, refl, sym, ap, subst, ◌∙◌, arith}
+use Rattle.std.proofs.Common.{◌≡◌, ◌≢◌, ℕ, Bool, true, false, cond, eqb, ◌&&◌, List, [], ◌∷◌, length, get_or, drop, refl, sym, ap, subst, ◌∙◌, arith}
 use Rattle.std.proofs.lemmas.Bool.{eqb-true, eqb-false, eq-eqb, false≢true}
 use Rattle.op_scan.specs.Byte.{begins_with}
 
@@ -37,9 +37,9 @@ two_true first a b after h =
 pub two_false : (first a b : ℕ) (after rest : List ℕ) → (eqb first a && begins_with after b) ≡ false → first ∷ after ≢ a ∷ b ∷ rest
 two_false first a b after rest h e =
     let t : (eqb first a && begins_with after b) ≡ true =
-      subst (λ xs. (eqb first a && begins_with xs b) ≡ true) (sym (tail_eq e))
-      (subst (λ x. (eqb x a && eqb b b) ≡ true) (sym (head_eq e))
-      (subst (λ t. (eqb a a && t) ≡ true) (sym (eq-eqb b b refl)) (subst (λ t. (t && true) ≡ true) (sym (eq-eqb a a refl)) refl)))
+    subst (λ xs. (eqb first a && begins_with xs b) ≡ true) (sym (tail_eq e))
+    (subst (λ x. (eqb x a && eqb b b) ≡ true) (sym (head_eq e))
+    (subst (λ t. (eqb a a && t) ≡ true) (sym (eq-eqb b b refl)) (subst (λ t. (t && true) ≡ true) (sym (eq-eqb a a refl)) refl)))
     in false≢true (sym h ∙ t)
 
 pub nil_of_length : {A : Type 0} (xs : List A) → length xs ≡ 0 → xs ≡ []

@@ -1,5 +1,5 @@
 -- How a comment goes on at each byte of its inside, and the comments round it.
-use Rattle.std.proofs.Common.{◌≡◌, ◌≢◌, ℕ, ◌+◌, Bool, true, false, cond, eqb, List, [], ◌∷◌, ◌++◌, length, drop, refl, sym, ap, ◌∙◌, subst, arith, ◌&&◌, append_assoc}
+use Rattle.std.proofs.Common.{◌≡◌, ◌≢◌, ℕ, false, eqb, List, [], ◌∷◌, ◌++◌, length, drop, refl, sym, ap, ◌∙◌, subst, ◌&&◌, append_assoc}
 use Rattle.std.proofs.lemmas.Bool.{eqb-false}
 use Rattle.op_scan.proofs.Lists.{head_eq, tail_eq, cond_case, one_true, one_false, two_true, two_false}
 use Rattle.op_scan.specs.Byte.{begins_with}
@@ -92,10 +92,11 @@ pub closes_inside : (marks : Marks) (bytes rest : List ℕ) → Closes marks byt
 closes_inside marks bytes rest (ends e) = ([], e)
 closes_inside marks bytes rest (nests inner text m e d1 d2) =
     let a = closes_inside _ _ _ d1 in
-    let b = closes_inside _ _ _ d2 in
-    (opening inner ++ (a.0 ++ (closing inner ++ b.0)),
-    e ∙ ap (λ xs. opening inner ++ xs) (a.1 ∙ ap (λ xs. a.0 ++ (closing inner ++ xs)) b.1)
-    ∙ sym (append_assoc (opening inner) (a.0 ++ (closing inner ++ b.0)) (closing marks ++ rest) ∙ ap (λ xs. opening inner ++ xs) (append_assoc a.0 (closing inner ++ b.0) (closing marks ++ rest) ∙ ap (λ xs. a.0 ++ xs) (append_assoc (closing inner) b.0 (closing marks ++ rest)))))
+    let b = closes_inside _ _ _ d2 in (
+      opening inner ++ (a.0 ++ (closing inner ++ b.0)),
+      e ∙ ap (λ xs. opening inner ++ xs) (a.1 ∙ ap (λ xs. a.0 ++ (closing inner ++ xs)) b.1)
+          ∙ sym (append_assoc (opening inner) (a.0 ++ (closing inner ++ b.0)) (closing marks ++ rest) ∙ ap (λ xs. opening inner ++ xs) (append_assoc a.0 (closing inner ++ b.0) (closing marks ++ rest) ∙ ap (λ xs. a.0 ++ xs) (append_assoc (closing inner) b.0 (closing marks ++ rest)))),
+    )
 closes_inside marks bytes rest (passes text m e p d) =
     let b = closes_inside _ _ _ d in
     (text ++ b.0, e ∙ ap (λ xs. text ++ xs) b.1 ∙ sym (append_assoc text b.0 (closing marks ++ rest)))
@@ -112,8 +113,8 @@ opens_means marks first after no_end =
     cond_case (λ k. Means k marks (first ∷ after)) (eqb first 123)
     (λ h. one_true first 123 after h)
     (λ h. cond_case (λ k. Means k marks (first ∷ after)) (eqb first 40 && begins_with after 42)
-      (λ g. two_true first 40 42 after g)
-      (λ g. record { no_end = no_end; no_comment = none h g }))
+    (λ g. two_true first 40 42 after g)
+    (λ g. record { no_end = no_end; no_comment = none h g }))
   where
     none : eqb first 123 ≡ false → (eqb first 40 && begins_with after 42) ≡ false → (inner : Marks) (rest : List ℕ) → first ∷ after ≢ opening inner ++ rest
     none h g Braces rest = one_false first 123 after rest h

@@ -1,7 +1,7 @@
 -- Places, byte by byte.
-use Rattle.std.proofs.Common.{◌≡◌, ℕ, ◌+◌, ◌-◌, ◌<◌, ◌≤◌, Bool, true, false, cond, eqb, List, [], ◌∷◌, ◌++◌, get_or, take, drop, length, reverse, refl, sym, ap, ◌∙◌, subst, append_assoc, arith}
+use Rattle.std.proofs.Common.{◌≡◌, ℕ, ◌+◌, ◌-◌, ◌<◌, ◌≤◌, Bool, false, cond, eqb, List, [], ◌∷◌, ◌++◌, get_or, take, length, refl, sym, ap, ◌∙◌, append_assoc, arith}
 use Rattle.std.specs.Prelude.{not, count_by}
-use Rattle.std.specs.List.{sum_by, after_last, suffix_len, prefix_len}
+use Rattle.std.specs.List.{after_last, suffix_len, prefix_len}
 use Rattle.std.proofs.lemmas.List.{length-drop, reverse-append, take_more}
 use Rattle.std.proofs.lemmas.List.Sums.{sum_by-append, suffix_len-le-length, count_by-le-length}
 use Rattle.op_scan.proofs.Strings.{append_nil}
@@ -85,7 +85,7 @@ places_begin start bytes = record {
   file = refl;
   line_bound = omega arith;
   column_bound = omega arith;
-  follows = λ before h. h ∙ ap (place_of start.file) (sym (append_nil before))
+  follows = λ before h. h ∙ ap (place_of start.file) (sym (append_nil before));
 }
 
 pub places_more : (start : Place) (bytes : List ℕ) (n : ℕ) (here next : Place) (d : ℕ) → n < length bytes → PlaceSoFar start bytes n here → next.file ≡ here.file → next.line ≤ here.line + 1 → next.col ≤ here.col + 1 → ((before : List ℕ) → here ≡ place_of here.file before → next ≡ place_of here.file (before ++ get_or bytes n d ∷ [])) → PlaceSoFar start bytes (n + 1) next
@@ -94,8 +94,8 @@ places_more start bytes n here next d inside h file line col follows = record {
   line_bound = omega (arith, line, h.line_bound);
   column_bound = omega (arith, col, h.column_bound);
   follows = λ before b.
-    let now = h.follows before b in
-    let then = follows (before ++ take n bytes) (now ∙ ap (λ f. place_of f (before ++ take n bytes)) (sym h.file)) in
-    then ∙ ap (λ f. place_of f (before ++ take n bytes ++ get_or bytes n d ∷ [])) h.file
-    ∙ ap (place_of start.file) (append_assoc before (take n bytes) (get_or bytes n d ∷ []) ∙ ap (λ xs. before ++ xs) (sym (take_more bytes n d inside)))
+      let now = h.follows before b in
+      let then = follows (before ++ take n bytes) (now ∙ ap (λ f. place_of f (before ++ take n bytes)) (sym h.file)) in
+      then ∙ ap (λ f. place_of f (before ++ take n bytes ++ get_or bytes n d ∷ [])) h.file
+      ∙ ap (place_of start.file) (append_assoc before (take n bytes) (get_or bytes n d ∷ []) ∙ ap (λ xs. before ++ xs) (sym (take_more bytes n d inside)));
 }

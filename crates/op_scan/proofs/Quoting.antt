@@ -1,5 +1,5 @@
 -- Quoted parts of strings, byte by byte.
-use Rattle.std.proofs.Common.{◌≡◌, ◌≢◌, ℕ, Bool, true, false, cond, eqb, ◌||◌, List, [], ◌∷◌, ◌++◌, take, length, refl, sym, ap, ◌∙◌, subst, append_assoc}
+use Rattle.std.proofs.Common.{◌≡◌, ℕ, Bool, true, false, cond, eqb, ◌||◌, List, [], ◌∷◌, ◌++◌, take, length, refl, sym, ap, ◌∙◌, subst, append_assoc}
 use Rattle.std.proofs.Math.Seq.{take-append_seam}
 use Rattle.std.proofs.lemmas.Bool.{eqb-true, eqb-false, eq-eqb, false≢true}
 use Rattle.std.proofs.lemmas.Grind.{flat_map-append}
@@ -70,14 +70,14 @@ line_more done byte d h =
 
 plain_dies : (byte : ℕ) (after text r : List ℕ) → eqb byte 39 ≡ false → IsQuoted (byte ∷ after) text r → (t : List ℕ) × IsQuoted after t r
 plain_dies byte after text r h q = elim (quoted_cases byte after text r q) [
-  shut b t a l ↦ absurd (eqb-false byte 39 h b)
+  | shut b t a l ↦ absurd (eqb-false byte 39 h b)
   | twice others more b t a i ↦ absurd (eqb-false byte 39 h b)
   | plain others b l t i ↦ (others, i)
 ]
 
 twice_dies : (byte : ℕ) (after more text r : List ℕ) → byte ≡ 39 → after ≡ 39 ∷ more → IsQuoted (byte ∷ after) text r → (t : List ℕ) × IsQuoted more t r
 twice_dies byte after more text r h m q = elim (quoted_cases byte after text r q) [
-  shut b t a l ↦ absurd (false≢true (sym l ∙ ap (λ xs. begins_with xs 39) (sym a ∙ m)))
+  | shut b t a l ↦ absurd (false≢true (sym l ∙ ap (λ xs. begins_with xs 39) (sym a ∙ m)))
   | twice others rest b t a i ↦ (others, subst (λ xs. IsQuoted xs others r) (tail_eq (sym a ∙ m)) i)
   | plain others b l t i ↦ absurd (eqb-false byte 39 b h)
 ]
@@ -85,7 +85,7 @@ twice_dies byte after more text r h m q = elim (quoted_cases byte after text r q
 pub line_dies : (byte : ℕ) (after text r : List ℕ) → is_line_end byte ≡ true → IsQuoted (byte ∷ after) text r → ⊥
 unfolding is_line_end
 line_dies byte after text r h q = elim (quoted_cases byte after text r q) [
-  shut b t a l ↦ false≢true (ap is_line_end (sym b) ∙ h)
+  | shut b t a l ↦ false≢true (ap is_line_end (sym b) ∙ h)
   | twice others more b t a i ↦ false≢true (ap is_line_end (sym b) ∙ h)
   | plain others b l t i ↦ false≢true (sym l ∙ h)
 ]
@@ -100,16 +100,16 @@ module _ (bytes rest old new : List ℕ) (h : QuotedSoFar bytes rest old new) (b
     spelled = h.spelled ∙ ap (λ xs. doubled h.done ++ xs) (front ∙ e) ∙ sym (doubled_more h.done others spelling byte d);
     one_line = line_more h.done byte h.one_line l;
     added = n ∙ ap (λ xs. xs ++ byte ∷ []) h.added ∙ append_assoc old h.done (byte ∷ []);
-    dies = dies
+    dies = dies;
   }
 
   pub more_plain : eqb byte 39 ≡ false → is_line_end byte ≡ false → (newer : List ℕ) → newer ≡ new ++ byte ∷ [] → QuotedSoFar bytes after old newer
   more_plain b l = more (byte ∷ []) after (ap (λ t. cond t (39 ∷ 39 ∷ []) (byte ∷ [])) b) refl l
-    (λ text r q. let d = at_front text r q in plain_dies byte after d.0 r b d.1)
+      (λ text r q. let d = at_front text r q in plain_dies byte after d.0 r b d.1)
 
   pub more_twice : byte ≡ 39 → (others : List ℕ) → after ≡ 39 ∷ others → is_line_end byte ≡ false → (newer : List ℕ) → newer ≡ new ++ byte ∷ [] → QuotedSoFar bytes others old newer
   more_twice b others a l = more (39 ∷ 39 ∷ []) others (ap (λ t. cond t (39 ∷ 39 ∷ []) (byte ∷ [])) (eq-eqb byte 39 b)) (ap (λ x. x ∷ after) b ∙ ap (λ xs. 39 ∷ xs) a) l
-    (λ text r q. let d = at_front text r q in twice_dies byte after others d.0 r b a d.1)
+      (λ text r q. let d = at_front text r q in twice_dies byte after others d.0 r b a d.1)
 
   pub line_ends : is_line_end byte ≡ true → (text r : List ℕ) → IsQuoted bytes text r → ⊥
   line_ends l text r q = let d = at_front text r q in line_dies byte after d.0 r l d.1
@@ -118,7 +118,7 @@ module _ (bytes rest old new : List ℕ) (h : QuotedSoFar bytes rest old new) (b
   quote_ends b a = record {
     text = h.done;
     is_quoted = record { spelled = h.spelled ∙ ap (λ xs. doubled h.done ++ xs) (front ∙ ap (λ x. x ∷ after) b); one_line = h.one_line; last = a };
-    added = h.added
+    added = h.added;
   }
 
 pub text_ends : (bytes rest old new : List ℕ) → QuotedSoFar bytes rest old new → rest ≡ [] → (text r : List ℕ) → IsQuoted bytes text r → ⊥
@@ -136,24 +136,24 @@ no_shut after rest more l a m = false≢true (sym l ∙ ap (λ xs. begins_with x
 pub IsQuoted-unique : (t bytes r : List ℕ) → IsQuoted bytes t r → (t' r' : List ℕ) → IsQuoted bytes t' r' → (t ≡ t') × (r ≡ r')
 IsQuoted-unique t [] r q t' r' q' = absurd (not_empty t r q)
 IsQuoted-unique [] (b ∷ after) r q t' r' q' = elim (quoted_cases b after t' r' q') [
-  shut b' t a l ↦ (sym t, sym (tail_eq q.spelled) ∙ a)
+  | shut b' t a l ↦ (sym t, sym (tail_eq q.spelled) ∙ a)
   | twice others more b' t a i ↦ absurd (no_shut after r more q.last (tail_eq q.spelled) a)
   | plain others e l t i ↦ absurd (eqb-false b 39 e (head_eq q.spelled))
 ]
 IsQuoted-unique (x ∷ xs) (b ∷ after) r q t' r' q' = elim (quoted_cases b after (x ∷ xs) r q) [
-  shut b1 t a l ↦ absurd cc
+  | shut b1 t a l ↦ absurd cc
   | twice others more b1 t a i ↦ elim (quoted_cases b after t' r' q') [
-    shut b2 t2 a2 l2 ↦ absurd (no_shut after r' more l2 a2 a)
+    | shut b2 t2 a2 l2 ↦ absurd (no_shut after r' more l2 a2 a)
     | twice others2 more2 b2 t2 a2 i2 ↦
-      let u = IsQuoted-unique xs more r (subst (λ ys. IsQuoted more ys r) (sym (tail_eq t)) i) others2 r' (subst (λ ys. IsQuoted ys others2 r') (tail_eq (sym a2 ∙ a)) i2) in
-      (ap (λ y. y ∷ xs) (head_eq t) ∙ ap (λ ys. 39 ∷ ys) u.0 ∙ sym t2, u.1)
+        let u = IsQuoted-unique xs more r (subst (λ ys. IsQuoted more ys r) (sym (tail_eq t)) i) others2 r' (subst (λ ys. IsQuoted ys others2 r') (tail_eq (sym a2 ∙ a)) i2) in
+        (ap (λ y. y ∷ xs) (head_eq t) ∙ ap (λ ys. 39 ∷ ys) u.0 ∙ sym t2, u.1)
     | plain others2 e2 l2 t2 i2 ↦ absurd (eqb-false b 39 e2 b1)
   ]
   | plain others e l t i ↦ elim (quoted_cases b after t' r' q') [
-    shut b2 t2 a2 l2 ↦ absurd (eqb-false b 39 e b2)
+    | shut b2 t2 a2 l2 ↦ absurd (eqb-false b 39 e b2)
     | twice others2 more2 b2 t2 a2 i2 ↦ absurd (eqb-false b 39 e b2)
     | plain others2 e2 l2 t2 i2 ↦
-      let u = IsQuoted-unique xs after r (subst (λ ys. IsQuoted after ys r) (sym (tail_eq t)) i) others2 r' i2 in
-      (ap (λ y. y ∷ xs) (head_eq t) ∙ ap (λ ys. b ∷ ys) u.0 ∙ sym t2, u.1)
+        let u = IsQuoted-unique xs after r (subst (λ ys. IsQuoted after ys r) (sym (tail_eq t)) i) others2 r' i2 in
+        (ap (λ y. y ∷ xs) (head_eq t) ∙ ap (λ ys. b ∷ ys) u.0 ∙ sym t2, u.1)
   ]
 ]

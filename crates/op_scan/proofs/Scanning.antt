@@ -1,5 +1,5 @@
 -- The loop over a text, and that a text has one outcome.
-use Rattle.std.proofs.Common.{◌≡◌, ◌≢◌, ℕ, ◌+◌, ◌-◌, ◌^◌, ◌<◌, ◌≤◌, List, [], ◌∷◌, ◌++◌, take, drop, length, Some, None, Result, Ok, Err, refl, sym, ap, ◌∙◌, subst, append_assoc, length-append, arith}
+use Rattle.std.proofs.Common.{◌≡◌, ◌≢◌, ℕ, ◌+◌, ◌^◌, ◌<◌, ◌≤◌, List, [], ◌∷◌, ◌++◌, take, drop, length, Some, None, Result, Ok, Err, refl, sym, ap, ◌∙◌, subst, append_assoc, length-append, arith}
 use Rattle.std.proofs.lemmas.List.{take-append-drop, length-take, length-drop}
 use Rattle.op_base.specs.declared.place.Place.{Place}
 use Rattle.op_base.specs.declared.rule.Refusal.{Refusal}
@@ -8,7 +8,6 @@ use Rattle.op_scan.proofs.Items.{Stands-unique, append_cancel, no_symbol_empty}
 use Rattle.op_scan.proofs.Places.{place_bounds, place_begin}
 use Rattle.op_scan.proofs.Lists.{nil_of_length}
 use Rattle.op_scan.proofs.Strings.{append_nil}
-
 use Rattle.op_scan.specs.Comment.{opening, closing}
 use Rattle.op_scan.specs.Item.{Item, Stands, blank, line_comment, comment, name, number, string, symbol, IsFront, stands, nothing as no_front, effect_of, rule_without}
 use Rattle.op_scan.specs.Literal.{mark_of}
@@ -169,7 +168,7 @@ scan_begins file mark text = record {
   parts = refl;
   first_is = omega arith;
   place_is = sym (place_begin file);
-  completes = λ o d. subst (λ z. Scans file mark [] all_off text z) (sym (after_nil o)) d
+  completes = λ o d. subst (λ z. Scans file mark [] all_off text z) (sym (after_nil o)) d;
 }
 
 -- an item that breaks no rule
@@ -216,7 +215,7 @@ module _ (file mark : ℕ) (text rest : List ℕ) (first : ℕ) (place : Place) 
         parts = cut_parts n;
         first_is = cut_first n (front_within f);
         place_is = moved n there follows;
-        completes = λ o d. h.completes o (passes (take n rest) (drop n rest) g.item (sym (take-append-drop n rest)) g.stands_there (g.is ∙ e) d)
+        completes = λ o d. h.completes o (passes (take n rest) (drop n rest) g.item (sym (take-append-drop n rest)) g.stands_there (g.is ∙ e) d);
       }
 
   pub scan_gives : (n : ℕ) (effect : Effect) (kind : TokenKind) → IsFront s rest n effect → effect ≡ Gives kind → (there : Place) → ((before : List ℕ) → place ≡ place_of place.file before → there ≡ place_of place.file (before ++ take n rest)) → (newer : List Token) → newer ≡ tokens ++ (record { kind = kind; span = record { first = first; past = first + n }; place = place; switches = s }) ∷ [] → ScanSoFar file mark text (drop n rest) (first + n) there s newer
@@ -225,9 +224,9 @@ module _ (file mark : ℕ) (text rest : List ℕ) (first : ℕ) (place : Place) 
       let le = front_within f in
       let past : first + n ≡ mark + length h.before + length (take n rest) = omega (arith, h.first_is, le, length-take n rest) in
       let token : ◌≡◌ {A = Token} (record { kind = kind; span = record { first = first; past = first + n }; place = place; switches = s }) (token_at file mark h.before (take n rest) s kind) =
-        ap (λ (z : ℕ). let t : Token = record { kind = kind; span = record { first = z; past = first + n }; place = place; switches = s } in t) h.first_is
-        ∙ ap (λ (z : ℕ). let t : Token = record { kind = kind; span = record { first = mark + length h.before; past = z }; place = place; switches = s } in t) past
-        ∙ ap (λ (z : Place). let t : Token = record { kind = kind; span = record { first = mark + length h.before; past = mark + length h.before + length (take n rest) }; place = z; switches = s } in t) h.place_is
+      ap (λ (z : ℕ). let t : Token = record { kind = kind; span = record { first = z; past = first + n }; place = place; switches = s } in t) h.first_is
+      ∙ ap (λ (z : ℕ). let t : Token = record { kind = kind; span = record { first = mark + length h.before; past = z }; place = place; switches = s } in t) past
+      ∙ ap (λ (z : Place). let t : Token = record { kind = kind; span = record { first = mark + length h.before; past = mark + length h.before + length (take n rest) }; place = z; switches = s } in t) h.place_is
       in
       record {
         before = h.before ++ take n rest;
@@ -235,10 +234,10 @@ module _ (file mark : ℕ) (text rest : List ℕ) (first : ℕ) (place : Place) 
         first_is = cut_first n le;
         place_is = moved n there follows;
         completes = λ o d.
-          subst (λ z. Scans file mark [] all_off text z)
-          (sym (ap (λ z. after_all z o) (new ∙ ap (λ t. tokens ++ t ∷ []) token) ∙ after_push tokens (token_at file mark h.before (take n rest) s kind) o))
-          (h.completes (preceded (token_at file mark h.before (take n rest) s kind) o)
-          (gives kind o (take n rest) (drop n rest) g.item (sym (take-append-drop n rest)) g.stands_there (g.is ∙ e) d refl))
+            subst (λ z. Scans file mark [] all_off text z)
+            (sym (ap (λ z. after_all z o) (new ∙ ap (λ t. tokens ++ t ∷ []) token) ∙ after_push tokens (token_at file mark h.before (take n rest) s kind) o))
+            (h.completes (preceded (token_at file mark h.before (take n rest) s kind) o)
+            (gives kind o (take n rest) (drop n rest) g.item (sym (take-append-drop n rest)) g.stands_there (g.is ∙ e) d refl));
       }
 
   refusal_is : (r : Rule) → ◌≡◌ {A = Outcome} (refused (record { rule = r; place = place })) (refused (record { rule = r; place = place_of file h.before }))

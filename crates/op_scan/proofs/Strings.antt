@@ -1,11 +1,11 @@
 -- Parts of strings: each is told by its bytes, and so is a run of them.
-use Rattle.std.proofs.Common.{◌≡◌, ◌≢◌, ℕ, ◌+◌, ◌-◌, ◌<◌, ◌≤◌, Bool, true, false, cond, eqb, List, [], ◌∷◌, ◌++◌, take, drop, length, min, Option, Some, None, MatchOption, ◌⊎◌, ⊎_elim, refl, sym, ap, ◌∙◌, subst, append_assoc, length-append, arith}
-use Rattle.std.proofs.lemmas.Bool.{eqb-true, eqb-false, eq-eqb, false≢true}
+use Rattle.std.proofs.Common.{◌≡◌, ◌≢◌, ℕ, ◌+◌, ◌<◌, ◌≤◌, Bool, true, false, cond, eqb, List, [], ◌∷◌, ◌++◌, take, drop, length, min, Option, Some, None, MatchOption, ◌⊎◌, ⊎_elim, refl, sym, ap, ◌∙◌, subst, append_assoc, length-append, arith}
+use Rattle.std.proofs.lemmas.Bool.{eqb-false, false≢true}
 use Rattle.std.proofs.lemmas.List.{take-append-drop, length-take}
-use Rattle.std.specs.List.{prefix_len, take_while, list_any}
-use Rattle.op_scan.proofs.Lists.{head_eq, tail_eq, nil_of_length}
+use Rattle.std.specs.List.{prefix_len, take_while}
+use Rattle.op_scan.proofs.Lists.{head_eq, tail_eq}
 use Rattle.op_scan.proofs.Quoting.{IsQuoted-unique}
-use Rattle.op_scan.specs.Byte.{is_digit_in, is_line_end, begins_with}
+use Rattle.op_scan.specs.Byte.{is_digit_in, begins_with}
 use Rattle.op_scan.specs.Literal.{doubled, IsQuoted, AreDigits, IsCharacter, value_of, Part, quoted, decimal, hexadecimal, NoPart, AddsPart, Parts, stop, more, AddsParts, AddsQuoted}
 use Rattle.op_scan.specs.declared.number.Base.{Base}
 use Rattle.op_scan.specs.declared.number.Base.TheVariants.{Decimal, Hexadecimal}
@@ -19,7 +19,7 @@ append_nil (x ∷ xs) = ap (λ ys. x ∷ ys) (append_nil xs)
 pub digits_front : (base : Base) (bytes : List ℕ) (n : ℕ) → n ≡ prefix_len (is_digit_in base) bytes → n ≤ length bytes → n ≢ 0 → AreDigits base (take n bytes) (drop n bytes)
 digits_front base bytes n e le some = record {
   some = λ empty. some (omega (arith, length-take n bytes, ap length empty));
-  longest = subst (λ z. take n bytes ≡ take_while (is_digit_in base) z) (sym (take-append-drop n bytes)) (ap (λ k. take k bytes) e)
+  longest = subst (λ z. take n bytes ≡ take_while (is_digit_in base) z) (sym (take-append-drop n bytes)) (ap (λ k. take k bytes) e);
 }
 
 pub digits_are : (base : Base) (bytes digits rest : List ℕ) → bytes ≡ digits ++ rest → AreDigits base digits rest → digits ≡ take_while (is_digit_in base) bytes
@@ -122,14 +122,14 @@ pub parts_more : (bytes rest after old new newer : List ℕ) → PartsSoFar byte
 parts_more bytes rest after old new newer h a = record {
   done = h.done ++ a.text;
   added = a.added ∙ ap (λ xs. xs ++ a.text) h.added ∙ append_assoc old h.done a.text;
-  completes = λ r others d. subst (λ z. Parts bytes r z) (sym (append_assoc h.done a.text others)) (h.completes r (a.text ++ others) (more a.piece after a.text a.front a.is_part d))
+  completes = λ r others d. subst (λ z. Parts bytes r z) (sym (append_assoc h.done a.text others)) (h.completes r (a.text ++ others) (more a.piece after a.text a.front a.is_part d));
 }
 
 pub parts_end : (bytes rest old new : List ℕ) → PartsSoFar bytes rest old new → NoPart rest → AddsParts bytes rest old new
 parts_end bytes rest old new h n = record {
   text = h.done;
   are_parts = subst (λ z. Parts bytes rest z) (append_nil h.done) (h.completes rest [] (stop n));
-  added = h.added
+  added = h.added;
 }
 
 pub part_shortens : (rest after old new : List ℕ) → AddsPart rest after old new → length after < length rest
@@ -147,33 +147,33 @@ quoted_part_found bytes rest old new h = record {
   text = h.text;
   front = ap (λ xs. 39 ∷ xs) (h.is_quoted.spelled ∙ sym (append_assoc (doubled h.text) (39 ∷ []) rest));
   is_part = quoted h.is_quoted.one_line h.is_quoted.last;
-  added = h.added
+  added = h.added;
 }
 
 pub quoted_part_missing : (bytes : List ℕ) → ((text rest : List ℕ) → IsQuoted bytes text rest → ⊥) → NoPart (39 ∷ bytes)
 quoted_part_missing bytes n piece rest text e p = elim (part_cases 39 bytes piece rest text e p) [
-  in_quotes f q ↦ n text rest q
+  | in_quotes f q ↦ n text rest q
   | by_decimal ds f a h x ↦ 39≢35 39 refl f
   | by_hexadecimal ds f a h x ↦ 39≢35 39 refl f
 ]
 
 pub hexadecimal_missing : (digits : List ℕ) → ((ds rest : List ℕ) → digits ≡ ds ++ rest → IsCharacter Hexadecimal ds rest → ⊥) → NoPart (35 ∷ 36 ∷ digits)
 hexadecimal_missing digits n piece rest text e p = elim (part_cases 35 (36 ∷ digits) piece rest text e p) [
-  in_quotes f q ↦ 39≢35 35 f refl
+  | in_quotes f q ↦ 39≢35 35 f refl
   | by_decimal ds f a h x ↦ no_dollar ds rest digits h (sym a)
   | by_hexadecimal ds f a h x ↦ n ds rest (tail_eq a) h
 ]
 
 pub decimal_missing : (bytes : List ℕ) → begins_with bytes 36 ≡ false → ((ds rest : List ℕ) → bytes ≡ ds ++ rest → IsCharacter Decimal ds rest → ⊥) → NoPart (35 ∷ bytes)
 decimal_missing bytes b n piece rest text e p = elim (part_cases 35 bytes piece rest text e p) [
-  in_quotes f q ↦ 39≢35 35 f refl
+  | in_quotes f q ↦ 39≢35 35 f refl
   | by_decimal ds f a h x ↦ n ds rest a h
   | by_hexadecimal ds f a h x ↦ false≢true (sym b ∙ ap (λ z. begins_with z 36) a)
 ]
 
 pub no_part_here : (first : ℕ) (after : List ℕ) → eqb first 39 ≡ false → eqb first 35 ≡ false → NoPart (first ∷ after)
 no_part_here first after a b piece rest text e p = elim (part_cases first after piece rest text e p) [
-  in_quotes f q ↦ eqb-false first 39 a f
+  | in_quotes f q ↦ eqb-false first 39 a f
   | by_decimal ds f a' h x ↦ eqb-false first 35 b f
   | by_hexadecimal ds f a' h x ↦ eqb-false first 35 b f
 ]

@@ -1,22 +1,20 @@
 -- Symbols in front of the bytes.
-use Rattle.std.proofs.Common.{◌≡◌, ◌≢◌, ℕ, suc, ◌+◌, ◌-◌, ◌<◌, ◌≤◌, Bool, true, false, cond, eqb, List, [], ◌∷◌, ◌++◌, take, drop, length, Option, Some, None, ◌⊎◌, inl, inr, ⊎_elim, refl, sym, ap, ◌∙◌, subst, length-append, arith}
+use Rattle.std.proofs.Common.{◌≡◌, ◌≢◌, ℕ, Bool, true, false, cond, eqb, List, [], ◌∷◌, ◌++◌, take, drop, length, Some, None, refl, sym, ap, ◌∙◌, subst, length-append, arith}
 use Rattle.std.specs.Str.{bytes_eq}
 use Rattle.std.proofs.Math.Seq.{take-append_seam}
 use Rattle.std.proofs.lemmas.Bool.{eqb-true, eqb-false, false≢true}
-use Rattle.std.proofs.lemmas.List.{take-append-drop, length-take}
+use Rattle.std.proofs.lemmas.List.{take-append-drop}
 use Rattle.std.proofs.lemmas.Option.{none-some}
 use Rattle.std.proofs.lemmas.Slice.Eq.{bytes_eq-Decides}
 use Rattle.op_scan.proofs.Classes.{NoMark, class_means, Means}
 use Rattle.op_scan.proofs.Items.{Shape, shape_at, IsLongest}
-use Rattle.op_scan.proofs.Lists.{head_eq, tail_eq, one_false, two_false}
-use Rattle.op_scan.specs.Byte.{begins_with}
-use Rattle.op_scan.specs.Class.{class_of, class_at}
+use Rattle.op_scan.proofs.Lists.{one_false, two_false}
+use Rattle.op_scan.specs.Class.{class_at}
 use Rattle.op_scan.specs.Comment.{opening}
 use Rattle.op_scan.specs.Directive.{rule}
 use Rattle.op_scan.specs.Item.{Item, a_symbol, Stands, symbol, rule_without}
 use Rattle.op_scan.specs.Keyword.{kind_beside}
 use Rattle.op_scan.specs.Symbol.{symbol_of, symbols_of_one, symbols_of_two}
-use Rattle.op_scan.specs.declared.class.Class.{Class}
 use Rattle.op_scan.specs.declared.class.Class.TheVariants as class
 use Rattle.op_scan.specs.declared.comment.Marks.{Marks}
 use Rattle.op_scan.specs.declared.comment.Marks.TheVariants.{Braces, Stars}
@@ -93,8 +91,8 @@ module _ (bytes : List ℕ) (c : class_at bytes ≡ class.Symbol) where
       let two = two_length kind e in
       front 2 kind (is_two (take 2 bytes) two ∙ e)
       (λ others after n b.
-        let len = length-append (take 2 bytes) others in
-        is_none (take 2 bytes ++ others) (λ z. omega (arith, len, two, z)) (λ z. n (nil others (omega (arith, len, two, z)))))
+      let len = length-append (take 2 bytes) others in
+      is_none (take 2 bytes ++ others) (λ z. omega (arith, len, two, z)) (λ z. n (nil others (omega (arith, len, two, z)))))
     where
       nil : (xs : List ℕ) → length xs ≡ 0 → xs ≡ []
       nil [] e = refl
@@ -105,6 +103,7 @@ module _ (bytes : List ℕ) (c : class_at bytes ≡ class.Symbol) where
     where
       one : length (take 1 bytes) ≡ 1
       one = one_length kind e
+
       longest : (bytes : List ℕ) → length (take 1 bytes) ≡ 1 → kind_beside (take 2 bytes) symbols_of_two ≡ None → IsLongest (take 1 bytes) (drop 1 bytes)
       longest [] one none others after n b = absurd (omega (arith, one))
       longest (f ∷ af) one none [] after n b = absurd (n refl)
@@ -117,8 +116,10 @@ module _ (bytes : List ℕ) (c : class_at bytes ≡ class.Symbol) where
     where
       s : Shape class.Symbol bytes piece rest item
       s = shape_at bytes piece rest item class.Symbol b c h
+
       piece_is : piece ≡ take (length piece) bytes
       piece_is = sym (take-append_seam piece rest) ∙ ap (take (length piece)) (sym b)
+
       at : (t u : Bool) → eqb (length piece) 1 ≡ t → eqb (length piece) 2 ≡ u → ⊥
       at true u p q =
           let l = eqb-true (length piece) 1 p in
@@ -137,6 +138,7 @@ symbol_rule (first ∷ after) c none =
   where
     paren_is : eqb first 40 ≡ true → ⊥
     paren_is h = none-some _ (sym none ∙ ap (λ z. kind_beside (z ∷ []) symbols_of_one) (eqb-true first 40 h))
+
     at : (quote brace paren dollar ampersand percent hash : Bool) → eqb first 40 ≡ paren → quote ≡ false → brace ≡ false → dollar ≡ false → ampersand ≡ false → percent ≡ false → hash ≡ false → cond quote (rule 2) (cond brace (rule 3) (cond paren (rule 3) (cond dollar (rule 4) (cond ampersand (rule 4) (cond percent (rule 4) (cond hash (rule 5) (rule 1))))))) ≡ rule 1
     at true b o d a p h e1 e2 e3 e4 e5 e6 e7 = absurd (false≢true (sym e2))
     at false true o d a p h e1 e2 e3 e4 e5 e6 e7 = absurd (false≢true (sym e3))

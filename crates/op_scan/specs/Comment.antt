@@ -1,5 +1,5 @@
 -- Comments (Free Pascal Reference Guide, "Comments").
-use Rattle.std.specs.Prelude.{◌≡◌, ◌≢◌, ℕ, List, [], ◌∷◌, ◌++◌, codes}
+use Rattle.std.specs.Prelude.{◌≡◌, ◌≢◌, ℕ, List, ◌∷◌, ◌++◌, codes}
 use Rattle.op_scan.specs.declared.comment.Marks.{Marks}
 use Rattle.op_scan.specs.declared.comment.Marks.TheVariants.{Braces, Stars}
 

@@ -1,5 +1,5 @@
 -- What comments and directives do (Free Pascal Programmer's Guide, "Compiler directives").
-use Rattle.std.specs.Prelude.{◌≡◌, ℕ, Bool, true, false, List, [], ◌∷◌, Option, Some, None, codes, length, map, drop, nat_eq, ◌||◌, ◌&&◌, not, is_some, if◌then◌else◌}
+use Rattle.std.specs.Prelude.{ℕ, Bool, true, false, List, [], ◌∷◌, Option, Some, None, codes, length, map, drop, nat_eq, ◌||◌, ◌&&◌, not, if◌then◌else◌}
 use Rattle.std.specs.List.{take_while, prefix_len, list_any}
 use Rattle.std.specs.Str.{bytes_eq}
 use Rattle.std.specs.Char.{to_ascii_lowercase, is_ascii_alphabetic}
@@ -7,7 +7,7 @@ use Rattle.op_base.specs.declared.rule.Rule.{Rule}
 use Rattle.op_scan.specs.Byte.{is_blank, is_name_byte, begins_with}
 use Rattle.op_scan.specs.declared.token.Switches.{Switches}
 use Rattle.op_scan.specs.declared.effect.Effect.{Effect}
-use Rattle.op_scan.specs.declared.effect.Effect.TheVariants.{Passes, Gives, Breaks}
+use Rattle.op_scan.specs.declared.effect.Effect.TheVariants.{Passes, Breaks}
 
 -- rule V of this number, that has no features
 abbrev pub rule : ℕ → Rule

@@ -1,9 +1,9 @@
 -- What a text is made of: blanks, comments and words (Free Pascal Reference Guide, chapter "Pascal Tokens").
-use Rattle.std.specs.Prelude.{◌≡◌, ◌≢◌, ℕ, ◌≤◌, Bool, true, List, [], ◌∷◌, ◌++◌, Option, Some, None, codes, length, map, take, drop, nat_eq, nat_lt, not, unwrap_or, if◌then◌else◌}
+use Rattle.std.specs.Prelude.{◌≡◌, ◌≢◌, ℕ, ◌≤◌, true, List, [], ◌∷◌, ◌++◌, Some, None, codes, length, map, take, drop, nat_eq, nat_lt, not, unwrap_or, if◌then◌else◌}
 use Rattle.std.specs.List.{take_while}
 use Rattle.std.specs.Char.{to_ascii_lowercase}
 use Rattle.op_base.specs.declared.rule.Rule.{Rule}
-use Rattle.op_scan.specs.Byte.{is_name_start, is_name_byte, is_blank, begins_with}
+use Rattle.op_scan.specs.Byte.{is_name_start, is_name_byte, is_blank}
 use Rattle.op_scan.specs.Comment.{opening, closing, Closes}
 use Rattle.op_scan.specs.Directive.{rule, effect_of_comment}
 use Rattle.op_scan.specs.Keyword.{keyword_of}

@@ -1,5 +1,5 @@
 -- Numbers and strings (Free Pascal Reference Guide, "Numbers" and "Character strings").
-use Rattle.std.specs.Prelude.{◌≡◌, ◌≢◌, ℕ, ◌+◌, ◌*◌, ◌≤◌, Bool, true, false, List, [], ◌∷◌, ◌++◌, codes, fold, nat_eq, if◌then◌else◌}
+use Rattle.std.specs.Prelude.{◌≡◌, ◌≢◌, ℕ, ◌+◌, ◌*◌, ◌≤◌, false, List, [], ◌∷◌, ◌++◌, codes, fold, nat_eq, if◌then◌else◌}
 use Rattle.std.specs.List.{take_while, flat_map, list_any}
 use Rattle.std.specs.Char.{digit_value}
 use Rattle.op_scan.specs.Byte.{radix_of, is_digit_in, is_line_end, begins_with}

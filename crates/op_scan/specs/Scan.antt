@@ -18,7 +18,7 @@ unfoldable pub place_of : ℕ → List ℕ → Place
 place_of file before = record {
   file = file;
   line = 1 + count_by (λ byte. nat_eq byte 10) before;
-  col = 1 + length (after_last (λ byte. nat_eq byte 10) before)
+  col = 1 + length (after_last (λ byte. nat_eq byte 10) before);
 }
 
 -- the token that these bytes spell, behind a mark of so many bytes and those before
@@ -27,7 +27,7 @@ token_at file mark before piece s kind = record {
   kind = kind;
   span = record { first = mark + length before; past = mark + length before + length piece };
   place = place_of file before;
-  switches = s
+  switches = s;
 }
 
 -- where a file begins, all switches are off

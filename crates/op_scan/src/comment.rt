@@ -6,10 +6,10 @@ ghost use Rattle.op_scan.specs.Inside.{opens, inside_at};
 ghost use Rattle.op_scan.specs.Item.{IsFront};
 ghost use Rattle.op_scan.specs.declared.class.Class.TheVariants as class;
 
+use crate::Switches;
 use crate::byte::{ByteKind, begins_with, run_length};
 use crate::directive::effect_of_comment;
 use crate::effect::{COMMENT_NOT_CLOSED, Effect, Front};
-use crate::Switches;
 use op_base::NoMemory;
 use std::alloc::Global;
 
@@ -75,7 +75,11 @@ fn inside_at(marks: Marks, first: u8, after: &[u8]) -> Inside
 }
 
 /// What stands behind the comment whose inside begins with these bytes, if it is closed.
-fn after_comment<'a>(alloc: Global, first: Marks, bytes: &'a [u8]) -> Result<Option<&'a [u8]>, NoMemory>
+fn after_comment<'a>(
+    alloc: Global,
+    first: Marks,
+    bytes: &'a [u8],
+) -> Result<Option<&'a [u8]>, NoMemory>
     ensures { IfOk result (λ found. MatchOption found
         ((rest : List ℕ) → Closes first bytes.now rest → ⊥)
         (λ rest. Closes first bytes.now rest.now)) }
@@ -104,7 +108,12 @@ fn after_comment<'a>(alloc: Global, first: Marks, bytes: &'a [u8]) -> Result<Opt
 }
 
 /// The comment or directive with these marks at the front.
-pub fn comment(alloc: Global, marks: Marks, bytes: &[u8], switches: Switches) -> Result<Front, NoMemory>
+pub fn comment(
+    alloc: Global,
+    marks: Marks,
+    bytes: &[u8],
+    switches: Switches,
+) -> Result<Front, NoMemory>
     requires { class_at bytes.now ≡ class.Comment marks }
     ensures { IfOk result (λ front. IsFront switches bytes.now front.length front.effect) }
 {

@@ -5,9 +5,7 @@ ghost use Rattle.op_scan.specs.Directive.{argument_of, effect_of_comment, effect
 
 use crate::Switches;
 use crate::byte::{ByteKind, begins_with, run_length};
-use crate::effect::{
-    BAD_DIRECTIVE, CONDITIONAL_DIRECTIVE, CORBA_INTERFACES, Effect, OTHER_MODE,
-};
+use crate::effect::{BAD_DIRECTIVE, CONDITIONAL_DIRECTIVE, CORBA_INTERFACES, Effect, OTHER_MODE};
 use crate::keyword::is_same_word;
 
 /// What a comment with this inside does.

@@ -25,42 +25,52 @@ pub const NO_TOKEN: Rule = Rule {
     number: 1,
     feature: 0,
 };
+
 pub const STRING_NOT_CLOSED: Rule = Rule {
     number: 2,
     feature: 0,
 };
+
 pub const COMMENT_NOT_CLOSED: Rule = Rule {
     number: 3,
     feature: 0,
 };
+
 pub const BAD_NUMBER: Rule = Rule {
     number: 4,
     feature: 0,
 };
+
 pub const BAD_CHARACTER: Rule = Rule {
     number: 5,
     feature: 0,
 };
+
 pub const BAD_DIRECTIVE: Rule = Rule {
     number: 6,
     feature: 0,
 };
+
 pub const OTHER_MODE: Rule = Rule {
     number: 7,
     feature: 0,
 };
+
 pub const CONDITIONAL_DIRECTIVE: Rule = Rule {
     number: 8,
     feature: 0,
 };
+
 pub const CORBA_INTERFACES: Rule = Rule {
     number: 13,
     feature: 23,
 };
+
 pub const LONG_IDENTIFIER: Rule = Rule {
     number: 65,
     feature: 0,
 };
+
 pub const LONG_STRING: Rule = Rule {
     number: 66,
     feature: 0,

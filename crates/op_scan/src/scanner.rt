@@ -15,7 +15,6 @@ use crate::{ScanError, Switches, Token, TokenList, Tokens};
 use op_base::{NoMemory, Place, Refusal, Span};
 use std::alloc::Global;
 
-
 /// What stands at the front of the bytes, where these switches hold.
 fn front(alloc: Global, bytes: &[u8], switches: Switches) -> Result<Front, NoMemory>
     ensures { IfOk result (λ front. IsFront switches bytes.now front.length front.effect) }

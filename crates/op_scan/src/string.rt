@@ -5,10 +5,10 @@ ghost use Rattle.op_scan.specs.Item.{IsFront, a_string, effect_of};
 ghost use Rattle.op_scan.specs.Literal.{AddsPart, AddsParts, AddsQuoted, IsCharacter, IsQuoted, NoPart, Part, value_of};
 ghost use Rattle.op_scan.specs.declared.class.Class.TheVariants as class;
 
-use crate::{Switches, TokenKind};
 use crate::byte::{ByteKind, begins_with, is_line_end, run_length};
 use crate::effect::{BAD_CHARACTER, Effect, Front, LONG_STRING, STRING_NOT_CLOSED};
 use crate::number::{Base, digits_value};
+use crate::{Switches, TokenKind};
 use op_base::{NoMemory, Text};
 use std::alloc::Global;
 
@@ -48,7 +48,7 @@ fn character_in(base: Base, bytes: &[u8]) -> Option<(u8, &[u8])>
     ensures { MatchOption result
         ((digits rest : List ℕ) → bytes.now ≡ digits ++ rest → IsCharacter base digits rest → ⊥)
         (λ found. (digits : List ℕ) × (bytes.now ≡ digits ++ found.1.now)
-            × IsCharacter base digits found.1.now × (value_of base digits ≡ found.0)) }
+        × IsCharacter base digits found.1.now × (value_of base digits ≡ found.0)) }
 {
     let count = run_length(ByteKind::Digit(base), bytes);
     let (digits, rest) = bytes.split_at(count);

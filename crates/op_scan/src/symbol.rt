@@ -6,8 +6,8 @@ ghost use Rattle.op_scan.specs.Keyword.{kind_beside};
 ghost use Rattle.op_scan.specs.Symbol.{symbols_of_one, symbols_of_two};
 ghost use Rattle.op_scan.specs.declared.class.Class.TheVariants as class;
 
-use crate::{Switches, TokenKind};
 use crate::effect::{Effect, Front, NO_TOKEN};
+use crate::{Switches, TokenKind};
 
 /// The symbol that the first two bytes are, if they are one.
 fn symbol_of_two(bytes: &[u8]) -> Option<TokenKind>

@@ -1,5 +1,5 @@
 use Rattle.std.proofs.Common.{◌≡◌, ◌+◌, ◌-◌, ◌≤◌, ◌++◌, drop, take, length, refl, sym, ap, ◌∙◌, arith, length-append}
-use Rattle.op_scan.specs.Comment.{opening, Closes}
+use Rattle.op_scan.specs.Comment.{opening}
 use Rattle.op_scan.specs.Directive.{effect_of_comment}
 use Rattle.op_scan.specs.Item.{a_comment, stands, nothing}
 use Rattle.op_scan.specs.declared.effect.Effect.TheVariants.{Breaks}
@@ -44,4 +44,4 @@ returns-in-Some c =
     let within : length mark + n ≤ length bytes = omega (arith, ap length whole, length-append mark on) in
     rw c.mark_length-width.ensures
     (stands (a_comment (take (n - length mark) on)) within (comment_front c.args.marks on rest closed bytes n whole refl)
-      (c.effect_of_comment.ensures ∙ ap (effect_of_comment c.args.switches) (c.split_at-in-Some.ensures.front ∙ ap (λ w. take (n - w) on) c.mark_length-width.ensures)))
+    (c.effect_of_comment.ensures ∙ ap (effect_of_comment c.args.switches) (c.split_at-in-Some.ensures.front ∙ ap (λ w. take (n - w) on) c.mark_length-width.ensures)))

@@ -1,6 +1,5 @@
-use Rattle.std.proofs.Common.{◌≡◌, ◌++◌, ◌∷◌, drop, take, length, refl, sym, ap, ◌∙◌, arith}
+use Rattle.std.proofs.Common.{◌∷◌, take, length, sym, ap, ◌∙◌, arith}
 use Rattle.op_scan.specs.Item.{a_comment, stands}
-use Rattle.op_scan.specs.Directive.{effect_of_comment}
 use Rattle.op_scan.proofs.Fronts.{line_marked, line_front}
 use Rattle.op_scan.proofs.comment.line_comment.Goals as goal
 

@@ -1,5 +1,5 @@
-use Rattle.std.proofs.Common.{◌≡◌, ◌∷◌, true, ap, ◌∙◌, sym, rules}
-use Rattle.op_scan.specs.Directive.{is_switch, with_switch, switched}
+use Rattle.std.proofs.Common.{◌≡◌, ◌∷◌, true, ap, ◌∙◌, rules}
+use Rattle.op_scan.specs.Directive.{is_switch, switched}
 use Rattle.op_scan.proofs.Directives.{switched_more}
 use Rattle.op_scan.proofs.directive.switched.Goals as goal
 

@@ -1,4 +1,4 @@
-use Rattle.std.proofs.Common.{take, sym, rules}
+use Rattle.std.proofs.Common.{take}
 use Rattle.op_scan.specs.Item.{a_name, stands}
 use Rattle.op_scan.proofs.Fronts.{name_front}
 use Rattle.op_scan.proofs.name.name.Goals as goal

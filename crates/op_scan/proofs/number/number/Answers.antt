@@ -32,5 +32,5 @@ returns c =
     let within : length mark + n ≤ length bytes = omega (arith, ap length whole, length-append mark rest, c.run_length-count.ensures.within) in
     rw c.mark_length-mark.ensures
     (stands (a_number (value_of c.args.base (take n rest))) within
-      (number_front c.args.base bytes rest n whole c.run_length-count.ensures.run c.run_length-count.ensures.within c.if-count-eq0.false)
-      (c.effect_of_number.ensures ∙ number_effect (value_of c.args.base (take n rest)) c.digits_value.result value))
+    (number_front c.args.base bytes rest n whole c.run_length-count.ensures.run c.run_length-count.ensures.within c.if-count-eq0.false)
+    (c.effect_of_number.ensures ∙ number_effect (value_of c.args.base (take n rest)) c.digits_value.result value))

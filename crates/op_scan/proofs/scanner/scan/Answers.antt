@@ -43,7 +43,7 @@ pub loop-rest-smaller : goal.loop-rest-smaller
 loop-rest-smaller c =
     let f = c.in_ok-length.ensures in
     let moves : length (drop c.in_ok-length.field-0.length c.loop-rest.rest.now) < length c.loop-rest.rest.now = elim c.match-effect.branch [
-      in-Passes w ↦ front_moves f (λ r b. passes≢breaks (sym w.in-Passes.is ∙ b))
+      | in-Passes w ↦ front_moves f (λ r b. passes≢breaks (sym w.in-Passes.is ∙ b))
       | in-Gives+in_ok-push-in-Gives w ↦ front_moves f (λ r b. gives≢breaks (sym w.in-Gives.is ∙ b))
     ] in
     omega (arith, moves, ap length c.split_at.ensures.back)
@@ -54,7 +54,7 @@ loop-rest-preserved c =
     let f = c.in_ok-length.ensures in
     let follows = rw c.split_at.ensures.front at c.place_behind-place.ensures in
     elim c.match-effect.branch [
-      in-Passes w ↦ rw (w.switches-is, w.tokens-is, c.split_at.ensures.back) (scan_passes _ _ _ _ _ _ _ _ l.invariant _ _ w.in-Passes.next f w.in-Passes.is _ follows)
+      | in-Passes w ↦ rw (w.switches-is, w.tokens-is, c.split_at.ensures.back) (scan_passes _ _ _ _ _ _ _ _ l.invariant _ _ w.in-Passes.next f w.in-Passes.is _ follows)
       | in-Gives+in_ok-push-in-Gives w ↦ rw (w.switches-is, w.tokens-is, c.split_at.ensures.back) (scan_gives _ _ _ _ _ _ _ _ l.invariant _ _ w.in-Gives.kind f w.in-Gives.is _ follows _ w.in_ok-push-in-Gives.ensures.items)
     ]
 

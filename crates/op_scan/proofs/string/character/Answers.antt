@@ -1,4 +1,4 @@
-use Rattle.std.proofs.Common.{sym, subst}
+use Rattle.std.proofs.Common.{sym}
 use Rattle.op_scan.proofs.Lists.{begins_true}
 use Rattle.op_scan.proofs.Strings.{match_weaker, hexadecimal_found, decimal_found, hexadecimal_no_part, decimal_missing}
 use Rattle.op_scan.proofs.string.character.Goals as goal

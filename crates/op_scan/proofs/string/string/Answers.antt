@@ -1,4 +1,4 @@
-use Rattle.std.proofs.Common.{◌≡◌, ◌-◌, ◌≤◌, ◌++◌, List, [], length, refl, sym, ap, ◌∙◌, arith}
+use Rattle.std.proofs.Common.{◌-◌, ◌≤◌, ◌++◌, length, refl, sym, ap, ◌∙◌, arith}
 use Rattle.op_scan.specs.Item.{a_string, effect_of, stands, nothing}
 use Rattle.op_scan.specs.declared.effect.Effect.TheVariants.{Breaks}
 use Rattle.op_scan.proofs.Fronts.{string_length, string_front, string_missing, hash_rule, quote_rule}

@@ -2,7 +2,6 @@ use Rattle.std.proofs.Common.{refl, sym, arith}
 use Rattle.std.proofs.lemmas.List.{length-take}
 use Rattle.op_scan.specs.Item.{a_symbol, stands, nothing}
 use Rattle.op_scan.proofs.SymbolFronts.{two_length, one_length, two_front, one_front, symbol_missing, symbol_rule}
-use Rattle.op_scan.specs.Directive.{rule}
 use Rattle.op_scan.specs.declared.effect.Effect.TheVariants.{Breaks}
 use Rattle.std.proofs.Common.{ap}
 use Rattle.op_scan.proofs.symbol.symbol.Goals as goal
