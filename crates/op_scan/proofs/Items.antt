@@ -13,7 +13,7 @@ use Rattle.op_scan.proofs.Classes.{class_name, class_blank, class_digit}
 use Rattle.op_scan.specs.Byte.{is_name_start, is_name_byte, is_blank, begins_with}
 use Rattle.op_scan.specs.Class.{class_of, class_at}
 use Rattle.op_scan.specs.Comment.{opening, closing, Closes}
-use Rattle.op_scan.specs.Item.{Item, a_blank, a_comment, a_name, a_number, a_string, a_symbol, Stands, blank, line_comment, comment, name, number, string, symbol}
+use Rattle.op_scan.specs.Item.{Item, NoLongerSymbol, a_blank, a_comment, a_name, a_number, a_string, a_symbol, Stands, blank, line_comment, comment, name, number, string, symbol}
 use Rattle.op_scan.specs.Keyword.{kind_beside}
 use Rattle.op_scan.specs.Literal.{AreDigits, mark_of, value_of, Parts, stop, more}
 use Rattle.op_scan.specs.Symbol.{symbol_of, symbols_of_one, symbols_of_two}
@@ -51,9 +51,6 @@ some_same e = cc
 
 -- ---- the shape of an item of a class
 
-abbrev pub IsLongest : List ℕ → List ℕ → Type 0
-IsLongest piece rest = (others after : List ℕ) → others ≢ [] → rest ≡ others ++ after → symbol_of (piece ++ others) ≡ None
-
 abbrev pub Shape : Class → List ℕ → List ℕ → List ℕ → Item → Type 0
 Shape class.Name bytes piece rest item = (piece ≡ take_while is_name_byte bytes) × (item ≡ a_name piece)
 Shape class.Blank bytes piece rest item = (byte : ℕ) × (piece ≡ byte ∷ []) × (item ≡ a_blank)
@@ -61,7 +58,7 @@ Shape (class.Number base) bytes piece rest item = (digits : List ℕ) × (piece 
 Shape (class.Comment marks) bytes piece rest item = (inside : List ℕ) × (piece ≡ opening marks ++ inside ++ closing marks) × Closes marks (inside ++ closing marks ++ rest) rest × (item ≡ a_comment inside)
 Shape class.LineComment bytes piece rest item = (inside : List ℕ) × (piece ≡ 47 ∷ 47 ∷ inside) × (inside ≡ take_while (λ byte. not (nat_eq byte 10)) (inside ++ rest)) × (item ≡ a_comment inside)
 Shape class.String bytes piece rest item = (text : List ℕ) × (piece ≢ []) × Parts bytes rest text × (item ≡ a_string text)
-Shape class.Symbol bytes piece rest item = (kind : TokenKind) × (symbol_of piece ≡ Some kind) × IsLongest piece rest × (item ≡ a_symbol kind)
+Shape class.Symbol bytes piece rest item = (kind : TokenKind) × (symbol_of piece ≡ Some kind) × NoLongerSymbol piece rest × (item ≡ a_symbol kind)
 
 -- ---- symbols begin with few bytes
 
@@ -209,7 +206,7 @@ string_shape (x ∷ xs) rest text n d =
     let e = class_string x (xs ++ rest) (⊎_elim (λ g. absurd (not_itself x xs rest g)) (λ g. g) (string_start (x ∷ xs ++ rest) rest text d x (xs ++ rest) refl)) in
     subst (λ k. Shape k (x ∷ xs ++ rest) (x ∷ xs) rest (a_string text)) (sym e) (text, n, d, refl)
 
-symbol_shape : (piece rest : List ℕ) (kind : TokenKind) → symbol_of piece ≡ Some kind → IsLongest piece rest → ((after : List ℕ) → piece ++ rest ≢ 47 ∷ 47 ∷ after) → ((after : List ℕ) → piece ++ rest ≢ 40 ∷ 42 ∷ after) → Shape (class_at (piece ++ rest)) (piece ++ rest) piece rest (a_symbol kind)
+symbol_shape : (piece rest : List ℕ) (kind : TokenKind) → symbol_of piece ≡ Some kind → NoLongerSymbol piece rest → ((after : List ℕ) → piece ++ rest ≢ 47 ∷ 47 ∷ after) → ((after : List ℕ) → piece ++ rest ≢ 40 ∷ 42 ∷ after) → Shape (class_at (piece ++ rest)) (piece ++ rest) piece rest (a_symbol kind)
 unfolding class_at
 symbol_shape [] rest kind s l n m = absurd (none-some kind (sym no_symbol_empty ∙ s))
 symbol_shape (x ∷ xs) rest kind s l n m =
@@ -310,7 +307,7 @@ module _ (bytes p r p' r' : List ℕ) (e : bytes ≡ p ++ r) (e' : bytes ≡ p' 
       let u = Parts-unique bytes r h.0 h.2 r' h'.0 h'.2 in
       (same_rest u.0, h.3 ∙ ap a_string u.1 ∙ sym h'.3)
 
-  not_longer : (q s q' s' m : List ℕ) (k k' : TokenKind) → symbol_of q ≡ Some k → symbol_of q' ≡ Some k' → IsLongest q s → q' ≡ q ++ m → s ≡ m ++ s' → q ≡ q'
+  not_longer : (q s q' s' m : List ℕ) (k k' : TokenKind) → symbol_of q ≡ Some k → symbol_of q' ≡ Some k' → NoLongerSymbol q s → q' ≡ q ++ m → s ≡ m ++ s' → q ≡ q'
   not_longer q s q' s' [] k k' h h' l a b = sym (a ∙ append_nil q)
   not_longer q s q' s' (x ∷ m) k k' h h' l a b =
       absurd (none-some k' (sym (l (x ∷ m) s' (λ z. absurd cc) b) ∙ ap symbol_of (sym a) ∙ h'))

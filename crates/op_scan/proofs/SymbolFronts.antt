@@ -7,12 +7,12 @@ use Rattle.std.proofs.lemmas.List.{take-append-drop}
 use Rattle.std.proofs.lemmas.Option.{none-some}
 use Rattle.std.proofs.lemmas.Slice.Eq.{bytes_eq-Decides}
 use Rattle.op_scan.proofs.Classes.{NoMark, class_means, Means}
-use Rattle.op_scan.proofs.Items.{Shape, shape_at, IsLongest}
+use Rattle.op_scan.proofs.Items.{Shape, shape_at}
 use Rattle.op_scan.proofs.Lists.{one_false, two_false}
 use Rattle.op_scan.specs.Class.{class_at}
 use Rattle.op_scan.specs.Comment.{opening}
 use Rattle.op_scan.specs.Directive.{rule}
-use Rattle.op_scan.specs.Item.{Item, a_symbol, Stands, symbol, rule_without}
+use Rattle.op_scan.specs.Item.{Item, NoLongerSymbol, a_symbol, Stands, symbol, rule_without}
 use Rattle.op_scan.specs.Keyword.{kind_beside}
 use Rattle.op_scan.specs.Symbol.{symbol_of, symbols_of_one, symbols_of_two}
 use Rattle.op_scan.specs.declared.class.Class.TheVariants as class
@@ -74,7 +74,7 @@ no_comment bytes c Braces after b = one_false 123 123 after after (symbol_means 
 no_comment bytes c Stars after b = two_false 40 40 42 (42 ∷ after) after (symbol_means bytes c 40 (42 ∷ after) b).no_star refl
 
 module _ (bytes : List ℕ) (c : class_at bytes ≡ class.Symbol) where
-  front : (n : ℕ) (kind : TokenKind) → symbol_of (take n bytes) ≡ Some kind → IsLongest (take n bytes) (drop n bytes) → Stands (take n bytes) (drop n bytes) (a_symbol kind)
+  front : (n : ℕ) (kind : TokenKind) → symbol_of (take n bytes) ≡ Some kind → NoLongerSymbol (take n bytes) (drop n bytes) → Stands (take n bytes) (drop n bytes) (a_symbol kind)
   front n kind s l =
       symbol s l
       (λ after e. no_line bytes c after (sym (take-append-drop n bytes) ∙ e))
@@ -104,7 +104,7 @@ module _ (bytes : List ℕ) (c : class_at bytes ≡ class.Symbol) where
       one : length (take 1 bytes) ≡ 1
       one = one_length kind e
 
-      longest : (bytes : List ℕ) → length (take 1 bytes) ≡ 1 → kind_beside (take 2 bytes) symbols_of_two ≡ None → IsLongest (take 1 bytes) (drop 1 bytes)
+      longest : (bytes : List ℕ) → length (take 1 bytes) ≡ 1 → kind_beside (take 2 bytes) symbols_of_two ≡ None → NoLongerSymbol (take 1 bytes) (drop 1 bytes)
       longest [] one none others after n b = absurd (omega (arith, one))
       longest (f ∷ af) one none [] after n b = absurd (n refl)
       longest (f ∷ af) one none (x ∷ []) after n b =

@@ -25,6 +25,16 @@ pub data Item : Type 0 where
   a_string : (text : List ℕ) → Item
   a_symbol : (kind : TokenKind) → Item
 
+-- no longer front is a symbol
+abbrev pub NoLongerSymbol : List ℕ → List ℕ → Type 0
+NoLongerSymbol piece rest = (more after : List ℕ) → more ≢ [] → rest ≡ more ++ after → symbol_of (piece ++ more) ≡ None
+
+abbrev pub BeginsNoLineComment : List ℕ → Type 0
+BeginsNoLineComment bytes = (after : List ℕ) → bytes ≢ codes "//" ++ after
+
+abbrev pub BeginsNoComment : List ℕ → Type 0
+BeginsNoComment bytes = (marks : Marks) (after : List ℕ) → bytes ≢ opening marks ++ after
+
 -- The first bytes are the longest item that can stand before the second ones.
 pub data Stands : List ℕ → List ℕ → Item → Type 0 where
   blank : {byte : ℕ} {rest : List ℕ} → is_blank byte ≡ true → Stands (byte ∷ []) rest a_blank
@@ -33,7 +43,7 @@ pub data Stands : List ℕ → List ℕ → Item → Type 0 where
   name : {first : ℕ} {others rest : List ℕ} → is_name_start first ≡ true → first ∷ others ≡ take_while is_name_byte (first ∷ others ++ rest) → Stands (first ∷ others) rest (a_name (first ∷ others))
   number : (base : Base) {digits rest : List ℕ} → AreDigits base digits rest → Stands (mark_of base ++ digits) rest (a_number (value_of base digits))
   string : {piece rest text : List ℕ} → piece ≢ [] → Parts (piece ++ rest) rest text → Stands piece rest (a_string text)
-  symbol : {piece rest : List ℕ} {kind : TokenKind} → symbol_of piece ≡ Some kind → ((more after : List ℕ) → more ≢ [] → rest ≡ more ++ after → symbol_of (piece ++ more) ≡ None) → ((after : List ℕ) → piece ++ rest ≢ codes "//" ++ after) → ((marks : Marks) (after : List ℕ) → piece ++ rest ≢ opening marks ++ after) → Stands piece rest (a_symbol kind)
+  symbol : {piece rest : List ℕ} {kind : TokenKind} → symbol_of piece ≡ Some kind → NoLongerSymbol piece rest → BeginsNoLineComment (piece ++ rest) → BeginsNoComment (piece ++ rest) → Stands piece rest (a_symbol kind)
 
 -- what an item does where these switches hold
 abbrev pub effect_of : Switches → Item → Effect
