@@ -1,0 +1,12 @@
+pub mod Classes
+pub mod Directives
+pub mod Fronts
+pub mod Items
+pub mod Lists
+pub mod Nesting
+pub mod Outer
+pub mod Places
+pub mod Quoting
+pub mod Scanning
+pub mod Strings
+pub mod SymbolFronts

@@ -1,0 +1,10 @@
+pub mod Byte
+pub mod Class
+pub mod Comment
+pub mod Directive
+pub mod Inside
+pub mod Item
+pub mod Keyword
+pub mod Literal
+pub mod Scan
+pub mod Symbol
