@@ -2,7 +2,6 @@ use super::*;
 use op_base::{MemSink, MemSource};
 use op_rv::FaultKind;
 use std::alloc::Global;
-use std::process::Abort;
 use std::test::Fail;
 
 // Words of an assembler.
@@ -53,109 +52,91 @@ fn machine(alloc: Global, words: &[u32]) -> Result<Machine, Fail> {
     })
 }
 
+/// What two runs answered and left.
 #[derive(Drop)]
-struct Row<'a> {
-    words: &'a [u32],
-    limit: u64,
+struct Said {
     stop: Stop,
+    again: Stop,
     steps: u64,
-    out: &'a [u8],
-    err: &'a [u8],
+    out: MemSink,
+    err: MemSink,
 }
 
-/// Runs a row twice: the second run answers the same and does nothing.
-fn runs(rt: &impl Abort, alloc: Global, row: &Row<'_>, fails: &[u64]) -> Result<(), Fail> {
-    let mut machine = machine(alloc, row.words)?;
+/// Runs these words twice, the second time after they have stopped.
+fn run_twice(alloc: Global, words: &[u32], fails: &[u64]) -> Result<Said, Fail> {
+    let mut machine = machine(alloc, words)?;
     let mut input = MemSource::new(Vec::new(alloc), Vec::new(alloc));
     let mut out = MemSink::new(alloc, 16, fails.to_vec(alloc)?)?;
     let mut err = MemSink::new(alloc, 16, Vec::new(alloc))?;
-    for _turn in 0..2 {
-        let stop = machine.run(row.limit, &mut input, &mut out, &mut err);
-        assert!(rt; stop == row.stop, "{stop:?}");
-        assert_eq!(rt; machine.steps(), row.steps);
-        assert_eq!(rt; out.bytes(), row.out);
-        assert_eq!(rt; err.bytes(), row.err);
+    let stop = machine.run(100, &mut input, &mut out, &mut err);
+    let again = machine.run(100, &mut input, &mut out, &mut err);
+    let steps = machine.steps();
+    Ok(Said {
+        stop,
+        again,
+        steps,
+        out,
+        err,
+    })
+}
+
+#[test]
+fn runs_end_and_write(rt: HostRuntime) -> Result<(), Fail> {
+    let first = A1_IS_CODE.to_le_bytes();
+    let first = first.as_slice();
+    for (descriptor, out, err) in [(A0_IS_1, first, &[][..]), (A0_IS_2, &[][..], first)] {
+        let words = [
+            A1_IS_CODE,
+            A2_IS_4,
+            descriptor,
+            A7_IS_WRITE,
+            ECALL,
+            A7_IS_EXIT,
+            ECALL,
+        ];
+        let said = run_twice(rt.alloc(), &words, &[])?;
+        assert!(rt; said.stop == Stop::Ended(4), "{:?}", said.stop);
+        assert!(rt; said.again == said.stop);
+        assert_eq!(rt; said.steps, 7);
+        assert_eq!(rt; said.out.bytes(), out);
+        assert_eq!(rt; said.err.bytes(), err);
     }
     Ok(())
 }
 
 #[test]
-fn runs_stop_and_write(rt: HostRuntime) -> Result<(), Fail> {
-    let ends = [A0_IS_7, A7_IS_EXIT, ECALL];
-    let writes = [
-        A1_IS_CODE,
-        A2_IS_4,
-        A0_IS_1,
-        A7_IS_WRITE,
-        ECALL,
-        A7_IS_EXIT,
-        ECALL,
-    ];
-    let reports = [
-        A1_IS_CODE,
-        A2_IS_4,
-        A0_IS_2,
-        A7_IS_WRITE,
-        ECALL,
-        A7_IS_EXIT,
-        ECALL,
-    ];
+fn runs_fault(rt: HostRuntime) -> Result<(), Fail> {
+    let writes = [A1_IS_CODE, A2_IS_4, A0_IS_1, A7_IS_WRITE, ECALL];
     let writes_beyond = [A1_IS_CODE, A2_IS_2000, A0_IS_1, A7_IS_WRITE, ECALL];
-    let calls_other = [A7_IS_1, ECALL];
-    let first = A1_IS_CODE.to_le_bytes();
-    let row = |words, limit, stop, steps, out, err| Row {
-        words,
-        limit,
-        stop,
-        steps,
-        out,
-        err,
-    };
-    for row in [
-        row(&ends[..], 3, Stop::Ended(7), 3, &[][..], &[][..]),
-        row(&writes[..], 100, Stop::Ended(4), 7, &first[..], &[][..]),
-        row(&reports[..], 100, Stop::Ended(4), 7, &[][..], &first[..]),
-        row(
+    for (words, fails, stop, steps) in [
+        (&writes[..], &[0][..], Stop::WriteFault, 4),
+        (
             &writes_beyond[..],
-            100,
+            &[][..],
             Stop::Fault(FaultKind::Load, CODE + 16),
             4,
-            &[][..],
-            &[][..],
         ),
-        row(
-            &calls_other[..],
-            100,
+        (
+            &[A7_IS_1, ECALL][..],
+            &[][..],
             Stop::Fault(FaultKind::Call, CODE + 4),
             1,
-            &[][..],
-            &[][..],
         ),
-        row(
+        (
             &[A0_IS_7][..],
-            100,
+            &[][..],
             Stop::Fault(FaultKind::Fetch, CODE + 4),
             1,
-            &[][..],
-            &[][..],
         ),
-        row(
-            &[0][..],
-            100,
-            Stop::Fault(FaultKind::Illegal, CODE),
-            0,
-            &[][..],
-            &[][..],
-        ),
+        (&[0][..], &[][..], Stop::Fault(FaultKind::Illegal, CODE), 0),
     ] {
-        runs(&rt, rt.alloc(), &row, &[])?;
+        let said = run_twice(rt.alloc(), words, fails)?;
+        assert!(rt; said.stop == stop, "{:?}", said.stop);
+        assert!(rt; said.again == stop);
+        assert_eq!(rt; said.steps, steps);
+        assert_eq!(rt; said.out.bytes(), b"".as_slice());
     }
-    runs(
-        &rt,
-        rt.alloc(),
-        &row(&writes[..], 100, Stop::WriteFault, 4, &[][..], &[][..]),
-        &[0],
-    )
+    Ok(())
 }
 
 #[test]

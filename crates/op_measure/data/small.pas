@@ -1,0 +1,4 @@
+program p;
+begin
+  WriteLn(1 + 2);
+end.

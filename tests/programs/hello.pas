@@ -1,0 +1,2 @@
+{$mode objfpc}{$H+}
+program p; begin WriteLn('Hello'); end.

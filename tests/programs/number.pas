@@ -1,0 +1,1 @@
+program p; begin WriteLn(1); end.

@@ -1,0 +1,1 @@
+program record; begin end.
