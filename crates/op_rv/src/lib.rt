@@ -16,3 +16,6 @@ pub use decoder::decode;
 pub use encoder::encode;
 pub use fault::FaultKind;
 pub use instruction::{AluOp, BranchOp, ImmOp, Instr, LoadOp, ShiftOp, StoreOp};
+
+#[cfg(test)]
+mod tests;
