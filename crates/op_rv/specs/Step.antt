@@ -5,7 +5,7 @@ use Rattle.std.specs.Int.{bytes_low_first}
 use Rattle.op_rv.specs.State.{State, Running, Ended, Faulted, Ending, register, with_register, advanced, faulted, half_at, word_at, all_from, with_bytes}
 use Rattle.op_rv.specs.Environment.{environment_call}
 use Rattle.op_rv.specs.Decoding.{instr_at}
-use Rattle.op_rv.specs.Operation.{word_from, alu_value, imm_value, shift_value, branch_taken, extended_byte, extended_half}
+pub use Rattle.op_rv.specs.Operation.{word_from, alu_value, imm_value, shift_value, branch_taken, extended_byte, extended_half}
 use Rattle.op_rv.specs.declared.fault.FaultKind.TheVariants.{Fetch, Illegal, Break, Load as LoadFault, Store as StoreFault}
 use Rattle.op_rv.specs.declared.instruction.Instr.{Instr}
 use Rattle.op_rv.specs.declared.instruction.Instr.TheVariants.{Lui, Auipc, Jal, Jalr, Branch, Load, Store, Imm, Shift, Alu, Fence, Ecall, Ebreak}
