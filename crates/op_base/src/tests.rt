@@ -24,6 +24,7 @@ fn computes_in_32_bits(rt: HostRuntime) {
 }
 
 #[test]
+#[tactic(auto, unfolding(crate::specs::Rule::text_of_rule, crate::specs::Rule::text_of_feature))]
 fn names_the_rules(rt: HostRuntime) {
     let last = Rule {
         number: 72,
