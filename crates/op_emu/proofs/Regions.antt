@@ -1,13 +1,15 @@
 -- What lies in one segment.
 use Rattle.std.proofs.Common.{◌≡◌, ℕ, zero, suc, ◌+◌, ◌-◌, ◌<◌, ◌≤◌, Bool, true, false, cond, ◌&&◌, List, [], ◌∷◌, Option, Some, None, length, get_or, take, drop, map, find, sym, refl, ap, ◌∙◌, subst, arith, option_map, drop-cons, length-drop, MatchOption, Bor}
 use Rattle.std.proofs.lemmas.List.{length-take-le}
-use Rattle.op_emu.specs.Segments.{region_of, regions_of, IsFoundAt, IsReadableFront}
+use Rattle.op_emu.specs.Segments.{region_of, regions_of, has_right, right_in, IsFoundAt, IsAllowedFront, IsReadableFront}
+use Rattle.op_emu.specs.declared.memory.Right.{Right}
+use Rattle.op_emu.specs.declared.memory.Right.TheVariants.{Read, Write, Execute}
 use Rattle.op_emu.specs.declared.memory.Segment.{Segment}
 use Rattle.std.proofs.lemmas.Bool.Decides.{nat_tests}
 use Rattle.std.specs.List.{list_all}
 use Rattle.std.specs.Option.{option_map_or, option_copied}
 use Rattle.op_rv.specs.State.{bytes_from, all_from}
-use Rattle.op_emu.specs.Region.{Region, Range, covers, is_apart, are_apart, range_of, region_at, byte_in, readable_in, executable_in}
+use Rattle.op_emu.specs.Region.{Region, Range, covers, is_apart, are_apart, range_of, region_at, byte_in, readable_in, writable_in, executable_in}
 
 find_holds_step : {X : Type 0} (p : X → Bool) (y : X) (ys : List X) (x : X) → (find p ys ≡ Some x → p x ≡ true) → (b : Bool) → p y ≡ b → cond b (Some y) (find p ys) ≡ Some x → p x ≡ true
 find_holds_step p y ys x rest true is found = let same : y ≡ x = cc in subst (λ z. p z ≡ true) same is
@@ -67,6 +69,7 @@ pub byte_in-found : (rs : List Region) (a : ℕ) (s : Region) → region_at rs a
 unfolding byte_in
 byte_in-found rs a s found = ap (λ found. option_map_or (λ region. get_or region.bytes (a - region.base) 0) found 0) found
 
+-- the rights at an address are those of its segment
 pub readable_in-found : (rs : List Region) (a : ℕ) (s : Region) → region_at rs a ≡ Some s → readable_in rs a ≡ s.readable
 unfolding readable_in
 readable_in-found rs a s found = ap (λ found. option_map_or (λ region. region.readable) found false) found
@@ -74,6 +77,18 @@ readable_in-found rs a s found = ap (λ found. option_map_or (λ region. region.
 pub readable_in-none : (rs : List Region) (a : ℕ) → region_at rs a ≡ None → readable_in rs a ≡ false
 unfolding readable_in
 readable_in-none rs a found = ap (λ found. option_map_or (λ region. region.readable) found false) found
+
+pub right_in-found : (right : Right) (rs : List Region) (a : ℕ) (s : Region) → region_at rs a ≡ Some s → right_in right rs a ≡ has_right right s
+unfolding readable_in writable_in executable_in
+right_in-found Read rs a s found = ap (λ found. option_map_or (λ region. region.readable) found false) found
+right_in-found Write rs a s found = ap (λ found. option_map_or (λ region. region.writable) found false) found
+right_in-found Execute rs a s found = ap (λ found. option_map_or (λ region. region.executable) found false) found
+
+pub right_in-none : (right : Right) (rs : List Region) (a : ℕ) → region_at rs a ≡ None → right_in right rs a ≡ false
+unfolding readable_in writable_in executable_in
+right_in-none Read rs a found = ap (λ found. option_map_or (λ region. region.readable) found false) found
+right_in-none Write rs a found = ap (λ found. option_map_or (λ region. region.writable) found false) found
+right_in-none Execute rs a found = ap (λ found. option_map_or (λ region. region.executable) found false) found
 
 -- n bytes from an address of a segment on, all within it
 module _ (rs : List Region) (s : Region) (lie : are_apart (map range_of rs) ≡ true) (a : ℕ) (found : region_at rs a ≡ Some s) where
@@ -94,13 +109,36 @@ module _ (rs : List Region) (s : Region) (lie : are_apart (map range_of rs) ≡ 
       ∙ ap (λ i. get_or s.bytes at 0 ∷ take n (drop i s.bytes)) next
       ∙ sym (ap (take (suc n)) (drop-cons s.bytes at 0 inside))
 
-  pub all_readable-within : s.readable ≡ true → (n b : ℕ) → s.base ≤ b → b + n ≤ s.base + length s.bytes → all_from (readable_in rs) b n ≡ true
+  pub all_allowed-within : (right : Right) → has_right right s ≡ true → (n b : ℕ) → s.base ≤ b → b + n ≤ s.base + length s.bytes → all_from (right_in right rs) b n ≡ true
   unfolding all_from
-  all_readable-within may zero b low high = refl
-  all_readable-within may (suc n) b low high =
-      let here = readable_in-found rs b s (within b low (omega arith)) ∙ may in
-      let more = all_readable-within may n (b + 1) (omega arith) (omega arith) in
-      rw (here, more) refl
+  all_allowed-within right may zero b low high = refl
+  all_allowed-within right may (suc n) b low high =
+      let here = right_in-found right rs b s (within b low (omega arith)) ∙ may in
+      let more = all_allowed-within right may n (b + 1) (omega arith) (omega arith) in
+      ap (λ t. t && all_from (right_in right rs) (b + 1) n) here ∙ more
+
+-- a front of a range that lies in a segment with a right
+pub allowed_of_found : (right : Right) (rs : List Region) (at most count : ℕ) (s : Region) → are_apart (map range_of rs) ≡ true → IsFoundAt rs at s → has_right right s ≡ true → count ≤ most → at + count ≤ s.base + length s.bytes → (count ≡ 0 → most ≡ 0) → IsAllowedFront right rs at most count
+allowed_of_found right rs at most count s lie is may low high none =
+    record {
+      within = low;
+      allowed = all_allowed-within rs s lie at is.found right may count at is.within.above high;
+      stops = λ e l. absurd (omega (arith, none e));
+    }
+
+pub allowed_of_none : (right : Right) (rs : List Region) (at most : ℕ) → region_at rs at ≡ None → IsAllowedFront right rs at most 0
+unfolding all_from
+allowed_of_none right rs at most is =
+    record { within = omega arith; allowed = refl; stops = λ _ _. right_in-none right rs at is }
+
+pub allowed_of_other : (right : Right) (rs : List Region) (at most : ℕ) (s : Region) → IsFoundAt rs at s → has_right right s ≡ false → IsAllowedFront right rs at most 0
+unfolding all_from
+allowed_of_other right rs at most s is no_right =
+    record {
+      within = omega arith;
+      allowed = refl;
+      stops = λ _ _. right_in-found right rs at s is.found ∙ no_right;
+    }
 
 -- a front of a readable segment's bytes
 pub front_of_found : (rs : List Region) (at most count : ℕ) (s : Region) → are_apart (map range_of rs) ≡ true → IsFoundAt rs at s → s.readable ≡ true → count ≤ most → count ≤ length (drop (at - s.base) s.bytes) → (count ≡ 0 → most ≡ 0) → IsReadableFront rs at most (take count (drop (at - s.base) s.bytes))
@@ -110,7 +148,7 @@ front_of_found rs at most count s lie is may low high none =
     record {
       within = omega arith;
       bytes = rw long (sym (bytes_from-within rs s lie at is.found count at is.within.above (omega (arith, is.within.below))));
-      readable = rw long (all_readable-within rs s lie at is.found may count at is.within.above (omega (arith, is.within.below)));
+      readable = rw long (all_allowed-within rs s lie at is.found Read may count at is.within.above (omega (arith, is.within.below)));
       stops = λ e l. absurd (omega (arith, none (sym long ∙ e)));
     }
 
@@ -142,25 +180,6 @@ pub found_from_find : (ss : List Segment) (a : ℕ) (o : Option (Bor Segment)) �
 found_from_find ss a None is = found_from_option ss a None is
 found_from_find ss a (Some s) is = found_from_option ss a (Some s.now) is
 
-pub executable_in-found : (rs : List Region) (a : ℕ) (s : Region) → region_at rs a ≡ Some s → executable_in rs a ≡ s.executable
-unfolding executable_in
-executable_in-found rs a s found = ap (λ found. option_map_or (λ region. region.executable) found false) found
-
-pub executable_in-none : (rs : List Region) (a : ℕ) → region_at rs a ≡ None → executable_in rs a ≡ false
-unfolding executable_in
-executable_in-none rs a found = ap (λ found. option_map_or (λ region. region.executable) found false) found
-
 pub byte_in-none : (rs : List Region) (a : ℕ) → region_at rs a ≡ None → byte_in rs a ≡ 0
 unfolding byte_in
 byte_in-none rs a found = ap (λ found. option_map_or (λ region. get_or region.bytes (a - region.base) 0) found 0) found
-
-and_true : (b : Bool) → (b && true) ≡ b
-and_true true = refl
-and_true false = refl
-
-pub all_from_four : (right : ℕ → Bool) (a : ℕ) → all_from right a 4 ≡ (right a && (right (a + 1) && (right (a + 2) && right (a + 3))))
-unfolding all_from
-all_from_four right a =
-    let two : a + 1 + 1 ≡ a + 2 = omega arith in
-    let three : a + 1 + 1 + 1 ≡ a + 3 = omega arith in
-    ap (λ b. right a && (right (a + 1) && b)) (ap (λ c. right (a + 1 + 1) && c) (and_true (right (a + 1 + 1 + 1))) ∙ ap (λ x. right x && right (a + 1 + 1 + 1)) two ∙ ap (λ x. right (a + 2) && right x) three)

@@ -15,14 +15,19 @@ use Rattle.op_emu.proofs.ActsLemmas.{Acts-quiet, after-step, after-step_in_part}
 pub does_nothing : (m : Machine) (i o e : Option (List ℕ)) → DoesSteps 0 m m (streams i i o o e e)
 unfolding after
 does_nothing m i o e =
-    record { acts = Acts-quiet (after 0) (moment_of m) (moment_of m) i o e (λ x o e. refl); counted = omega arith }
+    record { acts = Acts-quiet (after 0) (moment_of m) (moment_of m) i o e refl (λ x o e. refl); counted = omega arith }
 
 moment_of-is : (m : Machine) (r : Stepped) → m.last ≡ r → moment_of m ≡ moment m.hart (ending_of r)
 moment_of-is m r is = ap (λ r. moment m.hart (ending_of r)) is
 
-failed_from : (o o' o'' e e' e'' : ℕ) → o ≤ o' → e ≤ e' → OutputFailed (faults o' o'' e' e'') → OutputFailed (faults o o'' e e'')
-failed_from o o' o'' e e' e'' p q (inl rose) = inl (Rose-from o o' o'' p rose)
-failed_from o o' o'' e e' e'' p q (inr rose) = inr (Rose-from e e' e'' q rose)
+failed_from : (i i' i'' o o' o'' e e' e'' : ℕ) → o ≤ o' → e ≤ e' → OutputFailed (faults i' i'' o' o'' e' e'') → OutputFailed (faults i i'' o o'' e e'')
+failed_from i i' i'' o o' o'' e e' e'' p q (inl rose) = inl (Rose-from o o' o'' p rose)
+failed_from i i' i'' o o' o'' e e' e'' p q (inr rose) = inr (Rose-from e e' e'' q rose)
+
+-- what the outputs tell, where nothing more was written
+no_output : (i i' o o' o'' e e' e'' : Option (List ℕ)) → o'' ≡ o' → e'' ≡ e' → streams i i' o o' e e' ≡ streams i i' o o'' e e''
+no_output i i' o o' o'' e e' e'' output errors =
+    ap (λ o'. streams i i' o o' e e') (sym output) ∙ ap (λ e'. streams i i' o o'' e e') (sym errors)
 
 counted_once : (steps m s : ℕ) → s ≡ m → steps ≡ one_more s → s < 2 ^ 64 - 1 → steps ≡ m + 1
 counted_once steps m s is counted below = omega arith
@@ -48,9 +53,9 @@ module _ (m : ℕ) (old mid new : Machine) (i i' i'' o o' o'' e e' e'' : Option 
   goes_on stepped.ReadFault k counts at went last counted is = cc
   goes_on stepped.WriteFault k counts at went last counted is = cc
 
-  stops_by : (n : ℕ) (r : Stepped) (f f' f'' h h' h'' : ℕ) → m < n → f ≤ f' → h ≤ h' → r ≢ stepped.Went → new.last ≡ r → new.steps ≡ (if is_done r then one_more mid.steps else mid.steps) → StepIs step r mid.hart new.hart (streams i' i'' o' o'' e' e'') (faults f' f'' h' h'') → RunIs n (stop_of r) old new (streams i i'' o o'' e e'') (faults f f'' h h'')
-  stops_by n stepped.Went f f' f'' h h' h'' more p q goes_not last counted is = absurd (goes_not refl)
-  stops_by n (stepped.Ended k) f f' f'' h h' h'' more p q goes_not last counted is = (
+  stops_by : (n : ℕ) (r : Stepped) (d d' d'' f f' f'' h h' h'' : ℕ) → m < n → d ≤ d' → f ≤ f' → h ≤ h' → r ≢ stepped.Went → new.last ≡ r → new.steps ≡ (if is_done r then one_more mid.steps else mid.steps) → StepIs step r mid.hart new.hart (streams i' i'' o' o'' e' e'') (faults d' d'' f' f'' h' h'') → RunIs n (stop_of r) old new (streams i i'' o o'' e e'') (faults d d'' f f'' h h'')
+  stops_by n stepped.Went d d' d'' f f' f'' h h' h'' more b p q goes_not last counted is = absurd (goes_not refl)
+  stops_by n (stepped.Ended k) d d' d'' f f' f'' h h' h'' more b p q goes_not last counted is = (
     suc m,
     omega arith,
     record {
@@ -58,7 +63,7 @@ module _ (m : ℕ) (old mid new : Machine) (i i' i'' o o' o'' e e' e'' : Option 
       counted = omega (arith, does.counted);
     },
   )
-  stops_by n (stepped.Fault kind pc) f f' f'' h h' h'' more p q goes_not last counted is = (
+  stops_by n (stepped.Fault kind pc) d d' d'' f f' f'' h h' h'' more b p q goes_not last counted is = (
     m,
     more,
     record {
@@ -66,11 +71,32 @@ module _ (m : ℕ) (old mid new : Machine) (i i' i'' o o' o'' e e' e'' : Option 
       counted = counted ∙ does.counted;
     },
   )
-  stops_by n stepped.ReadFault f f' f'' h h' h'' more p q goes_not last counted is = is
-  stops_by n stepped.WriteFault f f' f'' h h' h'' more p q goes_not last counted is =
-      (m, more, after-step_in_part m (moment_of old) (moment mid.hart Running) i i' i'' o o' o'' e e' e'' first is.0, failed_from f f' f'' h h' h'' p q is.1)
+  stops_by n stepped.ReadFault d d' d'' f f' f'' h h' h'' more b p q goes_not last counted is = (
+    m,
+    more,
+    record {
+      hart = mid.hart;
+      left = i';
+      acts = subst (λ told. Acts (after m) (moment_of old) (moment mid.hart Running) told) (no_output i i' o o' o'' e e' e'' is.0.output is.0.errors) first;
+      reads = record {
+        taken = is.0.taken;
+        reads = is.0.reads;
+        wants = is.0.wants;
+        input = is.0.input;
+        output = refl;
+        errors = refl;
+      };
+    },
+    Rose-from d d' d'' b is.1,
+  )
+  stops_by n stepped.WriteFault d d' d'' f f' f'' h h' h'' more b p q goes_not last counted is = (
+    m,
+    more,
+    after-step_in_part m (moment_of old) (moment mid.hart Running) i i' i'' o o' o'' e e' e'' new.hart first is.0,
+    failed_from d d' d'' f f' f'' h h' h'' p q is.1,
+  )
 
   -- the step that stops a run
-  pub stops : (n : ℕ) (r : Stepped) (s : Stop) (f f' f'' h h' h'' : ℕ) → s ≡ stop_of r → m < n → f ≤ f' → h ≤ h' → r ≢ stepped.Went → new.last ≡ r → new.steps ≡ (if is_done r then one_more mid.steps else mid.steps) → StepIs step r mid.hart new.hart (streams i' i'' o' o'' e' e'') (faults f' f'' h' h'') → RunIs n s old new (streams i i'' o o'' e e'') (faults f f'' h h'')
-  stops n r s f f' f'' h h' h'' is more p q goes_not last counted step_is =
-      subst (λ s. RunIs n s old new (streams i i'' o o'' e e'') (faults f f'' h h'')) (sym is) (stops_by n r f f' f'' h h' h'' more p q goes_not last counted step_is)
+  pub stops : (n : ℕ) (r : Stepped) (s : Stop) (d d' d'' f f' f'' h h' h'' : ℕ) → s ≡ stop_of r → m < n → d ≤ d' → f ≤ f' → h ≤ h' → r ≢ stepped.Went → new.last ≡ r → new.steps ≡ (if is_done r then one_more mid.steps else mid.steps) → StepIs step r mid.hart new.hart (streams i' i'' o' o'' e' e'') (faults d' d'' f' f'' h' h'') → RunIs n s old new (streams i i'' o o'' e e'') (faults d d'' f f'' h h'')
+  stops n r s d d' d'' f f' f'' h h' h'' is more b p q goes_not last counted step_is =
+      subst (λ s. RunIs n s old new (streams i i'' o o'' e e'') (faults d d'' f f'' h h'')) (sym is) (stops_by n r d d' d'' f f' f'' h h' h'' more b p q goes_not last counted step_is)

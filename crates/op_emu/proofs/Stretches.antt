@@ -118,3 +118,36 @@ above_zero (suc n) h = omega arith
 pub front_is_some : (regions : List Region) (at left : ℕ) (front : List ℕ) → 0 < left → all_from (readable_in regions) at left ≡ true → IsReadableFront regions at left front → 0 < length front
 front_is_some regions at left front more all is =
     above_zero (length front) (λ none. false≢true (sym (all_from-blocked (readable_in regions) at left more (is.stops none more)) ∙ all))
+
+and_left : (a b : Bool) → (a && b) ≡ true → a ≡ true
+and_left a b h = grind arith
+
+and_right : (a b : Bool) → (a && b) ≡ true → b ≡ true
+and_right a b h = grind arith
+
+-- each address of a range with a right has it
+pub all_from-at : (right : ℕ → Bool) (a n k : ℕ) → k < n → all_from right a n ≡ true → right (a + k) ≡ true
+unfolding all_from
+all_from-at right a zero k below all = absurd (omega arith)
+all_from-at right a (suc n) zero below all =
+    let e : a + zero ≡ a = omega arith in
+    ap right e ∙ and_left _ (all_from right (a + 1) n) all
+all_from-at right a (suc n) (suc k) below all =
+    let e : a + suc k ≡ a + 1 + k = omega arith in
+    ap right e ∙ all_from-at right (a + 1) n k (omega arith) (and_right (right a) _ all)
+
+-- a part of a range with a right has it
+pub all_from-part : (right : ℕ → Bool) (a n k m : ℕ) → k + m ≤ n → all_from right a n ≡ true → all_from right (a + k) m ≡ true
+all_from-part right a n k m within all =
+    let e : k + m + (n - (k + m)) ≡ n = omega arith in
+    let split : all_from right a n ≡ (all_from right a (k + m) && all_from right (a + (k + m)) (n - (k + m))) =
+    sym (ap (all_from right a) e) ∙ all_from-add right a (k + m) (n - (k + m))
+    in
+    let front : all_from right a (k + m) ≡ true = and_left _ (all_from right (a + (k + m)) (n - (k + m))) (sym split ∙ all) in
+    and_right (all_from right a k) _ (sym (all_from-add right a k m) ∙ front)
+
+-- a front of a range with a right has it
+pub all_from-front : (right : ℕ → Bool) (a n m : ℕ) → m ≤ n → all_from right a n ≡ true → all_from right a m ≡ true
+all_from-front right a n m within all =
+    let e : m + (n - m) ≡ n = omega arith in
+    and_left _ (all_from right (a + m) (n - m)) (sym (all_from-add right a m (n - m)) ∙ ap (all_from right a) e ∙ all)

@@ -1,8 +1,9 @@
 -- What the emulator does, as steps of the machine's definition over what the streams tell.
-use Rattle.std.specs.Prelude.{◌≡◌, ℕ, ◌≤◌, ◌⊎◌, Option, List, [], ◌++◌, Bool, false, IsTrue}
-use Rattle.op_base.specs.Outside.{appended, preceded, AppendsFront, Rose}
+use Rattle.std.specs.Prelude.{◌≡◌, ℕ, ◌<◌, ◌≤◌, ◌⊎◌, Option, List, [], ◌++◌, length, Bool, false, IsTrue}
+use Rattle.op_base.specs.Outside.{appended, preceded, AppendsFront, IsExhausted, Rose}
 use Rattle.op_rv.specs.State.{State, Ending, Running, Ended, Faulted, advanced, with_register, bytes_from, all_from}
-use Rattle.op_emu.specs.Region.{byte_in, readable_in, rights_in}
+use Rattle.op_rv.specs.Environment.{read_call}
+use Rattle.op_emu.specs.Region.{byte_in, readable_in, writable_in, rights_in}
 use Rattle.op_rv.specs.declared.fault.FaultKind.TheVariants.{Load}
 use Rattle.op_emu.specs.Image.{start}
 use Rattle.op_emu.specs.Registers.{value_of}
@@ -55,40 +56,86 @@ abbrev pub streams : Option (List ℕ) → Option (List ℕ) → Option (List �
 streams i i' o o' e e' =
     record { input_before = i; input_after = i'; output_before = o; output_after = o'; errors_before = e; errors_after = e' }
 
+-- what may be left of the input: nothing, once the source has answered that it is at its end
+abbrev pub MayFollow : Hart → List ℕ → Type 0
+MayFollow hart input = IsTrue hart.input_ended → input ≡ []
+
+-- these bytes were taken from the input, and none once the source had answered that it is at its end
+pub record Takes (taken : List ℕ) (old new : Hart) (before after : Option (List ℕ)) : Type 0 where
+  pub parts : before ≡ preceded taken after
+  pub stays_ended : IsTrue old.input_ended → (taken ≡ []) × IsTrue new.input_ended
+  pub exhausted : (IsTrue old.input_ended → IsExhausted before) → IsTrue new.input_ended → IsExhausted after
+
 -- the call did this to the machine, whatever had been read and written before it
 pub record Acts (f : State → State) (old new : Moment) (told : Streams) : Type 0 where
   pub taken : List ℕ
   pub written : List ℕ
   pub reported : List ℕ
-  pub leads : (x o e : List ℕ) → f (state_of old (taken ++ x) o e) ≡ state_of new x (o ++ written) (e ++ reported)
-  pub input : told.input_before ≡ preceded taken told.input_after
+  pub leads : (x o e : List ℕ) → MayFollow new.hart x → f (state_of old (taken ++ x) o e) ≡ state_of new x (o ++ written) (e ++ reported)
+  pub input : Takes taken old.hart new.hart told.input_before told.input_after
   pub output : told.output_after ≡ appended told.output_before written
   pub errors : told.errors_after ≡ appended told.errors_before reported
 
 -- the call began to do this, and each output got a front of what it would have got
-pub record ActsInPart (f : State → State) (old : Moment) (told : Streams) : Type 0 where
+pub record ActsInPart (f : State → State) (old : Moment) (new : Hart) (told : Streams) : Type 0 where
   pub taken : List ℕ
   pub written : List ℕ
   pub reported : List ℕ
-  pub writes : (x o e : List ℕ) → (f (state_of old (taken ++ x) o e)).output ≡ o ++ written
-  pub reports : (x o e : List ℕ) → (f (state_of old (taken ++ x) o e)).errors ≡ e ++ reported
-  pub input : told.input_before ≡ preceded taken told.input_after
+  pub writes : (x o e : List ℕ) → MayFollow new x → (f (state_of old (taken ++ x) o e)).output ≡ o ++ written
+  pub reports : (x o e : List ℕ) → MayFollow new x → (f (state_of old (taken ++ x) o e)).errors ≡ e ++ reported
+  pub input : Takes taken old.hart new told.input_before told.input_after
   pub output : AppendsFront told.output_before written told.output_after
   pub errors : AppendsFront told.errors_before reported told.errors_after
 
--- the counts of faults of the two outputs, before and after a call
+-- the bytes that an environment call hands over, and whether they may be read or written
+abbrev pub handed_bytes : Hart → List ℕ
+handed_bytes hart =
+    bytes_from (byte_in (regions_of hart.memory.segments.items)) (value_of hart.registers.words 11) (value_of hart.registers.words 12)
+
+abbrev pub may_hand : Hart → Bool
+may_hand hart =
+    all_from (readable_in (regions_of hart.memory.segments.items)) (value_of hart.registers.words 11) (value_of hart.registers.words 12)
+
+abbrev pub may_fill : Hart → Bool
+may_fill hart =
+    all_from (writable_in (regions_of hart.memory.segments.items)) (value_of hart.registers.words 11) (value_of hart.registers.words 12)
+
+-- the next step reads from the input and wants more than so many bytes, and the source has not answered that it is at its end
+pub record WantsMore (count : ℕ) (hart : Hart) : Type 0 where
+  pub from_input : value_of hart.registers.words 10 ≡ 0
+  pub may : IsTrue (may_fill hart)
+  pub more : count < value_of hart.registers.words 12
+  pub asks : hart.input_ended ≡ false
+
+-- the call is one that reads, which got these bytes and wanted more
+pub record ReadsInPart (f : State → State) (old : Hart) (told : Streams) : Type 0 where
+  pub taken : List ℕ
+  pub reads : (x o e : List ℕ) → f (state_of (moment old Running) x o e) ≡ read_call (state_of (moment old Running) x o e)
+  pub wants : WantsMore (length taken) old
+  pub input : told.input_before ≡ preceded taken told.input_after
+  pub output : told.output_after ≡ told.output_before
+  pub errors : told.errors_after ≡ told.errors_before
+
+-- the counts of faults of the input and the two outputs, before and after a call
 pub record Faults : Type 0 where
+  pub input_before : ℕ
+  pub input_after : ℕ
   pub output_before : ℕ
   pub output_after : ℕ
   pub errors_before : ℕ
   pub errors_after : ℕ
 
-abbrev pub faults : ℕ → ℕ → ℕ → ℕ → Faults
-faults o o' e e' = record { output_before = o; output_after = o'; errors_before = e; errors_after = e' }
+abbrev pub faults : ℕ → ℕ → ℕ → ℕ → ℕ → ℕ → Faults
+faults i i' o o' e e' =
+    record { input_before = i; input_after = i'; output_before = o; output_after = o'; errors_before = e; errors_after = e' }
 
 -- no count of faults falls
 abbrev pub Rises : Faults → Type 0
-Rises counts = (counts.output_before ≤ counts.output_after) × (counts.errors_before ≤ counts.errors_after)
+Rises counts =
+    (counts.input_before ≤ counts.input_after) × (counts.output_before ≤ counts.output_after) × (counts.errors_before ≤ counts.errors_after)
+
+abbrev pub InputFailed : Faults → Type 0
+InputFailed counts = Rose counts.input_before counts.input_after
 
 abbrev pub OutputFailed : Faults → Type 0
 OutputFailed counts = Rose counts.output_before counts.output_after ⊎ Rose counts.errors_before counts.errors_after
@@ -98,34 +145,43 @@ abbrev pub StepIs : (State → State) → Stepped → Hart → Hart → Streams 
 StepIs f Went old new told counts = Acts f (moment old Running) (moment new Running) told
 StepIs f (stepped.Ended status) old new told counts = Acts f (moment old Running) (moment new (Ended status)) told
 StepIs f (Fault kind pc) old new told counts = Acts f (moment old Running) (moment new (Faulted kind pc)) told
-StepIs f ReadFault old new told counts = ⊥
-StepIs f WriteFault old new told counts = ActsInPart f (moment old Running) told × OutputFailed counts
+StepIs f ReadFault old new told counts = ReadsInPart f old told × InputFailed counts
+StepIs f WriteFault old new told counts = ActsInPart f (moment old Running) new told × OutputFailed counts
+
+-- the call did this to the machine, and touched no stream
+pub record Leads (f : State → State) (old : Hart) (new : Moment) : Type 0 where
+  pub leads : (x o e : List ℕ) → f (state_of (moment old Running) x o e) ≡ state_of new x o e
+  pub input : new.hart.input_ended ≡ old.input_ended
+
+-- a step that touches no stream
+abbrev pub RowIs : (State → State) → Stepped → Hart → Hart → Type 0
+RowIs f Went old new = Leads f old (moment new Running)
+RowIs f (stepped.Ended status) old new = Leads f old (moment new (Ended status))
+RowIs f (Fault kind pc) old new = Leads f old (moment new (Faulted kind pc))
+RowIs f ReadFault old new = ⊥
+RowIs f WriteFault old new = ⊥
 
 -- a register gets a value, and the machine goes on to the next instruction
-abbrev pub Sets : ℕ → ℕ → Hart → Hart → Type 0
-Sets rd value old new =
-    (x o e : List ℕ) → advanced (with_register (state_of (moment old Running) x o e) rd value) ≡ state_of (moment new Running) x o e
+abbrev pub sets : ℕ → ℕ → State → State
+sets rd value s = advanced (with_register s rd value)
 
--- the bytes that a write hands over, and whether they may be read
-abbrev pub handed_bytes : Hart → List ℕ
-handed_bytes hart =
-    bytes_from (byte_in (regions_of hart.memory.segments.items)) (value_of hart.registers.words 11) (value_of hart.registers.words 12)
-
-abbrev pub may_hand : Hart → Bool
-may_hand hart =
-    all_from (readable_in (regions_of hart.memory.segments.items)) (value_of hart.registers.words 11) (value_of hart.registers.words 12)
+-- an environment call that reads from a source, which stood and stands so
+abbrev pub ReadIs : Stepped → Hart → Hart → Option (List ℕ) → Option (List ℕ) → ℕ → ℕ → Type 0
+ReadIs r old new before after count count' =
+    (o e : Option (List ℕ)) (oc oc' ec ec' : ℕ) → StepIs read_call r old new (streams before after o o e e) (faults count count' oc oc' ec ec')
 
 -- a write to one sink, which stood and stands so
 abbrev pub WriteIs : Stepped → Hart → Hart → Option (List ℕ) → Option (List ℕ) → ℕ → ℕ → Type 0
 WriteIs Went old new before after count count' =
-    IsTrue (may_hand old) × (after ≡ appended before (handed_bytes old)) × Sets 10 (value_of old.registers.words 12) old new
+    IsTrue (may_hand old) × (after ≡ appended before (handed_bytes old)) × Leads (sets 10 (value_of old.registers.words 12)) old (moment new Running)
 WriteIs (stepped.Ended status) old new before after count count' = ⊥
 WriteIs (Fault kind pc) old new before after count count' =
     (may_hand old ≡ false) × (kind ≡ Load) × (pc ≡ old.pc) × (new ≡ old) × (after ≡ before)
 WriteIs ReadFault old new before after count count' = ⊥
 WriteIs WriteFault old new before after count count' =
-    IsTrue (may_hand old) × AppendsFront before (handed_bytes old) after × Rose count count'
+    IsTrue (may_hand old) × AppendsFront before (handed_bytes old) after × Rose count count' × (new ≡ old)
 
--- the hart begins as the image says, whatever the input is
-abbrev pub BeginsAs : List ℕ → Hart → Type 0
-BeginsAs image hart = (input : List ℕ) → state_of (moment hart Running) input [] [] ≡ start image input
+-- the hart begins as the image says, whatever the input is, and may ask for it
+pub record BeginsAs (image : List ℕ) (hart : Hart) : Type 0 where
+  pub begins : (input : List ℕ) → state_of (moment hart Running) input [] [] ≡ start image input
+  pub asks : hart.input_ended ≡ false

@@ -1,7 +1,9 @@
 -- Runs of the emulator, as runs of the machine's definition.
-use Rattle.std.specs.Prelude.{◌≡◌, ℕ, suc, ◌+◌, ◌-◌, ◌^◌, ◌<◌, ◌≤◌, ◌⊎◌, min, Bool, true, false, List}
-use Rattle.op_rv.specs.Step.{after}
-use Rattle.op_emu.specs.Acts.{Moment, moment, ending_of, Streams, Faults, Acts, ActsInPart, OutputFailed, BeginsAs}
+use Rattle.std.specs.Prelude.{◌≡◌, ℕ, suc, ◌+◌, ◌-◌, ◌^◌, ◌<◌, ◌≤◌, ◌⊎◌, min, Bool, true, false, Option, List}
+use Rattle.op_rv.specs.State.{Running}
+use Rattle.op_rv.specs.Step.{step, after}
+use Rattle.op_emu.specs.Acts.{Moment, moment, ending_of, Streams, Faults, Acts, ActsInPart, ReadsInPart, InputFailed, OutputFailed, BeginsAs}
+use Rattle.op_emu.specs.declared.hart.Hart.{Hart}
 use Rattle.op_emu.specs.declared.machine.Machine.{Machine}
 use Rattle.op_emu.specs.declared.stop.Stepped.{Stepped}
 use Rattle.op_emu.specs.declared.stop.Stepped.TheVariants as stepped
@@ -40,15 +42,22 @@ pub record FaultsAfter (m : ℕ) (old new : Machine) (told : Streams) : Type 0 w
   pub acts : Acts (after (suc m)) (moment_of old) (moment_of new) told
   pub counted : new.steps ≡ old.steps + m
 
+-- the call did m steps, and the next one reads and wants more bytes than the source gave before it failed
+pub record WantsAfter (m : ℕ) (old : Machine) (told : Streams) : Type 0 where
+  pub hart : Hart
+  pub left : Option (List ℕ)
+  pub acts : Acts (after m) (moment_of old) (moment hart Running) (record told { input_after = left })
+  pub reads : ReadsInPart step hart (record told { input_before = left; output_before = told.output_after; errors_before = told.errors_after })
+
 -- a run of at most n steps of a machine that goes on
 abbrev pub RunIs : ℕ → Stop → Machine → Machine → Streams → Faults → Type 0
 RunIs n stop.Spent old new told counts =
     (m : ℕ) × DoesSteps m old new told × ((m ≡ n) ⊎ (m ≤ n) × (new.steps ≡ 2 ^ 64 - 1))
 RunIs n (stop.Ended status) old new told counts = (m : ℕ) × (m ≤ n) × DoesSteps m old new told
 RunIs n (stop.Fault kind pc) old new told counts = (m : ℕ) × (m < n) × FaultsAfter m old new told
-RunIs n stop.ReadFault old new told counts = ⊥
+RunIs n stop.ReadFault old new told counts = (m : ℕ) × (m < n) × WantsAfter m old told × InputFailed counts
 RunIs n stop.WriteFault old new told counts =
-    (m : ℕ) × (m < n) × ActsInPart (after (suc m)) (moment_of old) told × OutputFailed counts
+    (m : ℕ) × (m < n) × ActsInPart (after (suc m)) (moment_of old) new.hart told × OutputFailed counts
 
 -- the machine has not begun, and begins as the image says
 pub record IsLoaded (image : List ℕ) (machine : Machine) : Type 0 where

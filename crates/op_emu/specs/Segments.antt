@@ -1,7 +1,9 @@
 -- The segments of the code as regions, and what is read from them.
-use Rattle.std.specs.Prelude.{◌≡◌, ℕ, ◌+◌, ◌<◌, ◌≤◌, Bool, true, false, Some, List, map, length}
-use Rattle.op_rv.specs.State.{bytes_from, all_from}
-use Rattle.op_emu.specs.Region.{Region, range_of, are_apart, region_at, byte_in, readable_in}
+use Rattle.std.specs.Prelude.{◌≡◌, ℕ, ◌+◌, ◌<◌, ◌≤◌, Bool, true, false, Some, List, ◌++◌, map, length, take, drop}
+use Rattle.op_rv.specs.State.{bytes_from, all_from, with_bytes}
+use Rattle.op_emu.specs.Region.{Region, range_of, are_apart, region_at, byte_in, readable_in, writable_in, executable_in, rights_in}
+use Rattle.op_emu.specs.declared.memory.Right.{Right}
+use Rattle.op_emu.specs.declared.memory.Right.TheVariants.{Read, Write, Execute}
 use Rattle.op_emu.specs.declared.memory.Segment.{Segment}
 
 abbrev pub region_of : Segment → Region
@@ -36,3 +38,29 @@ pub record IsReadableFront (regions : List Region) (at most : ℕ) (front : List
   pub bytes : front ≡ bytes_from (byte_in regions) at (length front)
   pub readable : all_from (readable_in regions) at (length front) ≡ true
   pub stops : length front ≡ 0 → 0 < most → readable_in regions at ≡ false
+
+abbrev pub has_right : Right → Region → Bool
+has_right Read region = region.readable
+has_right Write region = region.writable
+has_right Execute region = region.executable
+
+-- which addresses have a right
+abbrev pub right_in : Right → List Region → ℕ → Bool
+right_in Read regions = readable_in regions
+right_in Write regions = writable_in regions
+right_in Execute regions = executable_in regions
+
+-- so many bytes are the longest front of a range that lies in one segment with a right
+pub record IsAllowedFront (right : Right) (regions : List Region) (at most count : ℕ) : Type 0 where
+  pub within : count ≤ most
+  pub allowed : all_from (right_in right regions) at count ≡ true
+  pub stops : count ≡ 0 → 0 < most → right_in right regions at ≡ false
+
+-- a segment's bytes with these from an offset on
+abbrev pub written_over : List ℕ → ℕ → List ℕ → List ℕ
+written_over old offset bytes = take offset old ++ (bytes ++ drop (offset + length bytes) old)
+
+-- these bytes were written from an address on, and no right changed
+pub record IsWritten (old new : List Region) (at : ℕ) (bytes : List ℕ) : Type 0 where
+  pub memory : byte_in new ≡ with_bytes (byte_in old) at bytes
+  pub rights : rights_in new ≡ rights_in old

@@ -5,19 +5,23 @@
 //! nothing.
 #![tactic(auto)]
 
+mod access;
+mod calls;
 mod elf;
+mod fill;
 mod hart;
 mod loader;
 mod machine;
 mod memory;
 mod registers;
+mod rows;
 mod stop;
 
 pub use elf::ProgramHeader;
 pub use hart::Hart;
 pub use loader::load;
 pub use machine::Machine;
-pub use memory::{Memory, Segment};
+pub use memory::{Memory, Right, Segment};
 pub use op_rv::FaultKind;
 pub use registers::Registers;
 pub use stop::{MachineError, Stepped, Stop};

@@ -34,6 +34,7 @@ fn hart(alloc: Global, image: &[u8]) -> Result<Hart, AllocError>
         registers: Registers::new(),
         pc: word(image, 24),
         memory: Memory { segments },
+        input_ended: false,
     })
 }
 

@@ -44,8 +44,8 @@ impl Machine {
             → self.new.steps ≡ (if is_done result then one_more self.old.steps else self.old.steps) }
         ensures acts { self.old.last ≡ Stepped.Went → StepIs step result self.old.hart self.new.hart
             (streams (R.left input.old) (R.left input.new) (W.written out.old) (W.written out.new) (E.written err.old) (E.written err.new))
-            (faults (W.faults out.old) (W.faults out.new) (E.faults err.old) (E.faults err.new)) }
-        ensures counts { Rises (faults (W.faults out.old) (W.faults out.new) (E.faults err.old) (E.faults err.new)) }
+            (faults (R.faults input.old) (R.faults input.new) (W.faults out.old) (W.faults out.new) (E.faults err.old) (E.faults err.new)) }
+        ensures counts { Rises (faults (R.faults input.old) (R.faults input.new) (W.faults out.old) (W.faults out.new) (E.faults err.old) (E.faults err.new)) }
 
         // After it has stopped it changes nothing.
         ensures again { self.old.last ≢ Stepped.Went → self.new ≡ self.old }
@@ -80,8 +80,8 @@ impl Machine {
         ensures stands { result ≡ stop_of self.new.last }
         ensures runs { self.old.last ≡ Stepped.Went → RunIs n result self.old self.new
             (streams (R.left input.old) (R.left input.new) (W.written out.old) (W.written out.new) (E.written err.old) (E.written err.new))
-            (faults (W.faults out.old) (W.faults out.new) (E.faults err.old) (E.faults err.new)) }
-        ensures counts { Rises (faults (W.faults out.old) (W.faults out.new) (E.faults err.old) (E.faults err.new)) }
+            (faults (R.faults input.old) (R.faults input.new) (W.faults out.old) (W.faults out.new) (E.faults err.old) (E.faults err.new)) }
+        ensures counts { Rises (faults (R.faults input.old) (R.faults input.new) (W.faults out.old) (W.faults out.new) (E.faults err.old) (E.faults err.new)) }
 
         // After it has stopped it changes nothing.
         ensures again { self.old.last ≢ Stepped.Went → self.new ≡ self.old }

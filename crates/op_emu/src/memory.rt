@@ -1,12 +1,21 @@
 //! Memory: segments with rights.
-ghost use Rattle.std.specs.Prelude.{◌≡◌, ℕ, ◌+◌, ◌-◌, ◌^◌, ◌<◌, ◌≤◌, ◌&&◌, IsTrue, Some, None, true, MatchOption, slice_index, drop, find, length, vec_len, if◌then◌else◌};
+ghost use Rattle.std.specs.Prelude.{◌≡◌, ℕ, ◌+◌, ◌-◌, ◌^◌, ◌<◌, ◌≤◌, ◌&&◌, IsTrue, Some, None, true, MatchOption, slice_index, drop, take, find, length, vec_len, if◌then◌else◌};
 ghost use Rattle.std.specs.Option.{option_copied};
-ghost use Rattle.op_rv.specs.State.{bytes_from, all_from, word_at};
+ghost use Rattle.std.specs.List.{position};
+ghost use Rattle.op_rv.specs.State.{bytes_from, all_from, half_at, word_at};
 ghost use Rattle.op_base.specs.Outside.{Rose, appended, AppendsFront};
-ghost use Rattle.op_emu.specs.Region.{region_at, covers, range_of, byte_in, readable_in, executable_in};
-ghost use Rattle.op_emu.specs.Segments.{region_of, regions_of, lie_apart, IsWithin, IsFoundAt, IsReadableFront};
+ghost use Rattle.op_emu.specs.Region.{region_at, covers, range_of, byte_in, readable_in, writable_in};
+ghost use Rattle.op_emu.specs.Segments.{region_of, regions_of, lie_apart, has_right, right_in, written_over, IsWithin, IsFoundAt, IsAllowedFront, IsReadableFront, IsWritten};
 
 use op_base::{Put, Sink};
+
+/// What may be done with a byte.
+#[derive(Clone, Copy, Debug, PartialEq, Eq)]
+pub enum Right {
+    Read,
+    Write,
+    Execute,
+}
 
 /// A range of addresses with its rights and bytes.
 #[derive(Debug, Drop)]
@@ -35,6 +44,18 @@ impl Segment {
         base <= at && at - base < self.bytes.len() as u64
     }
 
+    /// Whether the segment's bytes have a right.
+    #[inline(always)]
+    fn allows(&self, right: Right) -> bool
+        ensures { result ≡ has_right right (region_of self.now) }
+    {
+        match right {
+            Right::Read => self.readable,
+            Right::Write => self.writable,
+            Right::Execute => self.executable,
+        }
+    }
+
     /// The byte at an address of the segment.
     #[inline(always)]
     fn byte(&self, at: u64) -> u8
@@ -52,6 +73,22 @@ impl Segment {
     {
         let bytes = self.bytes.as_slice();
         bytes.split_at((at - self.base as u64) as usize).1
+    }
+
+    /// Writes the longest front of the bytes for which the segment has room from an address on, and answers its length.
+    #[inline(always)]
+    fn write_front(&mut self, at: u64, bytes: &[u8]) -> usize
+        requires { IsWithin (region_of self.old) at }
+        ensures most { result ≤ length bytes.now }
+        ensures some { 0 < length bytes.now → 0 < result }
+        ensures fits { at - self.old.base + result ≤ vec_len self.old.bytes }
+        ensures wrote { region_of self.new
+            ≡ record (region_of self.old) { bytes = written_over self.old.bytes.items (at - self.old.base) (take result bytes.now) } }
+    {
+        let offset = (at - self.base as u64) as usize;
+        let count = bytes.len().min(self.bytes.len() - offset);
+        self.bytes[offset..offset + count].copy_from_slice(&bytes[..count]);
+        count
     }
 }
 
@@ -89,7 +126,7 @@ impl Memory {
     }
 
     /// The byte at an address, 0 outside every segment.
-    fn byte(&self, at: u64) -> u8
+    pub fn byte(&self, at: u64) -> u8
         ensures { result ≡ byte_in (regions_of self.now.segments.items) at }
     {
         match self.segment_at(at) {
@@ -98,26 +135,44 @@ impl Memory {
         }
     }
 
-    /// Whether the byte at an address may be executed.
-    fn is_executable(&self, at: u64) -> bool
-        ensures { result ≡ executable_in (regions_of self.now.segments.items) at }
+    /// The length of the longest front of the `most` bytes at an address that lies in one segment with a right.
+    #[inline(always)]
+    fn allowed_front(&self, right: Right, at: u64, most: u64) -> u64
+        ensures { IsAllowedFront right (regions_of self.now.segments.items) at most result }
     {
         match self.segment_at(at) {
-            None => false,
-            Some(segment) => segment.executable,
+            None => 0,
+            Some(segment) if !segment.allows(right) => 0,
+            Some(segment) => most.min(segment.bytes.len() as u64 - (at - segment.base as u64)),
         }
     }
 
-    /// Whether the four bytes at an address may be executed.
-    #[tactic(auto, using(crate::proofs::Regions::all_from_four))]
-    pub fn is_executable_word(&self, pc: u32) -> bool
-        ensures { result ≡ all_from (executable_in (regions_of self.now.segments.items)) pc 4 }
+    /// Whether each of the `count` bytes at an address has a right.
+    #[inline(always)]
+    pub fn allows(&self, right: Right, at: u32, count: u32) -> bool
+        ensures { result ≡ all_from (right_in right (regions_of self.now.segments.items)) at count }
     {
-        let at = pc as u64;
-        self.is_executable(at)
-            && self.is_executable(at + 1)
-            && self.is_executable(at + 2)
-            && self.is_executable(at + 3)
+        let mut at = at as u64;
+        let mut left = count as u64;
+        while left > 0 {
+            let front = self.allowed_front(right, at, left);
+            if front == 0 {
+                return false;
+            }
+            at += front;
+            left -= front;
+        }
+        true
+    }
+
+    /// The two bytes at an address as a number, the lower one first.
+    pub fn half(&self, at: u32) -> u16
+        ensures { result ≡ half_at (byte_in (regions_of self.now.segments.items)) at }
+    {
+        let at = at as u64;
+        let byte0 = self.byte(at) as u16;
+        let byte1 = self.byte(at + 1) as u16;
+        byte0 + (byte1 << 8)
     }
 
     /// The word at an address, its lowest byte first.
@@ -130,23 +185,6 @@ impl Memory {
         let byte2 = self.byte(at + 2) as u32;
         let byte3 = self.byte(at + 3) as u32;
         byte0 + (byte1 << 8) + (byte2 << 16) + (byte3 << 24)
-    }
-
-    /// Whether each of the `count` bytes at an address may be read.
-    pub fn is_readable(&self, at: u32, count: u32) -> bool
-        ensures { result ≡ all_from (readable_in (regions_of self.now.segments.items)) at count }
-    {
-        let mut at = at as u64;
-        let mut left = count as u64;
-        while left > 0 {
-            let front = self.readable_front(at, left).len() as u64;
-            if front == 0 {
-                return false;
-            }
-            at += front;
-            left -= front;
-        }
-        true
     }
 
     /// Hands the `count` bytes at an address, which may be read, to a sink, a stretch at a time.
@@ -171,5 +209,42 @@ impl Memory {
             left -= front.len() as u64;
         }
         Put::Done
+    }
+    /// The place of the segment at an address.
+    #[inline(always)]
+    fn index_at(&self, at: u64) -> Option<usize>
+        ensures { result ≡ position (λ s. covers (range_of (region_of s)) at) self.now.segments.items }
+    {
+        self.segments
+            .iter()
+            .position(|segment| segment.contains(at))
+    }
+
+    /// Writes the longest front of the bytes that lies in the segment at an address, and answers its length.
+    #[inline(always)]
+    fn write_front(&mut self, at: u64, bytes: &[u8]) -> usize
+        requires { IsTrue (writable_in (regions_of self.old.segments.items) at) }
+        ensures most { result ≤ length bytes.now }
+        ensures some { 0 < length bytes.now → 0 < result }
+        ensures wrote { IsWritten (regions_of self.old.segments.items) (regions_of self.new.segments.items) at (take result bytes.now) }
+    {
+        match self.index_at(at) {
+            Some(k) => self.segments[k].write_front(at, bytes),
+            None => unreachable!(),
+        }
+    }
+
+    /// Writes the bytes, each of which may be written, from an address on.
+    #[inline(always)]
+    pub(crate) fn write(&mut self, at: u64, bytes: &[u8])
+        requires near { at < 2 ^ 33 }
+        requires few { length bytes.now < 2 ^ 32 }
+        requires may { IsTrue (all_from (writable_in (regions_of self.old.segments.items)) at (length bytes.now)) }
+        ensures { IsWritten (regions_of self.old.segments.items) (regions_of self.new.segments.items) at bytes.now }
+    {
+        let mut done = 0;
+        while done < bytes.len() {
+            done += self.write_front(at + done as u64, &bytes[done..]);
+        }
     }
 }

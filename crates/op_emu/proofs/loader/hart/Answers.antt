@@ -1,4 +1,4 @@
-use Rattle.std.proofs.Common.{arith, List, map, ◌∙◌, ap}
+use Rattle.std.proofs.Common.{arith, List, map, ◌∙◌, ap, refl}
 use Rattle.op_emu.specs.Region.{Region, range_of, are_apart}
 use Rattle.op_emu.proofs.ImageLemmas.{has_table, lie_apart_in, begins}
 use Rattle.op_emu.proofs.loader.hart.Goals as goal
@@ -13,5 +13,8 @@ invariant_of-result c =
     }
 
 pub returns : goal.returns
-returns c input =
-    begins c.args.image.now input _ _ _ c.new.ensures c.word.ensures c.in_ok-segments.ensures
+returns c =
+    record {
+      begins = λ input. begins c.args.image.now input _ _ _ c.new.ensures c.word.ensures c.in_ok-segments.ensures;
+      asks = refl;
+    }

@@ -1,7 +1,7 @@
 use Rattle.std.proofs.Common.{◌≡◌, ◌∙◌, sym, arith}
 use Rattle.op_rv.specs.declared.fault.FaultKind.TheVariants.{Call}
 use Rattle.op_rv.specs.Environment.{write_call}
-use Rattle.op_emu.proofs.ActsLemmas.{StepIs-out, StepIs-err, StepIs-fault, write_call-other}
+use Rattle.op_emu.proofs.ActsLemmas.{StepIs-out, StepIs-err, Acts-fault, write_call-other}
 use Rattle.op_emu.proofs.hart.Hart.write.Goals as goal
 
 pub returns-in-1-clause-acts : goal.returns-in-1-clause-acts
@@ -14,5 +14,5 @@ returns-in-2-clause-acts g c =
 
 pub returns-in_default-clause-acts : goal.returns-in_default-clause-acts
 returns-in_default-clause-acts g c =
-    StepIs-fault write_call c.args.self.now c.fault.result Call _ _ _ _ c.fault.ensures (λ x o e.
+    Acts-fault write_call c.args.self.now Call _ _ _ (λ x o e.
     write_call-other _ (λ is. let at : c.get.result ≡ 1 = c.get.ensures ∙ is in omega arith) (λ is. let at : c.get.result ≡ 2 = c.get.ensures ∙ is in omega arith))

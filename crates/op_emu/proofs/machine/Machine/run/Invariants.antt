@@ -12,5 +12,5 @@ invariant-loop-turn g l =
     record {
       goes : l.self.last ≡ Went;
       does : DoesSteps l._turn l.fn.self l.self (streams (source.left l.fn.input) (source.left l.input) (out.written l.fn.out) (out.written l.out) (err.written l.fn.err) (err.written l.err));
-      counts : Rises (faults (out.faults l.fn.out) (out.faults l.out) (err.faults l.fn.err) (err.faults l.err));
+      counts : Rises (faults (source.faults l.fn.input) (source.faults l.input) (out.faults l.fn.out) (out.faults l.out) (err.faults l.fn.err) (err.faults l.err));
     }
