@@ -14,7 +14,8 @@ use Rattle.op_rv.specs.declared.instruction.ImmOp.TheVariants.{Addi}
 use Rattle.op_rv.proofs.Table.{instr_at-word_of}
 use Rattle.op_emu.specs.Region.{Region, byte_in, readable_in, executable_in, rights_in, region_at, are_apart, range_of}
 use Rattle.op_emu.specs.Image.{start, regions_in, region_in}
-use Rattle.op_emu.proofs.Regions.{bytes_from-within, all_readable-within}
+use Rattle.op_emu.proofs.Regions.{bytes_from-within, all_allowed-within}
+use Rattle.op_emu.specs.declared.memory.Right.TheVariants.{Read}
 use Rattle.op_emu.proofs.ActsLemmas.{running_step-row, write_call-out}
 use Rattle.op_tool.specs.Writer.{headers, padding, code, image_of, high_of, low_of}
 use Rattle.op_tool.specs.Prints.{EndsAfter, Prints}
@@ -87,7 +88,7 @@ can_read_by : (text : List ℕ) → are_apart (map range_of (regions text)) ≡ 
 unfolding all_from
 can_read_by [] apart = refl
 can_read_by (x ∷ xs) apart =
-    all_readable-within (regions (x ∷ xs)) (text_region (x ∷ xs)) apart 0x00011028 (text_found x xs) refl (length (x ∷ xs)) 0x00011028 (omega arith) (omega arith)
+    all_allowed-within (regions (x ∷ xs)) (text_region (x ∷ xs)) apart 0x00011028 (text_found x xs) Read refl (length (x ∷ xs)) 0x00011028 (omega arith) (omega arith)
 
 reads_by : (text : List ℕ) → are_apart (map range_of (regions text)) ≡ true → bytes_from (byte_in (regions text)) 0x00011028 (length text) ≡ text
 unfolding bytes_from

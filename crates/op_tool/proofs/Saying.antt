@@ -32,10 +32,10 @@ says_all owed (Faulted kind pc) told counts other all = all
 says_all owed Limit told counts other all = all
 
 -- a report of an answer that owes its line alone
-pub says_report : (owed : Finish → List ℕ → List ℕ → Type 0) (finish answer : Finish) (bytes : List ℕ) (i o e e' : Option (List ℕ)) (n c c' : ℕ) → finish ≢ WriteFault → owed finish [] bytes → ReportIs finish bytes answer e e' c c' → Says owed answer (streams i i o o e e') (faults n n c c')
+pub says_report : (owed : Finish → List ℕ → List ℕ → Type 0) (finish answer : Finish) (bytes : List ℕ) (i o e e' : Option (List ℕ)) (r r' n c c' : ℕ) → finish ≢ WriteFault → owed finish [] bytes → ReportIs finish bytes answer e e' c c' → Says owed answer (streams i i o o e e') (faults r r' n n c c')
 unfolding Says
-says_report owed finish answer bytes i o e e' n c c' other owes (inl (is, all)) =
-    subst (λ f. Says owed f (streams i i o o e e') (faults n n c c')) (sym is) (says_all owed finish (streams i i o o e e') (faults n n c c') other (record {
+says_report owed finish answer bytes i o e e' r r' n c c' other owes (inl (is, all)) =
+    subst (λ f. Says owed f (streams i i o o e e') (faults r r' n n c c')) (sym is) (says_all owed finish (streams i i o o e e') (faults r r' n n c c') other (record {
       out = [];
       err = bytes;
       is_owed = owes;
@@ -43,8 +43,8 @@ says_report owed finish answer bytes i o e e' n c c' other owes (inl (is, all)) 
       errors = all;
       unread = refl;
     }))
-says_report owed finish answer bytes i o e e' n c c' other owes (inr (is, front, rose)) =
-    subst (λ f. Says owed f (streams i i o o e e') (faults n n c c')) (sym is) (record {
+says_report owed finish answer bytes i o e e' r r' n c c' other owes (inr (is, front, rose)) =
+    subst (λ f. Says owed f (streams i i o o e e') (faults r r' n n c c')) (sym is) (record {
       finish = finish;
       out = [];
       err = bytes;
@@ -102,24 +102,24 @@ owes_of_run now name text exec compiles (BadImage condition) out err owes = owes
 owes_of_run now name text exec compiles (Faulted kind pc) out err owes = owes
 owes_of_run now name text exec compiles Limit out err owes = owes
 
-pub says_usage : (now : Call) (answer : Finish) (i o e e' : Option (List ℕ)) (n c c' : ℕ) → ((name : List ℕ) → IsExec now.words name → ⊥) → now.image ≡ [] → ReportIs Usage (line (codes "opc: bad command line")) answer e e' c c' → Says (Owes now) answer (streams i i o o e e') (faults n n c c')
-says_usage now answer i o e e' n c c' not_exec empty is =
-    says_report (Owes now) Usage answer (line (codes "opc: bad command line")) i o e e' n c c' (λ same. cc) (not_exec, empty, refl, refl) is
+pub says_usage : (now : Call) (answer : Finish) (i o e e' : Option (List ℕ)) (r r' n c c' : ℕ) → ((name : List ℕ) → IsExec now.words name → ⊥) → now.image ≡ [] → ReportIs Usage (line (codes "opc: bad command line")) answer e e' c c' → Says (Owes now) answer (streams i i o o e e') (faults r r' n n c c')
+says_usage now answer i o e e' r r' n c c' not_exec empty is =
+    says_report (Owes now) Usage answer (line (codes "opc: bad command line")) i o e e' r r' n c c' (λ same. cc) (not_exec, empty, refl, refl) is
 
-pub says_no_memory : (now : Call) (answer : Finish) (i o e e' : Option (List ℕ)) (n c c' : ℕ) → ReportIs NoMemory (line (codes "opc: out of memory")) answer e e' c c' → Says (Owes now) answer (streams i i o o e e') (faults n n c c')
-says_no_memory now answer i o e e' n c c' is =
-    says_report (Owes now) NoMemory answer (line (codes "opc: out of memory")) i o e e' n c c' (λ same. cc) (refl, refl) is
+pub says_no_memory : (now : Call) (answer : Finish) (i o e e' : Option (List ℕ)) (r r' n c c' : ℕ) → ReportIs NoMemory (line (codes "opc: out of memory")) answer e e' c c' → Says (Owes now) answer (streams i i o o e e') (faults r r' n n c c')
+says_no_memory now answer i o e e' r r' n c c' is =
+    says_report (Owes now) NoMemory answer (line (codes "opc: out of memory")) i o e e' r r' n c c' (λ same. cc) (refl, refl) is
 
-pub says_read_fault : (now : Call) (answer : Finish) (i o e e' : Option (List ℕ)) (n c c' : ℕ) → Rose now.file_faults_before now.file_faults_after → now.image ≡ [] → ReportIs ReadFault (line (codes "opc: read fault")) answer e e' c c' → Says (Owes now) answer (streams i i o o e e') (faults n n c c')
-says_read_fault now answer i o e e' n c c' rose empty is =
-    says_report (Owes now) ReadFault answer (line (codes "opc: read fault")) i o e e' n c c' (λ same. cc) (rose, empty, refl, refl) is
+pub says_read_fault : (now : Call) (answer : Finish) (i o e e' : Option (List ℕ)) (r r' n c c' : ℕ) → Rose now.file_faults_before now.file_faults_after → now.image ≡ [] → ReportIs ReadFault (line (codes "opc: read fault")) answer e e' c c' → Says (Owes now) answer (streams i i o o e e') (faults r r' n n c c')
+says_read_fault now answer i o e e' r r' n c c' rose empty is =
+    says_report (Owes now) ReadFault answer (line (codes "opc: read fault")) i o e e' r r' n c c' (λ same. cc) (rose, empty, refl, refl) is
 
-pub says_refused : (now : Call) (name file : List ℕ) (refusal : Refusal) (answer : Finish) (i o e e' : Option (List ℕ)) (n c c' : ℕ) → IsExec now.words name → file ≡ name → IsRefused now.stored name refusal.rule refusal.place → now.image ≡ [] → ReportsRefusal file refusal answer e e' c c' → Says (Owes now) answer (streams i i o o e e') (faults n n c c')
-says_refused now name file refusal answer i o e e' n c c' exec is_file refused empty (inl (bytes, reports, is)) =
-    says_report (Owes now) (Refused refusal.rule refusal.place) answer bytes i o e e' n c c' (λ same. cc) (name, exec, refused, empty, refl, subst (λ f. Reports f refusal.place refusal.rule bytes) is_file reports) is
-says_refused now name file refusal answer i o e e' n c c' exec is_file refused empty (inr is) =
-    says_no_memory now answer i o e e' n c c' is
+pub says_refused : (now : Call) (name file : List ℕ) (refusal : Refusal) (answer : Finish) (i o e e' : Option (List ℕ)) (r r' n c c' : ℕ) → IsExec now.words name → file ≡ name → IsRefused now.stored name refusal.rule refusal.place → now.image ≡ [] → ReportsRefusal file refusal answer e e' c c' → Says (Owes now) answer (streams i i o o e e') (faults r r' n n c c')
+says_refused now name file refusal answer i o e e' r r' n c c' exec is_file refused empty (inl (bytes, reports, is)) =
+    says_report (Owes now) (Refused refusal.rule refusal.place) answer bytes i o e e' r r' n c c' (λ same. cc) (name, exec, refused, empty, refl, subst (λ f. Reports f refusal.place refusal.rule bytes) is_file reports) is
+says_refused now name file refusal answer i o e e' r r' n c c' exec is_file refused empty (inr is) =
+    says_no_memory now answer i o e e' r r' n c c' is
 
-pub says_run_no_memory : (text : List ℕ) (answer : Finish) (i o e e' : Option (List ℕ)) (n c c' : ℕ) → ReportIs NoMemory (line (codes "opc: out of memory")) answer e e' c c' → Says (OwesRun text) answer (streams i i o o e e') (faults n n c c')
-says_run_no_memory text answer i o e e' n c c' is =
-    says_report (OwesRun text) NoMemory answer (line (codes "opc: out of memory")) i o e e' n c c' (λ same. cc) (refl, refl) is
+pub says_run_no_memory : (text : List ℕ) (answer : Finish) (i o e e' : Option (List ℕ)) (r r' n c c' : ℕ) → ReportIs NoMemory (line (codes "opc: out of memory")) answer e e' c c' → Says (OwesRun text) answer (streams i i o o e e') (faults r r' n n c c')
+says_run_no_memory text answer i o e e' r r' n c c' is =
+    says_report (OwesRun text) NoMemory answer (line (codes "opc: out of memory")) i o e e' r r' n c c' (λ same. cc) (refl, refl) is

@@ -79,8 +79,8 @@ fn run_image<R: Source, W: Sink, E: Sink>(
     requires { (text : List ℕ) × Prints image.now text }
     ensures says { (text : List ℕ) → Prints image.now text → Says (OwesRun text) result
         (streams (R.left input.old) (R.left input.new) (W.written out.old) (W.written out.new) (E.written err.old) (E.written err.new))
-        (faults (W.faults out.old) (W.faults out.new) (E.faults err.old) (E.faults err.new)) }
-    ensures counts { Rises (faults (W.faults out.old) (W.faults out.new) (E.faults err.old) (E.faults err.new)) }
+        (faults (R.faults input.old) (R.faults input.new) (W.faults out.old) (W.faults out.new) (E.faults err.old) (E.faults err.new)) }
+    ensures counts { Rises (faults (R.faults input.old) (R.faults input.new) (W.faults out.old) (W.faults out.new) (E.faults err.old) (E.faults err.new)) }
 {
     match load(alloc, image) {
         Ok(mut machine) => match machine.run(STEP_LIMIT, input, out, err) {
@@ -109,8 +109,8 @@ fn exec<F: Files, R: Source, W: Sink, E: Sink>(
     ensures says { (words : List (List ℕ)) → IsExec words file.now →
         Says (Owes (call words (F.stored files.old) (F.faults files.old) (F.faults files.new) image.new.items)) result
         (streams (R.left input.old) (R.left input.new) (W.written out.old) (W.written out.new) (E.written err.old) (E.written err.new))
-        (faults (W.faults out.old) (W.faults out.new) (E.faults err.old) (E.faults err.new)) }
-    ensures counts { Rises (faults (W.faults out.old) (W.faults out.new) (E.faults err.old) (E.faults err.new)) }
+        (faults (R.faults input.old) (R.faults input.new) (W.faults out.old) (W.faults out.new) (E.faults err.old) (E.faults err.new)) }
+    ensures counts { Rises (faults (R.faults input.old) (R.faults input.new) (W.faults out.old) (W.faults out.new) (E.faults err.old) (E.faults err.new)) }
     ensures file_counts { F.faults files.old ≤ F.faults files.new }
     ensures unchanged { F.stored files.new ≡ F.stored files.old }
 {
@@ -144,8 +144,8 @@ pub fn tool<F: Files, R: Source, W: Sink, E: Sink>(
 ) -> Finish
     ensures says { Says (Owes (call (map string_bytes words.now) (F.stored files.old) (F.faults files.old) (F.faults files.new) image.new.items)) result
         (streams (R.left input.old) (R.left input.new) (W.written out.old) (W.written out.new) (E.written err.old) (E.written err.new))
-        (faults (W.faults out.old) (W.faults out.new) (E.faults err.old) (E.faults err.new)) }
-    ensures counts { Rises (faults (W.faults out.old) (W.faults out.new) (E.faults err.old) (E.faults err.new)) }
+        (faults (R.faults input.old) (R.faults input.new) (W.faults out.old) (W.faults out.new) (E.faults err.old) (E.faults err.new)) }
+    ensures counts { Rises (faults (R.faults input.old) (R.faults input.new) (W.faults out.old) (W.faults out.new) (E.faults err.old) (E.faults err.new)) }
     ensures file_counts { F.faults files.old ≤ F.faults files.new }
     ensures unchanged { F.stored files.new ≡ F.stored files.old }
 {

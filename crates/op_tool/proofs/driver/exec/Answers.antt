@@ -21,13 +21,13 @@ returns-in-Ok-clause-says g c words exec =
 pub returns-in-Err-Refused-clause-says : goal.returns-in-Err-Refused-clause-says
 returns-in-Err-Refused-clause-says g c words exec =
     let failed = subst (FailsAs (g.F.Files.stored c.args.files.now) c.args.file.now (g.F.Files.faults c.args.files.now) (g.F.Files.faults c.compile.new.files)) c.in-Err-Refused.field-0-is c.in-Err-Refused.ensures.failed in
-    says_refused _ c.args.file.now c.as_slice-in-Err-Refused.result.now c.in-Err-Refused.refusal c.report_refusal.result _ _ _ _ _ _ _ exec (c.as_slice-in-Err-Refused.ensures ∙ failed.0) failed.1 c.requires c.report_refusal.ensures.says
+    says_refused _ c.args.file.now c.as_slice-in-Err-Refused.result.now c.in-Err-Refused.refusal c.report_refusal.result _ _ _ _ _ _ _ _ _ exec (c.as_slice-in-Err-Refused.ensures ∙ failed.0) failed.1 c.requires c.report_refusal.ensures.says
 
 pub returns-in-Err-ReadFault-clause-says : goal.returns-in-Err-ReadFault-clause-says
 returns-in-Err-ReadFault-clause-says g c words exec =
     let failed = subst (FailsAs (g.F.Files.stored c.args.files.now) c.args.file.now (g.F.Files.faults c.args.files.now) (g.F.Files.faults c.compile.new.files)) c.in-Err-ReadFault.field-0-is c.in-Err-ReadFault.ensures.failed in
-    says_read_fault _ c.report.result _ _ _ _ _ _ _ failed c.requires c.report.ensures.says
+    says_read_fault _ c.report.result _ _ _ _ _ _ _ _ _ failed c.requires c.report.ensures.says
 
 pub returns-in-Err-NoMemory-clause-says : goal.returns-in-Err-NoMemory-clause-says
 returns-in-Err-NoMemory-clause-says g c words exec =
-    says_no_memory _ c.report_no_memory.result _ _ _ _ _ _ _ c.report_no_memory.ensures.says
+    says_no_memory _ c.report_no_memory.result _ _ _ _ _ _ _ _ _ c.report_no_memory.ensures.says
