@@ -9,7 +9,7 @@ use Rattle.std.proofs.lemmas.Bool.Decides.{nat_tests}
 use Rattle.std.specs.List.{list_all}
 use Rattle.std.specs.Option.{option_map_or, option_copied}
 use Rattle.op_rv.specs.State.{bytes_from, all_from, word_at}
-use Rattle.op_emu.proofs.Stretches.{all_from-blocked}
+use Rattle.op_emu.proofs.Stretches.{all_from-blocked, and_left, and_right}
 use Rattle.op_emu.specs.Region.{Region, Range, covers, is_apart, are_apart, range_of, region_at, byte_in, readable_in, writable_in, executable_in}
 
 find_holds_step : {X : Type 0} (p : X → Bool) (y : X) (ys : List X) (x : X) → (find p ys ≡ Some x → p x ≡ true) → (b : Bool) → p y ≡ b → cond b (Some y) (find p ys) ≡ Some x → p x ≡ true
@@ -30,7 +30,7 @@ find-map f p [] = refl
 find-map f p (x ∷ xs) = find-map_step (p (f x)) f x (find p (map f xs)) (find (λ x. p (f x)) xs) (find-map f p xs)
 
 -- no address is in two ranges that lie apart
-apart_covers : (r s : Range) (a : ℕ) → is_apart r s ≡ true → covers s a ≡ true → covers r a ≡ false
+pub apart_covers : (r s : Range) (a : ℕ) → is_apart r s ≡ true → covers s a ≡ true → covers r a ≡ false
 apart_covers r s a apart there = grind (arith, nat_tests)
 
 region_at_apart_step : (r s : Region) (rs : List Region) (a b : ℕ) → list_all (is_apart (range_of r)) (map range_of rs) ≡ true → (region_at rs a ≡ Some s → is_apart (range_of r) (range_of s) ≡ true) → (region_at rs a ≡ Some s → region_at rs b ≡ Some s) → covers (range_of s) b ≡ true → (test : Bool) → covers (range_of r) a ≡ test → cond test (Some r) (region_at rs a) ≡ Some s → cond (covers (range_of r) b) (Some r) (region_at rs b) ≡ Some s
@@ -52,12 +52,6 @@ found_apart : (q : Range) (rs : List Region) (a : ℕ) (s : Region) → list_all
 found_apart q [] a s all found = cc
 found_apart q (r ∷ rs) a s all found =
     found_apart_step r s (list_all (is_apart q) (map range_of rs)) (region_at rs a) q (covers (range_of r) a) all (λ h f. found_apart q rs a s h f) found
-
-and_left : (a b : Bool) → (a && b) ≡ true → a ≡ true
-and_left a b h = grind arith
-
-and_right : (a b : Bool) → (a && b) ≡ true → b ≡ true
-and_right a b h = grind arith
 
 -- where segments lie apart, each address of a segment that is found leads to it
 pub region_at_apart : (rs : List Region) (a b : ℕ) (s : Region) → are_apart (map range_of rs) ≡ true → region_at rs a ≡ Some s → covers (range_of s) b ≡ true → region_at rs b ≡ Some s
