@@ -125,7 +125,7 @@ Acts-fault f old kind i o e leads = Acts-quiet f (moment old Running) (moment ol
 by_false : {X : Type 0} (b : Bool) (x y : X) → b ≡ false → (if b then x else y) ≡ y
 by_false b x y is = ap (λ b. if b then x else y) is
 
-by_true : {X : Type 0} (b : Bool) (x y : X) → b ≡ true → (if b then x else y) ≡ x
+pub by_true : {X : Type 0} (b : Bool) (x y : X) → b ≡ true → (if b then x else y) ≡ x
 by_true b x y is = ap (λ b. if b then x else y) is
 
 differs : (m n : ℕ) → m ≢ n → nat_eq m n ≡ false

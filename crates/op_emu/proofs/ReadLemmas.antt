@@ -1,5 +1,5 @@
 -- Environment calls that read, as steps of the definition.
-use Rattle.std.proofs.Common.{◌≡◌, ℕ, ◌+◌, ◌%◌, ◌^◌, ◌≤◌, ⊎_elim, ◌⊎◌, Bool, true, false, nat_eq, if◌then◌else◌, IsTrue, Option, List, [], ◌++◌, length, take, refl, ap, sym, ◌∙◌, subst, arith, inl, inr}
+use Rattle.std.proofs.Common.{◌≡◌, ℕ, ◌+◌, ◌%◌, ◌^◌, ◌≤◌, ⊎_elim, ◌⊎◌, true, false, nat_eq, IsTrue, Option, List, [], ◌++◌, length, take, refl, ap, sym, ◌∙◌, subst, arith, inl, inr}
 use Rattle.std.proofs.Math.Seq.{take-append_seam}
 use Rattle.std.proofs.lemmas.Bool.{false≢true}
 use Rattle.std.proofs.lemmas.List.{append-nil, take_all, drop_at}
@@ -12,10 +12,8 @@ use Rattle.op_emu.specs.Filling.{Fills}
 use Rattle.op_emu.specs.Registers.{value_of, with_value}
 use Rattle.op_emu.specs.Segments.{regions_of, IsWritten}
 use Rattle.op_emu.specs.Acts.{moment, state_of, MayFollow, Takes, Acts, may_fill, streams}
+use Rattle.op_emu.proofs.ActsLemmas.{by_true}
 use Rattle.op_emu.proofs.Stretches.{appended-nil}
-
-by_true : {X : Type 0} (b : Bool) (x y : X) → b ≡ true → (if b then x else y) ≡ x
-by_true b x y is = ap (λ b. if b then x else y) is
 
 pub read_call-filled : (s : State) → register s 10 ≡ 0 → is_writable s ≡ true → read_call s ≡ filled (take (register s 12) s.input) s
 unfolding read_call

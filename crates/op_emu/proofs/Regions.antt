@@ -1,14 +1,15 @@
 -- What lies in one segment.
-use Rattle.std.proofs.Common.{◌≡◌, ℕ, zero, suc, ◌+◌, ◌-◌, ◌<◌, ◌≤◌, Bool, true, false, cond, ◌&&◌, List, [], ◌∷◌, Option, Some, None, length, get_or, take, drop, map, find, sym, refl, ap, ◌∙◌, subst, arith, option_map, drop-cons, length-drop, MatchOption, Bor}
+use Rattle.std.proofs.Common.{◌≡◌, ℕ, zero, suc, ◌+◌, ◌-◌, ◌*◌, ◌^◌, ◌<◌, ◌≤◌, Bool, true, false, cond, ◌&&◌, List, [], ◌∷◌, Option, Some, None, length, get_or, take, drop, map, find, sym, refl, ap, ◌∙◌, subst, arith, option_map, drop-cons, length-drop, MatchOption, Bor}
 use Rattle.std.proofs.lemmas.List.{length-take-le}
-use Rattle.op_emu.specs.Segments.{region_of, regions_of, has_right, right_in, IsFoundAt, IsAllowedFront, IsReadableFront}
+use Rattle.op_emu.specs.Segments.{region_of, regions_of, has_right, right_in, IsFoundAt, WordIs, IsAllowedFront, IsReadableFront}
 use Rattle.op_emu.specs.declared.memory.Right.{Right}
 use Rattle.op_emu.specs.declared.memory.Right.TheVariants.{Read, Write, Execute}
 use Rattle.op_emu.specs.declared.memory.Segment.{Segment}
 use Rattle.std.proofs.lemmas.Bool.Decides.{nat_tests}
 use Rattle.std.specs.List.{list_all}
 use Rattle.std.specs.Option.{option_map_or, option_copied}
-use Rattle.op_rv.specs.State.{bytes_from, all_from}
+use Rattle.op_rv.specs.State.{bytes_from, all_from, word_at}
+use Rattle.op_emu.proofs.Stretches.{all_from-blocked, and_left, and_right}
 use Rattle.op_emu.specs.Region.{Region, Range, covers, is_apart, are_apart, range_of, region_at, byte_in, readable_in, writable_in, executable_in}
 
 find_holds_step : {X : Type 0} (p : X → Bool) (y : X) (ys : List X) (x : X) → (find p ys ≡ Some x → p x ≡ true) → (b : Bool) → p y ≡ b → cond b (Some y) (find p ys) ≡ Some x → p x ≡ true
@@ -29,7 +30,7 @@ find-map f p [] = refl
 find-map f p (x ∷ xs) = find-map_step (p (f x)) f x (find p (map f xs)) (find (λ x. p (f x)) xs) (find-map f p xs)
 
 -- no address is in two ranges that lie apart
-apart_covers : (r s : Range) (a : ℕ) → is_apart r s ≡ true → covers s a ≡ true → covers r a ≡ false
+pub apart_covers : (r s : Range) (a : ℕ) → is_apart r s ≡ true → covers s a ≡ true → covers r a ≡ false
 apart_covers r s a apart there = grind (arith, nat_tests)
 
 region_at_apart_step : (r s : Region) (rs : List Region) (a b : ℕ) → list_all (is_apart (range_of r)) (map range_of rs) ≡ true → (region_at rs a ≡ Some s → is_apart (range_of r) (range_of s) ≡ true) → (region_at rs a ≡ Some s → region_at rs b ≡ Some s) → covers (range_of s) b ≡ true → (test : Bool) → covers (range_of r) a ≡ test → cond test (Some r) (region_at rs a) ≡ Some s → cond (covers (range_of r) b) (Some r) (region_at rs b) ≡ Some s
@@ -51,12 +52,6 @@ found_apart : (q : Range) (rs : List Region) (a : ℕ) (s : Region) → list_all
 found_apart q [] a s all found = cc
 found_apart q (r ∷ rs) a s all found =
     found_apart_step r s (list_all (is_apart q) (map range_of rs)) (region_at rs a) q (covers (range_of r) a) all (λ h f. found_apart q rs a s h f) found
-
-and_left : (a b : Bool) → (a && b) ≡ true → a ≡ true
-and_left a b h = grind arith
-
-and_right : (a b : Bool) → (a && b) ≡ true → b ≡ true
-and_right a b h = grind arith
 
 -- where segments lie apart, each address of a segment that is found leads to it
 pub region_at_apart : (rs : List Region) (a b : ℕ) (s : Region) → are_apart (map range_of rs) ≡ true → region_at rs a ≡ Some s → covers (range_of s) b ≡ true → region_at rs b ≡ Some s
@@ -183,3 +178,28 @@ found_from_find ss a (Some s) is = found_from_option ss a (Some s.now) is
 pub byte_in-none : (rs : List Region) (a : ℕ) → region_at rs a ≡ None → byte_in rs a ≡ 0
 unfolding byte_in
 byte_in-none rs a found = ap (λ found. option_map_or (λ region. get_or region.bytes (a - region.base) 0) found 0) found
+
+same_word : (a a' b b' c c' d d' : ℕ) → a ≡ a' → b ≡ b' → c ≡ c' → d ≡ d' → a + 2 ^ 8 * b + 2 ^ 16 * c + 2 ^ 24 * d ≡ a' + 2 ^ 8 * b' + 2 ^ 16 * c' + 2 ^ 24 * d'
+same_word a a' b b' c c' d d' p q r s = omega arith
+
+-- the word at an address of a segment that has all of it
+pub word_in_found : (rs : List Region) (at word : ℕ) (s : Region) → are_apart (map range_of rs) ≡ true → IsFoundAt rs at s → at + 4 ≤ s.base + length s.bytes → word ≡ word_at (λ i. get_or s.bytes i 0) (at - s.base) → word ≡ word_at (byte_in rs) at
+word_in_found rs at word s lie is high value =
+    let byte = λ (b : ℕ) (low : s.base ≤ b) (below : b < s.base + length s.bytes). byte_in-found rs b s (within rs s lie at is.found b low below) in
+    let above = is.within.above in
+    let one : at + 1 - s.base ≡ at - s.base + 1 = omega arith in
+    let two : at + 2 - s.base ≡ at - s.base + 2 = omega arith in
+    let three : at + 3 - s.base ≡ at - s.base + 3 = omega arith in
+    let b0 = byte at above (omega arith) in
+    let b1 = byte (at + 1) (omega arith) (omega arith) ∙ ap (λ i. get_or s.bytes i 0) one in
+    let b2 = byte (at + 2) (omega arith) (omega arith) ∙ ap (λ i. get_or s.bytes i 0) two in
+    let b3 = byte (at + 3) (omega arith) (omega arith) ∙ ap (λ i. get_or s.bytes i 0) three in
+    value ∙ sym (same_word _ _ _ _ _ _ _ _ b0 b1 b2 b3)
+
+pub word_of_found : (right : Right) (rs : List Region) (at word : ℕ) (s : Region) → are_apart (map range_of rs) ≡ true → IsFoundAt rs at s → at + 4 ≤ s.base + length s.bytes → has_right right s ≡ true → word ≡ word_at (λ i. get_or s.bytes i 0) (at - s.base) → WordIs right rs at (Some word)
+word_of_found right rs at word s lie is high may value =
+    (all_allowed-within rs s lie at is.found right may 4 at is.within.above high, word_in_found rs at word s lie is high value)
+
+pub word_of_other : (right : Right) (rs : List Region) (at : ℕ) (s : Region) → IsFoundAt rs at s → has_right right s ≡ false → WordIs right rs at None
+word_of_other right rs at s is no_right =
+    all_from-blocked (right_in right rs) at 4 (omega arith) (right_in-found right rs at s is.found ∙ no_right)

@@ -86,6 +86,7 @@ module _ (m : ℕ) (old mid new : Machine) (i i' i'' o o' o'' e e' e'' : Option 
         output = refl;
         errors = refl;
       };
+      counted = counted ∙ does.counted;
     },
     Rose-from d d' d'' b is.1,
   )
@@ -94,6 +95,7 @@ module _ (m : ℕ) (old mid new : Machine) (i i' i'' o o' o'' e e' e'' : Option 
     more,
     after-step_in_part m (moment_of old) (moment mid.hart Running) i i' i'' o o' o'' e e' e'' new.hart first is.0,
     failed_from d d' d'' f f' f'' h h' h'' p q is.1,
+    counted ∙ does.counted,
   )
 
   -- the step that stops a run

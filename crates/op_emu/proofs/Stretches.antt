@@ -119,10 +119,10 @@ pub front_is_some : (regions : List Region) (at left : ℕ) (front : List ℕ) �
 front_is_some regions at left front more all is =
     above_zero (length front) (λ none. false≢true (sym (all_from-blocked (readable_in regions) at left more (is.stops none more)) ∙ all))
 
-and_left : (a b : Bool) → (a && b) ≡ true → a ≡ true
+pub and_left : (a b : Bool) → (a && b) ≡ true → a ≡ true
 and_left a b h = grind arith
 
-and_right : (a b : Bool) → (a && b) ≡ true → b ≡ true
+pub and_right : (a b : Bool) → (a && b) ≡ true → b ≡ true
 and_right a b h = grind arith
 
 -- each address of a range with a right has it

@@ -13,17 +13,8 @@ use Rattle.op_rv.specs.State.{Rights, with_bytes}
 use Rattle.op_emu.specs.Region.{Region, Range, covers, is_apart, are_apart, range_of, region_at, byte_in, readable_in, writable_in, executable_in, rights_in}
 use Rattle.op_emu.specs.Segments.{region_of, regions_of, lie_apart, written_over, IsWithin, IsWritten}
 use Rattle.op_emu.specs.declared.memory.Segment.{Segment}
-use Rattle.op_emu.proofs.Regions.{find-map}
-
-and_left : (a b : Bool) → (a && b) ≡ true → a ≡ true
-and_left a b h = grind arith
-
-and_right : (a b : Bool) → (a && b) ≡ true → b ≡ true
-and_right a b h = grind arith
-
--- no address is in two ranges that lie apart
-apart_covers : (r s : Range) (a : ℕ) → is_apart r s ≡ true → covers s a ≡ true → covers r a ≡ false
-apart_covers r s a apart there = grind (arith, nat_tests)
+use Rattle.op_emu.proofs.Regions.{find-map, apart_covers}
+use Rattle.op_emu.proofs.Stretches.{and_left, and_right}
 
 -- a range that lies apart from all lies apart from the one at each place
 apart_at : (q : Range) (rs : List Region) (k : ℕ) (r : Region) → k < length rs → get_or rs k r ≡ r → list_all (is_apart q) (map range_of rs) ≡ true → is_apart q (range_of r) ≡ true

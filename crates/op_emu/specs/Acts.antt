@@ -1,7 +1,8 @@
 -- What the emulator does, as steps of the machine's definition over what the streams tell.
-use Rattle.std.specs.Prelude.{◌≡◌, ℕ, ◌<◌, ◌≤◌, ◌⊎◌, Option, List, [], ◌++◌, length, Bool, false, IsTrue}
+use Rattle.std.specs.Prelude.{◌≡◌, ℕ, ◌<◌, ◌≤◌, ◌⊎◌, Option, Some, None, List, [], ◌++◌, length, Bool, true, false, IsTrue}
 use Rattle.op_base.specs.Outside.{appended, preceded, AppendsFront, IsExhausted, Rose}
-use Rattle.op_rv.specs.State.{State, Ending, Running, Ended, Faulted, advanced, with_register, bytes_from, all_from}
+use Rattle.op_rv.specs.State.{State, Ending, Running, Ended, Faulted, advanced, with_register, word_at, bytes_from, all_from}
+use Rattle.op_rv.specs.Step.{can_fetch}
 use Rattle.op_rv.specs.Environment.{read_call}
 use Rattle.op_emu.specs.Region.{byte_in, readable_in, writable_in, rights_in}
 use Rattle.op_rv.specs.declared.fault.FaultKind.TheVariants.{Load}
@@ -42,6 +43,13 @@ state_of now input output errors =
       errors = errors;
       ending = now.ending;
     }
+
+-- the word at the pc, and none where it cannot be fetched
+abbrev pub Fetches : Hart → Option ℕ → Type 0
+Fetches hart (Some word) =
+    (can_fetch (state_of (moment hart Running) [] [] []) ≡ true)
+    × (word ≡ word_at (byte_in (regions_of hart.memory.segments.items)) hart.pc)
+Fetches hart None = can_fetch (state_of (moment hart Running) [] [] []) ≡ false
 
 -- what the streams tell before and after a call
 pub record Streams : Type 0 where

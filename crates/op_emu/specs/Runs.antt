@@ -43,11 +43,12 @@ pub record FaultsAfter (m : ℕ) (old new : Machine) (told : Streams) : Type 0 w
   pub counted : new.steps ≡ old.steps + m
 
 -- the call did m steps, and the next one reads and wants more bytes than the source gave before it failed
-pub record WantsAfter (m : ℕ) (old : Machine) (told : Streams) : Type 0 where
+pub record WantsAfter (m : ℕ) (old new : Machine) (told : Streams) : Type 0 where
   pub hart : Hart
   pub left : Option (List ℕ)
   pub acts : Acts (after m) (moment_of old) (moment hart Running) (record told { input_after = left })
   pub reads : ReadsInPart step hart (record told { input_before = left; output_before = told.output_after; errors_before = told.errors_after })
+  pub counted : new.steps ≡ old.steps + m
 
 -- a run of at most n steps of a machine that goes on
 abbrev pub RunIs : ℕ → Stop → Machine → Machine → Streams → Faults → Type 0
@@ -55,9 +56,9 @@ RunIs n stop.Spent old new told counts =
     (m : ℕ) × DoesSteps m old new told × ((m ≡ n) ⊎ (m ≤ n) × (new.steps ≡ 2 ^ 64 - 1))
 RunIs n (stop.Ended status) old new told counts = (m : ℕ) × (m ≤ n) × DoesSteps m old new told
 RunIs n (stop.Fault kind pc) old new told counts = (m : ℕ) × (m < n) × FaultsAfter m old new told
-RunIs n stop.ReadFault old new told counts = (m : ℕ) × (m < n) × WantsAfter m old told × InputFailed counts
+RunIs n stop.ReadFault old new told counts = (m : ℕ) × (m < n) × WantsAfter m old new told × InputFailed counts
 RunIs n stop.WriteFault old new told counts =
-    (m : ℕ) × (m < n) × ActsInPart (after (suc m)) (moment_of old) new.hart told × OutputFailed counts
+    (m : ℕ) × (m < n) × ActsInPart (after (suc m)) (moment_of old) new.hart told × OutputFailed counts × (new.steps ≡ old.steps + m)
 
 -- the machine has not begun, and begins as the image says
 pub record IsLoaded (image : List ℕ) (machine : Machine) : Type 0 where

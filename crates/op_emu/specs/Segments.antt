@@ -1,6 +1,6 @@
 -- The segments of the code as regions, and what is read from them.
-use Rattle.std.specs.Prelude.{◌≡◌, ℕ, ◌+◌, ◌<◌, ◌≤◌, Bool, true, false, Some, List, ◌++◌, map, length, take, drop}
-use Rattle.op_rv.specs.State.{bytes_from, all_from, with_bytes}
+use Rattle.std.specs.Prelude.{◌≡◌, ℕ, ◌+◌, ◌<◌, ◌≤◌, Bool, true, false, Option, Some, None, List, ◌++◌, map, length, take, drop}
+use Rattle.op_rv.specs.State.{bytes_from, all_from, with_bytes, word_at}
 use Rattle.op_emu.specs.Region.{Region, range_of, are_apart, region_at, byte_in, readable_in, writable_in, executable_in, rights_in}
 use Rattle.op_emu.specs.declared.memory.Right.{Right}
 use Rattle.op_emu.specs.declared.memory.Right.TheVariants.{Read, Write, Execute}
@@ -64,3 +64,9 @@ written_over old offset bytes = take offset old ++ (bytes ++ drop (offset + leng
 pub record IsWritten (old new : List Region) (at : ℕ) (bytes : List ℕ) : Type 0 where
   pub memory : byte_in new ≡ with_bytes (byte_in old) at bytes
   pub rights : rights_in new ≡ rights_in old
+
+-- the word at an address, and none where one of its bytes has not the right
+abbrev pub WordIs : Right → List Region → ℕ → Option ℕ → Type 0
+WordIs right regions at (Some word) =
+    (all_from (right_in right regions) at 4 ≡ true) × (word ≡ word_at (byte_in regions) at)
+WordIs right regions at None = all_from (right_in right regions) at 4 ≡ false

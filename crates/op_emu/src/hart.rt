@@ -1,9 +1,8 @@
 //! The machine without its streams: registers, program counter and memory.
-ghost use Rattle.std.specs.Prelude.{◌≡◌, ◌+◌, ◌%◌, ◌^◌, ◌<◌, IsTrue, []};
+ghost use Rattle.std.specs.Prelude.{◌≡◌, ◌+◌, ◌%◌, ◌^◌, ◌<◌, IsTrue};
 ghost use Rattle.op_rv.specs.Encoding.{fits};
-ghost use Rattle.op_rv.specs.State.{Running};
-ghost use Rattle.op_rv.specs.Step.{act, can_fetch, running_step};
-ghost use Rattle.op_emu.specs.Acts.{moment, state_of, streams, faults, StepIs, Rises};
+ghost use Rattle.op_rv.specs.Step.{act, running_step};
+ghost use Rattle.op_emu.specs.Acts.{streams, faults, Fetches, StepIs, Rises};
 ghost use Rattle.op_emu.specs.Registers.{with_value};
 
 use crate::{Memory, Registers, Right, Stepped};
@@ -86,12 +85,16 @@ impl Hart {
         }
     }
 
-    /// Whether the pc leads to a word that may be executed.
+    /// The word at the pc, if it may be executed.
     #[inline(always)]
-    fn can_fetch(&self) -> bool
-        ensures { result ≡ can_fetch (state_of (moment self.now Running) [] [] []) }
+    fn fetch(&self) -> Option<u32>
+        ensures { Fetches self.now result }
     {
-        self.pc % 4 == 0 && self.memory.allows(Right::Execute, self.pc, 4)
+        if self.pc % 4 == 0 {
+            self.memory.allowed_word(Right::Execute, self.pc)
+        } else {
+            None
+        }
     }
 
     /// One step: fetches the word at the pc and does its row of the table.
@@ -107,12 +110,12 @@ impl Hart {
             (faults (R.faults input.old) (R.faults input.new) (W.faults out.old) (W.faults out.new) (E.faults err.old) (E.faults err.new)) }
         ensures counts { Rises (faults (R.faults input.old) (R.faults input.new) (W.faults out.old) (W.faults out.new) (E.faults err.old) (E.faults err.new)) }
     {
-        if !self.can_fetch() {
-            return Stepped::Fault(FaultKind::Fetch, self.pc);
-        }
-        match decode(self.memory.word(self.pc)) {
-            Some(i) => self.perform(i, input, out, err),
-            None => Stepped::Fault(FaultKind::Illegal, self.pc),
+        match self.fetch() {
+            Some(word) => match decode(word) {
+                Some(i) => self.perform(i, input, out, err),
+                None => Stepped::Fault(FaultKind::Illegal, self.pc),
+            },
+            None => Stepped::Fault(FaultKind::Fetch, self.pc),
         }
     }
 }

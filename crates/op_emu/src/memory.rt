@@ -1,11 +1,11 @@
 //! Memory: segments with rights.
-ghost use Rattle.std.specs.Prelude.{◌≡◌, ℕ, ◌+◌, ◌-◌, ◌^◌, ◌<◌, ◌≤◌, ◌&&◌, IsTrue, Some, None, true, MatchOption, slice_index, drop, take, find, length, vec_len, if◌then◌else◌};
+ghost use Rattle.std.specs.Prelude.{◌≡◌, ℕ, ◌+◌, ◌-◌, ◌^◌, ◌<◌, ◌≤◌, ◌&&◌, ◌↔◌, IsTrue, Some, None, true, MatchOption, slice_index, drop, take, find, length, vec_len, if◌then◌else◌};
 ghost use Rattle.std.specs.Option.{option_copied};
 ghost use Rattle.std.specs.List.{position};
 ghost use Rattle.op_rv.specs.State.{bytes_from, all_from, half_at, word_at};
 ghost use Rattle.op_base.specs.Outside.{Rose, appended, AppendsFront};
 ghost use Rattle.op_emu.specs.Region.{region_at, covers, range_of, byte_in, readable_in, writable_in};
-ghost use Rattle.op_emu.specs.Segments.{region_of, regions_of, lie_apart, has_right, right_in, written_over, IsWithin, IsFoundAt, IsAllowedFront, IsReadableFront, IsWritten};
+ghost use Rattle.op_emu.specs.Segments.{region_of, regions_of, lie_apart, has_right, right_in, written_over, IsWithin, IsFoundAt, WordIs, IsAllowedFront, IsReadableFront, IsWritten};
 
 use op_base::{Put, Sink};
 
@@ -63,6 +63,30 @@ impl Segment {
         ensures { result ≡ slice_index self.now.bytes.items (at - self.now.base) }
     {
         self.bytes[(at - self.base as u64) as usize]
+    }
+
+    /// Whether the segment has four bytes from one of its addresses on.
+    #[inline(always)]
+    fn has_word(&self, at: u64) -> bool
+        requires { IsWithin (region_of self.now) at }
+        ensures { IsTrue result ↔ (at + 4 ≤ self.now.base + length self.now.bytes.items) }
+    {
+        self.bytes.len() as u64 - (at - self.base as u64) >= 4
+    }
+
+    /// The word at an address of the segment, its lowest byte first.
+    #[inline(always)]
+    fn word(&self, at: u64) -> u32
+        requires whole { at + 4 ≤ self.now.base + length self.now.bytes.items }
+        requires above { self.now.base ≤ at }
+        ensures { result ≡ word_at (slice_index self.now.bytes.items) (at - self.now.base) }
+    {
+        let first = (at - self.base as u64) as usize;
+        let byte0 = self.bytes[first] as u32;
+        let byte1 = self.bytes[first + 1] as u32;
+        let byte2 = self.bytes[first + 2] as u32;
+        let byte3 = self.bytes[first + 3] as u32;
+        byte0 + (byte1 << 8) + (byte2 << 16) + (byte3 << 24)
     }
 
     /// The bytes from an address of the segment on.
@@ -175,8 +199,47 @@ impl Memory {
         byte0 + (byte1 << 8)
     }
 
-    /// The word at an address, its lowest byte first.
+    /// The word at an address, where each of its four bytes has a right. It is mostly found in one segment.
+    #[inline(always)]
+    pub fn allowed_word(&self, right: Right, at: u32) -> Option<u32>
+        ensures { WordIs right (regions_of self.now.segments.items) at result }
+    {
+        match self.segment_at(at as u64) {
+            Some(segment) if segment.has_word(at as u64) => {
+                if segment.allows(right) {
+                    Some(segment.word(at as u64))
+                } else {
+                    None
+                }
+            }
+            _ => self.allowed_word_by_bytes(right, at),
+        }
+    }
+
+    /// The same, where it may touch two segments.
+    fn allowed_word_by_bytes(&self, right: Right, at: u32) -> Option<u32>
+        ensures { WordIs right (regions_of self.now.segments.items) at result }
+    {
+        if self.allows(right, at, 4) {
+            Some(self.word_by_bytes(at))
+        } else {
+            None
+        }
+    }
+
+    /// The word at an address, its lowest byte first. It is mostly found in one segment.
+    #[inline(always)]
     pub fn word(&self, at: u32) -> u32
+        ensures { result ≡ word_at (byte_in (regions_of self.now.segments.items)) at }
+    {
+        match self.segment_at(at as u64) {
+            Some(segment) if segment.has_word(at as u64) => segment.word(at as u64),
+            _ => self.word_by_bytes(at),
+        }
+    }
+
+    /// The same, where it may touch two segments.
+    fn word_by_bytes(&self, at: u32) -> u32
         ensures { result ≡ word_at (byte_in (regions_of self.now.segments.items)) at }
     {
         let at = at as u64;

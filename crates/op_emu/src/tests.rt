@@ -401,7 +401,7 @@ const COPIES: [Run; 9] = [
     },
 ];
 
-fn copies(rt: &impl Abort, alloc: Global, case: Run) -> Result<(), Fail> {
+fn check_copy(rt: &impl Abort, alloc: Global, case: Run) -> Result<(), Fail> {
     let mut machine = machine(rt, alloc, &COPY)?;
     let bytes = case.input.as_bytes().to_vec(alloc)?;
     let mut input = MemSource::new(bytes, case.read_fails.to_vec(alloc)?);
@@ -422,7 +422,7 @@ fn copies(rt: &impl Abort, alloc: Global, case: Run) -> Result<(), Fail> {
 #[test]
 fn copies_streams(rt: HostRuntime) -> Result<(), Fail> {
     for case in COPIES {
-        copies(&rt, rt.alloc(), case)?;
+        check_copy(&rt, rt.alloc(), case)?;
     }
     Ok(())
 }
