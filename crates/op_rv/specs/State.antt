@@ -1,5 +1,5 @@
 -- What the machine is at a moment (RISC-V Unprivileged ISA manual, "Programmers' Model for Base Integer ISA").
-use Rattle.std.specs.Prelude.{ℕ, ◌+◌, ◌*◌, ◌^◌, ◌%◌, zero, suc, Bool, true, ◌&&◌, List, [], ◌∷◌, nat_eq, slice_index, slice_set, if◌then◌else◌}
+use Rattle.std.specs.Prelude.{ℕ, ◌+◌, ◌-◌, ◌*◌, ◌^◌, ◌%◌, zero, suc, Bool, true, ◌&&◌, List, [], ◌∷◌, nat_eq, nat_le, nat_lt, length, slice_index, slice_set, if◌then◌else◌}
 use Rattle.op_rv.specs.declared.fault.FaultKind.{FaultKind}
 
 -- what may be done with the byte at an address
@@ -44,9 +44,16 @@ advanced s = record s { pc = (s.pc + 4) % 2 ^ 32 }
 abbrev pub faulted : FaultKind → State → State
 faulted kind s = record s { ending = Faulted kind s.pc }
 
--- the word at an address, its lowest byte first
+-- two bytes and the word at an address, their lowest byte first
+abbrev pub half_at : (ℕ → ℕ) → ℕ → ℕ
+half_at memory a = memory a + 2 ^ 8 * memory (a + 1)
+
 abbrev pub word_at : (ℕ → ℕ) → ℕ → ℕ
 word_at memory a = memory a + 2 ^ 8 * memory (a + 1) + 2 ^ 16 * memory (a + 2) + 2 ^ 24 * memory (a + 3)
+
+-- memory with these bytes from an address on
+abbrev pub with_bytes : (ℕ → ℕ) → ℕ → List ℕ → ℕ → ℕ
+with_bytes memory a bytes x = if nat_le a x && nat_lt x (a + length bytes) then slice_index bytes (x - a) else memory x
 
 -- n bytes from an address on
 unfoldable pub bytes_from : (ℕ → ℕ) → ℕ → ℕ → List ℕ

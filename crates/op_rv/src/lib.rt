@@ -10,8 +10,12 @@ mod decoder;
 mod encoder;
 mod fault;
 mod instruction;
+pub mod operation;
 
 pub use decoder::decode;
 pub use encoder::encode;
 pub use fault::FaultKind;
-pub use instruction::{ImmOp, Instr};
+pub use instruction::{AluOp, BranchOp, ImmOp, Instr, LoadOp, ShiftOp, StoreOp};
+
+#[cfg(test)]
+mod tests;
