@@ -6,10 +6,10 @@ use Rattle.op_simulation.proofs.Points.{agreement, between_points, moments_betwe
 
 -- ---- traces
 
-pub joins_equal : {Event : Type 0} → Joins {Event = Event} (λ xs ys. xs ≡ ys)
+pub joins_equal : {Event : Type 0} → Joins {E = Event} {F = Event} (λ xs ys. xs ≡ ys)
 joins_equal {Event} = record { none = refl; both = λ xs ys us vs first second. ap₂ (λ p q. p ++ q) first second }
 
-pub joins_through : {Event : Type 0} (R Q : List Event → List Event → Type 0) → Joins R → Joins Q → Joins (Through R Q)
+pub joins_through : {E F G : Type 0} (R : List E → List F → Type 0) (Q : List F → List G → Type 0) → Joins R → Joins Q → Joins (Through R Q)
 joins_through R Q upper lower =
     record {
       none = record { middle = []; upper = upper.none; lower = lower.none };
@@ -32,7 +32,7 @@ scaled c d x y z upper lower =
     subst (λ k. z ≤ k) e (le_trans lower (mul-le-mul_left d upper))
 
 -- a stretch of A over B, and the agreement of B and C along it
-stretched : {Event : Type 0} {A B C : System Event} (X : Matching A B) (Y : Matching B C) (a : A.State) (b : B.State) (c : C.State) → Stretch X a b → Agreement Y b c → Stretch (through X Y) a c
+stretched : {E F G : Type 0} {A : System E} {B : System F} {C : System G} (X : Matching A B) (Y : Matching B C) (a : A.State) (b : B.State) (c : C.State) → Stretch X a b → Agreement Y b c → Stretch (through X Y) a c
 stretched {A = A} {B = B} {C = C} X Y a b c above below =
     let m = suc above.more in
     let more = below.point above.more + (below.stretch above.more).more in
@@ -55,7 +55,7 @@ stretched {A = A} {B = B} {C = C} X Y a b c above below =
           };
     }
 
-pub compose : {Event : Type 0} {A B C : System Event} (X : Matching A B) (Y : Matching B C) → Follows X → Follows Y → Joins Y.traces → Follows (through X Y)
+pub compose : {E F G : Type 0} {A : System E} {B : System F} {C : System G} (X : Matching A B) (Y : Matching B C) → Follows X → Follows Y → Joins Y.traces → Follows (through X Y)
 compose X Y above below joins =
     record {
       go = λ a c related.
@@ -65,7 +65,7 @@ compose X Y above below joins =
 -- ---- the same two machines
 
 -- the same stretch, with less said of it
-pub weaken : {Event : Type 0} {A B : System Event} (X Y : Matching A B) → Weaker X Y → Follows X → Follows Y
+pub weaken : {E F : Type 0} {A : System E} {B : System F} (X Y : Matching A B) → Weaker X Y → Follows X → Follows Y
 weaken {A = A} {B = B} X Y weaker follows =
     record {
       go = λ a b related.

@@ -3,18 +3,18 @@ use Rattle.std.specs.Prelude.{◌≡◌, ℕ, suc, ◌+◌, ◌*◌, ◌≤◌, 
 use Rattle.op_simulation.specs.System.{System, run, trace, spent}
 
 -- in what sense B goes along with A
-pub record Matching {Event : Type 0} (A B : System Event) : Type 1 where
+pub record Matching {E F : Type 0} (A : System E) (B : System F) : Type 1 where
   -- states that stand for one another
   pub states : A.State → B.State → Type 0
   -- what holds at each moment of B, while A does the step from its state
   pub moments : A.State → B.State → Type 0
   -- traces that stand for one another; mostly they are equal
-  pub traces : List Event → List Event → Type 0
+  pub traces : List E → List F → Type 0
   -- the greatest cost of B for a cost of one of A
   pub factor : ℕ
 
 -- the steps of B for one step of A, one and so many more
-pub record Stretch {Event : Type 0} {A B : System Event} (X : Matching A B) (a : A.State) (b : B.State) : Type 0 where
+pub record Stretch {E F : Type 0} {A : System E} {B : System F} (X : Matching A B) (a : A.State) (b : B.State) : Type 0 where
   pub more : ℕ
   pub states : X.states (A.step a) (run B (suc more) b)
   pub traces : X.traces (A.shows a) (trace B (suc more) b)
@@ -22,17 +22,17 @@ pub record Stretch {Event : Type 0} {A B : System Event} (X : Matching A B) (a :
   pub moments : (j : ℕ) → j ≤ more → X.moments a (run B j b)
 
 -- B follows A: from any states that match there is such a stretch
-pub record Follows {Event : Type 0} {A B : System Event} (X : Matching A B) : Type 0 where
+pub record Follows {E F : Type 0} {A : System E} {B : System F} (X : Matching A B) : Type 0 where
   pub go : (a : A.State) (b : B.State) → X.states a b → Stretch X a b
 
 -- Traces that match may be joined. Equal ones may.
-pub record Joins {Event : Type 0} (traces : List Event → List Event → Type 0) : Type 0 where
+pub record Joins {E F : Type 0} (traces : List E → List F → Type 0) : Type 0 where
   pub none : traces [] []
-  pub both : (xs ys us vs : List Event) → traces xs us → traces ys vs → traces (xs ++ ys) (us ++ vs)
+  pub both : (xs ys : List E) (us vs : List F) → traces xs us → traces ys vs → traces (xs ++ ys) (us ++ vs)
 
 -- Two runs that go along for ever: after n steps of A and point n steps of B the states match. The points begin at 0,
 -- and between two of them lies a stretch.
-pub record Agreement {Event : Type 0} {A B : System Event} (X : Matching A B) (a : A.State) (b : B.State) : Type 0 where
+pub record Agreement {E F : Type 0} {A : System E} {B : System F} (X : Matching A B) (a : A.State) (b : B.State) : Type 0 where
   pub point : ℕ → ℕ
   pub first : point 0 ≡ 0
   pub stretch : (n : ℕ) → Stretch X (run A n a) (run B (point n) b)
@@ -53,7 +53,7 @@ pub record Through {S T U : Type 0} (R : S → T → Type 0) (Q : T → U → Ty
   pub lower : Q middle c
 
 -- A to B to C
-abbrev pub through : {Event : Type 0} {A B C : System Event} → Matching A B → Matching B C → Matching A C
+abbrev pub through : {E F G : Type 0} {A : System E} {B : System F} {C : System G} → Matching A B → Matching B C → Matching A C
 through X Y =
     record {
       states = Through X.states Y.states;
@@ -63,9 +63,9 @@ through X Y =
     }
 
 -- how a matching may be restated: with the same states, and no more of the rest
-pub record Weaker {Event : Type 0} {A B : System Event} (X Y : Matching A B) : Type 0 where
+pub record Weaker {E F : Type 0} {A : System E} {B : System F} (X Y : Matching A B) : Type 0 where
   pub from : (a : A.State) (b : B.State) → Y.states a b → X.states a b
   pub to : (a : A.State) (b : B.State) → X.states a b → Y.states a b
   pub moments : (a : A.State) (b : B.State) → X.moments a b → Y.moments a b
-  pub traces : (xs ys : List Event) → X.traces xs ys → Y.traces xs ys
+  pub traces : (xs : List E) (ys : List F) → X.traces xs ys → Y.traces xs ys
   pub factor : X.factor ≤ Y.factor

@@ -1,4 +1,5 @@
-//! What the theorems are over: machines, and in what sense they go along. The members are definitions, not code.
+//! What the theorems are over: machines with their events, and in what sense they go along. The members are definitions,
+//! not code.
 
 ghost use Rattle.op_simulation.specs.Matching.{Matching};
 ghost use Rattle.op_simulation.specs.System.{System};
@@ -12,24 +13,30 @@ pub trait Machine {
 
 /// Two machines, and in what sense the lower one goes along with the upper one.
 pub trait Layer {
-    ghost Event: { Type 0 };
+    ghost Above: { Type 0 };
 
-    ghost top: { System Event };
+    ghost Below: { Type 0 };
 
-    ghost bottom: { System Event };
+    ghost top: { System Above };
+
+    ghost bottom: { System Below };
 
     ghost matching: { Matching top bottom };
 }
 
 /// Three machines, one above the other.
 pub trait TwoLayers {
-    ghost Event: { Type 0 };
+    ghost Above: { Type 0 };
 
-    ghost top: { System Event };
+    ghost Between: { Type 0 };
 
-    ghost middle: { System Event };
+    ghost Below: { Type 0 };
 
-    ghost bottom: { System Event };
+    ghost top: { System Above };
+
+    ghost middle: { System Between };
+
+    ghost bottom: { System Below };
 
     ghost upper: { Matching top middle };
 
@@ -38,11 +45,13 @@ pub trait TwoLayers {
 
 /// Two machines, and two ways to say that the lower one goes along.
 pub trait Restated {
-    ghost Event: { Type 0 };
+    ghost Above: { Type 0 };
 
-    ghost top: { System Event };
+    ghost Below: { Type 0 };
 
-    ghost bottom: { System Event };
+    ghost top: { System Above };
+
+    ghost bottom: { System Below };
 
     ghost strong: { Matching top bottom };
 
