@@ -1,5 +1,5 @@
 -- What low code does: a step of its machine, one line an instruction.
-use Rattle.std.specs.Prelude.{◌≡◌, ◌<◌, ℕ, ◌+◌, ◌-◌, ◌*◌, ◌%◌, ◌^◌, Bool, ◌&&◌, Option, Some, None, List, [], ◌∷◌, ◌++◌, length, take, drop, replicate, slice_index, min, nat_eq, nat_lt, nat_le, if◌then◌else◌}
+use Rattle.std.specs.Prelude.{◌≡◌, ◌<◌, ℕ, ◌+◌, ◌-◌, ◌%◌, ◌^◌, Bool, ◌&&◌, Option, Some, None, List, [], ◌∷◌, ◌++◌, length, take, drop, replicate, slice_index, nat_eq, nat_lt, nat_le, if◌then◌else◌}
 use Rattle.std.specs.Int.{bytes_low_first}
 use Rattle.op_rv.specs.State.{with_bytes, bytes_from, all_from}
 use Rattle.op_rv.specs.Operation.{word_from, alu_value, imm_value, shift_value, branch_taken}
@@ -10,6 +10,7 @@ use Rattle.op_simulation.specs.System.{System}
 use Rattle.op_low.specs.State.{Placement, Activation, Caller, State, Ending, Running, Ended, Bad, routine_of, block_of, value, values, with_value, keep, bad, jump, landed, usable, space}
 use Rattle.op_low.specs.declared.code.Low.{Low}
 use Rattle.op_low.specs.declared.ids.RoutineId.{RoutineId}
+use Rattle.op_low.specs.declared.ids.Symbol.{Symbol}
 use Rattle.op_low.specs.declared.ids.Symbol.TheVariants.{Routine}
 use Rattle.op_low.specs.declared.ids.VirtualRegister.{VirtualRegister}
 use Rattle.op_low.specs.declared.instruction.Call.{Call as Operands}
@@ -212,6 +213,7 @@ start low p bottom room memory input =
       ending = Running;
     }
 
--- a routine is found where it begins
+-- addresses are words, and a routine is found where it begins
 pub record IsPlacement (low : Low) (p : Placement) : Type 0 where
+  pub words : (symbol : Symbol) → p.address symbol < 2 ^ 32
   pub finds : (id : RoutineId) → id.0 < length low.routines → p.routine_at (p.address (Routine id)) ≡ Some id.0

@@ -1,5 +1,5 @@
 -- What the machine of low code is at a moment.
-use Rattle.std.specs.Prelude.{ℕ, ◌+◌, ◌-◌, ◌*◌, Bool, ◌&&◌, Option, Some, None, List, [], ◌∷◌, slice_get, slice_index, map, nat_eq, nat_lt, if◌then◌else◌}
+use Rattle.std.specs.Prelude.{ℕ, ◌+◌, Bool, true, false, ◌&&◌, Option, Some, None, List, [], ◌∷◌, slice_get, map, nat_eq, nat_lt, if◌then◌else◌}
 use Rattle.op_rv.specs.State.{Rights}
 use Rattle.op_low.specs.declared.code.Block.{Block}
 use Rattle.op_low.specs.declared.code.Low.{Low}
@@ -40,6 +40,11 @@ pub data Ending : Type 0 where
   Running : Ending
   Ended : (status : ℕ) → Ending
   Bad : Ending
+
+abbrev pub goes_on : Ending → Bool
+goes_on Running = true
+goes_on (Ended status) = false
+goes_on Bad = false
 
 -- The stack grows from both ends of its bytes: locals upwards to the limit, what routines take for themselves downwards.
 -- What lies between them is the room.

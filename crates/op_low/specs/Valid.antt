@@ -51,6 +51,10 @@ takes (Some routine) arguments = nat_eq routine.parameters arguments
 
 -- ---- instructions
 
+-- the number is a word
+unfoldable pub const_fits : Routine → VirtualRegister → ℕ → Bool
+const_fits routine to n = has routine to && nat_lt n (2 ^ 32)
+
 unfoldable pub address_fits : Low → Routine → VirtualRegister → Symbol → Bool
 address_fits low routine to symbol = has routine to && has_symbol low.counts (length low.routines) symbol
 
@@ -79,7 +83,7 @@ unfoldable pub call_at_fits : Routine → VirtualRegister → Operands → Bool
 call_at_fits routine address operands = has routine address && operands_fit routine operands
 
 unfoldable pub is_valid_instruction : Low → Routine → Instruction → Bool
-is_valid_instruction low routine (Const to n) = has routine to
+is_valid_instruction low routine (Const to n) = const_fits routine to n
 is_valid_instruction low routine (Address to symbol) = address_fits low routine to symbol
 is_valid_instruction low routine (Local to offset) = local_fits routine to offset
 is_valid_instruction low routine (Move to from) = has_two routine to from

@@ -7,15 +7,21 @@
 #![tactic(auto)]
 
 mod code;
+mod descriptor;
 mod ids;
 mod instruction;
 mod sequence;
+mod theorems;
 mod validity;
 
 pub use code::{Block, Counts, Low, Routine};
+pub use descriptor::{
+    DescKind, DescPart, class_fields, class_name, type_kind, type_part, type_parts, type_size,
+};
 pub use ids::{
     BlockId, DescriptorId, GlobalId, LiteralId, RoutineId, Symbol, TableId, VirtualRegister,
 };
 pub use instruction::{Call, Instruction, Output};
 pub use sequence::Sequence;
+pub use theorems::{example_runs, stopped_machine_halts};
 pub use validity::valid;

@@ -1,5 +1,5 @@
 //! Whether low code names only what exists, and has its operands in range.
-ghost use Rattle.op_low.specs.Valid.{address_fits, branch_fits, call_at_fits, call_fits, has, has_all, has_block, has_landing, has_symbol, has_three, has_two, imm_fits, is_sized, is_valid, is_valid_block, is_valid_instruction, is_valid_routine, leaves, leaves_if, local_fits, operands_fit, shift_fits, takes};
+ghost use Rattle.op_low.specs.Valid.{address_fits, branch_fits, call_at_fits, call_fits, const_fits, has, has_all, has_block, has_landing, has_symbol, has_three, has_two, imm_fits, is_sized, is_valid, is_valid_block, is_valid_instruction, is_valid_routine, leaves, leaves_if, local_fits, operands_fit, shift_fits, takes};
 ghost use Rattle.op_rv.specs.Encoding.{is_imm};
 ghost use Rattle.std.specs.Prelude.{◌≡◌, ◌-◌, length, slice_get};
 ghost use Rattle.std.specs.List.{list_all};
@@ -90,7 +90,7 @@ fn valid_instruction(low: &Low, routine: &Routine, instruction: &Instruction) ->
     ensures { result ≡ is_valid_instruction low.now routine.now instruction.now }
 {
     match instruction {
-        Instruction::Const { to, value: _ } => has_one(routine, *to),
+        Instruction::Const { to, value } => valid_const(routine, *to, *value),
         Instruction::Address { to, symbol } => valid_address(low, routine, *to, *symbol),
         Instruction::Local { to, offset } => valid_local(routine, *to, *offset),
         Instruction::Move { to, from } => has_both(routine, *to, *from),
@@ -177,6 +177,14 @@ fn lands(routine: &Routine, landing: Option<BlockId>) -> bool
         None => true,
         Some(block) => has_head(routine, block),
     }
+}
+
+/// Every number of its type is a word.
+#[tactic(auto, unfolding(crate::specs::Valid::const_fits))]
+fn valid_const(routine: &Routine, to: VirtualRegister, _value: u32) -> bool
+    ensures { result ≡ const_fits routine.now to _value }
+{
+    has_one(routine, to)
 }
 
 #[tactic(auto, unfolding(crate::specs::Valid::address_fits))]
