@@ -1,0 +1,3 @@
+pub mod MachineLemmas
+pub mod ExampleRuns
+pub mod DescriptorLemmas

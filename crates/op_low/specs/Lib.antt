@@ -1,0 +1,5 @@
+pub mod Descriptor
+pub mod Example
+pub mod Machine
+pub mod State
+pub mod Valid

@@ -1,0 +1,27 @@
+//! Low code: routines over virtual registers, frames and byte memory, which is what is left of a program before it becomes
+//! instructions.
+//!
+//! The types are the language. What low code does is a definition, a machine in `specs/Machine.antt`, with the arithmetic
+//! of the instruction table. `valid` says whether code names only what exists and has its operands in range. The readers
+//! of type and class descriptors answer what stands in the constants.
+#![tactic(auto)]
+
+mod code;
+mod descriptor;
+mod ids;
+mod instruction;
+mod sequence;
+mod theorems;
+mod validity;
+
+pub use code::{Block, Counts, Low, Routine};
+pub use descriptor::{
+    DescKind, DescPart, class_fields, class_name, type_kind, type_part, type_parts, type_size,
+};
+pub use ids::{
+    BlockId, DescriptorId, GlobalId, LiteralId, RoutineId, Symbol, TableId, VirtualRegister,
+};
+pub use instruction::{Call, Instruction, Output};
+pub use sequence::Sequence;
+pub use theorems::{example_runs, stopped_machine_halts};
+pub use validity::valid;
