@@ -1,0 +1,15 @@
+pub mod Declaration
+pub mod DeclarationGrammar
+pub mod Denoter
+pub mod DenoterGrammar
+pub mod Expression
+pub mod ExpressionGrammar
+pub mod File
+pub mod FileGrammar
+pub mod HeadingGrammar
+pub mod Initial
+pub mod NameGrammar
+pub mod Operator
+pub mod Statement
+pub mod StatementGrammar
+pub mod Terminal

@@ -1,0 +1,24 @@
+//! What a tree keeps of single tokens.
+use op_base::{Place, Text};
+use op_scan::Switches;
+
+/// Where a token stands, and the switches there. Later passes report there.
+#[derive(Clone, Copy, Debug, PartialEq, Eq)]
+pub struct Position {
+    pub place: Place,
+    pub switches: Switches,
+}
+
+/// An identifier, as it is written.
+#[derive(Debug, Drop)]
+pub struct Name {
+    pub text: Text,
+    pub position: Position,
+}
+
+/// A name, or a name of a unit's interface behind that unit's name and a dot.
+#[derive(Debug, Drop)]
+pub struct QualifiedName {
+    pub unit: Option<Name>,
+    pub name: Name,
+}
