@@ -153,7 +153,7 @@ module _ (image text : List ℕ) (prints : Prints image text) (old : Machine) (l
 
   pub run_failed : (n : ℕ) (new : Machine) (told : Streams) (counts : Faults) → RunIs n stop.WriteFault old new told counts → Says (OwesRun text) finish.WriteFault told counts
   unfolding Says
-  run_failed n new told counts (m, lt, acts, failed) =
+  run_failed n new told counts (m, lt, acts, failed, counted) =
       let input = acts.taken ++ [] in
       let s = start image input in
       let e = end input in
