@@ -1,7 +1,9 @@
+pub mod AtMostOne
 pub mod Declaration
 pub mod DeclarationGrammar
 pub mod Denoter
 pub mod DenoterGrammar
+pub mod Ends
 pub mod Expression
 pub mod ExpressionGrammar
 pub mod File

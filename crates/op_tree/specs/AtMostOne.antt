@@ -1,0 +1,11 @@
+-- At most one tree spells a list of tokens.
+use Rattle.std.specs.Prelude.{◌≡◌, ℕ, List}
+use Rattle.op_tree.specs.Ends.{EndsChain}
+use Rattle.op_tree.specs.Expression.{Expression}
+use Rattle.op_tree.specs.ExpressionGrammar.{IsChain}
+use Rattle.op_tree.specs.Terminal.{Terminal}
+use Rattle.op_tree.specs.declared.operator.Level.{Level}
+
+-- One expression, at most, is whole at the front of a list of tokens, whatever the depth.
+abbrev pub OneExpression : Type 0
+OneExpression = (l : Level) (d d' : ℕ) (e e' : Expression) (ks r r' : List Terminal) → IsChain l d e ks r → IsChain l d' e' ks r' → EndsChain l e r → EndsChain l e' r' → (e ≡ e') × (r ≡ r')
