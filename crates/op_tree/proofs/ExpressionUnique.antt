@@ -2,7 +2,7 @@
 use Rattle.std.proofs.Common.{◌≡◌, ℕ, Bool, true, false, List, [], ◌∷◌, Option, Some, None, refl, sym, ap, ◌∙◌, subst}
 use Rattle.op_scan.specs.declared.token.TokenKind.{TokenKind}
 use Rattle.op_scan.specs.declared.token.TokenKind.TheVariants as kind
-use Rattle.op_tree.specs.Ends.{IsNot, at_least, operator_at_least, binds, begins_selector, EndsOperand, EndOperations, EndsChain}
+use Rattle.op_tree.specs.Ends.{IsNot, at_least, operator_at_least, binds, begins_selector, begins_designator, begins_expression, EndsOperand, EndOperations, EndsChain}
 use Rattle.op_tree.specs.Expression.{Expression, chain, prefixed, number, nil, set, literal, designated, inherited, Operations, no_operations, operation, Elements, no_elements, elements, Element, one, range, Designator, designator, Root, bracketed, Selectors, selectors, Selector, index, call, Expressions, no_expressions, expressions, Arguments, no_arguments, arguments, Argument, value, padded, rounded}
 use Rattle.op_tree.specs.ExpressionGrammar.{IsChain, is_chain, IsOperand, is_simple, is_term, is_factor, AreOperations, are_no_operations, are_operations, IsFactor, is_prefixed, is_number, is_nil, is_empty_set, is_set, is_literal, is_designated, is_inherited, IsDesignator, is_designator, IsRoot, is_named, is_string, is_bracketed, AreSelectors, are_no_selectors, are_selectors, IsSelector, is_member, is_index, is_empty_call, is_call, AreExpressions, are_one_expression, are_expressions, AreElements, are_one_element, are_elements, IsElement, is_one, is_range, AreArguments, are_one_argument, are_arguments, IsArgument, is_value, is_padded, is_rounded, chain_of}
 use Rattle.op_tree.specs.Operator.{operator_of, prefix_operator_of, level_of}
@@ -82,10 +82,10 @@ operand_ends : {l : Level} {d : ℕ} {os : Operations} {m r : List Terminal} (e 
 operand_ends {l} e are_no_operations h t = operand_at l e _ (h, t)
 operand_ends {l} e (are_operations {k = k} {o = o} {p = p} {ks = ks} h q a os) n t = operand_before l k o e p ks h q
 
-true_false : {A : Type 0} → true ≡ false → A
+pub true_false : {A : Type 0} → true ≡ false → A
 true_false e = absurd cc
 
-false_true : {A : Type 0} → false ≡ true → A
+pub false_true : {A : Type 0} → false ≡ true → A
 false_true e = absurd cc
 
 -- an operator of the level is none that may follow a whole chain
@@ -105,26 +105,6 @@ last_operation e (operation o1 p1 e1 os) r h = h
 
 -- ---- with what an expression begins
 
-abbrev pub begins_designator : TokenKind → Bool
-begins_designator (kind.Identifier text) = true
-begins_designator kind.String = true
-begins_designator kind.OpenParenthesis = true
-begins_designator other = false
-
-abbrev pub begins_expression : TokenKind → Bool
-begins_expression (kind.Identifier text) = true
-begins_expression kind.String = true
-begins_expression kind.OpenParenthesis = true
-begins_expression (kind.Number n) = true
-begins_expression kind.Nil = true
-begins_expression kind.OpenBracket = true
-begins_expression (kind.CharacterString text) = true
-begins_expression kind.Inherited = true
-begins_expression kind.Not = true
-begins_expression kind.Plus = true
-begins_expression kind.Minus = true
-begins_expression other = false
-
 prefix_begins : (k : TokenKind) (o : PrefixOperator) → prefix_operator_of k ≡ Some o → begins_expression k ≡ true
 prefix_begins kind.Not o h = refl
 prefix_begins kind.Plus o h = refl
@@ -138,7 +118,7 @@ prefix_is_no_designator kind.Minus o h = refl
 prefix_is_no_designator other o h = absurd cc
 
 -- what a list of tokens begins with, if with anything
-abbrev Begins : (TokenKind → Bool) → List Terminal → Type 0
+abbrev pub Begins : (TokenKind → Bool) → List Terminal → Type 0
 Begins test [] = ⊥
 Begins test (t ∷ ts) = test t.kind ≡ true
 
@@ -185,7 +165,7 @@ arguments_begin : {d : ℕ} {args : Arguments} {ks r : List Terminal} → AreArg
 arguments_begin (are_one_argument a) = argument_begins a
 arguments_begin (are_arguments a args) = argument_begins a
 
-selector_begins : {A : Type 0} {d : ℕ} {s : Selector} {ks r : List Terminal} → IsSelector d s ks r → IsNot begins_selector ks → A
+pub selector_begins : {A : Type 0} {d : ℕ} {s : Selector} {ks r : List Terminal} → IsSelector d s ks r → IsNot begins_selector ks → A
 selector_begins is_member h = true_false h
 selector_begins (is_index es) h = true_false h
 selector_begins is_empty_call h = true_false h
@@ -197,7 +177,7 @@ selector_begins (is_call args) h = true_false h
 abbrev pub Stops : List Terminal → Type 0
 Stops r = IsNot (binds Relational) r × IsNot begins_selector r
 
-stop : (e : Expression) (r : List Terminal) → Stops r → EndsChain Relational e r
+pub stop : (e : Expression) (r : List Terminal) → Stops r → EndsChain Relational e r
 stop e r h = (h.0, ends_operand e r h.1)
 
 abbrev pub is_comma : TokenKind → Bool
@@ -216,7 +196,7 @@ abbrev pub behind : List Terminal → List Terminal
 behind [] = []
 behind (t ∷ ts) = ts
 
-some_same : {A : Type 0} {x y : A} → Some x ≡ Some y → x ≡ y
+pub some_same : {A : Type 0} {x y : A} → Some x ≡ Some y → x ≡ y
 some_same {x} {y} e = cc
 
 pub same2 : {A B C : Type 0} (f : A → B → C) {a a' : A} {b b' : B} → a ≡ a' → b ≡ b' → f a b ≡ f a' b'
@@ -425,3 +405,6 @@ mutual
       let u = unique_chain g (subst (λ x. IsChain Relational d' w' x (kind.Colon at q' ∷ n')) (sym (ap behind s.1)) g') (stop w _ (refl, refl)) (stop w' _ (refl, refl)) in
       let z = unique_chain i (subst (λ x. IsChain Relational d' v' x r') (sym (ap behind u.1)) i') (stop v _ h) (stop v' _ h') in
       (same3 rounded s.0 u.0 z.0, z.1)
+
+pub unique_expr : {d d' : ℕ} {e e' : Expression} {ks r r' : List Terminal} → IsChain Relational d e ks r → IsChain Relational d' e' ks r' → Stops r → Stops r' → (e ≡ e') × (r ≡ r')
+unique_expr {e = e} {e' = e'} {r = r} {r' = r'} f f' h h' = unique_chain f f' (stop e r h) (stop e' r' h')

@@ -1,1 +1,2 @@
 pub mod ExpressionUnique
+pub mod StatementUnique

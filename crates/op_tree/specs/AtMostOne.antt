@@ -1,11 +1,17 @@
 -- At most one tree spells a list of tokens.
 use Rattle.std.specs.Prelude.{◌≡◌, ℕ, List}
-use Rattle.op_tree.specs.Ends.{EndsChain}
+use Rattle.op_tree.specs.Ends.{EndsChain, EndsStatement}
 use Rattle.op_tree.specs.Expression.{Expression}
 use Rattle.op_tree.specs.ExpressionGrammar.{IsChain}
+use Rattle.op_tree.specs.Statement.{Statement}
+use Rattle.op_tree.specs.StatementGrammar.{IsStatement}
 use Rattle.op_tree.specs.Terminal.{Terminal}
 use Rattle.op_tree.specs.declared.operator.Level.{Level}
 
 -- One expression, at most, is whole at the front of a list of tokens, whatever the depth.
 abbrev pub OneExpression : Type 0
 OneExpression = (l : Level) (d d' : ℕ) (e e' : Expression) (ks r r' : List Terminal) → IsChain l d e ks r → IsChain l d' e' ks r' → EndsChain l e r → EndsChain l e' r' → (e ≡ e') × (r ≡ r')
+
+-- The same of statements.
+abbrev pub OneStatement : Type 0
+OneStatement = (d d' : ℕ) (s s' : Statement) (ks r r' : List Terminal) → IsStatement d s ks r → IsStatement d' s' ks r' → EndsStatement s r → EndsStatement s' r' → (s ≡ s') × (r ≡ r')
