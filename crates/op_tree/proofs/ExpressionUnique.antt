@@ -2,7 +2,7 @@
 use Rattle.std.proofs.Common.{◌≡◌, ℕ, Bool, true, false, List, [], ◌∷◌, Option, Some, None, refl, sym, ap, ◌∙◌, subst}
 use Rattle.op_scan.specs.declared.token.TokenKind.{TokenKind}
 use Rattle.op_scan.specs.declared.token.TokenKind.TheVariants as kind
-use Rattle.op_tree.specs.Ends.{IsNot, at_least, operator_at_least, binds, begins_selector, begins_designator, begins_expression, EndsOperand, EndOperations, EndsChain}
+use Rattle.op_tree.specs.Ends.{IsNot, at_least, operator_at_least, binds, begins_selector, begins_designator, begins_expression, Stops, is_dot_dot, EndsOperand, EndOperations, EndsChain}
 use Rattle.op_tree.specs.Expression.{Expression, chain, prefixed, number, nil, set, literal, designated, inherited, Operations, no_operations, operation, Elements, no_elements, elements, Element, one, range, Designator, designator, Root, bracketed, Selectors, selectors, Selector, index, call, Expressions, no_expressions, expressions, Arguments, no_arguments, arguments, Argument, value, padded, rounded}
 use Rattle.op_tree.specs.ExpressionGrammar.{IsChain, is_chain, IsOperand, is_simple, is_term, is_factor, AreOperations, are_no_operations, are_operations, IsFactor, is_prefixed, is_number, is_nil, is_empty_set, is_set, is_literal, is_designated, is_inherited, IsDesignator, is_designator, IsRoot, is_named, is_string, is_bracketed, AreSelectors, are_no_selectors, are_selectors, IsSelector, is_member, is_index, is_empty_call, is_call, AreExpressions, are_one_expression, are_expressions, AreElements, are_one_element, are_elements, IsElement, is_one, is_range, AreArguments, are_one_argument, are_arguments, IsArgument, is_value, is_padded, is_rounded, chain_of}
 use Rattle.op_tree.specs.Operator.{operator_of, prefix_operator_of, level_of}
@@ -173,10 +173,6 @@ selector_begins (is_call args) h = true_false h
 
 -- ---- at most one
 
--- what follows belongs to no expression
-abbrev pub Stops : List Terminal → Type 0
-Stops r = IsNot (binds Relational) r × IsNot begins_selector r
-
 pub stop : (e : Expression) (r : List Terminal) → Stops r → EndsChain Relational e r
 stop e r h = (h.0, ends_operand e r h.1)
 
@@ -187,10 +183,6 @@ is_comma other = false
 abbrev pub is_colon : TokenKind → Bool
 is_colon kind.Colon = true
 is_colon other = false
-
-abbrev pub is_dot_dot : TokenKind → Bool
-is_dot_dot kind.DotDot = true
-is_dot_dot other = false
 
 abbrev pub behind : List Terminal → List Terminal
 behind [] = []

@@ -1,2 +1,3 @@
+pub mod DenoterUnique
 pub mod ExpressionUnique
 pub mod StatementUnique

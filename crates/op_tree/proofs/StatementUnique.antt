@@ -2,8 +2,8 @@
 use Rattle.std.proofs.Common.{◌≡◌, ℕ, Bool, true, false, ◌||◌, List, [], ◌∷◌, Option, Some, refl, sym, ap, ◌∙◌, subst}
 use Rattle.op_scan.specs.declared.token.TokenKind.{TokenKind}
 use Rattle.op_scan.specs.declared.token.TokenKind.TheVariants as kind
-use Rattle.op_tree.proofs.ExpressionUnique.{true_false, false_true, Begins, designator_begins, elements_begin, chain_begins, selector_begins, Stops, stop, is_colon, behind, some_same, same2, same3, unique_chain, unique_expr, unique_designator, unique_elements}
-use Rattle.op_tree.specs.Ends.{IsNot, binds, begins_selector, begins_designator, begins_expression, begins_statement, is_assign, is_else, EndsStatement}
+use Rattle.op_tree.proofs.ExpressionUnique.{true_false, false_true, Begins, designator_begins, elements_begin, chain_begins, selector_begins, stop, is_colon, behind, some_same, same2, same3, unique_chain, unique_expr, unique_designator, unique_elements}
+use Rattle.op_tree.specs.Ends.{IsNot, binds, begins_selector, begins_designator, begins_expression, begins_statement, Stops, is_assign, is_else, EndsStatement}
 use Rattle.op_tree.specs.Expression.{Elements}
 use Rattle.op_tree.specs.ExpressionGrammar.{IsChain, is_designator, is_named, is_string, is_bracketed, AreSelectors, are_no_selectors, are_selectors, AreElements}
 use Rattle.op_tree.specs.Expression.{Selectors}

@@ -1,8 +1,11 @@
 -- At most one tree spells a list of tokens.
 use Rattle.std.specs.Prelude.{◌≡◌, ℕ, List}
-use Rattle.op_tree.specs.Ends.{EndsChain, EndsStatement}
+use Rattle.op_tree.specs.Denoter.{Denoter}
+use Rattle.op_tree.specs.DenoterGrammar.{IsDenoter, IsInitial}
+use Rattle.op_tree.specs.Ends.{EndsChain, EndsStatement, Stops, StopsDenoter}
 use Rattle.op_tree.specs.Expression.{Expression}
 use Rattle.op_tree.specs.ExpressionGrammar.{IsChain}
+use Rattle.op_tree.specs.Initial.{Initial}
 use Rattle.op_tree.specs.Statement.{Statement}
 use Rattle.op_tree.specs.StatementGrammar.{IsStatement}
 use Rattle.op_tree.specs.Terminal.{Terminal}
@@ -15,3 +18,11 @@ OneExpression = (l : Level) (d d' : ℕ) (e e' : Expression) (ks r r' : List Ter
 -- The same of statements.
 abbrev pub OneStatement : Type 0
 OneStatement = (d d' : ℕ) (s s' : Statement) (ks r r' : List Terminal) → IsStatement d s ks r → IsStatement d' s' ks r' → EndsStatement s r → EndsStatement s' r' → (s ≡ s') × (r ≡ r')
+
+-- One type, at most, stands at the front of a list of tokens before what belongs to no type.
+abbrev pub OneDenoter : Type 0
+OneDenoter = (d d' : ℕ) (t t' : Denoter) (ks r r' : List Terminal) → IsDenoter d t ks r → IsDenoter d' t' ks r' → StopsDenoter r → StopsDenoter r' → (t ≡ t') × (r ≡ r')
+
+-- The same of first values.
+abbrev pub OneInitial : Type 0
+OneInitial = (d d' : ℕ) (i i' : Initial) (ks r r' : List Terminal) → IsInitial d i ks r → IsInitial d' i' ks r' → Stops r → Stops r' → (i ≡ i') × (r ≡ r')

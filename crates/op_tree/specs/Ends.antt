@@ -132,3 +132,17 @@ EndsStatement (alone p) r = IsNot begins_designator r
 EndsStatement (inherited_call p g) r = IsNot begins_selector r
 EndsStatement (call g) r = IsNot begins_selector r × IsNot is_assign r
 EndsStatement (assign g p e) r = EndsExpr e r
+
+-- what follows belongs to no expression
+abbrev pub Stops : List Terminal → Type 0
+Stops r = IsNot (binds Relational) r × IsNot begins_selector r
+
+abbrev pub is_dot_dot : TokenKind → Bool
+is_dot_dot kind.DotDot = true
+is_dot_dot other = false
+
+-- what follows belongs to no type: neither would it make a bound of a subrange of it
+pub record StopsDenoter (r : List Terminal) : Type 0 where
+  pub operator : IsNot (binds Additive) r
+  pub selector : IsNot begins_selector r
+  pub range : IsNot is_dot_dot r
