@@ -1,3 +1,4 @@
 pub mod DenoterUnique
 pub mod ExpressionUnique
+pub mod Rows
 pub mod StatementUnique

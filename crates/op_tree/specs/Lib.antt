@@ -10,6 +10,7 @@ pub mod File
 pub mod FileGrammar
 pub mod HeadingGrammar
 pub mod Initial
+pub mod Lists
 pub mod NameGrammar
 pub mod Operator
 pub mod Statement

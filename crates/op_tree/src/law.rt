@@ -1,5 +1,6 @@
 //! Laws of the grammar: at most one tree spells a list of tokens.
 ghost use Rattle.op_tree.specs.AtMostOne.{OneDenoter, OneExpression, OneInitial, OneStatement};
+ghost use Rattle.op_tree.specs.Lists.{ListNodes};
 
 /// At most one expression is whole at the front of a list of tokens.
 pub fn one_expression()
@@ -19,4 +20,9 @@ pub fn one_denoter()
 /// At most one first value stands at the front of a list of tokens.
 pub fn one_initializer()
     ensures { OneInitial }
+{}
+
+/// What a node with a list says is what the list's parts say.
+pub fn list_nodes()
+    ensures { ListNodes }
 {}
