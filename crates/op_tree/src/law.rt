@@ -1,25 +1,13 @@
-//! Laws of the grammar: at most one tree spells a list of tokens.
+//! Laws of the grammar.
 ghost use Rattle.op_tree.specs.AtMostOne.{OneDenoter, OneExpression, OneInitial, OneStatement};
 ghost use Rattle.op_tree.specs.Lists.{ListNodes};
 
-/// At most one expression is whole at the front of a list of tokens.
-pub fn one_expression()
-    ensures { OneExpression }
-{}
-
-/// At most one statement is whole at the front of a list of tokens.
-pub fn one_statement()
-    ensures { OneStatement }
-{}
-
-/// At most one type stands at the front of a list of tokens.
-pub fn one_denoter()
-    ensures { OneDenoter }
-{}
-
-/// At most one first value stands at the front of a list of tokens.
-pub fn one_initializer()
-    ensures { OneInitial }
+/// At most one tree of each sort stands at the front of a list of tokens and is whole.
+pub fn at_most_one()
+    ensures expression { OneExpression }
+    ensures statement { OneStatement }
+    ensures denoter { OneDenoter }
+    ensures initializer { OneInitial }
 {}
 
 /// What a node with a list says is what the list's parts say.

@@ -25,8 +25,11 @@ pub use heading::{
     Directive, Heading, Method, Parameter, ParameterMode, ParameterType, RoutineKind,
 };
 pub use initializer::{FieldInitializer, Initializer};
-pub use law::{list_nodes, one_denoter, one_expression, one_initializer, one_statement};
+pub use law::{at_most_one, list_nodes};
 pub use lists::{Directives, Names, Parameters};
 pub use operator::{Level, Operator, PrefixOperator, operator_of, prefix_operator_of};
 pub use position::{Name, Position, QualifiedName};
 pub use statement::{Branch, Direction, Handler, Stmt};
+
+#[cfg(test)]
+mod tests;
