@@ -49,7 +49,7 @@ unique_bracketed_names (are_bracketed_names a) (are_bracketed_names a') =
 stop_simple : (e : Expression) (r : List Terminal) → StopsDenoter r → EndsChain Additive e r
 stop_simple e r h = (h.operator, ends_operand e r h.selector)
 
-no_dot : (r : List Terminal) → IsNot begins_selector r → IsNot is_dot r
+pub no_dot : (r : List Terminal) → IsNot begins_selector r → IsNot is_dot r
 no_dot [] h = tt
 no_dot (t ∷ r) h = at_kind t.kind h
   where

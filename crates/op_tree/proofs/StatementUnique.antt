@@ -234,7 +234,7 @@ no_on_at {ks = ks} o h = at_front ks (on_begins o) h
     at_front [] b e = absurd b
     at_front (t ∷ ks) b e = true_false (sym e ∙ identifier_ends_no_list t.kind b)
 
-same4 : {A B C D E : Type 0} (f : A → B → C → D → E) {a a' : A} {b b' : B} {c c' : C} {d d' : D} → a ≡ a' → b ≡ b' → c ≡ c' → d ≡ d' → f a b c d ≡ f a' b' c' d'
+pub same4 : {A B C D E : Type 0} (f : A → B → C → D → E) {a a' : A} {b b' : B} {c c' : C} {d d' : D} → a ≡ a' → b ≡ b' → c ≡ c' → d ≡ d' → f a b c d ≡ f a' b' c' d'
 same4 f {a} {a'} {b} {b'} {c} {c'} {d} {d'} p q u v = ap (λ x. f x b c d) p ∙ same3 (f a') q u v
 
 head_position_same : {k k' : TokenKind} {p p' : Position} {r r' : List Terminal} → k at p ∷ r ≡ k' at p' ∷ r' → p ≡ p'
@@ -248,7 +248,7 @@ abbrev head_kind : List Terminal → TokenKind
 head_kind [] = kind.End
 head_kind (t ∷ ts) = t.kind
 
-same5 : {A B C D E F : Type 0} (f : A → B → C → D → E → F) {a a' : A} {b b' : B} {c c' : C} {d d' : D} {e e' : E} → a ≡ a' → b ≡ b' → c ≡ c' → d ≡ d' → e ≡ e' → f a b c d e ≡ f a' b' c' d' e'
+pub same5 : {A B C D E F : Type 0} (f : A → B → C → D → E → F) {a a' : A} {b b' : B} {c c' : C} {d d' : D} {e e' : E} → a ≡ a' → b ≡ b' → c ≡ c' → d ≡ d' → e ≡ e' → f a b c d e ≡ f a' b' c' d' e'
 same5 f {a} {a'} {b} {b'} {c} {c'} {d} {d'} {e} {e'} p q u v w = ap (λ x. f x b c d e) p ∙ same4 (f a') q u v w
 
 direction_stops : (k : TokenKind) (way : Direction) (p : Position) (r : List Terminal) → direction_of k ≡ Some way → Stops (k at p ∷ r)

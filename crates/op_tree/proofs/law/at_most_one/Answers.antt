@@ -1,5 +1,6 @@
 use Rattle.op_tree.proofs.DenoterUnique.{unique_denoter, unique_initial}
 use Rattle.op_tree.proofs.ExpressionUnique.{unique_chain}
+use Rattle.op_tree.proofs.HeadingUnique.{unique_heading}
 use Rattle.op_tree.proofs.StatementUnique.{unique_statement}
 use Rattle.op_tree.proofs.law.at_most_one.Goals as goal
 
@@ -9,4 +10,5 @@ returns c = record {
   statement = λ d d' s s' ks r r' f f' h h'. unique_statement f f' h h';
   denoter = λ d d' t t' ks r r' f f' h h'. unique_denoter f f' h h';
   initializer = λ d d' i i' ks r r' f f' h h'. unique_initial f f' h h';
+  heading = λ d d' h h' p p' ks r r' f f'. unique_heading f f';
 }
