@@ -1,13 +1,16 @@
+pub mod AtMostOne
 pub mod Declaration
 pub mod DeclarationGrammar
 pub mod Denoter
 pub mod DenoterGrammar
+pub mod Ends
 pub mod Expression
 pub mod ExpressionGrammar
 pub mod File
 pub mod FileGrammar
 pub mod HeadingGrammar
 pub mod Initial
+pub mod Lists
 pub mod NameGrammar
 pub mod Operator
 pub mod Statement

@@ -8,6 +8,7 @@ mod expression;
 mod file;
 mod heading;
 mod initializer;
+mod law;
 mod lists;
 mod operator;
 mod position;
@@ -24,7 +25,11 @@ pub use heading::{
     Directive, Heading, Method, Parameter, ParameterMode, ParameterType, RoutineKind,
 };
 pub use initializer::{FieldInitializer, Initializer};
+pub use law::{at_most_one, list_nodes};
 pub use lists::{Directives, Names, Parameters};
 pub use operator::{Level, Operator, PrefixOperator, operator_of, prefix_operator_of};
 pub use position::{Name, Position, QualifiedName};
 pub use statement::{Branch, Direction, Handler, Stmt};
+
+#[cfg(test)]
+mod tests;

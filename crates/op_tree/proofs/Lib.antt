@@ -1,0 +1,5 @@
+pub mod DenoterUnique
+pub mod ExpressionUnique
+pub mod HeadingUnique
+pub mod Rows
+pub mod StatementUnique
