@@ -25,3 +25,6 @@ pub use instruction::{Call, Instruction, Output};
 pub use sequence::Sequence;
 pub use theorems::{example_runs, stopped_machine_halts};
 pub use validity::valid;
+
+#[cfg(test)]
+mod tests;
