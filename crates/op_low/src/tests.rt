@@ -50,6 +50,24 @@ fn is_taken(alloc: Global, instruction: Instruction) -> Result<bool, AllocError>
     Ok(valid(&low))
 }
 
+fn add(to: VirtualRegister, right: VirtualRegister) -> Instruction {
+    Instruction::Alu {
+        op: AluOp::Add,
+        to,
+        left: VirtualRegister(3),
+        right,
+    }
+}
+
+fn branch(a: VirtualRegister) -> Instruction {
+    Instruction::Branch {
+        op: BranchOp::Beq,
+        left: a,
+        right: a,
+        block: BlockId(0),
+    }
+}
+
 fn address(symbol: Symbol) -> Instruction {
     Instruction::Address {
         to: VirtualRegister(3),
@@ -73,12 +91,6 @@ fn call(alloc: Global, arguments: Vec<VirtualRegister>, landing: u32) -> Instruc
 fn takes_what_names_only_what_exists(rt: HostRuntime) -> Result<(), Fail> {
     let alloc = rt.alloc();
     let (a, b) = (VirtualRegister(3), VirtualRegister(4));
-    let add = |to, right| Instruction::Alu {
-        op: AluOp::Add,
-        to,
-        left: a,
-        right,
-    };
     assert!(rt; is_taken(alloc, add(a, a))?);
     assert!(rt; !is_taken(alloc, add(b, a))?);
     assert!(rt; !is_taken(alloc, add(a, b))?);
@@ -129,15 +141,9 @@ fn wants_blocks_to_be_left(rt: HostRuntime) -> Result<(), Fail> {
     let alloc = rt.alloc();
     let a = VirtualRegister(0);
     let exit = || Instruction::Exit { status: a };
-    let branch = Instruction::Branch {
-        op: BranchOp::Beq,
-        left: a,
-        right: a,
-        block: BlockId(0),
-    };
     assert!(rt; valid(&program(alloc, vec![in alloc; exit()]?)?));
     assert!(rt; valid(&program(alloc, vec![in alloc; Instruction::Raise]?)?));
-    assert!(rt; !valid(&program(alloc, vec![in alloc; exit(), branch]?)?));
+    assert!(rt; !valid(&program(alloc, vec![in alloc; exit(), branch(a)]?)?));
     assert!(rt; !valid(&program(alloc, vec![in alloc;]?)?));
     Ok(())
 }
