@@ -11,6 +11,15 @@ pub trait Machine {
     ghost system: { System Event };
 }
 
+/// A machine, and a fact on its states.
+pub trait Watched {
+    ghost Event: { Type 0 };
+
+    ghost system: { System Event };
+
+    ghost holds: { system.State → Type 0 };
+}
+
 /// Two machines, and in what sense the lower one goes along with the upper one.
 pub trait Layer {
     ghost Above: { Type 0 };
