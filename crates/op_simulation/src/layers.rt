@@ -33,6 +33,21 @@ pub trait Layer {
     ghost matching: { Matching top bottom };
 }
 
+/// Two machines, and a fact on the states of the lower one.
+pub trait WatchedLayer {
+    ghost Above: { Type 0 };
+
+    ghost Below: { Type 0 };
+
+    ghost top: { System Above };
+
+    ghost bottom: { System Below };
+
+    ghost matching: { Matching top bottom };
+
+    ghost holds: { bottom.State → Type 0 };
+}
+
 /// Three machines, one above the other.
 pub trait TwoLayers {
     ghost Above: { Type 0 };

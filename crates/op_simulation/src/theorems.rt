@@ -3,10 +3,10 @@
 ghost use Rattle.op_simulation.specs.Matching.{Agreement, Between, Follows, Joins, Stretch, Weaker, through};
 ghost use Rattle.op_simulation.specs.Path.{Path};
 ghost use Rattle.op_simulation.specs.Slowed.{at_rest, counter, in_four_steps};
-ghost use Rattle.op_simulation.specs.System.{Halted, run, trace};
+ghost use Rattle.op_simulation.specs.System.{Always, Halted, run, trace};
 ghost use Rattle.std.specs.Prelude.{List, suc, ◌*◌, ◌++◌, ◌+◌, ◌<◌, ◌≡◌, ◌≤◌, ℕ};
 
-use crate::layers::{Layer, Machine, Restated, TwoLayers, Watched};
+use crate::layers::{Layer, Machine, Restated, TwoLayers, Watched, WatchedLayer};
 
 /// Determinism: a machine has one end, and one trace to it.
 pub fn one_end<M: Machine>()
@@ -30,6 +30,17 @@ pub fn points_pass<L: Layer>()
 pub fn moments_hold<L: Layer>()
     ensures between { (a : L.top.State) (b : L.bottom.State) (agrees : Agreement L.matching a b) (k n : ℕ) → Between agrees.point k n → L.matching.moments (run L.top n a) (run L.bottom k b) }
     ensures always { (a : L.top.State) (b : L.bottom.State) → Agreement L.matching a b → (k : ℕ) → (n : ℕ) × (n ≤ k) × L.matching.moments (run L.top n a) (run L.bottom k b) }
+{}
+
+/// A fact that holds for ever holds now and from the next state on.
+pub fn facts_stay<W: Watched>()
+    ensures here { (a : W.system.State) → Always W.system W.holds a → W.holds a }
+    ensures next { (a : W.system.State) → Always W.system W.holds a → Always W.system W.holds (W.system.step a) }
+{}
+
+/// What each moment tells of the machine below alone holds there for ever.
+pub fn facts_hold_below<L: WatchedLayer>()
+    ensures { ((a : L.top.State) (b : L.bottom.State) → L.matching.moments a b → L.holds b) → (a : L.top.State) (b : L.bottom.State) → Agreement L.matching a b → Always L.bottom L.holds b }
 {}
 
 /// The other direction: what has ended below stands for a state above, with the trace to it.
