@@ -1,3 +1,4 @@
-pub mod MachineLemmas
-pub mod ExampleRuns
 pub mod DescriptorLemmas
+pub mod ExampleRuns
+pub mod MachineLemmas
+pub mod ValidRuns

@@ -1,5 +1,6 @@
 pub mod Descriptor
 pub mod Example
 pub mod Machine
+pub mod Runs
 pub mod State
 pub mod Valid

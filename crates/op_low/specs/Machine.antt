@@ -1,12 +1,12 @@
 -- What low code does: a step of its machine, one line an instruction.
-use Rattle.std.specs.Prelude.{◌≡◌, ◌<◌, ℕ, ◌+◌, ◌-◌, ◌%◌, ◌^◌, Bool, ◌&&◌, Option, Some, None, List, [], ◌∷◌, ◌++◌, length, take, drop, replicate, slice_index, nat_eq, nat_lt, nat_le, if◌then◌else◌}
+use Rattle.std.specs.Prelude.{◌≡◌, ◌≢◌, ◌<◌, ℕ, ◌+◌, ◌-◌, ◌%◌, ◌^◌, Bool, ◌&&◌, Option, Some, None, List, [], ◌∷◌, ◌++◌, length, take, drop, replicate, slice_index, nat_eq, nat_lt, nat_le, if◌then◌else◌}
 use Rattle.std.specs.Int.{bytes_low_first}
 use Rattle.op_rv.specs.State.{with_bytes, bytes_from, all_from}
 use Rattle.op_rv.specs.Operation.{word_from, alu_value, imm_value, shift_value, branch_taken}
 use Rattle.op_rv.specs.Step.{can_access, offset_from, load_size_of, load_value, store_size_of}
 use Rattle.op_rv.specs.declared.instruction.LoadOp.{LoadOp}
 use Rattle.op_rv.specs.declared.instruction.StoreOp.{StoreOp}
-use Rattle.op_simulation.specs.System.{System}
+use Rattle.op_simulation.specs.System.{System, Always}
 use Rattle.op_low.specs.State.{Placement, Activation, Caller, State, Ending, Running, Ended, Bad, routine_of, block_of, value, values, with_value, keep, bad, jump, landed, usable, space}
 use Rattle.op_low.specs.declared.code.Low.{Low}
 use Rattle.op_low.specs.declared.ids.RoutineId.{RoutineId}
@@ -195,6 +195,10 @@ cost low p Bad m = 1
 abbrev pub low_machine : Low → Placement → System Event
 low_machine low p =
     record { State = State; step = step low p; cost = λ m. cost low p m.ending m; shows = λ m. shows p m.ending m }
+
+-- it never does what low code must not do
+abbrev pub NeverBad : Low → Placement → State → Type 0
+NeverBad low p m = Always (low_machine low p) (λ s. s.ending ≢ Bad) m
 
 -- how a program begins: no registers, its locals at the bottom of the stack and zeros there
 unfoldable pub start : Low → Placement → (bottom : ℕ) → (room : ℕ) → (ℕ → ℕ) → List ℕ → State

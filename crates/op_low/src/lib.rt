@@ -23,5 +23,8 @@ pub use ids::{
 };
 pub use instruction::{Call, Instruction, Output};
 pub use sequence::Sequence;
-pub use theorems::{example_runs, stopped_machine_halts};
+pub use theorems::{example_runs, stopped_machine_halts, valid_code_runs_valid};
 pub use validity::valid;
+
+#[cfg(test)]
+mod tests;

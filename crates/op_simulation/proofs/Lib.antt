@@ -1,4 +1,5 @@
 pub mod Runs
+pub mod Paths
 pub mod Points
 pub mod Composition
 pub mod Slowing

@@ -1,7 +1,7 @@
 -- From a simulation to whole runs: the agreement points, and that they pass every step below.
 use Rattle.std.proofs.Common.{◌≡◌, ℕ, zero, suc, ◌+◌, ◌-◌, ◌*◌, ◌<◌, ◌≤◌, inl, inr, ◌++◌, refl, ap, sym, ◌∙◌, subst, subst₂, arith}
 use Rattle.std.proofs.lemmas.Bool.{cases_lt}
-use Rattle.op_simulation.specs.System.{System, Halted, run, trace, spent}
+use Rattle.op_simulation.specs.System.{System, Halted, Always, run, trace, spent}
 use Rattle.op_simulation.specs.Matching.{Matching, Stretch, Follows, Joins, Agreement, Between}
 use Rattle.op_simulation.proofs.Runs.{run_add, trace_add, spent_add, run_last, trace_last, spent_last, run_past_end, trace_past_end}
 
@@ -127,6 +127,12 @@ moment_of X a b agrees k =
     let found = between_points X a b agrees k (suc k) passes in
     let le : found.0 ≤ k = let h = found.1 in omega arith in
     (found.0, le, moments_between X a b agrees k found.0 found.2)
+
+-- what each moment tells of B alone holds for ever
+pub always_below : {E F : Type 0} {A : System E} {B : System F} (X : Matching A B) (holds : B.State → Type 0) → ((a : A.State) (b : B.State) → X.moments a b → holds b) → (a : A.State) (b : B.State) → Agreement X a b → Always B holds b
+always_below {A = A} {B = B} X holds tells a b agrees k =
+    let found = moment_of X a b agrees k in
+    tells (run A found.0 a) (run B k b) found.2
 
 -- ---- the other direction: a run below that has ended is the end of a run above
 

@@ -1,6 +1,6 @@
 -- Runs of a machine: they compose, one that has ended stays, and two ends are one.
 use Rattle.std.proofs.Common.{◌≡◌, ℕ, zero, suc, ◌+◌, ◌-◌, ◌≤◌, ◌⊎◌, inl, inr, [], ◌++◌, refl, ap, sym, ◌∙◌, append_assoc, append-nil, arith}
-use Rattle.op_simulation.specs.System.{System, Halted, run, trace, spent}
+use Rattle.op_simulation.specs.System.{System, Halted, Always, run, trace, spent}
 
 -- ---- m steps and then n
 
@@ -97,3 +97,13 @@ one_trace A m n a h k =
       | inl le ↦ sym (trace_past_end A m n a h le)
       | inr le ↦ trace_past_end A n m a k le
     ]
+
+-- ---- facts that hold for ever
+
+pub always_here : {Event : Type 0} (A : System Event) (holds : A.State → Type 0) (a : A.State) → Always A holds a → holds a
+unfolding run
+always_here A holds a always = always 0
+
+pub always_next : {Event : Type 0} (A : System Event) (holds : A.State → Type 0) (a : A.State) → Always A holds a → Always A holds (A.step a)
+unfolding run
+always_next A holds a always n = always (suc n)

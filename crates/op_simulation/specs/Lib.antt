@@ -1,3 +1,4 @@
 pub mod Matching
+pub mod Path
 pub mod Slowed
 pub mod System

@@ -29,3 +29,7 @@ spent A (suc n) a = A.cost a + spent A n (A.step a)
 pub record Halted {Event : Type 0} (A : System Event) (a : A.State) : Type 0 where
   pub stays : A.step a ≡ a
   pub silent : A.shows a ≡ []
+
+-- a fact that holds in each state of a run, for ever
+abbrev pub Always : {Event : Type 0} (A : System Event) → (A.State → Type 0) → A.State → Type 0
+Always A holds a = (n : ℕ) → holds (run A n a)

@@ -11,6 +11,15 @@ pub trait Machine {
     ghost system: { System Event };
 }
 
+/// A machine, and a fact on its states.
+pub trait Watched {
+    ghost Event: { Type 0 };
+
+    ghost system: { System Event };
+
+    ghost holds: { system.State → Type 0 };
+}
+
 /// Two machines, and in what sense the lower one goes along with the upper one.
 pub trait Layer {
     ghost Above: { Type 0 };
@@ -22,6 +31,21 @@ pub trait Layer {
     ghost bottom: { System Below };
 
     ghost matching: { Matching top bottom };
+}
+
+/// Two machines, and a fact on the states of the lower one.
+pub trait WatchedLayer {
+    ghost Above: { Type 0 };
+
+    ghost Below: { Type 0 };
+
+    ghost top: { System Above };
+
+    ghost bottom: { System Below };
+
+    ghost matching: { Matching top bottom };
+
+    ghost holds: { bottom.State → Type 0 };
 }
 
 /// Three machines, one above the other.

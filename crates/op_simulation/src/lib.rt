@@ -7,8 +7,8 @@
 mod layers;
 mod theorems;
 
-pub use layers::{Layer, Machine, Restated, TwoLayers};
+pub use layers::{Layer, Machine, Restated, TwoLayers, Watched, WatchedLayer};
 pub use theorems::{
-    counter_in_four_steps, ends_are_above, moments_hold, one_end, points_pass, runs_agree,
-    simulation_restated, simulations_compose,
+    counter_in_four_steps, ends_are_above, facts_hold_below, facts_stay, moments_hold, one_end,
+    path_is_stretch, paths_join, points_pass, runs_agree, simulation_restated, simulations_compose,
 };

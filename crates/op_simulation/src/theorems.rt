@@ -1,11 +1,12 @@
 //! The theorems, each as the contract of a function without code.
 
-ghost use Rattle.op_simulation.specs.Matching.{Agreement, Between, Follows, Joins, Weaker, through};
+ghost use Rattle.op_simulation.specs.Matching.{Agreement, Between, Follows, Joins, Stretch, Weaker, through};
+ghost use Rattle.op_simulation.specs.Path.{Path};
 ghost use Rattle.op_simulation.specs.Slowed.{at_rest, counter, in_four_steps};
-ghost use Rattle.op_simulation.specs.System.{Halted, run, trace};
-ghost use Rattle.std.specs.Prelude.{◌≡◌, ◌≤◌, ◌<◌, suc, ℕ};
+ghost use Rattle.op_simulation.specs.System.{Always, Halted, run, trace};
+ghost use Rattle.std.specs.Prelude.{List, suc, ◌*◌, ◌++◌, ◌+◌, ◌<◌, ◌≡◌, ◌≤◌, ℕ};
 
-use crate::layers::{Layer, Machine, Restated, TwoLayers};
+use crate::layers::{Layer, Machine, Restated, TwoLayers, Watched, WatchedLayer};
 
 /// Determinism: a machine has one end, and one trace to it.
 pub fn one_end<M: Machine>()
@@ -31,10 +32,32 @@ pub fn moments_hold<L: Layer>()
     ensures always { (a : L.top.State) (b : L.bottom.State) → Agreement L.matching a b → (k : ℕ) → (n : ℕ) × (n ≤ k) × L.matching.moments (run L.top n a) (run L.bottom k b) }
 {}
 
+/// A fact that holds for ever holds now and from the next state on.
+pub fn facts_stay<W: Watched>()
+    ensures here { (a : W.system.State) → Always W.system W.holds a → W.holds a }
+    ensures next { (a : W.system.State) → Always W.system W.holds a → Always W.system W.holds (W.system.step a) }
+{}
+
+/// What each moment tells of the machine below alone holds there for ever.
+pub fn facts_hold_below<L: WatchedLayer>()
+    ensures { ((a : L.top.State) (b : L.bottom.State) → L.matching.moments a b → L.holds b) → (a : L.top.State) (b : L.bottom.State) → Agreement L.matching a b → Always L.bottom L.holds b }
+{}
+
 /// The other direction: what has ended below stands for a state above, with the trace to it.
 pub fn ends_are_above<L: Layer>()
     ensures state { (a : L.top.State) (b : L.bottom.State) → Agreement L.matching a b → (m : ℕ) → Halted L.bottom (run L.bottom m b) → L.matching.states (run L.top m a) (run L.bottom m b) }
     ensures shown { (a : L.top.State) (b : L.bottom.State) → Agreement L.matching a b → (m : ℕ) → Halted L.bottom (run L.bottom m b) → L.matching.traces (trace L.top m a) (trace L.bottom m b) }
+{}
+
+/// Paths: a step is one, and two of them are one.
+pub fn paths_join<W: Watched>()
+    ensures step { (b : W.system.State) → W.holds b → Path W.system W.holds b (W.system.step b) 1 (W.system.shows b) (W.system.cost b) }
+    ensures join { (b c d : W.system.State) (m n : ℕ) (xs ys : List W.Event) (p q : ℕ) → Path W.system W.holds b c m xs p → Path W.system W.holds c d n ys q → Path W.system W.holds b d (m + n) (xs ++ ys) (p + q) }
+{}
+
+/// A path below from matching states to matching states is a stretch.
+pub fn path_is_stretch<L: Layer>()
+    ensures { (a : L.top.State) (b c : L.bottom.State) (more : ℕ) (events : List L.Below) (most : ℕ) → Path L.bottom (L.matching.moments a) b c (suc more) events most → L.matching.states (L.top.step a) c → L.matching.traces (L.top.shows a) events → most ≤ L.matching.factor * L.top.cost a → Stretch L.matching a b }
 {}
 
 /// Simulations compose.
