@@ -6,7 +6,7 @@ use Rattle.op_rv.specs.Step.{can_fetch}
 use Rattle.op_rv.specs.Environment.{read_call}
 use Rattle.op_emu.specs.Region.{byte_in, readable_in, writable_in, rights_in}
 use Rattle.op_rv.specs.declared.fault.FaultKind.TheVariants.{Load}
-use Rattle.op_emu.specs.Image.{start}
+use Rattle.op_link.specs.Image.{start}
 use Rattle.op_emu.specs.Registers.{value_of}
 use Rattle.op_emu.specs.Segments.{regions_of}
 use Rattle.op_emu.specs.declared.hart.Hart.{Hart}

@@ -1,6 +1,5 @@
 pub mod Acts
 pub mod Filling
-pub mod Image
 pub mod Region
 pub mod Registers
 pub mod Runs

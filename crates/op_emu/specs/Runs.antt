@@ -1,10 +1,13 @@
 -- Runs of the emulator, as runs of the machine's definition.
-use Rattle.std.specs.Prelude.{◌≡◌, ℕ, suc, ◌+◌, ◌-◌, ◌^◌, ◌<◌, ◌≤◌, ◌⊎◌, min, Bool, true, false, Option, List}
+use Rattle.std.specs.Prelude.{◌≡◌, ℕ, suc, ◌+◌, ◌-◌, ◌^◌, ◌<◌, ◌≤◌, ◌⊎◌, min, Bool, true, false, Option, Some, None, List}
 use Rattle.op_rv.specs.State.{Running}
 use Rattle.op_rv.specs.Step.{step, after}
+use Rattle.op_link.specs.Image.{first_failing}
 use Rattle.op_emu.specs.Acts.{Moment, moment, ending_of, Streams, Faults, Acts, ActsInPart, ReadsInPart, InputFailed, OutputFailed, BeginsAs}
 use Rattle.op_emu.specs.declared.hart.Hart.{Hart}
 use Rattle.op_emu.specs.declared.machine.Machine.{Machine}
+use Rattle.op_emu.specs.declared.stop.MachineError.{MachineError}
+use Rattle.op_emu.specs.declared.stop.MachineError.TheVariants.{Bad, NoMemory}
 use Rattle.op_emu.specs.declared.stop.Stepped.{Stepped}
 use Rattle.op_emu.specs.declared.stop.Stepped.TheVariants as stepped
 use Rattle.op_emu.specs.declared.stop.Stop.{Stop}
@@ -60,8 +63,14 @@ RunIs n stop.ReadFault old new told counts = (m : ℕ) × (m < n) × WantsAfter 
 RunIs n stop.WriteFault old new told counts =
     (m : ℕ) × (m < n) × ActsInPart (after (suc m)) (moment_of old) new.hart told × OutputFailed counts × (new.steps ≡ old.steps + m)
 
--- the machine has not begun, and begins as the image says
+-- the image meets the conditions, and the machine has not begun, and begins as the image says
 pub record IsLoaded (image : List ℕ) (machine : Machine) : Type 0 where
+  pub meets : first_failing image ≡ None
   pub begins : BeginsAs image machine.hart
   pub fresh : machine.last ≡ stepped.Went
   pub uncounted : machine.steps ≡ 0
+
+-- the image fails this condition first, or it fails none and there was no room
+abbrev pub IsNotLoaded : List ℕ → MachineError → Type 0
+IsNotLoaded image (Bad condition) = first_failing image ≡ Some condition
+IsNotLoaded image NoMemory = first_failing image ≡ None

@@ -8,7 +8,6 @@
 
 mod access;
 mod calls;
-mod elf;
 mod fill;
 mod hart;
 mod loader;
@@ -18,7 +17,6 @@ mod registers;
 mod rows;
 mod stop;
 
-pub use elf::ProgramHeader;
 pub use hart::Hart;
 pub use loader::load;
 pub use machine::Machine;

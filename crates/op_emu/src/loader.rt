@@ -1,55 +1,88 @@
 //! Loading: the machine that an image begins as.
-ghost use Rattle.std.specs.Prelude.{◌≡◌, None, Err, IfOk, IfErr};
-ghost use Rattle.op_emu.specs.Image.{first_failing, regions_in};
+ghost use Rattle.std.specs.Prelude.{◌≡◌, ◌-◌, ◌++◌, IsTrue, IfOk, IfErr, take, drop, replicate};
+ghost use Rattle.op_link.specs.Image.{has_file_bytes, region_in, regions_in, IsHeaderOf};
 ghost use Rattle.op_emu.specs.Acts.{BeginsAs};
-ghost use Rattle.op_emu.specs.Runs.{IsLoaded};
-ghost use Rattle.op_emu.specs.Segments.{regions_of};
+ghost use Rattle.op_emu.specs.Runs.{IsLoaded, IsNotLoaded};
+ghost use Rattle.op_emu.specs.Segments.{region_of, regions_of};
 
-use crate::elf::{FILE_HEADER, PROGRAM_HEADER, half, program_header, segment, word};
 use crate::{Hart, Machine, MachineError, Memory, Registers, Segment, Stepped};
+use op_link::{Header, read_header, segment};
 use std::alloc::{AllocError, Global};
 
-/// The segments of an image that meets the conditions.
-fn segments(alloc: Global, image: &[u8]) -> Result<Vec<Segment>, AllocError>
-    requires { first_failing image.now ≡ None }
+/// The bytes of a segment in memory: those in the file, and zeros.
+fn segment_bytes(
+    alloc: Global,
+    image: &[u8],
+    segment: op_link::Segment,
+) -> Result<Vec<u8>, AllocError>
+    requires { IsTrue (has_file_bytes image.now segment) }
+    ensures { IfOk result (λ bytes. bytes.items ≡ take segment.file_size (drop segment.offset image.now)
+        ++ replicate (segment.memory_size - segment.file_size) 0) }
+{
+    let size = segment.memory_size as usize;
+    let rest = image.split_at(segment.offset as usize).1;
+    let file = rest.split_at(segment.file_size as usize).0;
+    let mut bytes = Vec::with_capacity(alloc, size)?;
+    bytes.extend_from_slice(file)?;
+    bytes.resize(size, 0)?;
+    Ok(bytes)
+}
+
+/// A segment in memory.
+fn loaded(alloc: Global, image: &[u8], segment: op_link::Segment) -> Result<Segment, AllocError>
+    requires { IsTrue (has_file_bytes image.now segment) }
+    ensures { IfOk result (λ loaded. region_of loaded ≡ region_in image.now segment) }
+{
+    Ok(Segment {
+        base: segment.address,
+        readable: segment.flags / 4 % 2 == 1,
+        writable: segment.flags / 2 % 2 == 1,
+        executable: segment.flags % 2 == 1,
+        bytes: segment_bytes(alloc, image, segment)?,
+    })
+}
+
+/// The segments of an image with this header.
+fn segments(alloc: Global, image: &[u8], header: &Header) -> Result<Vec<Segment>, AllocError>
+    requires { IsHeaderOf image.now header.now }
     ensures { IfOk result (λ segments. regions_of segments.items ≡ regions_in image.now) }
 {
-    let count = half(image, 44);
-    let mut segments = Vec::new(alloc);
-    let mut at = FILE_HEADER;
-    for _k in 0..count {
-        segments.push(segment(alloc, image, program_header(image, at))?)?;
-        at += PROGRAM_HEADER;
+    let mut segments = Vec::with_capacity(alloc, header.number as usize)?;
+    for k in 0..header.number {
+        segments.push(loaded(alloc, image, segment(image, header, k))?)?;
     }
     Ok(segments)
 }
 
-/// The hart of an image that meets the conditions, before its first step.
-fn hart(alloc: Global, image: &[u8]) -> Result<Hart, AllocError>
-    requires { first_failing image.now ≡ None }
+/// The hart of an image with this header, before its first step.
+fn hart(alloc: Global, image: &[u8], header: &Header) -> Result<Hart, AllocError>
+    requires { IsHeaderOf image.now header.now }
     ensures { IfOk result (λ hart. BeginsAs image.now hart) }
 {
-    let segments = segments(alloc, image)?;
+    let segments = segments(alloc, image, header)?;
     Ok(Hart {
         registers: Registers::new(),
-        pc: word(image, 24),
+        pc: header.entry,
         memory: Memory { segments },
         input_ended: false,
     })
 }
 
-/// Loads an image that meets the conditions. It takes all the memory that the machine ever takes.
+/// Loads an image. It takes all the memory that the machine ever takes: that of its segments, and none for the image.
+/// `Bad` has the first condition on images that fails, 1 to 9.
 pub fn load(alloc: Global, image: &[u8]) -> Result<Machine, MachineError>
-    requires { first_failing image.now ≡ None }
     ensures loaded { IfOk result (IsLoaded image.now) }
-    ensures memory { IfErr result (λ error. error ≡ MachineError.NoMemory) }
+    ensures refused { IfErr result (IsNotLoaded image.now) }
 {
-    match hart(alloc, image) {
-        Ok(hart) => Ok(Machine {
-            hart,
-            last: Stepped::Went,
-            steps: 0,
-        }),
-        Err(AllocError) => Err(MachineError::NoMemory),
+    match read_header(image) {
+        Ok(header) => match hart(alloc, image, &header) {
+            Ok(hart) => Ok(Machine {
+                hart,
+                last: Stepped::Went,
+                steps: 0,
+            }),
+            Err(AllocError) => Err(MachineError::NoMemory),
+        },
+        Err(condition) => Err(MachineError::Bad(condition)),
     }
 }

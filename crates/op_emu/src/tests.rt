@@ -440,3 +440,81 @@ fn writes_errors_in_part(rt: HostRuntime) -> Result<(), Fail> {
     assert_eq!(rt; err.bytes(), b"f".as_slice());
     Ok(())
 }
+
+const CODE: u32 = 0x0001_0000;
+
+/// An image of one segment at 0x00010000, which may be read and executed. The file has twelve of its sixteen bytes, and
+/// it ends with status 7.
+const ONE_SEGMENT: [u32; 24] = [
+    0x464c_457f,
+    0x0001_0101,
+    0,
+    0,
+    0x00f3_0002,
+    1,
+    CODE,
+    52,
+    0,
+    0,
+    0x0020_0034,
+    1,
+    0,
+    1,
+    84,
+    CODE,
+    CODE,
+    12,
+    16,
+    5,
+    4096,
+    0x0070_0513,
+    0x05d0_0893,
+    0x0000_0073,
+];
+
+/// How the image runs, loaded with another word at a place and without the last bytes.
+fn run_of_image(
+    alloc: Global,
+    place: usize,
+    other: u32,
+    cut: usize,
+) -> Result<Result<Stop, MachineError>, Fail> {
+    let mut image = Vec::new(alloc);
+    for (index, word) in ONE_SEGMENT.iter().enumerate() {
+        let word = if place / 4 == index { other } else { *word };
+        image.extend_from_slice(&word.to_le_bytes())?;
+    }
+    image.truncate(image.len().saturating_sub(cut));
+    let mut input = MemSource::new(Vec::new(alloc), Vec::new(alloc));
+    let mut out = MemSink::new(alloc, 0, Vec::new(alloc))?;
+    let mut err = MemSink::new(alloc, 0, Vec::new(alloc))?;
+    Ok(match load(alloc, image.as_slice()) {
+        Ok(mut machine) => Ok(machine.run(100, &mut input, &mut out, &mut err)),
+        Err(error) => Err(error),
+    })
+}
+
+#[test]
+fn images_are_loaded_or_refused(rt: HostRuntime) -> Result<(), Fail> {
+    for (place, other, cut, expected) in [
+        (0, ONE_SEGMENT[0], 0, Ok(Stop::Ended(7))),
+        // It begins at the zeros behind the bytes of the file.
+        (
+            24,
+            CODE + 12,
+            0,
+            Ok(Stop::Fault(FaultKind::Illegal, CODE + 12)),
+        ),
+        (24, CODE + 2, 0, Err(MachineError::Bad(9))),
+        (76, 4, 0, Err(MachineError::Bad(9))),
+        (68, 17, 0, Err(MachineError::Bad(7))),
+        (0, ONE_SEGMENT[0], 1, Err(MachineError::Bad(7))),
+        (0, ONE_SEGMENT[0], 13, Err(MachineError::Bad(6))),
+        (0, ONE_SEGMENT[0], 45, Err(MachineError::Bad(1))),
+        (0, 0, 0, Err(MachineError::Bad(2))),
+    ] {
+        let found = run_of_image(rt.alloc(), place, other, cut)?;
+        assert!(&rt; found == expected, "{place} {cut}: {found:?}");
+    }
+    Ok(())
+}

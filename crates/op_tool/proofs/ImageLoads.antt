@@ -2,10 +2,10 @@
 use Rattle.std.proofs.Common.{◌≡◌, ℕ, ◌+◌, ◌%◌, ◌≤◌, Bool, true, ◌&&◌, nat_eq, nat_le, None, List, [], ◌∷◌, ◌++◌, length, map, sum_by, refl, ap, sym, ◌∙◌, arith, length-append}
 use Rattle.std.proofs.lemmas.Bool.Decides.{nat_tests}
 use Rattle.byteorder.specs.Numbers.{little_number-reads_back}
-use Rattle.op_emu.specs.Image.{half_in, word_in, header_at, headers_from, headers as headers_in, first_failing, has_image_size, has_magic, has_identity, is_executable_file, is_for_riscv, has_header_table, has_loadable_segments, has_segments_in_reach, has_executable_entry, is_loadable, is_in_reach, has_entry, header_range, first_from}
-use Rattle.op_emu.specs.Region.{are_apart}
+use Rattle.op_link.specs.Image.{half_in, word_in, header_at, headers_from, headers as headers_in, segments as segments_in, first_failing, has_image_size, has_magic, has_identity, is_executable_file, is_for_riscv, has_header_table, has_loadable_segments, has_segments_in_reach, has_executable_entry, is_loadable, is_in_reach, has_entry, memory_range, first_from}
+use Rattle.op_link.specs.Region.{are_apart}
 use Rattle.std.specs.List.{list_all, list_any}
-use Rattle.op_emu.specs.declared.elf.ProgramHeader.{ProgramHeader}
+use Rattle.op_link.specs.declared.table.ProgramHeader.{ProgramHeader}
 use Rattle.op_tool.specs.Writer.{headers, padding, code, image_of}
 use Rattle.op_tool.proofs.WriterLemmas.{length-headers, length-padding, length-code}
 
@@ -54,11 +54,17 @@ size text short = grind (arith, nat_tests, length-image_of text)
 -- the two program headers
 abbrev pub code_header : ProgramHeader
 code_header =
-    record { kind = 1; offset = 4096; address = 0x00010000; file_size = 40; memory_size = 40; flags = 5 }
+    record {
+      kind = 1;
+      segment = record { offset = 4096; address = 0x00010000; file_size = 40; memory_size = 40; flags = 5 };
+    }
 
 abbrev pub text_header : ℕ → ProgramHeader
 text_header n =
-    record { kind = 1; offset = 4136; address = 0x00011028; file_size = n; memory_size = n; flags = 4 }
+    record {
+      kind = 1;
+      segment = record { offset = 4136; address = 0x00011028; file_size = n; memory_size = n; flags = 4 };
+    }
 
 first_header : (text : List ℕ) → header_at (image_of text) 52 ≡ code_header
 unfolding word_in image_of headers
@@ -72,11 +78,11 @@ pub memory_size : (text : List ℕ) → length text ≤ 65536 → word_in (image
 unfolding word_in image_of headers
 memory_size text short = little_number-reads_back 4 (length text) [] (omega arith)
 
-other_fields : (text : List ℕ) (n m : ℕ) → n ≡ word_in (image_of text) 100 → m ≡ word_in (image_of text) 104 → record { kind = 1; offset = 4136; address = 0x00011028; file_size = n; memory_size = m; flags = 4 } ≡ header_at (image_of text) 84
+other_fields : (text : List ℕ) (n m : ℕ) → n ≡ word_in (image_of text) 100 → m ≡ word_in (image_of text) 104 → record { kind = 1; segment = record { offset = 4136; address = 0x00011028; file_size = n; memory_size = m; flags = 4 } } ≡ header_at (image_of text) 84
 unfolding word_in image_of headers
 other_fields text n m is_n is_m =
-    ap (λ n. record { kind = 1; offset = 4136; address = 0x00011028; file_size = n; memory_size = m; flags = 4 }) is_n
-    ∙ ap (λ m. record { kind = 1; offset = 4136; address = 0x00011028; file_size = word_in (image_of text) 100; memory_size = m; flags = 4 }) is_m
+    ap (λ n. record { kind = 1; segment = record { offset = 4136; address = 0x00011028; file_size = n; memory_size = m; flags = 4 } }) is_n
+    ∙ ap (λ m. record { kind = 1; segment = record { offset = 4136; address = 0x00011028; file_size = word_in (image_of text) 100; memory_size = m; flags = 4 } }) is_m
 
 second_header : (text : List ℕ) → length text ≤ 65536 → header_at (image_of text) 84 ≡ text_header (length text)
 second_header text short =
@@ -92,20 +98,20 @@ headers_are text short =
 segments : (text : List ℕ) → length text ≤ 65536 → has_loadable_segments (image_of text) ≡ true
 unfolding has_loadable_segments
 segments text short =
-    ap (λ hs. list_all (is_loadable (image_of text)) hs && are_apart (map header_range hs)) (headers_are text short)
+    ap (λ hs. list_all (is_loadable (image_of text)) hs && are_apart (map memory_range (map (λ h. h.segment) hs))) (headers_are text short)
     ∙ (let n = length text in let long = length-image_of text in grind (arith, nat_tests))
 
 reach : (text : List ℕ) → length text ≤ 65536 → has_segments_in_reach (image_of text) ≡ true
 unfolding has_segments_in_reach
 reach text short =
-    ap (λ hs. list_all is_in_reach hs && nat_le (sum_by (λ h. h.memory_size) hs) 419430400) (headers_are text short)
+    ap (λ hs. list_all is_in_reach (map (λ h. h.segment) hs) && nat_le (sum_by (λ s. s.memory_size) (map (λ h. h.segment) hs)) 419430400) (headers_are text short)
     ∙ (grind (arith, nat_tests))
 
 executable_entry : (text : List ℕ) → length text ≤ 65536 → has_executable_entry (image_of text) ≡ true
 unfolding has_executable_entry
 executable_entry text short =
-    ap (λ at. nat_eq (at % 4) 0 && list_any (has_entry at) (headers_in (image_of text))) (entry text)
-    ∙ ap (λ hs. list_any (has_entry 0x00010000) hs) (headers_are text short)
+    ap (λ at. nat_eq (at % 4) 0 && list_any (has_entry at) (segments_in (image_of text))) (entry text)
+    ∙ ap (λ hs. list_any (has_entry 0x00010000) (map (λ h. h.segment) hs)) (headers_are text short)
 
 pub no_failing : (text : List ℕ) → length text ≤ 65536 → first_failing (image_of text) ≡ None
 unfolding first_failing

@@ -13,7 +13,7 @@ use Rattle.op_rv.specs.declared.instruction.Instr.TheVariants.{Lui, Imm, Ecall}
 use Rattle.op_rv.specs.declared.instruction.ImmOp.TheVariants.{Addi}
 use Rattle.op_rv.proofs.Table.{instr_at-word_of}
 use Rattle.op_emu.specs.Region.{Region, byte_in, readable_in, executable_in, rights_in, region_at, are_apart, range_of}
-use Rattle.op_emu.specs.Image.{start, regions_in, region_in}
+use Rattle.op_link.specs.Image.{start, regions_in, region_in}
 use Rattle.op_emu.proofs.Regions.{bytes_from-within, all_allowed-within}
 use Rattle.op_emu.specs.declared.memory.Right.TheVariants.{Read}
 use Rattle.op_emu.proofs.ActsLemmas.{running_step-row, write_call-out}
@@ -59,8 +59,8 @@ text_bytes text =
 
 pub regions_are : (text : List ℕ) → length text ≤ 65536 → regions_in (image_of text) ≡ regions text
 regions_are text short =
-    ap (map (region_in (image_of text))) (headers_are text short)
-    ∙ ap (λ bytes. record { base = 0x00010000; readable = true; writable = false; executable = true; bytes = bytes } ∷ region_in (image_of text) (text_header (length text)) ∷ []) (code_bytes text)
+    ap (λ hs. map (region_in (image_of text)) (map (λ h. h.segment) hs)) (headers_are text short)
+    ∙ ap (λ bytes. record { base = 0x00010000; readable = true; writable = false; executable = true; bytes = bytes } ∷ region_in (image_of text) (text_header (length text)).segment ∷ []) (code_bytes text)
     ∙ ap (λ bytes. code_region (length text) ∷ record { base = 0x00011028; readable = true; writable = false; executable = false; bytes = bytes } ∷ []) (text_bytes text)
 
 bytes_word : (w : ℕ) → w < 2 ^ 32 → byte_at 0 w + 2 ^ 8 * byte_at 1 w + 2 ^ 16 * byte_at 2 w + 2 ^ 24 * byte_at 3 w ≡ w

@@ -10,7 +10,7 @@ use Rattle.op_rv.specs.State.{State, Running, Ended}
 use Rattle.op_rv.specs.declared.fault.FaultKind.{FaultKind}
 use Rattle.op_rv.specs.Step.{step, after}
 use Rattle.op_emu.specs.Acts.{state_of, moment, ending_of, Streams, Faults}
-use Rattle.op_emu.specs.Image.{start}
+use Rattle.op_link.specs.Image.{start}
 use Rattle.op_emu.specs.Runs.{moment_of, stop_of, DoesSteps, RunIs, IsLoaded}
 use Rattle.op_emu.specs.declared.machine.Machine.{Machine}
 use Rattle.op_emu.specs.declared.stop.Stepped.{Stepped}

@@ -3,7 +3,7 @@ use Rattle.std.specs.Prelude.{◌≡◌, ◌≢◌, ℕ, ◌≤◌, None, List, 
 use Rattle.op_rv.specs.State.{Ended, Faulted}
 use Rattle.op_rv.specs.Step.{after}
 use Rattle.op_rv.specs.declared.fault.FaultKind.{FaultKind}
-use Rattle.op_emu.specs.Image.{first_failing, start}
+use Rattle.op_link.specs.Image.{first_failing, start}
 
 -- the image ends with status 0 within 65,536 steps; until then it has written the text, reported nothing and
 -- read nothing

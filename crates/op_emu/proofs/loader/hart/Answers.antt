@@ -1,20 +1,17 @@
-use Rattle.std.proofs.Common.{arith, List, map, ◌∙◌, ap, refl}
+use Rattle.std.proofs.Common.{List, map, ◌∙◌, ap, refl}
 use Rattle.op_emu.specs.Region.{Region, range_of, are_apart}
-use Rattle.op_emu.proofs.ImageLemmas.{has_table, lie_apart_in, begins}
+use Rattle.op_emu.proofs.ImageLemmas.{lie_apart_in, begins}
 use Rattle.op_emu.proofs.loader.hart.Goals as goal
-
-pub word-requires : goal.word-requires
-word-requires c = omega (arith, (has_table c.args.image.now c.requires).some)
 
 pub invariant_of-result : goal.invariant_of-result
 invariant_of-result c =
     record {
-      apart = ap (λ (regions : List Region). are_apart (map range_of regions)) c.in_ok-segments.ensures ∙ lie_apart_in c.args.image.now c.requires;
+      apart = ap (λ (regions : List Region). are_apart (map range_of regions)) c.in_ok-segments.ensures ∙ lie_apart_in c.args.image.now c.requires.meets;
     }
 
 pub returns : goal.returns
 returns c =
     record {
-      begins = λ input. begins c.args.image.now input _ _ _ c.new.ensures c.word.ensures c.in_ok-segments.ensures;
+      begins = λ input. begins c.args.image.now input _ _ _ c.new.ensures c.requires.entry c.in_ok-segments.ensures;
       asks = refl;
     }

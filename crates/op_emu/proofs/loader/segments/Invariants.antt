@@ -1,12 +1,8 @@
-use Rattle.std.proofs.Common.{◌≡◌, ◌+◌, ◌-◌, ◌*◌}
-use Rattle.op_emu.specs.Image.{half_in}
-use Rattle.op_emu.proofs.ImageLemmas.{MakesSegments}
+use Rattle.std.proofs.Common.{◌≡◌, map, take}
+use Rattle.op_link.specs.Image.{segments, region_in}
+use Rattle.op_emu.specs.Segments.{regions_of}
 use Rattle.op_emu.proofs.loader.segments.Given as goal
 
 abbrev pub invariant-loop-k : goal.invariant-loop-k
 invariant-loop-k l =
-    record {
-      at : l.at ≡ 52 + 32 * l._k;
-      all : l.count ≡ half_in l.image 44;
-      makes : MakesSegments l.image l.segments.items l.at (l.count - l._k);
-    }
+    regions_of l.segments.items ≡ map (region_in l.image) (take l.k (segments l.image))
