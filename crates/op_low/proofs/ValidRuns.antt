@@ -9,7 +9,7 @@ use Rattle.op_low.specs.Valid.{is_valid, is_valid_routine, is_valid_block, is_va
 use Rattle.op_low.specs.declared.code.Block.{Block}
 use Rattle.op_low.specs.declared.code.Low.{Low}
 use Rattle.op_low.specs.declared.code.Routine.{Routine}
-use Rattle.op_low.specs.declared.ids.BlockId.{BlockId}
+use Rattle.op_rv.specs.declared.symbol.BlockId.{BlockId}
 use Rattle.op_low.specs.declared.ids.VirtualRegister.{VirtualRegister}
 use Rattle.op_low.specs.declared.instruction.Call.{Call as Operands}
 use Rattle.op_low.specs.declared.instruction.Instruction.{Instruction}

@@ -4,8 +4,8 @@ use Rattle.op_low.specs.State.{Placement}
 use Rattle.op_low.specs.declared.code.Block.{Block}
 use Rattle.op_low.specs.declared.code.Low.{Low}
 use Rattle.op_low.specs.declared.code.Routine.{Routine}
-use Rattle.op_low.specs.declared.ids.BlockId.{BlockId}
-use Rattle.op_low.specs.declared.ids.RoutineId.{RoutineId}
+use Rattle.op_rv.specs.declared.symbol.BlockId.{BlockId}
+use Rattle.op_rv.specs.declared.symbol.RoutineId.{RoutineId}
 use Rattle.op_low.specs.declared.ids.VirtualRegister.{VirtualRegister}
 use Rattle.op_low.specs.declared.instruction.Instruction.{Instruction}
 use Rattle.op_low.specs.declared.instruction.Instruction.TheVariants.{Const, Alu, Call, Branch, Return, Raise, Exit}
@@ -72,7 +72,8 @@ example n =
     record {
       routines = entry n ∷ passes_on ∷ adds_ten ∷ [];
       entry = routine_id 0;
-      counts = record { literals = 0; tables = 0; descriptors = 0; globals = 0 };
+      counts = record { literals = 0; tables = 0; descriptors = 0 };
+      globals = [];
     }
 
 -- all of memory may be used, and each routine takes 32 bytes of the stack

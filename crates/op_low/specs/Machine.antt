@@ -9,9 +9,9 @@ use Rattle.op_rv.specs.declared.instruction.StoreOp.{StoreOp}
 use Rattle.op_simulation.specs.System.{System, Always}
 use Rattle.op_low.specs.State.{Placement, Activation, Caller, State, Ending, Running, Ended, Bad, routine_of, block_of, value, values, with_value, keep, bad, jump, landed, usable, space}
 use Rattle.op_low.specs.declared.code.Low.{Low}
-use Rattle.op_low.specs.declared.ids.RoutineId.{RoutineId}
-use Rattle.op_low.specs.declared.ids.Symbol.{Symbol}
-use Rattle.op_low.specs.declared.ids.Symbol.TheVariants.{Routine}
+use Rattle.op_rv.specs.declared.symbol.RoutineId.{RoutineId}
+use Rattle.op_rv.specs.declared.symbol.Symbol.{Symbol}
+use Rattle.op_rv.specs.declared.symbol.Symbol.TheVariants.{Routine}
 use Rattle.op_low.specs.declared.ids.VirtualRegister.{VirtualRegister}
 use Rattle.op_low.specs.declared.instruction.Call.{Call as Operands}
 use Rattle.op_low.specs.declared.instruction.Instruction.{Instruction}

@@ -4,8 +4,8 @@ use Rattle.op_rv.specs.State.{Rights}
 use Rattle.op_low.specs.declared.code.Block.{Block}
 use Rattle.op_low.specs.declared.code.Low.{Low}
 use Rattle.op_low.specs.declared.code.Routine.{Routine}
-use Rattle.op_low.specs.declared.ids.BlockId.{BlockId}
-use Rattle.op_low.specs.declared.ids.Symbol.{Symbol}
+use Rattle.op_rv.specs.declared.symbol.BlockId.{BlockId}
+use Rattle.op_rv.specs.declared.symbol.Symbol.{Symbol}
 use Rattle.op_low.specs.declared.ids.VirtualRegister.{VirtualRegister}
 use Rattle.op_low.specs.declared.instruction.Instruction.{Instruction}
 use Rattle.op_low.specs.declared.instruction.Instruction.TheVariants.{Raise}

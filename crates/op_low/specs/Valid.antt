@@ -3,13 +3,12 @@ use Rattle.std.specs.Prelude.{ℕ, ℤ, ◌-◌, ◌%◌, ◌^◌, Bool, true, f
 use Rattle.std.specs.List.{list_all}
 use Rattle.op_rv.specs.Encoding.{is_imm}
 use Rattle.op_low.specs.declared.code.Block.{Block}
-use Rattle.op_low.specs.declared.code.Counts.{Counts}
 use Rattle.op_low.specs.declared.code.Low.{Low}
 use Rattle.op_low.specs.declared.code.Routine.{Routine}
-use Rattle.op_low.specs.declared.ids.BlockId.{BlockId}
-use Rattle.op_low.specs.declared.ids.RoutineId.{RoutineId}
-use Rattle.op_low.specs.declared.ids.Symbol.{Symbol}
-use Rattle.op_low.specs.declared.ids.Symbol.TheVariants.{Literal, Table, Descriptor, Global, Routine as RoutineSymbol}
+use Rattle.op_rv.specs.declared.symbol.BlockId.{BlockId}
+use Rattle.op_rv.specs.declared.symbol.RoutineId.{RoutineId}
+use Rattle.op_rv.specs.declared.symbol.Symbol.{Symbol}
+use Rattle.op_rv.specs.declared.symbol.Symbol.TheVariants.{Literal, Table, Descriptor, Global, Routine as RoutineSymbol}
 use Rattle.op_low.specs.declared.ids.VirtualRegister.{VirtualRegister}
 use Rattle.op_low.specs.declared.instruction.Call.{Call as Operands}
 use Rattle.op_low.specs.declared.instruction.Instruction.{Instruction}
@@ -37,12 +36,12 @@ abbrev pub has_landing : Routine → Option BlockId → Bool
 has_landing routine None = true
 has_landing routine (Some block) = has_block routine block
 
-unfoldable pub has_symbol : Counts → ℕ → Symbol → Bool
-has_symbol counts routines (Literal id) = nat_lt id.0 counts.literals
-has_symbol counts routines (Table id) = nat_lt id.0 counts.tables
-has_symbol counts routines (Descriptor id) = nat_lt id.0 counts.descriptors
-has_symbol counts routines (Global id) = nat_lt id.0 counts.globals
-has_symbol counts routines (RoutineSymbol id) = nat_lt id.0 routines
+unfoldable pub has_symbol : Low → Symbol → Bool
+has_symbol low (Literal id) = nat_lt id.0 low.counts.literals
+has_symbol low (Table id) = nat_lt id.0 low.counts.tables
+has_symbol low (Descriptor id) = nat_lt id.0 low.counts.descriptors
+has_symbol low (Global id) = nat_lt id.0 (length low.globals)
+has_symbol low (RoutineSymbol id) = nat_lt id.0 (length low.routines)
 
 -- there is such a routine, with so many parameters
 abbrev pub takes : Option Routine → ℕ → Bool
@@ -56,7 +55,7 @@ unfoldable pub const_fits : Routine → VirtualRegister → ℕ → Bool
 const_fits routine to n = has routine to && nat_lt n (2 ^ 32)
 
 unfoldable pub address_fits : Low → Routine → VirtualRegister → Symbol → Bool
-address_fits low routine to symbol = has routine to && has_symbol low.counts (length low.routines) symbol
+address_fits low routine to symbol = has routine to && has_symbol low symbol
 
 -- the byte is one of the locals
 unfoldable pub local_fits : Routine → VirtualRegister → ℕ → Bool

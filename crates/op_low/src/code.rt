@@ -1,6 +1,8 @@
 //! Routines and programs of low code.
 
-use crate::{Instruction, RoutineId, Sequence};
+use crate::Instruction;
+use op_base::Sequence;
+use op_rv::{GlobalVariable, RoutineId};
 
 /// Instructions that are entered at the first one alone. The last one leaves the block.
 #[derive(Drop)]
@@ -20,13 +22,12 @@ pub struct Routine {
     pub blocks: Sequence<Block>,
 }
 
-/// How many literals, tables, descriptors and globals the code may name.
+/// How many literals, tables and descriptors the code may name.
 #[derive(Clone, Copy, Debug, PartialEq, Eq)]
 pub struct Counts {
     pub literals: u32,
     pub tables: u32,
     pub descriptors: u32,
-    pub globals: u32,
 }
 
 /// A program in low code.
@@ -36,4 +37,5 @@ pub struct Low {
     /// The routine that the program begins with. It has no parameters.
     pub entry: RoutineId,
     pub counts: Counts,
+    pub globals: Sequence<GlobalVariable>,
 }

@@ -1,7 +1,8 @@
 //! Instructions of low code.
 
-use crate::{BlockId, RoutineId, Sequence, Symbol, VirtualRegister};
-use op_rv::{AluOp, BranchOp, ImmOp, LoadOp, ShiftOp, StoreOp};
+use crate::VirtualRegister;
+use op_base::Sequence;
+use op_rv::{AluOp, BlockId, BranchOp, ImmOp, LoadOp, RoutineId, ShiftOp, StoreOp, Symbol};
 
 /// Where a write goes.
 #[derive(Clone, Copy, Debug, PartialEq, Eq)]

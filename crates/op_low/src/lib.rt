@@ -10,7 +10,6 @@ mod code;
 mod descriptor;
 mod ids;
 mod instruction;
-mod sequence;
 mod theorems;
 mod validity;
 
@@ -18,11 +17,8 @@ pub use code::{Block, Counts, Low, Routine};
 pub use descriptor::{
     DescKind, DescPart, class_fields, class_name, type_kind, type_part, type_parts, type_size,
 };
-pub use ids::{
-    BlockId, DescriptorId, GlobalId, LiteralId, RoutineId, Symbol, TableId, VirtualRegister,
-};
+pub use ids::VirtualRegister;
 pub use instruction::{Call, Instruction, Output};
-pub use sequence::Sequence;
 pub use theorems::{example_runs, stopped_machine_halts, valid_code_runs_valid};
 pub use validity::valid;
 

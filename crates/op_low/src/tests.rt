@@ -1,5 +1,9 @@
 use crate::*;
-use op_rv::{AluOp, BranchOp, ImmOp, ShiftOp};
+use op_base::Sequence;
+use op_rv::{
+    AluOp, BlockId, BranchOp, DescriptorId, GlobalId, GlobalVariable, ImmOp, LiteralId, RoutineId,
+    ShiftOp, Symbol, TableId,
+};
 use std::alloc::{AllocError, Global};
 use std::process::Abort;
 use std::test::Fail;
@@ -7,6 +11,13 @@ use std::test::Fail;
 fn block(code: Vec<Instruction>) -> Block {
     Block {
         code: Sequence::from(code),
+    }
+}
+
+fn zeros(alloc: Global, zeros: u32) -> GlobalVariable {
+    GlobalVariable {
+        initial: Sequence::from(Vec::new(alloc)),
+        zeros,
     }
 }
 
@@ -31,6 +42,7 @@ fn program(alloc: Global, code: Vec<Instruction>) -> Result<Low, AllocError> {
             blocks: Sequence::from(second)
         },
     ]?;
+    let globals = vec![in alloc; zeros(alloc, 4), zeros(alloc, 4), zeros(alloc, 1)]?;
     Ok(Low {
         routines: Sequence::from(routines),
         entry: RoutineId(0),
@@ -38,8 +50,8 @@ fn program(alloc: Global, code: Vec<Instruction>) -> Result<Low, AllocError> {
             literals: 1,
             tables: 0,
             descriptors: 2,
-            globals: 3,
         },
+        globals: Sequence::from(globals),
     })
 }
 

@@ -4,9 +4,8 @@ ghost use Rattle.op_rv.specs.Encoding.{is_imm};
 ghost use Rattle.std.specs.Prelude.{◌≡◌, ◌-◌, length, slice_get};
 ghost use Rattle.std.specs.List.{list_all};
 
-use crate::{
-    Block, BlockId, Call, Counts, Instruction, Low, Routine, RoutineId, Symbol, VirtualRegister,
-};
+use crate::{Block, Call, Instruction, Low, Routine, VirtualRegister};
+use op_rv::{BlockId, RoutineId, Symbol};
 
 /// Whether the code may be compiled further: every routine, block, register and symbol that it names exists, calls have
 /// the arguments that the routine takes, numbers are in range, each block is left by its last instruction, and the entry
@@ -191,19 +190,19 @@ fn valid_const(routine: &Routine, to: VirtualRegister, _value: u32) -> bool
 fn valid_address(low: &Low, routine: &Routine, to: VirtualRegister, symbol: Symbol) -> bool
     ensures { result ≡ address_fits low.now routine.now to symbol }
 {
-    has_one(routine, to) && names_symbol(low.counts, low.routines.as_slice().len(), symbol)
+    has_one(routine, to) && names_symbol(low, symbol)
 }
 
 #[tactic(auto, unfolding(crate::specs::Valid::has_symbol))]
-fn names_symbol(counts: Counts, routines: usize, symbol: Symbol) -> bool
-    ensures { result ≡ has_symbol counts routines symbol }
+fn names_symbol(low: &Low, symbol: Symbol) -> bool
+    ensures { result ≡ has_symbol low.now symbol }
 {
     match symbol {
-        Symbol::Literal(id) => id.0 < counts.literals,
-        Symbol::Table(id) => id.0 < counts.tables,
-        Symbol::Descriptor(id) => id.0 < counts.descriptors,
-        Symbol::Global(id) => id.0 < counts.globals,
-        Symbol::Routine(id) => (id.0 as usize) < routines,
+        Symbol::Literal(id) => id.0 < low.counts.literals,
+        Symbol::Table(id) => id.0 < low.counts.tables,
+        Symbol::Descriptor(id) => id.0 < low.counts.descriptors,
+        Symbol::Global(id) => (id.0 as usize) < low.globals.as_slice().len(),
+        Symbol::Routine(id) => (id.0 as usize) < low.routines.as_slice().len(),
     }
 }
 
