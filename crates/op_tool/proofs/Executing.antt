@@ -100,8 +100,7 @@ module _ (image text : List ℕ) (prints : Prints image text) where
   pub exec_owes : (words : List (List ℕ)) (stored : Option (List NamedFile)) (before now : ℕ) (made name : List ℕ) → Compiles stored name made text → (answer : Finish) (done : Effect) → OwesImage image answer done → OwesExec (call words stored before now made) name answer done
   exec_owes words stored before now made name compiles (finish.Ended status) done (le, (meets, (ended, left, (out, err)))) =
       let e = end done.input in
-      let same = same_end done.steps e.steps (start image done.input) status 0 ended e.ended in
-      (
+      let same = same_end done.steps e.steps (start image done.input) status 0 ended e.ended in (
         same_status status 0 (sym ended ∙ ap (λ t. t.ending) same ∙ e.ended),
         subst (Compiles stored name made) (sym (out ∙ ap (λ t. t.output) same ∙ e.written)) compiles,
         err ∙ append-nil _ ∙ ap (λ t. t.errors) same ∙ e.reported,

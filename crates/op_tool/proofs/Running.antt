@@ -90,8 +90,7 @@ module _ (image : List ℕ) (old : Machine) (loaded : IsLoaded image old) where
   -- what the image has come to and written, before a last line
   comes_to : (m : ℕ) (hart : Hart) (ending : Ending) (told : Streams) (acts : Acts (after m) (moment_of old) (moment hart ending) told) (last left : List ℕ) → MayFollow hart left → ComesTo image ending last (effect m (acts.taken ++ left) left acts.written (acts.reported ++ last))
   comes_to m hart ending told acts last left may =
-      let at = state_at m hart ending told acts left may in
-      (
+      let at = state_at m hart ending told acts left may in (
         loaded.meets,
         (ap (λ s. s.ending) at, sym (ap (λ s. s.input) at), (sym (ap (λ s. s.output) at), sym (ap (λ s. s.errors ++ last) at))),
       )
@@ -194,25 +193,25 @@ module _ (image : List ℕ) (old : Machine) (loaded : IsLoaded image old) where
       record {
         intake = intake_of acts.taken new.hart told acts.input;
         would = λ left may. (
-          let input = acts.taken ++ left in
-          let s = start image input in
-          let last = after step_limit s in
-          let grows = grows_to_end m s lt in
-          let begun = ap (after (suc m)) (sym (begins input)) in
-          let out : last.output ≡ acts.written ++ grows.written =
-          grows.output ∙ ap (λ xs. xs ++ grows.written) (ap (λ t. t.output) begun ∙ acts.writes left [] [] may)
-          in
-          let err : last.errors ++ last_line last.ending ≡ acts.reported ++ (grows.reported ++ last_line last.ending) =
-          ap (λ xs. xs ++ last_line last.ending) (grows.errors ∙ ap (λ xs. xs ++ grows.reported) (ap (λ t. t.errors) begun ∙ acts.reports left [] [] may)) ∙ append_assoc acts.reported grows.reported (last_line last.ending)
-          in
-          record {
-            finish = answer_at last.ending;
-            done = effect_at step_limit input last (last_line last.ending);
-            is_owed = owes_at image step_limit input last.ending loaded.meets refl refl;
-            over = refl;
-            output = front_of_front told.output_before told.output_after acts.written grows.written last.output out acts.output;
-            errors = front_of_front told.errors_before told.errors_after acts.reported (grows.reported ++ last_line last.ending) (last.errors ++ last_line last.ending) err acts.errors;
-          }
-        );
+            let input = acts.taken ++ left in
+            let s = start image input in
+            let last = after step_limit s in
+            let grows = grows_to_end m s lt in
+            let begun = ap (after (suc m)) (sym (begins input)) in
+            let out : last.output ≡ acts.written ++ grows.written =
+            grows.output ∙ ap (λ xs. xs ++ grows.written) (ap (λ t. t.output) begun ∙ acts.writes left [] [] may)
+            in
+            let err : last.errors ++ last_line last.ending ≡ acts.reported ++ (grows.reported ++ last_line last.ending) =
+            ap (λ xs. xs ++ last_line last.ending) (grows.errors ∙ ap (λ xs. xs ++ grows.reported) (ap (λ t. t.errors) begun ∙ acts.reports left [] [] may)) ∙ append_assoc acts.reported grows.reported (last_line last.ending)
+            in
+            record {
+              finish = answer_at last.ending;
+              done = effect_at step_limit input last (last_line last.ending);
+              is_owed = owes_at image step_limit input last.ending loaded.meets refl refl;
+              over = refl;
+              output = front_of_front told.output_before told.output_after acts.written grows.written last.output out acts.output;
+              errors = front_of_front told.errors_before told.errors_after acts.reported (grows.reported ++ last_line last.ending) (last.errors ++ last_line last.ending) err acts.errors;
+            }
+            );
         failed = failed;
       }

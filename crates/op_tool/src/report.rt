@@ -85,7 +85,11 @@ fn hex_digit(value: u32) -> u8
     ensures { result ≡ hex_digit value }
 {
     let digit = value as u8;
-    if digit < 10 { b'0' + digit } else { b'a' + (digit - 10) }
+    if digit < 10 {
+        b'0' + digit
+    } else {
+        b'a' + (digit - 10)
+    }
 }
 
 /// The end of the line of a fault at this address: eight hexadecimal digits.

@@ -344,6 +344,9 @@ fn bad_images_are_told_by_their_condition(rt: HostRuntime) -> Result<(), Fail> {
     assert_eq!(rt; whole.out.bytes(), b"Hello\n".as_slice());
     let missing = say(rt.alloc(), &["run", "j"], SOUND)?;
     assert!(rt; missing.finish == refused(FILE_MISSING));
-    assert_eq!(rt; missing.err.bytes(), b"opc: j:1:1: V10 file missing\n".as_slice());
+    assert_eq!(rt;
+        missing.err.bytes(),
+        b"opc: j:1:1: V10 file missing\n".as_slice()
+    );
     Ok(())
 }
