@@ -144,36 +144,50 @@ fn other_words_are_usage(rt: HostRuntime) -> Result<(), Fail> {
     Ok(())
 }
 
+const NO_FILES: Outside = Outside {
+    files: &[0],
+    ..SOUND
+};
+
+const NO_OUTPUT: Outside = Outside { out: &[0], ..SOUND };
+
+const NO_ERRORS: Outside = Outside { err: &[0], ..SOUND };
+
+const NO_INPUT: Outside = Outside {
+    input: &[0],
+    ..SOUND
+};
+
+/// Each fails at a call that does not come.
+const LATER: Outside = Outside {
+    files: &[1],
+    input: &[0],
+    out: &[1],
+    err: &[0],
+    room: 6,
+};
+
+/// An output with room for so many bytes.
+const fn narrow(room: usize) -> Outside {
+    Outside { room, ..SOUND }
+}
+
 #[test]
 fn failures_of_the_outside(rt: HostRuntime) -> Result<(), Fail> {
     let hello = &["exec", "h.pas"][..];
-    let files = Outside {
-        files: &[0],
-        ..SOUND
-    };
-    let out = Outside { out: &[0], ..SOUND };
-    let err = Outside { err: &[0], ..SOUND };
-    let narrow = Outside { room: 3, ..SOUND };
-    let later = Outside {
-        files: &[1],
-        input: &[0],
-        out: &[1],
-        err: &[0],
-        room: 6,
-    };
     for (line, outside, finish, number, written, reported) in [
         (
             hello,
-            files,
+            NO_FILES,
             Finish::ReadFault,
             122,
             "",
             "opc: read fault\n",
         ),
-        (hello, out, Finish::WriteFault, 123, "", ""),
-        (hello, narrow, Finish::WriteFault, 123, "Hel", ""),
-        (&["exec"][..], err, Finish::WriteFault, 123, "", ""),
-        (hello, later, Finish::Ended(0), 0, "Hello\n", ""),
+        (hello, NO_OUTPUT, Finish::WriteFault, 123, "", ""),
+        (hello, narrow(3), Finish::WriteFault, 123, "Hel", ""),
+        (&["exec"][..], NO_ERRORS, Finish::WriteFault, 123, "", ""),
+        (hello, LATER, Finish::Ended(0), 0, "Hello\n", ""),
     ] {
         let said = say(rt.alloc(), line, outside)?;
         assert!(rt; said.finish == finish);
@@ -299,18 +313,13 @@ fn images_fault(rt: HostRuntime) -> Result<(), Fail> {
 
 #[test]
 fn images_read_and_write(rt: HostRuntime) -> Result<(), Fail> {
-    let late = Outside {
-        input: &[0],
-        ..SOUND
-    };
-    let narrow = Outside { room: 2, ..SOUND };
     let seven = &[0x05d0_0893, 0x0070_0513, 0x73][..];
     let read_fault = "opc: read fault\n";
     for (code, outside, finish, out, line, left) in [
         (seven, SOUND, Finish::Ended(7), "", "", "abcdef"),
         (&COPY, SOUND, Finish::Ended(5), "abc", "", "ef"),
-        (&COPY, late, Finish::ReadFault, "", read_fault, "abcdef"),
-        (&COPY, narrow, Finish::WriteFault, "ab", "", "ef"),
+        (&COPY, NO_INPUT, Finish::ReadFault, "", read_fault, "abcdef"),
+        (&COPY, narrow(2), Finish::WriteFault, "ab", "", "ef"),
     ] {
         let image = image(rt.alloc(), code)?;
         let mut said = call(rt.alloc(), &["run", "i"], image.as_slice(), outside)?;
