@@ -1,8 +1,8 @@
 //! A program over the scanner: `count FILE..` tells how many tokens each file has, and `bench/frontend` measures that;
-//! `list FILE..` tells each token with its place.
+//! `list FILE..` tells each token with its place. A text that is refused gives its place and the rule.
 #![tactic(auto)]
 
-use op_base::{FileAnswer, Files, StdFiles};
+use op_base::{FileAnswer, Files, Refusal, StdFiles};
 use op_scan::{ScanError, Token, TokenKind, Tokens, scan};
 use std::alloc::{AllocError, Global};
 use std::io;
@@ -56,9 +56,9 @@ fn main(rt: HostRuntime) -> io::Result<()> {
                         list(&rt, &tokens)?;
                     }
                 }
-                Err(ScanError::Refused(refusal)) => println!(rt;
-                    "refused: V{}",
-                    refusal.rule.number
+                Err(ScanError::Refused(Refusal { rule, place })) => println!(rt;
+                    "{name}:{}:{}: V{}",
+                    place.line, place.col, rule.number
                 )?,
                 Err(ScanError::NoMemory) => println!(rt; "out of memory")?,
             },
