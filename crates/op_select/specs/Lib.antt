@@ -1,3 +1,5 @@
 pub mod Frames
+pub mod RiscvMachine
+pub mod Placing
 pub mod Selection
 pub mod Sequences

@@ -5,7 +5,6 @@ use Rattle.op_low.specs.declared.code.Block.{Block}
 use Rattle.op_low.specs.declared.code.Low.{Low}
 use Rattle.op_low.specs.declared.code.Routine.{Routine}
 use Rattle.op_low.specs.declared.ids.VirtualRegister.{VirtualRegister}
-use Rattle.op_low.specs.declared.instruction.Call.{Call as Operands}
 use Rattle.op_low.specs.declared.instruction.Instruction.{Instruction}
 use Rattle.op_low.specs.declared.instruction.Instruction.TheVariants.{Const, Address, Local, Move, Alu, AluImm, Shift, Load, Store, Call, CallAt, Branch, Jump, Return, Raise, Read, Write, Exit}
 use Rattle.op_low.specs.declared.instruction.Output.{Output}
@@ -34,8 +33,8 @@ landing_of routine None = raise_block routine
 landing_of routine (Some block) = block
 
 -- behind a call: a1 says whether it raised
-unfoldable pub answered : Routine → Operands → List Item
-answered routine call = BranchItem Bne a1 x0 (landing_of routine call.landing) ∷ keep routine call.to a0
+unfoldable pub answered : Routine → (to : VirtualRegister) → (landing : Option BlockId) → List Item
+answered routine to landing = BranchItem Bne a1 x0 (landing_of routine landing) ∷ keep routine to a0
 
 -- ---- environment calls
 
@@ -66,9 +65,9 @@ items_of routine (Shift op to left amount) = computed routine left (ShiftInstr o
 items_of routine (Load op to base offset) = computed routine base (LoadInstr op a0 a0 offset) to
 items_of routine (Store op value base offset) =
     fetch routine a0 base ++ fetch routine a1 value ++ Plain (StoreInstr op a0 a1 offset) ∷ []
-items_of routine (Call id call) = passed routine 0 call.arguments ++ CallItem id call.landing ∷ answered routine call
+items_of routine (Call id call) = passed routine 0 call.arguments ++ CallItem id call.landing ∷ answered routine call.to call.landing
 items_of routine (CallAt address call) =
-    passed routine 0 call.arguments ++ fetch routine ra address ++ CallAtItem call.landing ∷ answered routine call
+    passed routine 0 call.arguments ++ fetch routine ra address ++ CallAtItem call.landing ∷ answered routine call.to call.landing
 items_of routine (Branch op left right block) =
     fetch routine a0 left ++ fetch routine a1 right ++ BranchItem op a0 a1 block ∷ []
 items_of routine (Jump block) = JumpItem block ∷ []

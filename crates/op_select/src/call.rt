@@ -97,7 +97,7 @@ pub fn push_answered(
     call: &Call,
 ) -> Result<(), AllocError>
     requires { routine.now.registers ≤ 2 ^ 20 }
-    ensures { OnOk result (items.new.items ≡ items.old.items ++ answered routine.now call.now) }
+    ensures { OnOk result (items.new.items ≡ items.old.items ++ answered routine.now call.now.to call.now.landing) }
 {
     let raised = Item::Branch {
         op: BranchOp::Bne,
