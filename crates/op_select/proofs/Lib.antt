@@ -1,1 +1,4 @@
 mod Loops
+mod SequenceLemmas
+mod Walks
+mod WordLemmas
