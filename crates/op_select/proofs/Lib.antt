@@ -1,3 +1,4 @@
+mod FrameLemmas
 mod Loops
 mod SequenceLemmas
 mod Walks

@@ -1,6 +1,7 @@
 -- When a state of the instruction machine stands for one of low code.
 use Rattle.std.specs.Prelude.{◌≡◌, ◌<◌, ◌≤◌, ℕ, ◌+◌, ◌-◌, ◌*◌, ◌%◌, ◌^◌, true, false, Option, Some, List, [], ◌∷◌, ◌++◌, length, slice_index}
 use Rattle.op_low.specs.State.{Placement, Caller, State as LowState, routine_of}
+use Rattle.op_low.specs.Valid.{is_valid}
 use Rattle.op_low.specs.declared.code.Low.{Low}
 use Rattle.op_low.specs.declared.code.Routine.{Routine}
 use Rattle.op_rv.specs.Decoding.{instr_at}
@@ -38,6 +39,9 @@ placement_of w =
 
 -- the law of a setting: the selected code stands where it may be executed and not written, and the stack may be used
 pub record IsSetting (w : Setting) : Type 0 where
+  pub valid : is_valid w.low ≡ true
+  -- block numbers have 32 bits
+  pub numbered : (r : ℕ) → length (routine_in w r).blocks < 2 ^ 32 - 1
   pub objects : StandsObjects w.placing (select_of w.low)
   pub executable : (at : ℕ) (i : Instr) → w.placing.code at ≡ Some i → (x : ℕ) → at ≤ x → x < at + 4 → w.rights.executable x ≡ true
   pub fixed : (at : ℕ) (i : Instr) → w.placing.code at ≡ Some i → (x : ℕ) → at ≤ x → x < at + 4 → w.rights.writable x ≡ false
