@@ -1,5 +1,6 @@
 mod FrameLemmas
 mod Loops
+mod OperationLemmas
 mod SequenceLemmas
 mod Walks
 mod WordLemmas
