@@ -2,5 +2,6 @@ mod FrameLemmas
 mod Loops
 mod OperationLemmas
 mod SequenceLemmas
+mod ValueSteps
 mod Walks
 mod WordLemmas

@@ -25,7 +25,7 @@ from_bool-bounded false = omega arith
 abs_signed : (a : ℕ) → a < 2 ^ 32 → unsigned_abs (signed a) ≤ 2 ^ 31
 abs_signed a small = omega (arith, ints)
 
-word_from-bounded : (z : ℤ) → unsigned_abs z < 2 ^ 32 → word_from z < 2 ^ 32
+pub word_from-bounded : (z : ℤ) → unsigned_abs z < 2 ^ 32 → word_from z < 2 ^ 32
 word_from-bounded (pos n) small = omega (arith, ints)
 word_from-bounded (negsuc n) small = omega (arith, ints)
 

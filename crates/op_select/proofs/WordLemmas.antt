@@ -105,7 +105,7 @@ word_at-bounded memory a bytes =
 
 -- ---- access
 
-and_true : (a b : Bool) → a ≡ true → b ≡ true → (a && b) ≡ true
+pub and_true : (a b : Bool) → a ≡ true → b ≡ true → (a && b) ≡ true
 and_true true b is also = also
 and_true false b is also = absurd cc
 
