@@ -2,6 +2,7 @@ mod FrameLemmas
 mod Loops
 mod OperationLemmas
 mod SequenceLemmas
+mod TransferLemmas
 mod ValueSteps
 mod Walks
 mod WordLemmas
