@@ -1,3 +1,4 @@
+mod ControlSteps
 mod FrameLemmas
 mod Loops
 mod OperationLemmas
