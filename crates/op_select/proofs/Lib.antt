@@ -2,6 +2,7 @@ mod ControlSteps
 mod FrameLemmas
 mod Loops
 mod OperationLemmas
+mod OutsideSteps
 mod SequenceLemmas
 mod TransferLemmas
 mod ValueSteps
