@@ -43,6 +43,20 @@ pub record ExitSteps (m : LowState) (b : State) (most : ℕ) (status : ℕ) : Ty
   pub ended : after.ending ≡ Ended status
   pub walk : Walk b after 1 most []
 
+-- where a branch has led: to its block, or to the next item
+abbrev pub IsAt : Setting → Bool → (at r : ℕ) → BlockId → List Item → (end : ℕ) → Type 0
+IsAt w true at r block items end = at ≡ w.placing.block r block.0
+IsAt w false at r block items end = Stands w.placing r at items end
+
+-- a branch before other items
+pub record ChoiceAt (w : Setting) (c : State) (r : ℕ) (block : BlockId) (items : List Item) (end : ℕ) (taken : Bool) : Type 0 where
+  pub at : ℕ
+  pub there : IsAt w taken at r block items end
+  pub registers : List ℕ
+  pub size : length registers ≡ 32
+  pub others : (q : ℕ) → q ≢ 1 → get_or registers q 0 ≡ get_or c.registers q 0
+  pub walk : Walk c (placed c registers at) 1 3 []
+
 module _ (w : Setting) (law : IsSetting w) where
   -- ---- jumps
 
@@ -89,24 +103,32 @@ module _ (w : Setting) (law : IsSetting w) where
   steps_join m b c l k n xs ys walk steps =
       record { after = steps.after; goes = steps.goes; walk = walk_weaken b steps.after (l + 1) (k + n) 1 (k + n) (xs ++ ys) (omega arith) (omega arith) (walk_join b c steps.after l k 1 n xs ys walk steps.walk) }
 
-  choice_by : (m : LowState) (c : State) (op : BranchOp) (left right : ℕ) (block : BlockId) (end : ℕ) (taken : Bool) → Stays w m c → branch_taken op (register c left) (register c right) ≡ taken → Stands w.placing m.top.routine c.pc (BranchItem op left right block ∷ code_items (routine_in w m.top.routine) m.top.now) end → Steps w (cond taken (jump w.low block m) m) c 3 []
+  pub choice_at : (r : ℕ) (c : State) (op : BranchOp) (left right : ℕ) (block : BlockId) (items : List Item) (end : ℕ) (taken : Bool) → Sound w c → branch_taken op (register c left) (register c right) ≡ taken → Stands w.placing r c.pc (BranchItem op left right block ∷ items) end → ChoiceAt w c r block items end taken
   unfolding Expands
-  choice_by m c op left right block end true stays tells (First is expands here rest) =
-      let moved = chooses w law c (w.placing.block m.top.routine block.0) op left right is true stays.sound tells expands here in
+  choice_at r c op left right block items end true sound tells (First is expands here rest) =
+      let moved = chooses w law c (w.placing.block r block.0) op left right is true sound tells expands here in
+      record { at = w.placing.block r block.0; there = refl; registers = moved.registers; size = moved.size; others = moved.others; walk = moved.walk }
+  choice_at r c op left right block items end false sound tells (First is expands here rest) =
+      let moved = chooses w law c (w.placing.block r block.0) op left right is false sound tells expands here in
+      record { at = past c.pc is; there = rest; registers = moved.registers; size = moved.size; others = moved.others; walk = moved.walk }
+
+  choice_by : (m : LowState) (c : State) (op : BranchOp) (left right : ℕ) (block : BlockId) (end : ℕ) (taken : Bool) → Stays w m c → branch_taken op (register c left) (register c right) ≡ taken → Stands w.placing m.top.routine c.pc (BranchItem op left right block ∷ code_items (routine_in w m.top.routine) m.top.now) end → Steps w (cond taken (jump w.low block m) m) c 3 []
+  choice_by m c op left right block end true stays tells stands =
+      let choice = choice_at m.top.routine c op left right block (code_items (routine_in w m.top.routine) m.top.now) end true stays.sound tells stands in
       record {
-        after = placed c moved.registers (w.placing.block m.top.routine block.0);
-        goes = at_block_goes m c block moved.registers stays moved.size (moved.others 2 (omega arith)) (moved.others 8 (omega arith));
-        walk = moved.walk;
+        after = placed c choice.registers choice.at;
+        goes = subst (λ n. Goes w (jump w.low block m) (placed c choice.registers n)) (sym choice.there) (at_block_goes m c block choice.registers stays choice.size (choice.others 2 (omega arith)) (choice.others 8 (omega arith)));
+        walk = choice.walk;
       }
-  choice_by m c op left right block end false stays tells (First is expands here rest) =
-      let moved = chooses w law c (w.placing.block m.top.routine block.0) op left right is false stays.sound tells expands here in
+  choice_by m c op left right block end false stays tells stands =
+      let choice = choice_at m.top.routine c op left right block (code_items (routine_in w m.top.routine) m.top.now) end false stays.sound tells stands in
       record {
-        after = placed c moved.registers (past c.pc is);
+        after = placed c choice.registers choice.at;
         goes = record {
-          stays = stays_placed w law m c moved.registers (past c.pc is) stays moved.size (moved.others 2 (omega arith)) (moved.others 8 (omega arith));
-          ready = record { end = end; stands = rest };
+          stays = stays_placed w law m c choice.registers choice.at stays choice.size (choice.others 2 (omega arith)) (choice.others 8 (omega arith));
+          ready = record { end = end; stands = choice.there };
         };
-        walk = moved.walk;
+        walk = choice.walk;
       }
 
   pub branch_steps : (m : LowState) (b : State) (op : BranchOp) (left right : VirtualRegister) (block : BlockId) (end : ℕ) → Stays w m b → is_valid_instruction w.low (routine_in w m.top.routine) (Branch op left right block) ≡ true → Stands w.placing m.top.routine b.pc (items_of (routine_in w m.top.routine) (Branch op left right block) ++ code_items (routine_in w m.top.routine) m.top.now) end → Steps w (low_act w.low (placement_of w) (Branch op left right block) m) b 9 []

@@ -125,6 +125,7 @@ below_same w memory other r limit sp (c ∷ cs) same below =
     (below.0,
     record {
       exists = waits.exists;
+      keeps = waits.keeps;
       back = subst (λ a. StandsFrom w.placing c.activation.routine a (answered (routine_in w c.activation.routine) c.to c.landing ++ code_items (routine_in w c.activation.routine) c.activation.now)) (sym ra) waits.back;
       holds = λ v within. word_at-same memory other (place_of (routine_in w c.activation.routine) (sp + frame_in w r) v) (λ x from before. same x (omega arith)) ∙ waits.holds v within;
     },

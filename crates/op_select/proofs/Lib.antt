@@ -3,6 +3,7 @@ mod FrameLemmas
 mod Loops
 mod OperationLemmas
 mod OutsideSteps
+mod ReturnSteps
 mod SequenceLemmas
 mod TransferLemmas
 mod ValueSteps

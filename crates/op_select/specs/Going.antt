@@ -72,6 +72,7 @@ Holds memory sp routine registers =
 -- a caller whose frame is at an address: the word below says where it goes on
 pub record Waits (w : Setting) (memory : ℕ → ℕ) (sp : ℕ) (c : Caller) : Type 0 where
   pub exists : c.activation.routine < length w.low.routines
+  pub keeps : c.to.0 < (routine_in w c.activation.routine).registers
   pub back : StandsFrom w.placing c.activation.routine (word_at memory (sp - 4)) (answered (routine_in w c.activation.routine) c.to c.landing ++ code_items (routine_in w c.activation.routine) c.activation.now)
   pub holds : Holds memory sp (routine_in w c.activation.routine) c.activation.registers
 
