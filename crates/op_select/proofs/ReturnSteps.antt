@@ -3,10 +3,11 @@ use Rattle.std.proofs.Common.{◌≡◌, ◌≢◌, ℕ, ℤ, pos, zero, suc, �
 use Rattle.std.proofs.lemmas.Int.{ints}
 use Rattle.std.proofs.lemmas.Bool.Decides.{nat_tests}
 use Rattle.op_low.specs.Machine.{Event, act as low_act, left, return_to, raise_to}
-use Rattle.op_low.specs.State.{Activation, Caller, State as LowState, keep as with_kept, with_value, value, landed, routine_of}
+use Rattle.op_low.specs.State.{Activation, Caller, State as LowState, keep as with_kept, with_value, value, landed, routine_of, block_of}
 use Rattle.op_low.specs.Valid.{is_valid_instruction, has}
 use Rattle.op_low.specs.declared.ids.VirtualRegister.{VirtualRegister}
 use Rattle.op_low.specs.declared.code.Routine.{Routine}
+use Rattle.op_low.specs.declared.instruction.Instruction.{Instruction}
 use Rattle.op_low.specs.declared.instruction.Instruction.TheVariants.{Return, Raise}
 use Rattle.op_rv.specs.Operation.{word_from, branch_taken}
 use Rattle.op_rv.specs.State.{State, register, with_register, advanced, faulted, word_at}
@@ -25,7 +26,7 @@ use Rattle.op_select.specs.Placing.{Placing, Stands, First, StandsFrom, StandsHe
 use Rattle.op_select.specs.RiscvMachine.{instr_shows}
 use Rattle.op_select.specs.Selection.{items_of, code_items, answered, landing_of, raise_block}
 use Rattle.op_select.specs.Sequences.{below, small, sum}
-use Rattle.op_select.proofs.ControlSteps.{IsAt, ChoiceAt, choice_at}
+use Rattle.op_select.proofs.ControlSteps.{IsAt, ChoiceAt, choice_at, steps_join}
 use Rattle.op_select.proofs.FrameLemmas.{sizes, below_top, below_bottom, stays_placed, fetches, keeps}
 use Rattle.op_select.proofs.SequenceLemmas.{sums, smalls}
 use Rattle.op_select.proofs.TransferLemmas.{block_stands, stub_stands}
@@ -49,6 +50,25 @@ pub record Leaves (b : State) (limit sp at : ℕ) : Type 0 where
   pub sp_is : get_or registers 2 0 ≡ sp
   pub others : (q : ℕ) → q ≢ 8 → q ≢ 2 → q ≢ 1 → get_or registers q 0 ≡ get_or b.registers q 0
   pub walk : Walk b (placed b registers at) 1 8 []
+
+-- back at the caller, with a value
+pub record Backs (b : State) (limit sp value at : ℕ) : Type 0 where
+  pub registers : List ℕ
+  pub size : length registers ≡ 32
+  pub limit_is : get_or registers 8 0 ≡ limit
+  pub sp_is : get_or registers 2 0 ≡ sp
+  pub value_is : get_or registers 10 0 ≡ value
+  pub flag_is : get_or registers 11 0 ≡ 0
+  pub walk : Walk b (placed b registers at) 1 12 []
+
+-- and by a raise
+pub record Raises (b : State) (limit sp at : ℕ) : Type 0 where
+  pub registers : List ℕ
+  pub size : length registers ≡ 32
+  pub limit_is : get_or registers 8 0 ≡ limit
+  pub sp_is : get_or registers 2 0 ≡ sp
+  pub flag_is : get_or registers 11 0 ≡ 1
+  pub walk : Walk b (placed b registers at) 1 9 []
 
 four_below : (x : ℕ) → 4 ≤ x → x < 2 ^ 32 → (x + word_from (pos 0 -ℤ pos 4)) % 2 ^ 32 ≡ x - 4
 four_below x most small = omega (arith, ints)
@@ -187,3 +207,161 @@ module _ (w : Setting) (law : IsSetting w) where
         holds = subst (λ n. (v : ℕ) → v < (routine_in w c.activation.routine).registers → word_at b.memory (n + 4 * ((routine_in w c.activation.routine).registers - 1 - v)) ≡ c.activation.registers v) same below_.1.holds;
         below = subst (λ n. Below w b.memory c.activation.routine (m.limit - routine.locals) n cs) same below_.2;
       }
+
+  -- what is left of the block does not matter
+  pub stays_now : (m : LowState) (b : State) (now : List Instruction) → Stays w m b → Stays w (record m { top = record m.top { now = now } }) b
+  stays_now m b now stays =
+      record {
+        sound = stays.sound;
+        memory = stays.memory;
+        input = stays.input;
+        input_bytes = stays.input_bytes;
+        output = stays.output;
+        errors = stays.errors;
+        limit = stays.limit;
+        sp = stays.sp;
+        limit_aligned = stays.limit_aligned;
+        sp_aligned = stays.sp_aligned;
+        holds = stays.holds;
+        below = stays.below;
+      }
+
+  -- behind a call that has returned
+  behind : (m : LowState) (f : State) (to : VirtualRegister) (landing : Option BlockId) (x end : ℕ) → Stays w m f → to.0 < (routine_in w m.top.routine).registers → get_or f.registers 10 0 ≡ x → get_or f.registers 11 0 ≡ 0 → x < 2 ^ 32 → Stands w.placing m.top.routine f.pc (answered (routine_in w m.top.routine) to landing ++ code_items (routine_in w m.top.routine) m.top.now) end → Steps w (with_kept to x m) f 6 []
+  unfolding answered
+  behind m f to landing x end stays within value_is flag_is fits stands =
+      let r = m.top.routine in
+      let routine = routine_in w r in
+      let tells : branch_taken Bne (register f 11) (register f 0) ≡ false = ap (λ n. branch_taken Bne n 0) flag_is in
+      let choice = choice_at w law r f Bne 11 0 (landing_of routine landing) (keep routine to 10 ++ code_items routine m.top.now) end false stays.sound tells stands in
+      let g = placed f choice.registers choice.at in
+      let stays_g = stays_placed w law m f choice.registers choice.at stays choice.size (choice.others 2 (omega arith)) (choice.others 8 (omega arith)) in
+      let last = split w.placing r choice.at (keep routine to 10) (code_items routine m.top.now) end choice.there in
+      let kept = keeps w law m g 10 x to last.middle stays_g within (omega arith) (omega arith) (choice.others 10 (omega arith) ∙ value_is) fits last.first in
+      record {
+        after = kept.after;
+        goes = record { stays = kept.stays; ready = record { end = end; stands = subst (λ n. Stands w.placing r n (code_items routine m.top.now) end) (sym kept.there) last.second } };
+        walk = walk_weaken f kept.after 2 6 1 6 [] (omega arith) (omega arith) (walk_join f g kept.after 1 3 1 3 [] [] choice.walk kept.walk);
+      }
+
+  -- to the end of a routine that returns
+  to_back : (m : LowState) (b : State) (v : VirtualRegister) (c : Caller) (cs : List Caller) (at : ℕ) → Stays w m b → m.callers ≡ c ∷ cs → v.0 < (routine_in w m.top.routine).registers → Stands w.placing m.top.routine b.pc (items_of (routine_in w m.top.routine) (Return v)) at → Backs b (m.limit - locals_in w m.top.routine) (m.limit + m.room + frame_in w m.top.routine) (value m v) (word_at b.memory (m.limit + m.room + frame_in w m.top.routine - 4))
+  unfolding items_of
+  to_back m b v c cs at stays callers v_in stands =
+      let r = m.top.routine in
+      let routine = routine_in w r in
+      let parts = split w.placing r b.pc (fetch routine 10 v ++ small 11 0) (epilogue routine) at stands in
+      let two = split w.placing r b.pc (fetch routine 10 v) (small 11 0) parts.middle parts.first in
+      let one = fetches w law m b 10 v two.middle stays v_in (omega arith) (omega arith) (omega arith) two.first in
+      let d = placed b one.registers two.middle in
+      let sound_d = sound_placed w law b one.registers two.middle stays.sound one.size in
+      let flag = smalls w law d r 11 0 parts.middle sound_d (omega arith) (omega arith) (omega arith) two.second in
+      let e = placed b flag.registers parts.middle in
+      let stays_e = stays_placed w law m b flag.registers parts.middle stays flag.size (flag.others 2 (omega arith) (omega arith) ∙ one.others 2 (omega arith) (omega arith)) (flag.others 8 (omega arith) (omega arith) ∙ one.others 8 (omega arith) (omega arith)) in
+      let leaving = leaves m e c cs at stays_e callers parts.second in
+      let back = word_at b.memory (m.limit + m.room + frame_in w r - 4) in
+      record {
+        registers = leaving.registers;
+        size = leaving.size;
+        limit_is = leaving.limit_is;
+        sp_is = leaving.sp_is;
+        value_is = leaving.others 10 (omega arith) (omega arith) (omega arith) ∙ flag.others 10 (omega arith) (omega arith) ∙ one.value_is;
+        flag_is = leaving.others 11 (omega arith) (omega arith) (omega arith) ∙ flag.value_is;
+        walk = walk_weaken b (placed b leaving.registers back) 3 12 1 12 [] (omega arith) (omega arith) (walk_join b e (placed b leaving.registers back) 2 4 1 8 [] [] (walk_join b d e 1 3 1 1 [] [] one.walk flag.walk) leaving.walk);
+      }
+
+  waits_of : (m : LowState) (b : State) (c : Caller) (cs : List Caller) → Stays w m b → m.callers ≡ c ∷ cs → Waits w b.memory (m.limit + m.room + frame_in w m.top.routine) c
+  unfolding Below
+  waits_of m b c cs stays callers = (subst (λ xs. Below w b.memory m.top.routine m.limit (m.limit + m.room) xs) callers stays.below).1
+
+  return_by : (m : LowState) (b : State) (v : VirtualRegister) (c : Caller) (cs : List Caller) (end : ℕ) → Stays w m b → m.callers ≡ c ∷ cs → is_valid_instruction w.low (routine_in w m.top.routine) (Return v) ≡ true → Stands w.placing m.top.routine b.pc (items_of (routine_in w m.top.routine) (Return v) ++ code_items (routine_in w m.top.routine) m.top.now) end → Steps w (with_kept c.to (value m v) (left w.low (placement_of w) c.activation cs m)) b 18 []
+  unfolding is_valid_instruction
+  return_by m b v c cs end stays callers valid stands =
+      let r = m.top.routine in
+      let routine = routine_in w r in
+      let m' = left w.low (placement_of w) c.activation cs m in
+      let back = word_at b.memory (m.limit + m.room + frame_in w r - 4) in
+      let whole = split w.placing r b.pc (items_of routine (Return v)) (code_items routine m.top.now) end stands in
+      let v_in = inside w law m v valid in
+      let first = to_back m b v c cs whole.middle stays callers v_in whole.first in
+      let stays_f = stays_left m b c cs first.registers back stays callers first.size first.sp_is first.limit_is in
+      let waits = waits_of m b c cs stays callers in
+      let second = behind m' (placed b first.registers back) c.to c.landing (value m v) waits.back.end stays_f waits.keeps first.value_is first.flag_is (value-bounded w law m b v stays v_in) waits.back.stands in
+      steps_join w law (with_kept c.to (value m v) m') b (placed b first.registers back) 1 12 6 [] [] first.walk second
+
+  pub return_steps : (m : LowState) (b : State) (v : VirtualRegister) (c : Caller) (cs : List Caller) (end : ℕ) → Stays w m b → m.callers ≡ c ∷ cs → is_valid_instruction w.low (routine_in w m.top.routine) (Return v) ≡ true → Stands w.placing m.top.routine b.pc (items_of (routine_in w m.top.routine) (Return v) ++ code_items (routine_in w m.top.routine) m.top.now) end → Steps w (low_act w.low (placement_of w) (Return v) m) b 18 []
+  unfolding low_act
+  return_steps m b v c cs end stays callers valid stands =
+      subst (λ xs. Steps w (return_to w.low (placement_of w) (value m v) xs m) b 18 []) (sym callers) (return_by m b v c cs end stays callers valid stands)
+
+  landed_goes : (m : LowState) (b : State) (landing : Option BlockId) (a : Activation) (cs : List Caller) (at : ℕ) → Stays w (left w.low (placement_of w) a cs m) b → a.routine < length w.low.routines → at ≡ w.placing.block a.routine (landing_of (routine_in w a.routine) landing).0 → b.pc ≡ at → Goes w (left w.low (placement_of w) (landed w.low landing a) cs m) b
+  unfolding landing_of raise_block code_items
+  landed_goes m b None a cs at stays exists there pc =
+      let count : min (length (routine_in w a.routine).blocks) (2 ^ 32 - 1) ≡ length (routine_in w a.routine).blocks = (let few = law.numbered a.routine in omega arith) in
+      let stub = stub_stands w a.routine law exists in
+      let place : w.placing.block a.routine (length (routine_in w a.routine).blocks) ≡ b.pc = sym (pc ∙ there ∙ ap (w.placing.block a.routine) count) in
+      let items : items_of (routine_in w a.routine) Raise ++ [] ≡ items_of (routine_in w a.routine) Raise = append-nil (items_of (routine_in w a.routine) Raise) in
+      record {
+        stays = stays_now (left w.low (placement_of w) a cs m) b (Raise ∷ []) stays;
+        ready = record { end = stub.end; stands = subst (λ is. Stands w.placing a.routine b.pc is stub.end) (sym items) (subst (λ n. Stands w.placing a.routine n (items_of (routine_in w a.routine) Raise) stub.end) place stub.stands) };
+      }
+  landed_goes m b (Some block) a cs at stays exists there pc =
+      record {
+        stays = stays_now (left w.low (placement_of w) a cs m) b (block_of w.low a.routine block.0) stays;
+        ready = subst (λ n. StandsFrom w.placing a.routine n (code_items (routine_in w a.routine) (block_of w.low a.routine block.0))) (sym (pc ∙ there)) (block_stands w a.routine block.0 law);
+      }
+
+  -- to the end of a routine that raises
+  to_raise : (m : LowState) (b : State) (c : Caller) (cs : List Caller) (at : ℕ) → Stays w m b → m.callers ≡ c ∷ cs → Stands w.placing m.top.routine b.pc (items_of (routine_in w m.top.routine) Raise) at → Raises b (m.limit - locals_in w m.top.routine) (m.limit + m.room + frame_in w m.top.routine) (word_at b.memory (m.limit + m.room + frame_in w m.top.routine - 4))
+  unfolding items_of
+  to_raise m b c cs at stays callers stands =
+      let r = m.top.routine in
+      let routine = routine_in w r in
+      let parts = split w.placing r b.pc (small 11 1) (epilogue routine) at stands in
+      let flag = smalls w law b r 11 1 parts.middle stays.sound (omega arith) (omega arith) (omega arith) parts.first in
+      let e = placed b flag.registers parts.middle in
+      let stays_e = stays_placed w law m b flag.registers parts.middle stays flag.size (flag.others 2 (omega arith) (omega arith)) (flag.others 8 (omega arith) (omega arith)) in
+      let leaving = leaves m e c cs at stays_e callers parts.second in
+      let back = word_at b.memory (m.limit + m.room + frame_in w r - 4) in
+      record {
+        registers = leaving.registers;
+        size = leaving.size;
+        limit_is = leaving.limit_is;
+        sp_is = leaving.sp_is;
+        flag_is = leaving.others 11 (omega arith) (omega arith) (omega arith) ∙ flag.value_is;
+        walk = walk_weaken b (placed b leaving.registers back) 2 9 1 9 [] (omega arith) (omega arith) (walk_join b e (placed b leaving.registers back) 1 1 1 8 [] [] flag.walk leaving.walk);
+      }
+
+  -- at the landing of a call that has raised
+  at_landing : (m : LowState) (f : State) (to : VirtualRegister) (landing : Option BlockId) (a : Activation) (cs : List Caller) (end : ℕ) → Stays w (left w.low (placement_of w) a cs m) f → a.routine < length w.low.routines → get_or f.registers 11 0 ≡ 1 → Stands w.placing a.routine f.pc (answered (routine_in w a.routine) to landing ++ code_items (routine_in w a.routine) a.now) end → Steps w (left w.low (placement_of w) (landed w.low landing a) cs m) f 3 []
+  unfolding answered
+  at_landing m f to landing a cs end stays exists flag_is stands =
+      let r = a.routine in
+      let routine = routine_in w r in
+      let m' = left w.low (placement_of w) a cs m in
+      let tells : branch_taken Bne (register f 11) (register f 0) ≡ true = ap (λ n. branch_taken Bne n 0) flag_is in
+      let choice = choice_at w law r f Bne 11 0 (landing_of routine landing) (keep routine to 10 ++ code_items routine a.now) end true stays.sound tells stands in
+      let g = placed f choice.registers choice.at in
+      let stays_g = stays_placed w law m' f choice.registers choice.at stays choice.size (choice.others 2 (omega arith)) (choice.others 8 (omega arith)) in
+      record {
+        after = g;
+        goes = landed_goes m g landing a cs choice.at stays_g exists choice.there refl;
+        walk = choice.walk;
+      }
+
+  raise_by : (m : LowState) (b : State) (c : Caller) (cs : List Caller) (end : ℕ) → Stays w m b → m.callers ≡ c ∷ cs → Stands w.placing m.top.routine b.pc (items_of (routine_in w m.top.routine) Raise ++ code_items (routine_in w m.top.routine) m.top.now) end → Steps w (left w.low (placement_of w) (landed w.low c.landing c.activation) cs m) b 12 []
+  raise_by m b c cs end stays callers stands =
+      let r = m.top.routine in
+      let routine = routine_in w r in
+      let back = word_at b.memory (m.limit + m.room + frame_in w r - 4) in
+      let whole = split w.placing r b.pc (items_of routine Raise) (code_items routine m.top.now) end stands in
+      let first = to_raise m b c cs whole.middle stays callers whole.first in
+      let stays_f = stays_left m b c cs first.registers back stays callers first.size first.sp_is first.limit_is in
+      let waits = waits_of m b c cs stays callers in
+      let second = at_landing m (placed b first.registers back) c.to c.landing c.activation cs waits.back.end stays_f waits.exists first.flag_is waits.back.stands in
+      steps_join w law (left w.low (placement_of w) (landed w.low c.landing c.activation) cs m) b (placed b first.registers back) 1 9 3 [] [] first.walk second
+
+  pub raise_steps : (m : LowState) (b : State) (c : Caller) (cs : List Caller) (end : ℕ) → Stays w m b → m.callers ≡ c ∷ cs → Stands w.placing m.top.routine b.pc (items_of (routine_in w m.top.routine) Raise ++ code_items (routine_in w m.top.routine) m.top.now) end → Steps w (low_act w.low (placement_of w) Raise m) b 12 []
+  unfolding low_act
+  raise_steps m b c cs end stays callers stands =
+      subst (λ xs. Steps w (raise_to w.low (placement_of w) xs m) b 12 []) (sym callers) (raise_by m b c cs end stays callers stands)
