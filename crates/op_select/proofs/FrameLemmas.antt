@@ -82,7 +82,7 @@ pub with_bytes-bounded : (memory : ℕ → ℕ) (a : ℕ) (bytes : List ℕ) →
 with_bytes-bounded memory a bytes old new x =
     elim (nat_le a x && nat_lt x (a + length bytes)) as (λ b. cond b (get_or bytes (x - a) 0) (memory x) < 2 ^ 8) [ true ↦ new (x - a) | false ↦ old x ]
 
-four-bounded : (v k : ℕ) → get_or (bytes_low_first 0 4 v) k 0 < 2 ^ 8
+pub four-bounded : (v k : ℕ) → get_or (bytes_low_first 0 4 v) k 0 < 2 ^ 8
 four-bounded v zero = omega arith
 four-bounded v (suc zero) = omega arith
 four-bounded v (suc (suc zero)) = omega arith

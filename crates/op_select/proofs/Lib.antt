@@ -1,3 +1,4 @@
+mod ClearLemmas
 mod ControlSteps
 mod FrameLemmas
 mod Loops

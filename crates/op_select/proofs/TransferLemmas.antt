@@ -112,7 +112,7 @@ module _ (w : Setting) (law : IsSetting w) where
       }
 
   -- one branch
-  branches : (b : State) (op : BranchOp) (left right : ℕ) (offset : ℤ) (taken : Bool) → Sound w b → branch_taken op (register b left) (register b right) ≡ taken → w.placing.code b.pc ≡ Some (Branch op left right offset) → Walk b (placed b b.registers (cond taken (offset_from b.pc offset) (b.pc + 4))) 1 1 []
+  pub branches : (b : State) (op : BranchOp) (left right : ℕ) (offset : ℤ) (taken : Bool) → Sound w b → branch_taken op (register b left) (register b right) ≡ taken → w.placing.code b.pc ≡ Some (Branch op left right offset) → Walk b (placed b b.registers (cond taken (offset_from b.pc offset) (b.pc + 4))) 1 1 []
   unfolding act instr_shows
   branches b op left right offset true sound is stands =
       walk_step w law b (placed b b.registers (offset_from b.pc offset)) (Branch op left right offset) [] sound stands refl (cond_true (branch_taken op (register b left) (register b right)) (placed b b.registers (offset_from b.pc offset)) (advanced b) is)
