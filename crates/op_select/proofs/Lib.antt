@@ -1,6 +1,7 @@
 mod ClearLemmas
 mod ControlSteps
 mod FrameLemmas
+mod HeadLemmas
 mod Loops
 mod OperationLemmas
 mod OutsideSteps

@@ -70,7 +70,7 @@ pub record Raises (b : State) (limit sp at : ℕ) : Type 0 where
   pub flag_is : get_or registers 11 0 ≡ 1
   pub walk : Walk b (placed b registers at) 1 9 []
 
-four_below : (x : ℕ) → 4 ≤ x → x < 2 ^ 32 → (x + word_from (pos 0 -ℤ pos 4)) % 2 ^ 32 ≡ x - 4
+pub four_below : (x : ℕ) → 4 ≤ x → x < 2 ^ 32 → (x + word_from (pos 0 -ℤ pos 4)) % 2 ^ 32 ≡ x - 4
 four_below x most small = omega (arith, ints)
 
 pub down_by : (x n : ℕ) → n ≤ x → x < 2 ^ 32 → (x + below n) % 2 ^ 32 ≡ x - n
