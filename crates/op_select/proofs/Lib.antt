@@ -1,5 +1,6 @@
 mod ClearLemmas
 mod ControlSteps
+mod EnterLemmas
 mod FrameLemmas
 mod HeadLemmas
 mod Loops
