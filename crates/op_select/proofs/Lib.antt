@@ -1,3 +1,4 @@
+mod CallSteps
 mod ClearLemmas
 mod ControlSteps
 mod EnterLemmas

@@ -95,7 +95,7 @@ branch_aligned : (w : Setting) (law : IsSetting w) (r at : ℕ) (left right : �
 unfolding Expands
 branch_aligned w law r at left right block items end (First is expands here rest) = choice_aligned w law (w.placing.block r block.0) left right at is expands here
 
-answered_aligned : (w : Setting) (law : IsSetting w) (r at : ℕ) (to : VirtualRegister) (landing : Option BlockId) (items : List Item) (end : ℕ) → Stands w.placing r at (answered (routine_in w r) to landing ++ items) end → (at % 4 ≡ 0) × (at < 2 ^ 31)
+pub answered_aligned : (w : Setting) (law : IsSetting w) (r at : ℕ) (to : VirtualRegister) (landing : Option BlockId) (items : List Item) (end : ℕ) → Stands w.placing r at (answered (routine_in w r) to landing ++ items) end → (at % 4 ≡ 0) × (at < 2 ^ 31)
 unfolding answered
 answered_aligned w law r at to landing items end stands = branch_aligned w law r at 11 0 (landing_of (routine_in w r) landing) _ end stands
 
