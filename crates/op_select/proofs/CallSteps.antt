@@ -1,0 +1,288 @@
+-- Calls: the arguments are passed, the routine is entered, and its head makes the activation that low code begins.
+use Rattle.std.proofs.Common.{◌≡◌, ◌≢◌, ℕ, ℤ, pos, zero, suc, ◌+◌, ◌-◌, ◌*◌, ◌/◌, ◌%◌, ◌^◌, ◌<◌, ◌≤◌, ◌⊎◌, inl, inr, Bool, true, false, cond, ◌&&◌, if◌then◌else◌, nat_eq, nat_le, nat_lt, Option, Some, None, List, [], ◌∷◌, ◌++◌, length, map, get_or, set, replicate, slice_get, refl, ap, ap₂, sym, subst, ◌∙◌, append_assoc, arith}
+use Rattle.std.proofs.lemmas.Int.{ints}
+use Rattle.std.proofs.lemmas.Bool.{cases_lt, ltb-true, leb-true}
+use Rattle.std.proofs.lemmas.Bool.Decides.{nat_tests}
+use Rattle.std.proofs.lemmas.List.{length-replicate, length-map, get_or-set_same, get_or-set_other, length-set}
+use Rattle.std.specs.Int.{bytes_low_first}
+use Rattle.std.specs.List.{list_all}
+use Rattle.op_low.specs.Machine.{Event, act as low_act, call, call_found, entered, can_enter}
+use Rattle.op_low.specs.State.{State as LowState, Caller, Activation, space, block_of, value, values}
+use Rattle.op_low.specs.Valid.{is_valid_instruction, has, has_all, call_fits, call_at_fits, operands_fit, has_landing}
+use Rattle.op_low.specs.declared.code.Routine.{Routine}
+use Rattle.op_low.specs.declared.ids.VirtualRegister.{VirtualRegister}
+use Rattle.op_low.specs.declared.instruction.Call.{Call as Operands}
+use Rattle.op_low.specs.declared.instruction.Instruction.TheVariants.{Call, CallAt}
+use Rattle.op_rv.specs.Operation.{word_from}
+use Rattle.op_rv.specs.State.{State, register, with_bytes, word_at}
+use Rattle.op_rv.specs.Step.{act, offset_from}
+use Rattle.op_rv.specs.declared.instruction.Instr.{Instr}
+use Rattle.op_rv.specs.declared.instruction.Instr.TheVariants.{Jalr}
+use Rattle.op_rv.specs.declared.objects.Item.{Item}
+use Rattle.op_rv.specs.declared.objects.Item.TheVariants.{Call as CallItem, CallAt as CallAtItem}
+use Rattle.op_rv.specs.declared.symbol.BlockId.{BlockId}
+use Rattle.op_rv.specs.declared.symbol.RoutineId.{RoutineId}
+use Rattle.op_select.specs.Frames.{frame_of, fetch, passed, passed_one, passed_in_memory}
+use Rattle.op_select.specs.Going.{Setting, IsSetting, routine_in, locals_in, frame_in, placement_of, Sound, place_of, Holds, Waits, Below, Stays, Goes}
+use Rattle.op_select.specs.Placing.{Placing, Stands, First, StandsFrom, StandsHere, Expands, Transfer, past}
+use Rattle.op_select.specs.RiscvMachine.{instr_shows}
+use Rattle.op_select.specs.Selection.{items_of, code_items, answered}
+use Rattle.op_select.specs.Sequences.{below, word_store}
+use Rattle.op_select.proofs.ClearLemmas.{stored}
+use Rattle.op_select.proofs.ControlSteps.{steps_join}
+use Rattle.op_select.proofs.EnterLemmas.{Heads, heads}
+use Rattle.op_select.proofs.FrameLemmas.{sizes, below_top, below_bottom, below_same, with_bytes-outside, sound_stored, four-bounded, stays_placed, fetches}
+use Rattle.op_select.proofs.ReturnSteps.{down_by, down-bounded, answered_aligned}
+use Rattle.op_select.proofs.SequenceLemmas.{Stores, stores}
+use Rattle.op_select.proofs.TransferLemmas.{Linked, links, block_stands}
+use Rattle.op_select.proofs.ValueSteps.{Steps, both_left, both_right, inside, value-bounded}
+use Rattle.op_select.proofs.Walks.{Walk, walk_none, walk_join, walk_weaken, walk_step, advanced_pc, placed, sound_placed, Becomes, plain_first, Split, split, nothing_more}
+use Rattle.op_select.proofs.WordLemmas.{cond_true, with_bytes-within, with_bytes-below, with_bytes-above, word_at-stored, word_at-same, word_at-bounded}
+
+zeros_get : (n k : ℕ) → get_or (replicate {A = ℕ} n 0) k 0 ≡ 0
+zeros_get zero k = refl
+zeros_get (suc n) zero = refl
+zeros_get (suc n) (suc k) = zeros_get n k
+
+past_end : (xs : List ℕ) (k : ℕ) → length xs ≤ k → get_or xs k 0 ≡ 0
+past_end [] k over = refl
+past_end (x ∷ xs) zero over = absurd (omega arith)
+past_end (x ∷ xs) (suc k) over = past_end xs k (omega arith)
+
+-- the arguments from number k on are where the routine looks for them
+pub record Passes (w : Setting) (m : LowState) (b : State) (k : ℕ) (vs : List ℕ) (at : ℕ) : Type 0 where
+  pub after : State
+  pub there : after.pc ≡ at
+  pub stays : Stays w m after
+  pub in_registers : (i : ℕ) → i < length vs → k + i < 8 → get_or after.registers (10 + (k + i)) 0 ≡ get_or vs i 0
+  pub in_memory : (i : ℕ) → i < length vs → 8 ≤ k + i → word_at after.memory (m.limit + m.room - (8 + 4 * (k + i))) ≡ get_or vs i 0
+  pub walk : Walk b after 0 (6 * length vs) []
+
+-- low code's state at the beginning of a routine
+abbrev pub began : Setting → (r : ℕ) → (vs : List ℕ) → (to : VirtualRegister) → (landing : Option BlockId) → LowState → LowState
+began w r vs to landing m =
+    record m {
+      top = entered w.low r vs;
+      callers = record { activation = m.top; to = to; landing = landing } ∷ m.callers;
+      limit = m.limit + locals_in w r;
+      room = m.room - space w.low (placement_of w) r;
+      memory = with_bytes m.memory m.limit (replicate (locals_in w r) 0);
+    }
+
+-- all that stands between a call and its routine's head
+pub record Arrives (w : Setting) (m : LowState) (b : State) (r : ℕ) (vs : List ℕ) (to : VirtualRegister) (landing : Option BlockId) : Type 0 where
+  pub stays : Stays w m b
+  pub there : b.pc ≡ w.placing.head r
+  pub in_registers : (i : ℕ) → i < length vs → i < 8 → get_or b.registers (10 + i) 0 ≡ get_or vs i 0
+  pub in_memory : (i : ℕ) → i < length vs → 8 ≤ i → word_at b.memory (m.limit + m.room - (8 + 4 * i)) ≡ get_or vs i 0
+  pub words : (i : ℕ) → i < length vs → get_or vs i 0 < 2 ^ 32
+  pub back : StandsFrom w.placing m.top.routine (get_or b.registers 1 0) (answered (routine_in w m.top.routine) to landing ++ code_items (routine_in w m.top.routine) m.top.now)
+  pub exists : r < length w.low.routines
+  pub caller_exists : m.top.routine < length w.low.routines
+  pub keeps : to.0 < (routine_in w m.top.routine).registers
+  pub count : length vs ≡ (routine_in w r).parameters
+  pub room : space w.low (placement_of w) r ≤ m.room
+
+module _ (w : Setting) (law : IsSetting w) where
+  began_stays : (m : LowState) (b : State) (r : ℕ) (vs : List ℕ) (to : VirtualRegister) (landing : Option BlockId) → Arrives w m b r vs to landing → (h : Heads w b r (m.limit + m.room) m.limit (get_or b.registers 1 0)) → Stays w (began w r vs to landing m) (stored b h.registers (w.placing.block r 0) h.memory)
+  unfolding Below frame_of
+  began_stays m b r vs to landing a h =
+      let stays = a.stays in
+      let routine = routine_in w r in
+      let size = sizes w.low r law.valid in
+      let inside = size.parameters in
+      let locals_whole = size.locals_aligned in
+      let frame = frame_in w r in
+      let locals = routine.locals in
+      let sp = m.limit + m.room in
+      let room = a.room in
+      let limit_whole = stays.limit_aligned in
+      let sp_whole = stays.sp_aligned in
+      let bottom = below_bottom w b.memory m.top.routine m.limit sp m.callers stays.below in
+      let count = a.count in
+      let new_sp : sp - frame ≡ m.limit + locals + (m.room - (locals + frame)) = omega arith in
+      let old_sp : sp ≡ m.limit + locals + (m.room - (locals + frame)) + frame = omega arith in
+      let old_limit : m.limit ≡ m.limit + locals - locals = omega arith in
+      let waits : Waits w h.memory sp (record { activation = m.top; to = to; landing = landing }) = record {
+        exists = a.caller_exists;
+        keeps = a.keeps;
+        back = subst (λ n. StandsFrom w.placing m.top.routine n (answered (routine_in w m.top.routine) to landing ++ code_items (routine_in w m.top.routine) m.top.now)) (sym h.back_is) a.back;
+        holds = λ v within. word_at-same b.memory h.memory (place_of (routine_in w m.top.routine) sp v) (λ x lower upper. h.high x (omega arith)) ∙ stays.holds v within;
+      } in
+      let rest : Below w h.memory m.top.routine m.limit sp m.callers = below_same w b.memory h.memory m.top.routine m.limit sp m.callers (λ x from. h.high x (omega arith)) stays.below in
+      let held : (v : ℕ) → v < routine.registers → word_at h.memory (place_of routine (sp - frame) v) ≡ get_or vs v 0 = λ v within.
+        elim (cases_lt v routine.parameters) [
+          | inl under ↦
+              elim (cases_lt v 8) [
+                | inl early ↦ h.early v under early ∙ a.in_registers v (omega arith) early
+                | inr late ↦
+                    let place : place_of routine (sp - frame) v ≡ sp - (8 + 4 * v) = omega arith in
+                    h.late v under (omega arith) ∙ ap (word_at b.memory) place ∙ a.in_memory v (omega arith) (omega arith)
+              ]
+          | inr over ↦ h.fresh v within (omega arith) ∙ sym (past_end vs v (omega arith))
+        ] in
+      record {
+        sound = h.sound;
+        memory = λ x lower.
+          elim (cases_lt x m.limit) [
+            | inl old ↦ h.low x old ∙ stays.memory x old ∙ sym (with_bytes-below m.memory m.limit (replicate locals 0) x old)
+            | inr new ↦
+                let long : length (replicate locals 0) ≡ locals = length-replicate {A = ℕ} locals 0 in
+                h.locals x (omega arith) lower ∙ sym (with_bytes-within m.memory m.limit (replicate locals 0) x (omega arith) (omega arith) ∙ zeros_get locals (x - m.limit))
+          ];
+        input = stays.input;
+        input_bytes = stays.input_bytes;
+        output = stays.output;
+        errors = stays.errors;
+        limit = h.limit_is;
+        sp = h.sp_is ∙ new_sp;
+        limit_aligned = omega arith;
+        sp_aligned = omega arith;
+        holds = subst (λ n. (v : ℕ) → v < routine.registers → word_at h.memory (n + 4 * (routine.registers - 1 - v)) ≡ get_or vs v 0) new_sp held;
+        below = (omega arith, subst (λ n. Waits w h.memory n (record { activation = m.top; to = to; landing = landing })) old_sp waits, subst (λ n. Below w h.memory m.top.routine n (m.limit + locals + (m.room - (locals + frame)) + frame) m.callers) old_limit (subst (λ n. Below w h.memory m.top.routine m.limit n m.callers) old_sp rest));
+      }
+
+  -- from the head on
+  pub arrives : (m : LowState) (b : State) (r : ℕ) (vs : List ℕ) (to : VirtualRegister) (landing : Option BlockId) → Arrives w m b r vs to landing → Steps w (began w r vs to landing m) b (36 + 3 * (routine_in w r).registers + locals_in w r) []
+  arrives m b r vs to landing a =
+      let stays = a.stays in
+      let sp = m.limit + m.room in
+      let room = a.room in
+      let bottom = below_bottom w b.memory m.top.routine m.limit sp m.callers stays.below in
+      let top = below_top w b.memory m.top.routine m.limit sp m.callers stays.below in
+      let whole = answered_aligned w law m.top.routine (get_or b.registers 1 0) to landing _ a.back.end a.back.stands in
+      let small = whole.1 in
+      let count = a.count in
+      let h = heads w law b r sp m.limit (get_or b.registers 1 0) stays.sound a.exists a.there stays.sp stays.limit refl (omega arith) stays.sp_aligned stays.limit_aligned (omega arith) (omega arith) (omega arith) (λ v under early. subst (λ n. n < 2 ^ 32) (sym (a.in_registers v (omega arith) early)) (a.words v (omega arith))) in
+      record {
+        after = stored b h.registers (w.placing.block r 0) h.memory;
+        goes = record { stays = began_stays m b r vs to landing a h; ready = block_stands w r 0 law };
+        walk = h.walk;
+      }
+
+  -- ---- arguments
+
+  -- what is stored between the limit and sp leaves the rest
+  stays_scratch : (m : LowState) (b : State) (registers : List ℕ) (at a v : ℕ) → Stays w m b → length registers ≡ 32 → get_or registers 2 0 ≡ get_or b.registers 2 0 → get_or registers 8 0 ≡ get_or b.registers 8 0 → m.limit ≤ a → a + 4 ≤ m.limit + m.room → Stays w m (stored b registers at (with_bytes b.memory a (bytes_low_first 0 4 v)))
+  unfolding frame_of
+  stays_scratch m b registers at a v stays size sp limit from before =
+      let memory = with_bytes b.memory a (bytes_low_first 0 4 v) in
+      let bottom = below_bottom w b.memory m.top.routine m.limit (m.limit + m.room) m.callers stays.below in
+      let top = below_top w b.memory m.top.routine m.limit (m.limit + m.room) m.callers stays.below in
+      record {
+        sound = sound_stored w law b registers at a (bytes_low_first 0 4 v) stays.sound size (four-bounded v) (λ x lower upper. law.writable x (omega arith) (omega arith));
+        memory = λ x lower. with_bytes-below b.memory a (bytes_low_first 0 4 v) x (omega arith) ∙ stays.memory x lower;
+        input = stays.input;
+        input_bytes = stays.input_bytes;
+        output = stays.output;
+        errors = stays.errors;
+        limit = limit ∙ stays.limit;
+        sp = sp ∙ stays.sp;
+        limit_aligned = stays.limit_aligned;
+        sp_aligned = stays.sp_aligned;
+        holds = λ r within. word_at-same b.memory memory (place_of (routine_in w m.top.routine) (m.limit + m.room) r) (λ x lower upper. with_bytes-above b.memory a (bytes_low_first 0 4 v) x (omega arith)) ∙ stays.holds r within;
+        below = below_same w b.memory memory m.top.routine m.limit (m.limit + m.room) m.callers (λ x upper. with_bytes-above b.memory a (bytes_low_first 0 4 v) x (omega arith)) stays.below;
+      }
+
+  argument_place : (sp k : ℕ) → 4 * k + 8 ≤ sp → sp < 2 ^ 32 → (sp + below ((4 * k + 8) % 2 ^ 32)) % 2 ^ 32 ≡ sp - (8 + 4 * k)
+  unfolding below
+  argument_place sp k under small = omega arith
+
+  -- one more argument
+  record PassesOne (m : LowState) (c : State) (k v at : ℕ) : Type 0 where
+    after : State
+    there : after.pc ≡ at
+    stays : Stays w m after
+    registers : (j : ℕ) → k < j → j < 8 → get_or after.registers (10 + j) 0 ≡ get_or c.registers (10 + j) 0
+    memory : (j : ℕ) → k < j → 4 * j + 8 ≤ m.limit + m.room → word_at after.memory (m.limit + m.room - (8 + 4 * j)) ≡ word_at c.memory (m.limit + m.room - (8 + 4 * j))
+    in_register : k < 8 → get_or after.registers (10 + k) 0 ≡ v
+    in_memory : 8 ≤ k → word_at after.memory (m.limit + m.room - (8 + 4 * k)) ≡ v
+    walk : Walk c after 0 6 []
+
+  passes_one : (m : LowState) (c : State) (k : ℕ) (r : VirtualRegister) (at : ℕ) (early : Bool) → nat_lt k 8 ≡ early → Stays w m c → r.0 < (routine_in w m.top.routine).registers → 4 * k + 8 ≤ m.room → Stands w.placing m.top.routine c.pc (cond early (fetch (routine_in w m.top.routine) (10 + k) r) (passed_in_memory (routine_in w m.top.routine) k r)) at → PassesOne m c k (value m r) at
+  unfolding passed_in_memory
+  passes_one m c k r at true test stays within room stands =
+      let early = ltb-true k 8 test in
+      let made = fetches w law m c (10 + k) r at stays within (omega arith) (omega arith) (omega arith) stands in
+      record {
+        after = placed c made.registers at;
+        there = refl;
+        stays = stays_placed w law m c made.registers at stays made.size (made.others 2 (omega arith) (omega arith)) (made.others 8 (omega arith) (omega arith));
+        registers = λ j later few. made.others (10 + j) (omega arith) (omega arith);
+        memory = λ j later fits. refl;
+        in_register = λ few. made.value_is;
+        in_memory = λ many. absurd (omega arith);
+        walk = walk_weaken c (placed c made.registers at) 1 3 0 6 [] (omega arith) (omega arith) made.walk;
+      }
+  passes_one m c k r at false test stays within room stands =
+      let late : 8 ≤ k = grind (arith, nat_tests) in
+      let routine = routine_in w m.top.routine in
+      let sp = m.limit + m.room in
+      let low = law.low_top in
+      let bottom = below_bottom w c.memory m.top.routine m.limit sp m.callers stays.below in
+      let top = below_top w c.memory m.top.routine m.limit sp m.callers stays.below in
+      let whole = stays.sp_aligned in
+      let parts = split w.placing m.top.routine c.pc (fetch routine 10 r) _ at stands in
+      let made = fetches w law m c 10 r parts.middle stays within (omega arith) (omega arith) (omega arith) parts.first in
+      let d = placed c made.registers parts.middle in
+      let sound_d = sound_placed w law c made.registers parts.middle stays.sound made.size in
+      let a = sp - (8 + 4 * k) in
+      let word = below ((4 * k + 8) % 2 ^ 32) in
+      let sp_d : get_or made.registers 2 0 ≡ sp = made.others 2 (omega arith) (omega arith) ∙ stays.sp in
+      let place = ap (λ n. (n + word) % 2 ^ 32) sp_d ∙ argument_place sp k (omega arith) (omega arith) in
+      let put = stores w law d m.top.routine 10 2 1 word at a sound_d (omega arith) (omega arith) (omega arith) (omega arith) (omega arith) (omega arith) (down-bounded ((4 * k + 8) % 2 ^ 32)) place (omega arith) (λ x lower upper. law.writable x (omega arith) (omega arith)) parts.second in
+      let x = get_or made.registers 10 0 in
+      let after = stored c put.registers at (with_bytes c.memory a (bytes_low_first 0 4 x)) in
+      let x_small : x < 2 ^ 32 = subst (λ n. n < 2 ^ 32) (sym made.value_is) (value-bounded w law m c r stays within) in
+      record {
+        after = after;
+        there = refl;
+        stays = stays_scratch m c put.registers at a x stays put.size (put.others 2 (omega arith) ∙ made.others 2 (omega arith) (omega arith)) (put.others 8 (omega arith) ∙ made.others 8 (omega arith) (omega arith)) (omega arith) (omega arith);
+        registers = λ j later few. absurd (omega arith);
+        memory = λ j later fits. word_at-same c.memory after.memory (sp - (8 + 4 * j)) (λ y lower upper. with_bytes-outside c.memory a (bytes_low_first 0 4 x) y (λ l u. absurd (omega arith)));
+        in_register = λ few. absurd (omega arith);
+        in_memory = λ many. word_at-stored c.memory a x x_small ∙ made.value_is;
+        walk = walk_weaken c after 2 6 0 6 [] (omega arith) (omega arith) (walk_join c d after 1 3 1 3 [] [] made.walk put.walk);
+      }
+
+  passes : (m : LowState) (b : State) (k : ℕ) (rs : List VirtualRegister) (at : ℕ) → Stays w m b → list_all (has (routine_in w m.top.routine)) rs ≡ true → 4 * (k + length rs) + 4 ≤ m.room → Stands w.placing m.top.routine b.pc (passed (routine_in w m.top.routine) k rs) at → Passes w m b k (values m rs) at
+  unfolding passed passed_one
+  passes m b k [] at stays all room stands =
+      record {
+        after = b;
+        there = nothing_more w.placing m.top.routine b.pc at stands;
+        stays = stays;
+        in_registers = λ i within few. absurd (omega arith);
+        in_memory = λ i within many. absurd (omega arith);
+        walk = walk_none b;
+      }
+  passes m b k (r ∷ rs) at stays all room stands =
+      let g = w.placing in
+      let routine = routine_in w m.top.routine in
+      let parts = split g m.top.routine b.pc (passed routine (k + 1) rs) (passed_one routine k r) at stands in
+      let rest = passes m b (k + 1) rs parts.middle stays (both_right (has routine r) _ all) (omega arith) parts.first in
+      let one = passes_one m rest.after k r at (nat_lt k 8) refl rest.stays (inside w law m r (both_left (has routine r) _ all)) (omega arith) (subst (λ n. Stands g m.top.routine n (passed_one routine k r) at) (sym rest.there) parts.second) in
+      let long : length (values m rs) ≡ length rs = length-map rs (value m) in
+      record {
+        after = one.after;
+        there = one.there;
+        stays = one.stays;
+        in_registers = in_registers m k r rs at rest one;
+        in_memory = in_memory m k r rs at (omega arith) rest one;
+        walk = walk_weaken b one.after 0 (6 * length (values m rs) + 6) 0 (6 * suc (length (values m rs))) [] (omega arith) (omega arith) (walk_join b rest.after one.after 0 (6 * length (values m rs)) 0 6 [] [] rest.walk one.walk);
+      }
+    where
+      in_registers : (m : LowState) (k : ℕ) (r : VirtualRegister) (rs : List VirtualRegister) (at : ℕ) {middle : ℕ} {b : State} (rest : Passes w m b (k + 1) (values m rs) middle) → (one : PassesOne m rest.after k (value m r) at) → (i : ℕ) → i < suc (length (values m rs)) → k + i < 8 → get_or one.after.registers (10 + (k + i)) 0 ≡ get_or (value m r ∷ values m rs) i 0
+      in_registers m k r rs at rest one zero within few =
+          let same : k + 0 ≡ k = omega arith in
+          ap (λ n. get_or one.after.registers (10 + n) 0) same ∙ one.in_register (omega arith)
+      in_registers m k r rs at rest one (suc i) within few =
+          let same : k + suc i ≡ k + 1 + i = omega arith in
+          one.registers (k + suc i) (omega arith) few ∙ ap (λ n. get_or rest.after.registers (10 + n) 0) same ∙ rest.in_registers i (omega arith) (omega arith)
+      in_memory : (m : LowState) (k : ℕ) (r : VirtualRegister) (rs : List VirtualRegister) (at : ℕ) {middle : ℕ} {b : State} → 4 * (k + suc (length (values m rs))) + 4 ≤ m.limit + m.room → (rest : Passes w m b (k + 1) (values m rs) middle) → (one : PassesOne m rest.after k (value m r) at) → (i : ℕ) → i < suc (length (values m rs)) → 8 ≤ k + i → word_at one.after.memory (m.limit + m.room - (8 + 4 * (k + i))) ≡ get_or (value m r ∷ values m rs) i 0
+      in_memory m k r rs at room rest one zero within many =
+          let same : k + 0 ≡ k = omega arith in
+          ap (λ n. word_at one.after.memory (m.limit + m.room - (8 + 4 * n))) same ∙ one.in_memory (omega arith)
+      in_memory m k r rs at room rest one (suc i) within many =
+          let same : k + suc i ≡ k + 1 + i = omega arith in
+          one.memory (k + suc i) (omega arith) (omega arith) ∙ ap (λ n. word_at rest.after.memory (m.limit + m.room - (8 + 4 * n))) same ∙ rest.in_memory i (omega arith) (omega arith)

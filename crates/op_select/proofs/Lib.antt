@@ -1,0 +1,15 @@
+mod CallSteps
+mod ClearLemmas
+mod ControlSteps
+mod EnterLemmas
+mod FrameLemmas
+mod HeadLemmas
+mod Loops
+mod OperationLemmas
+mod OutsideSteps
+mod ReturnSteps
+mod SequenceLemmas
+mod TransferLemmas
+mod ValueSteps
+mod Walks
+mod WordLemmas

@@ -1,0 +1,6 @@
+pub mod Frames
+pub mod RiscvMachine
+pub mod Going
+pub mod Placing
+pub mod Selection
+pub mod Sequences

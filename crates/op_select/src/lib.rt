@@ -1,0 +1,20 @@
+//! Selection: from low code to objects, the instructions of the machine that have no addresses yet.
+//!
+//! Each instruction of low code becomes a list of items, on its own. A virtual register is kept in its home, a word of the
+//! frame that its routine has on the stack; a0 and a1 have operands on their way, and ra is free between two items. sp is
+//! the lowest address of the frame, and s0 the first address above what low code may use. `select` gives exactly the items
+//! that `specs/Selection.antt` lists.
+#![tactic(auto)]
+
+mod call;
+mod frame;
+mod instruction;
+mod registers;
+mod routine;
+mod sequence;
+
+pub use frame::Home;
+pub use routine::select;
+
+#[cfg(test)]
+mod tests;

@@ -1,0 +1,113 @@
+//! Programs, routines and blocks.
+ghost use Rattle.std.specs.Prelude.{◌≡◌, ◌≤◌, ◌^◌, ◌∷◌, ◌++◌, [], IfOk, IsTrue, map, true};
+ghost use Rattle.std.specs.List.{list_all};
+ghost use Rattle.op_low.specs.Valid.{is_valid, is_valid_routine};
+ghost use Rattle.op_select.specs.Selection.{code_items, items_of, object_block_of, object_routine_of, select_of};
+ghost use Rattle.op_low.specs.declared.instruction.Instruction.{Instruction};
+
+use crate::frame::push_head;
+use crate::instruction::{push_code, push_raise};
+use op_base::{NoMemory, Sequence};
+use op_low::{Block, Low, Routine};
+use op_rv::{GlobalVariable, ObjectBlock, ObjectRoutine, Objects};
+use std::alloc::Global;
+
+/// The objects of a program in low code: for each routine its head, its blocks and a block that raises. `NoMemory` comes
+/// only where the allocator has no room.
+#[tactic(auto, unfolding(crate::specs::Selection::select_of))]
+pub fn select(alloc: Global, low: &Low) -> Result<Objects, NoMemory>
+    requires { IsTrue (is_valid low.now) }
+    ensures { IfOk result (λ o. o ≡ select_of low.now) }
+{
+    let routines = object_routines(alloc, low)?;
+    let globals = copied_globals(alloc, low.globals.as_slice())?;
+    Ok(Objects {
+        routines: Sequence::from(routines),
+        entry: low.entry,
+        globals: Sequence::from(globals),
+    })
+}
+
+fn object_routines(alloc: Global, low: &Low) -> Result<Vec<ObjectRoutine>, NoMemory>
+    requires { IsTrue (is_valid low.now) }
+    ensures { IfOk result (λ routines. routines.items ≡ map object_routine_of low.now.routines) }
+{
+    let mut routines = Vec::new(alloc);
+    for routine in low.routines.as_slice() {
+        routines.push(object_routine(alloc, routine)?)?;
+    }
+    Ok(routines)
+}
+
+#[tactic(auto, unfolding(crate::specs::Selection::object_routine_of))]
+fn object_routine(alloc: Global, routine: &Routine) -> Result<ObjectRoutine, NoMemory>
+    requires { routine.now.registers ≤ 2 ^ 20 }
+    ensures { IfOk result (λ o. o ≡ object_routine_of routine.now) }
+{
+    let mut head = Vec::new(alloc);
+    push_head(&mut head, routine)?;
+    let mut blocks = object_blocks(alloc, routine)?;
+    blocks.push(raise_stub(alloc, routine)?)?;
+    Ok(ObjectRoutine {
+        head: Sequence::from(head),
+        blocks: Sequence::from(blocks),
+    })
+}
+
+fn object_blocks(alloc: Global, routine: &Routine) -> Result<Vec<ObjectBlock>, NoMemory>
+    requires { routine.now.registers ≤ 2 ^ 20 }
+    ensures { IfOk result (λ blocks. blocks.items ≡ map (object_block_of routine.now) routine.now.blocks) }
+{
+    let mut blocks = Vec::new(alloc);
+    for block in routine.blocks.as_slice() {
+        blocks.push(object_block(alloc, routine, block)?)?;
+    }
+    Ok(blocks)
+}
+
+#[tactic(auto, unfolding(crate::specs::Selection::object_block_of))]
+fn object_block(alloc: Global, routine: &Routine, block: &Block) -> Result<ObjectBlock, NoMemory>
+    requires { routine.now.registers ≤ 2 ^ 20 }
+    ensures { IfOk result (λ o. o ≡ object_block_of routine.now block.now) }
+{
+    let mut items = Vec::new(alloc);
+    push_code(&mut items, routine, block.code.as_slice())?;
+    Ok(ObjectBlock {
+        items: Sequence::from(items),
+    })
+}
+
+/// The block that raises, for the calls with no landing.
+fn raise_stub(alloc: Global, routine: &Routine) -> Result<ObjectBlock, NoMemory>
+    requires { routine.now.registers ≤ 2 ^ 20 }
+    ensures { IfOk result (λ o. o ≡ record { items = items_of routine.now Instruction.Raise }) }
+{
+    let mut items = Vec::new(alloc);
+    push_raise(&mut items, routine)?;
+    Ok(ObjectBlock {
+        items: Sequence::from(items),
+    })
+}
+
+fn copied_globals(
+    alloc: Global,
+    globals: &[GlobalVariable],
+) -> Result<Vec<GlobalVariable>, NoMemory>
+    ensures { IfOk result (λ copies. copies.items ≡ globals.now) }
+{
+    let mut copies = Vec::new(alloc);
+    for global in globals {
+        copies.push(copied_global(alloc, global)?)?;
+    }
+    Ok(copies)
+}
+
+fn copied_global(alloc: Global, global: &GlobalVariable) -> Result<GlobalVariable, NoMemory>
+    ensures { IfOk result (λ copy. copy ≡ global.now) }
+{
+    let initial = Vec::from_slice(alloc, global.initial.as_slice())?;
+    Ok(GlobalVariable {
+        initial: Sequence::from(initial),
+        zeros: global.zeros,
+    })
+}
