@@ -1,2 +1,9 @@
+pub mod Distances
+pub mod Growth
 pub mod Headers
+pub mod Linked
+pub mod Longest
+pub mod Parts
+pub mod Settled
 pub mod Whole
+pub mod Written

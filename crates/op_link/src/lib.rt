@@ -4,12 +4,31 @@
 //! file says of its entry and its segments. It takes no memory.
 #![tactic(auto)]
 
+mod addresses;
+mod code;
 mod conditions;
+mod count;
+mod elf;
+mod globals;
+mod items;
+mod linker;
+mod memory_map;
+mod place;
+mod reach;
 mod reader;
 mod table;
+mod writer;
 
+pub use addresses::Addresses;
+pub use code::CodeError;
+pub use linker::{LinkError, link};
+pub use memory_map::{Settings, Sizes};
+pub use place::{Placement, RoutinePlace, Spot};
+pub use reach::Reach;
 pub use reader::{Header, read_header, segment};
 pub use table::Segment;
 
+#[cfg(test)]
+mod link_tests;
 #[cfg(test)]
 mod tests;

@@ -1,0 +1,6 @@
+use Rattle.std.proofs.Common.{◌≡◌, ◌++◌, take}
+use Rattle.op_link.specs.Linking.{words}
+use Rattle.op_link.proofs.elf.push_words.Given as goal
+
+abbrev pub invariant-loop-field : goal.invariant-loop-field
+invariant-loop-field l = l.image.items ≡ l.fn.image.items ++ words (take l.field-index l.fields)
