@@ -7,6 +7,7 @@ use Rattle.op_base.specs.declared.place.Place.{Place}
 use Rattle.op_base.specs.declared.rule.Rule.{Rule}
 use Rattle.op_tool.specs.ConstantLines.{IsConstantLines}
 use Rattle.op_tool.specs.Compiles.{FailsAs, IsOtherText, IsRefused, RefusesBy, file_missing, not_built_yet}
+use Rattle.op_tool.specs.Owes.{HasText}
 use Rattle.op_tool.specs.declared.compiler.CompileError.{CompileError}
 use Rattle.op_tool.specs.declared.compiler.CompileError.TheVariants.{Refused, ReadFault, Limit, NoMemory}
 
@@ -31,3 +32,9 @@ refused_text stored name rule place (at, inr (is, why)) = subst (λ r. IsSome (t
 pub file_missing_text : IsSome (text_of_rule file_missing)
 unfolding text_of_rule text_of_feature
 file_missing_text = refl
+
+pub has_text : (stored : Option (List NamedFile)) (name : List ℕ) (before after : ℕ) (error : CompileError) → FailsAs stored name before after error → HasText error
+has_text stored name before after (Refused refusal file) (is_file, refused) = refused_text stored name refusal.rule refusal.place refused
+has_text stored name before after ReadFault rose = tt {0}
+has_text stored name before after Limit never = tt {0}
+has_text stored name before after NoMemory free = tt {0}

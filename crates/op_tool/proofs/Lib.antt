@@ -1,6 +1,7 @@
 pub mod After
 pub mod Compiling
 pub mod Executing
+pub mod Failing
 pub mod Grows
 pub mod ImageLoads
 pub mod ImageRuns

@@ -2,7 +2,7 @@
 use Rattle.std.proofs.Common.{◌≡◌, ◌≢◌, ℕ, ◌≤◌, inl, inr, Option, Some, None, List, [], ◌++◌, codes, decimal, false, refl, ap, sym, ◌∙◌, subst, arith, append_assoc}
 use Rattle.std.proofs.lemmas.List.{append-nil}
 use Rattle.op_base.specs.Outside.{appended, preceded, AppendsFront, Rose}
-use Rattle.op_emu.specs.Acts.{Streams, Faults, streams, faults}
+use Rattle.op_emu.specs.Acts.{OutputFailed, Streams, Faults, streams, faults}
 use Rattle.op_base.specs.declared.rule.Refusal.{Refusal}
 use Rattle.op_tool.specs.Effects.{Effect, effect, OnlyReports, ReportIs, Says, WouldWrite, WritesAll, line}
 use Rattle.op_tool.specs.Owes.{OnlyRefuses, Reports, ReportsBadImage, ReportsRefusal}
@@ -181,3 +181,32 @@ says_refused owed name file refusal answer i o e e' r r' n c c' is_file owes owe
     says_report owed (Refused refusal.rule refusal.place) answer bytes i o e e' r r' n c c' (λ same. cc) (λ input. owes (effect 0 input input [] bytes) (bytes, subst (λ f. Reports f refusal.place refusal.rule bytes) is_file reports, (refl, refl, refl))) is
 says_refused owed name file refusal answer i o e e' r r' n c c' is_file owes owes_no_memory (inr is) =
     says_no_memory owed answer i o e e' r r' n c c' owes_no_memory is
+
+-- nothing was read, and these bytes were written to the output, or a front of them
+pub says_written : (owed : Finish → Effect → Type 0) (finish : Finish) (bytes : List ℕ) (i o o' e : Option (List ℕ)) (counts : Faults) → finish ≢ WriteFault → ((input : List ℕ) → owed finish (effect 0 input input bytes [])) → o' ≡ appended o bytes → Says owed finish (streams i i o o' e e) counts
+says_written owed finish bytes i o o' e counts other owes all =
+    says_all owed finish (streams i i o o' e e) counts other (record {
+      intake = record { taken = []; ended = false; parts = sym (none_preceded i); exhausted = λ ended. cc };
+      steps = 0;
+      out = bytes;
+      err = [];
+      is_owed = λ left may. owes left;
+      output = all;
+      errors = nothing_appended e;
+    })
+
+pub says_written_in_part : (owed : Finish → Effect → Type 0) (finish : Finish) (bytes : List ℕ) (i o o' e : Option (List ℕ)) (counts : Faults) → ((input : List ℕ) → owed finish (effect 0 input input bytes [])) → AppendsFront o bytes o' → OutputFailed counts → Says owed WriteFault (streams i i o o' e e) counts
+unfolding Says
+says_written_in_part owed finish bytes i o o' e counts owes front failed =
+    record {
+      intake = record { taken = []; ended = false; parts = sym (none_preceded i); exhausted = λ ended. cc };
+      would = λ left may. record {
+        finish = finish;
+        done = effect 0 left left bytes [];
+        is_owed = owes left;
+        over = refl;
+        output = front;
+        errors = nothing_in_front e [];
+      };
+      failed = failed;
+    }

@@ -1,5 +1,5 @@
 -- What each answer of the tool owes, command by command: its cause, and what it writes.
-use Rattle.std.specs.Prelude.{◌≡◌, ℕ, ◌<◌, ◌⊎◌, Option, Some, List, [], ◌++◌, codes, decimal, length, IfSome, IsSomeAnd}
+use Rattle.std.specs.Prelude.{◌≡◌, ℕ, ◌<◌, ◌⊎◌, Option, Some, List, [], ◌++◌, codes, decimal, length, IfSome, IsSome, IsSomeAnd}
 use Rattle.op_base.specs.FileAnswer.{file_named}
 use Rattle.op_base.specs.Outside.{Rose}
 use Rattle.op_base.specs.Rule.{text_of_rule}
@@ -7,10 +7,12 @@ use Rattle.op_base.specs.declared.files.NamedFile.{NamedFile}
 use Rattle.op_base.specs.declared.place.Place.{Place}
 use Rattle.op_base.specs.declared.rule.Refusal.{Refusal}
 use Rattle.op_base.specs.declared.rule.Rule.{Rule}
-use Rattle.op_tool.specs.Command.{IsExec, IsRun, IsNoCommand}
+use Rattle.op_tool.specs.Command.{IsBuild, IsExec, IsRun, IsNoCommand}
 use Rattle.op_tool.specs.Compiles.{Compiles, IsMissing, IsRefused, file_missing, main_start}
 use Rattle.op_tool.specs.Effects.{Effect, OnlyReports, ReportIs, line}
 use Rattle.op_tool.specs.ImageRun.{OwesImage}
+use Rattle.op_tool.specs.declared.compiler.CompileError.{CompileError}
+use Rattle.op_tool.specs.declared.compiler.CompileError.TheVariants as errors
 use Rattle.op_tool.specs.declared.finish.Finish.{Finish}
 use Rattle.op_tool.specs.declared.finish.Finish.TheVariants.{Ended, Usage, Refused, ReadFault, WriteFault, Spent, NoMemory, BadImage, Faulted, Limit}
 
@@ -46,6 +48,22 @@ ReportsRefusal file refusal answer before after count count' =
     ((bytes : List ℕ) × Reports file refusal.place refusal.rule bytes × ReportIs (Refused refusal.rule refusal.place) bytes answer before after count count')
     ⊎ ReportIs NoMemory (line (codes "opc: out of memory")) answer before after count count'
 
+-- the line of an error in compiling
+abbrev pub ReportsError : CompileError → Finish → Option (List ℕ) → Option (List ℕ) → ℕ → ℕ → Type 0
+ReportsError (errors.Refused refusal file) answer before after count count' =
+    ReportsRefusal file refusal answer before after count count'
+ReportsError errors.ReadFault answer before after count count' =
+    ReportIs ReadFault (line (codes "opc: read fault")) answer before after count count'
+ReportsError errors.Limit answer before after count count' =
+    ReportIs Limit (line (codes "opc: image too large")) answer before after count count'
+ReportsError errors.NoMemory answer before after count count' =
+    ReportIs NoMemory (line (codes "opc: out of memory")) answer before after count count'
+
+-- a refusal has a text
+abbrev pub HasText : CompileError → Type 0
+HasText (errors.Refused refusal file) = IsSome (text_of_rule refusal.rule)
+HasText _ = Unit {0}
+
 -- the line of the condition that an image fails first, unless there is no room for it
 abbrev pub ReportsBadImage : ℕ → Finish → Option (List ℕ) → Option (List ℕ) → ℕ → ℕ → Type 0
 ReportsBadImage condition answer before after count count' =
@@ -57,20 +75,25 @@ abbrev pub OnlyFailsToRead : Call → Effect → Type 0
 OnlyFailsToRead now done =
     Rose now.file_faults_before now.file_faults_after × OnlyReports (line (codes "opc: read fault")) done
 
+-- a file of this name that is not compiled
+abbrev pub OwesError : Call → List ℕ → Finish → Effect → Type 0
+OwesError now name (Refused rule place) done =
+    IsRefused now.stored name rule place × (now.image ≡ []) × OnlyRefuses name place rule done
+OwesError now name ReadFault done = (now.image ≡ []) × OnlyFailsToRead now done
+OwesError now name NoMemory done = OnlyReports (line (codes "opc: out of memory")) done
+OwesError now name _ done = ⊥
+
 -- `exec` of the file of this name
 abbrev pub OwesExec : Call → List ℕ → Finish → Effect → Type 0
 OwesExec now name (Ended status) done =
     (status ≡ 0) × Compiles now.stored name now.image done.out × (done.err ≡ []) × (done.left ≡ done.input)
-OwesExec now name (Refused rule place) done =
-    IsRefused now.stored name rule place × (now.image ≡ []) × OnlyRefuses name place rule done
-OwesExec now name ReadFault done = (now.image ≡ []) × OnlyFailsToRead now done
-OwesExec now name NoMemory done = OnlyReports (line (codes "opc: out of memory")) done
-OwesExec now name Usage done = ⊥
-OwesExec now name WriteFault done = ⊥
-OwesExec now name Spent done = ⊥
-OwesExec now name (BadImage condition) done = ⊥
-OwesExec now name (Faulted kind pc) done = ⊥
-OwesExec now name Limit done = ⊥
+OwesExec now name answer done = OwesError now name answer done
+
+-- `build` of the file of this name
+abbrev pub OwesBuild : Call → List ℕ → Finish → Effect → Type 0
+OwesBuild now name (Ended status) done =
+    (status ≡ 0) × (text : List ℕ) × Compiles now.stored name now.image text × (done.out ≡ now.image) × (done.err ≡ []) × (done.left ≡ done.input)
+OwesBuild now name answer done = OwesError now name answer done
 
 -- these are the bytes of the file of this name
 abbrev pub IsFile : Option (List NamedFile) → List ℕ → List ℕ → Type 0
@@ -108,5 +131,6 @@ OwesUsage finish done = ⊥
 -- each answer with its cause, by the command that the words are
 pub data Owes (now : Call) (finish : Finish) (done : Effect) : Type 0 where
   by_exec : (name : List ℕ) → IsExec now.words name → OwesExec now name finish done → Owes now finish done
+  by_build : (name : List ℕ) → IsBuild now.words name → OwesBuild now name finish done → Owes now finish done
   by_run : (name : List ℕ) → IsRun now.words name → OwesRun now name finish done → Owes now finish done
   by_none : IsNoCommand now.words → (now.image ≡ []) → OwesUsage finish done → Owes now finish done

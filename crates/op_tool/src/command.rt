@@ -1,12 +1,14 @@
 //! The words of the command line.
 ghost use Rattle.std.specs.Prelude.{◌≡◌, ℕ, List, map, string_bytes, MatchOption};
-ghost use Rattle.op_tool.specs.Command.{is_name, is_source_name, IsCommand, IsExec, IsNoCommand, IsRun};
+ghost use Rattle.op_tool.specs.Command.{is_name, is_source_name, IsBuild, IsCommand, IsExec, IsNoCommand, IsRun};
 
 /// A command with its operand.
 #[derive(Clone, Copy)]
 pub(crate) enum Command<'a> {
     /// Compiles the program in this file and runs it.
     Exec(&'a str),
+    /// Compiles the program in this file and writes its image.
+    Build(&'a str),
     /// Runs the image in this file.
     Run(&'a str),
 }
@@ -38,6 +40,18 @@ fn exec_file(words: &[String]) -> Option<&str>
     }
 }
 
+/// The file of the words `build FILE`, if they are so.
+fn build_file(words: &[String]) -> Option<&str>
+    ensures { MatchOption result ((name : List ℕ) → IsBuild (map string_bytes words.now) name → ⊥) (λ name. IsBuild (map string_bytes words.now) name.now) }
+{
+    match words {
+        [command, file] if command.as_str() == "build" && is_source_name(file.as_str()) => {
+            Some(file.as_str())
+        }
+        _ => None,
+    }
+}
+
 /// The image of the words `run IMAGE`, if they are so.
 fn run_name(words: &[String]) -> Option<&str>
     ensures { MatchOption result ((name : List ℕ) → IsRun (map string_bytes words.now) name → ⊥) (λ name. IsRun (map string_bytes words.now) name.now) }
@@ -56,6 +70,9 @@ pub(crate) fn command_of(words: &[String]) -> Option<Command<'_>>
 {
     match exec_file(words) {
         Some(file) => Some(Command::Exec(file)),
-        None => run_name(words).map(Command::Run),
+        None => match build_file(words) {
+            Some(file) => Some(Command::Build(file)),
+            None => run_name(words).map(Command::Run),
+        },
     }
 }

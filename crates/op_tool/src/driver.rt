@@ -1,15 +1,15 @@
 //! The call that the program `opc` makes.
-ghost use Rattle.std.specs.Prelude.{◌≡◌, ◌≤◌, List, ℕ, [], map, string_bytes};
+ghost use Rattle.std.specs.Prelude.{◌≡◌, ◌≤◌, List, Option, ℕ, [], map, string_bytes};
 ghost use Rattle.op_emu.specs.Acts.{streams, faults, Rises};
 ghost use Rattle.op_tool.specs.Effects.{Says};
-ghost use Rattle.op_tool.specs.Owes.{call, Owes, OwesExec, OwesRun};
+ghost use Rattle.op_tool.specs.Owes.{call, Owes, OwesBuild, OwesExec, OwesRun};
 
 use crate::command::{Command, command_of};
 use crate::compiler::MAIN_START;
 use crate::image_run::run_image;
-use crate::report::{report, report_bad_image, report_no_memory, report_refusal};
-use crate::{CompileError, Finish, compile};
-use op_base::{FILE_MISSING, FileAnswer, Files, NoMemory, Refusal, Sink, Source};
+use crate::report::{report, report_bad_image, report_error, report_no_memory, report_refusal};
+use crate::{Finish, compile};
+use op_base::{FILE_MISSING, FileAnswer, Files, NoMemory, Put, Refusal, Sink, Source};
 use std::alloc::Global;
 
 /// The most bytes that an image may have.
@@ -39,12 +39,37 @@ fn exec<F: Files, R: Source, W: Sink, E: Sink>(
             *image = made;
             run_image(alloc, image.as_slice(), input, out, err)
         }
-        Err(CompileError::Refused(refusal, file)) => {
-            report_refusal(alloc, file.as_slice(), refusal, err)
+        Err(error) => report_error(alloc, error, err),
+    }
+}
+
+/// Compiles a file and writes its image.
+fn build<F: Files, W: Sink, E: Sink>(
+    alloc: Global,
+    file: &str,
+    files: &mut F,
+    out: &mut W,
+    err: &mut E,
+    image: &mut Vec<u8>,
+) -> Finish
+    requires { image.old.items ≡ [] }
+    ensures says { (words : List (List ℕ)) (left : Option (List ℕ)) (count : ℕ) →
+        Says (OwesBuild (call words (F.stored files.old) (F.faults files.old) (F.faults files.new) image.new.items) file.now) result
+        (streams left left (W.written out.old) (W.written out.new) (E.written err.old) (E.written err.new))
+        (faults count count (W.faults out.old) (W.faults out.new) (E.faults err.old) (E.faults err.new)) }
+    ensures counts { (W.faults out.old ≤ W.faults out.new) × (E.faults err.old ≤ E.faults err.new) }
+    ensures file_counts { F.faults files.old ≤ F.faults files.new }
+    ensures unchanged { F.stored files.new ≡ F.stored files.old }
+{
+    match compile(alloc, files, file) {
+        Ok(made) => {
+            *image = made;
+            match out.put(image.as_slice()) {
+                Put::Done => Finish::Ended(0),
+                Put::Failed => Finish::WriteFault,
+            }
         }
-        Err(CompileError::ReadFault) => report(err, b"opc: read fault\n", Finish::ReadFault),
-        Err(CompileError::Limit) => unreachable!(),
-        Err(CompileError::NoMemory) => report_no_memory(err),
+        Err(error) => report_error(alloc, error, err),
     }
 }
 
@@ -87,7 +112,7 @@ fn run<F: Files, R: Source, W: Sink, E: Sink>(
 }
 
 /// Does what the words after the program's name say. `exec FILE` compiles the program in the file, whose name ends in
-/// `.pas`, and runs it; `run IMAGE` runs the image in the file. What the program writes goes to `out` and `err`, and it
+/// `.pas`, and runs it; `build FILE` compiles it and writes the image to `out`; `run IMAGE` runs the image in the file. What the program writes goes to `out` and `err`, and it
 /// reads from `input`. All other words are `Usage`.
 ///
 /// An answer but `Ended` and `WriteFault` writes one line to `err` as its last act. `image` gets the image that was made
@@ -111,6 +136,7 @@ pub fn tool<F: Files, R: Source, W: Sink, E: Sink>(
     image.clear();
     match command_of(words) {
         Some(Command::Exec(file)) => exec(alloc, file, files, input, out, err, image),
+        Some(Command::Build(file)) => build(alloc, file, files, out, err, image),
         Some(Command::Run(name)) => run(alloc, name, files, input, out, err, image),
         None => report(err, b"opc: bad command line\n", Finish::Usage),
     }

@@ -4,9 +4,9 @@ ghost use Rattle.op_base.specs.Rule.{text_of_rule};
 ghost use Rattle.op_rv.specs.declared.fault.FaultKind.{FaultKind};
 ghost use Rattle.op_tool.specs.Effects.{line, ReportIs};
 ghost use Rattle.op_tool.specs.ImageRun.{eight_digits, fault_front, fault_line, hex_digit};
-ghost use Rattle.op_tool.specs.Owes.{Reports, ReportsBadImage, ReportsRefusal};
+ghost use Rattle.op_tool.specs.Owes.{HasText, Reports, ReportsBadImage, ReportsError, ReportsRefusal};
 
-use crate::Finish;
+use crate::{CompileError, Finish};
 use op_base::{NoMemory, Put, Refusal, Sink, rule_text};
 use op_emu::FaultKind;
 use std::alloc::Global;
@@ -57,6 +57,22 @@ pub(crate) fn report_refusal<E: Sink>(
             Finish::Refused(refusal.rule, refusal.place),
         ),
         Err(NoMemory) => report_no_memory(err),
+    }
+}
+
+/// Writes the line of an error in compiling.
+pub(crate) fn report_error<E: Sink>(alloc: Global, error: CompileError, err: &mut E) -> Finish
+    requires { HasText error }
+    ensures says { ReportsError error result (E.written err.old) (E.written err.new) (E.faults err.old) (E.faults err.new) }
+    ensures counts { E.faults err.old ≤ E.faults err.new }
+{
+    match error {
+        CompileError::Refused(refusal, file) => {
+            report_refusal(alloc, file.as_slice(), refusal, err)
+        }
+        CompileError::ReadFault => report(err, b"opc: read fault\n", Finish::ReadFault),
+        CompileError::Limit => report(err, b"opc: image too large\n", Finish::Limit),
+        CompileError::NoMemory => report_no_memory(err),
     }
 }
 

@@ -129,6 +129,7 @@ fn other_words_are_usage(rt: HostRuntime) -> Result<(), Fail> {
         &["exec", "-a.pas"][..],
         &["exec", "a.pas", "b.pas"][..],
         &["Exec", "h.pas"][..],
+        &["build", "a.txt"][..],
         &["run"][..],
         &["run", ""][..],
         &["run", "-i"][..],
@@ -357,5 +358,23 @@ fn bad_images_are_told_by_their_condition(rt: HostRuntime) -> Result<(), Fail> {
         missing.err.bytes(),
         b"opc: j:1:1: V10 file missing\n".as_slice()
     );
+    Ok(())
+}
+
+#[test]
+fn built_images_are_written(rt: HostRuntime) -> Result<(), Fail> {
+    let built = say(rt.alloc(), &["build", "h.pas"], narrow(4096))?;
+    assert!(rt; built.finish == Finish::Ended(0));
+    assert_eq!(rt; built.out.bytes(), built.image.as_slice());
+    assert_eq!(rt; built.err.bytes(), b"".as_slice());
+    let said = call(rt.alloc(), &["run", "i"], built.out.bytes(), SOUND)?;
+    assert!(rt; said.finish == Finish::Ended(0));
+    assert_eq!(rt; said.out.bytes(), b"Hello\n".as_slice());
+    let part = say(rt.alloc(), &["build", "h.pas"], narrow(4))?;
+    assert!(rt; part.finish == Finish::WriteFault);
+    assert_eq!(rt; part.out.bytes(), b"\x7fELF".as_slice());
+    let refused = say(rt.alloc(), &["build", "a.pas"], SOUND)?;
+    assert_eq!(rt; status(&refused.finish), 121);
+    assert_eq!(rt; refused.out.bytes(), b"".as_slice());
     Ok(())
 }

@@ -1,7 +1,7 @@
 use Rattle.std.proofs.Common.{codes, map, refl, string_bytes, subst}
 use Rattle.op_tool.specs.Command.{IsCommand}
 use Rattle.op_tool.specs.Effects.{line}
-use Rattle.op_tool.specs.Owes.{Owes, OwesExec, OwesRun, call}
+use Rattle.op_tool.specs.Owes.{Owes, OwesBuild, OwesExec, OwesRun, call}
 use Rattle.op_tool.specs.declared.finish.Finish.TheVariants as finish
 use Rattle.op_tool.proofs.Saying.{says_also, says_report}
 use Rattle.op_tool.proofs.driver.tool.Goals as goal
@@ -12,6 +12,13 @@ returns-in-Some-Exec-clause-says g c =
     let is = subst (IsCommand words) c.in-Some-Exec.field-0-is c.in-Some-Exec.ensures in
     let now = call words (g.F.Files.stored c.args.files.now) (g.F.Files.faults c.args.files.now) (g.F.Files.faults c.exec.new.files) c.exec.new.image.items in
     says_also (OwesExec now c.in-Some-Exec.file.now) (Owes now) c.exec.result _ _ (λ answer done owes. Owes.by_exec c.in-Some-Exec.file.now is owes) (c.exec.ensures.says words)
+
+pub returns-in-Some-Build-clause-says : goal.returns-in-Some-Build-clause-says
+returns-in-Some-Build-clause-says g c =
+    let words = map string_bytes c.args.words.now in
+    let is = subst (IsCommand words) c.in-Some-Build.field-0-is c.in-Some-Build.ensures in
+    let now = call words (g.F.Files.stored c.args.files.now) (g.F.Files.faults c.args.files.now) (g.F.Files.faults c.build.new.files) c.build.new.image.items in
+    says_also (OwesBuild now c.in-Some-Build.file.now) (Owes now) c.build.result _ _ (λ answer done owes. Owes.by_build c.in-Some-Build.file.now is owes) (c.build.ensures.says words (g.R.Source.left c.args.input.now) (g.R.Source.faults c.args.input.now))
 
 pub returns-in-Some-Run-clause-says : goal.returns-in-Some-Run-clause-says
 returns-in-Some-Run-clause-says g c =

@@ -1,0 +1,52 @@
+-- An error in compiling, as the answer of a command.
+use Rattle.std.proofs.Common.{◌≡◌, ℕ, Option, List, [], codes, refl}
+use Rattle.op_emu.specs.Acts.{streams, faults}
+use Rattle.op_tool.specs.Compiles.{FailsAs}
+use Rattle.op_tool.specs.Effects.{Effect, Says, line}
+use Rattle.op_tool.specs.Owes.{Call, OwesBuild, OwesError, OwesExec, ReportsError}
+use Rattle.op_tool.specs.declared.compiler.CompileError.{CompileError}
+use Rattle.op_tool.specs.declared.compiler.CompileError.TheVariants as errors
+use Rattle.op_tool.specs.declared.finish.Finish.{Finish}
+use Rattle.op_tool.specs.declared.finish.Finish.TheVariants.{Ended, Usage, Refused, ReadFault, WriteFault, Spent, NoMemory, BadImage, Faulted, Limit}
+use Rattle.op_tool.proofs.Saying.{says_also, says_no_memory, says_refused, says_report}
+
+says_error : (now : Call) (name : List ℕ) (error : CompileError) (answer : Finish) (i o e e' : Option (List ℕ)) (r r' n c c' : ℕ) → FailsAs now.stored name now.file_faults_before now.file_faults_after error → now.image ≡ [] → ReportsError error answer e e' c c' → Says (OwesError now name) answer (streams i i o o e e') (faults r r' n n c c')
+says_error now name (errors.Refused refusal file) answer i o e e' r r' n c c' (is_file, refused) empty is =
+    says_refused (OwesError now name) name file refusal answer i o e e' r r' n c c' is_file (λ done only. (refused, empty, only)) (λ done only. only) is
+says_error now name errors.ReadFault answer i o e e' r r' n c c' rose empty is =
+    says_report (OwesError now name) ReadFault answer (line (codes "opc: read fault")) i o e e' r r' n c c' (λ same. cc) (λ input. (empty, (rose, (refl, refl, refl)))) is
+says_error now name errors.Limit answer i o e e' r r' n c c' never empty is = absurd never
+says_error now name errors.NoMemory answer i o e e' r r' n c c' free empty is =
+    says_no_memory (OwesError now name) answer i o e e' r r' n c c' (λ done only. only) is
+
+exec_error : (now : Call) (name : List ℕ) (answer : Finish) (done : Effect) → OwesError now name answer done → OwesExec now name answer done
+exec_error now name (Ended status) done owes = absurd owes
+exec_error now name Usage done owes = owes
+exec_error now name (Refused rule place) done owes = owes
+exec_error now name ReadFault done owes = owes
+exec_error now name WriteFault done owes = owes
+exec_error now name Spent done owes = owes
+exec_error now name NoMemory done owes = owes
+exec_error now name (BadImage condition) done owes = owes
+exec_error now name (Faulted kind pc) done owes = owes
+exec_error now name Limit done owes = owes
+
+build_error : (now : Call) (name : List ℕ) (answer : Finish) (done : Effect) → OwesError now name answer done → OwesBuild now name answer done
+build_error now name (Ended status) done owes = absurd owes
+build_error now name Usage done owes = owes
+build_error now name (Refused rule place) done owes = owes
+build_error now name ReadFault done owes = owes
+build_error now name WriteFault done owes = owes
+build_error now name Spent done owes = owes
+build_error now name NoMemory done owes = owes
+build_error now name (BadImage condition) done owes = owes
+build_error now name (Faulted kind pc) done owes = owes
+build_error now name Limit done owes = owes
+
+pub says_exec_error : (now : Call) (name : List ℕ) (error : CompileError) (answer : Finish) (i o e e' : Option (List ℕ)) (r r' n c c' : ℕ) → FailsAs now.stored name now.file_faults_before now.file_faults_after error → now.image ≡ [] → ReportsError error answer e e' c c' → Says (OwesExec now name) answer (streams i i o o e e') (faults r r' n n c c')
+says_exec_error now name error answer i o e e' r r' n c c' failed empty is =
+    says_also (OwesError now name) (OwesExec now name) answer (streams i i o o e e') (faults r r' n n c c') (exec_error now name) (says_error now name error answer i o e e' r r' n c c' failed empty is)
+
+pub says_build_error : (now : Call) (name : List ℕ) (error : CompileError) (answer : Finish) (i o e e' : Option (List ℕ)) (r r' n c c' : ℕ) → FailsAs now.stored name now.file_faults_before now.file_faults_after error → now.image ≡ [] → ReportsError error answer e e' c c' → Says (OwesBuild now name) answer (streams i i o o e e') (faults r r' n n c c')
+says_build_error now name error answer i o e e' r r' n c c' failed empty is =
+    says_also (OwesError now name) (OwesBuild now name) answer (streams i i o o e e') (faults r r' n n c c') (build_error now name) (says_error now name error answer i o e e' r r' n c c' failed empty is)
