@@ -41,6 +41,9 @@ use Rattle.op_select.proofs.WordLemmas.{cond_true, cond_false, and_true, word_at
 pub record ExitSteps (m : LowState) (b : State) (most : ℕ) (status : ℕ) : Type 0 where
   pub after : State
   pub ended : after.ending ≡ Ended status
+  pub output : after.output ≡ m.output
+  pub errors : after.errors ≡ m.errors
+  pub input : after.input ≡ m.input
   pub walk : Walk b after 1 most []
 
 -- where a branch has led: to its block, or to the next item
@@ -176,6 +179,9 @@ module _ (w : Setting) (law : IsSetting w) where
       record {
         after = exit_call d;
         ended = ap (λ n. Ended (n % 256)) status_is;
+        output = stays.output;
+        errors = stays.errors;
+        input = stays.input;
         walk = walk_weaken b (exit_call d) 3 5 1 5 [] (omega arith) (omega arith) walk;
       }
 

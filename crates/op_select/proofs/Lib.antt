@@ -2,6 +2,7 @@ mod CallSteps
 mod ClearLemmas
 mod ControlSteps
 mod EnterLemmas
+mod Following
 mod FrameLemmas
 mod HeadLemmas
 mod Loops
