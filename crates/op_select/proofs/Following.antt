@@ -1,16 +1,18 @@
 -- Selected code goes along with low code, whatever the instruction.
 use Rattle.std.proofs.Common.{◌≡◌, ◌≢◌, ℕ, ℤ, zero, suc, ◌+◌, ◌-◌, ◌*◌, ◌%◌, ◌^◌, ◌<◌, ◌≤◌, Bool, true, false, cond, ◌&&◌, if◌then◌else◌, Option, Some, None, List, [], ◌∷◌, ◌++◌, length, take, refl, ap, sym, subst, ◌∙◌, append-nil, arith}
+use Rattle.std.specs.List.{list_all}
 use Rattle.op_simulation.specs.System.{System, run, trace, spent}
 use Rattle.op_simulation.specs.Matching.{Matching, Stretch, Follows}
 use Rattle.op_simulation.specs.Path.{Path}
 use Rattle.op_simulation.proofs.Paths.{path_step, stretch_of_path}
 use Rattle.op_simulation.proofs.Runs.{always_next}
-use Rattle.op_low.specs.Machine.{Event, Written, Taken, low_machine, NeverBad, step, step_by_ending, done, act, load, store, call, call_found, read, write, return_to, raise_to, can_enter, written, shows, shown_by, cost, cost_by}
+use Rattle.op_low.specs.Machine.{Event, Written, Taken, low_machine, NeverBad, step, step_by_ending, done, act, load, store, call, call_found, read, write, return_to, raise_to, can_enter, written, shows, shown_by, shown_next, cost, cost_by, cost_next}
 use Rattle.op_low.specs.Runs.{RunsValid, IsValidRest}
-use Rattle.op_low.specs.State.{State as LowState, Activation, Caller, Ending as LowEnding, Running, Ended, Bad, value, usable, bad, space}
+use Rattle.op_low.specs.State.{Placement, State as LowState, Activation, Caller, Ending as LowEnding, Running, Ended, Bad, value, usable, bad, space}
 use Rattle.op_low.specs.Valid.{is_valid_instruction}
 use Rattle.op_low.specs.declared.instruction.Instruction.{Instruction}
 use Rattle.op_low.specs.declared.instruction.Instruction.TheVariants.{Const, Address, Local, Move, Alu, AluImm, Shift, Load, Store, Call, CallAt, Branch, Jump, Return, Raise, Read, Write, Exit}
+use Rattle.op_low.specs.declared.code.Low.{Low}
 use Rattle.op_low.specs.declared.ids.VirtualRegister.{VirtualRegister}
 use Rattle.op_low.specs.declared.instruction.Call.{Call as Operands}
 use Rattle.op_low.specs.declared.instruction.Output.{Output}
@@ -45,6 +47,53 @@ pub record Outcome (w : Setting) (m : LowState) (b : State) (events : List Event
 is_taken : (b : Bool) (s t : LowState) → ((if b then s else t).ending ≡ Bad → ⊥) → t.ending ≡ Bad → b ≡ true
 is_taken true s t good bad = refl
 is_taken false s t good bad = absurd (good bad)
+
+safe_ended : (e : Ending) (status : ℕ) → e ≡ HasEnded status → IsSafe e
+unfolding IsSafe
+safe_ended e status is = subst IsSafe (sym is) tt
+
+-- what is left of the block changes nothing of what the instruction shows and costs
+same_shown : (p : Placement) (i : Instruction) (m : LowState) (is : List Instruction) → shown_by p i m ≡ shown_by p i (record m { top = record m.top { now = is } })
+unfolding shown_by
+same_shown p (Const to n) m is = refl
+same_shown p (Address to symbol) m is = refl
+same_shown p (Local to offset) m is = refl
+same_shown p (Move to from) m is = refl
+same_shown p (Alu op to left right) m is = refl
+same_shown p (AluImm op to left imm) m is = refl
+same_shown p (Shift op to left amount) m is = refl
+same_shown p (Load op to base offset) m is = refl
+same_shown p (Store op v base offset) m is = refl
+same_shown p (Call id operands) m is = refl
+same_shown p (CallAt address operands) m is = refl
+same_shown p (Branch op left right block) m is = refl
+same_shown p (Jump block) m is = refl
+same_shown p (Return v) m is = refl
+same_shown p Raise m is = refl
+same_shown p (Read to buffer size) m is = refl
+same_shown p (Write output buffer size) m is = refl
+same_shown p (Exit status) m is = refl
+
+same_cost : (low : Low) (p : Placement) (i : Instruction) (m : LowState) (is : List Instruction) → cost_by low p i m ≡ cost_by low p i (record m { top = record m.top { now = is } })
+unfolding cost_by
+same_cost low p (Const to n) m is = refl
+same_cost low p (Address to symbol) m is = refl
+same_cost low p (Local to offset) m is = refl
+same_cost low p (Move to from) m is = refl
+same_cost low p (Alu op to left right) m is = refl
+same_cost low p (AluImm op to left imm) m is = refl
+same_cost low p (Shift op to left amount) m is = refl
+same_cost low p (Load op to base offset) m is = refl
+same_cost low p (Store op v base offset) m is = refl
+same_cost low p (Call id operands) m is = refl
+same_cost low p (CallAt address operands) m is = refl
+same_cost low p (Branch op left right block) m is = refl
+same_cost low p (Jump block) m is = refl
+same_cost low p (Return v) m is = refl
+same_cost low p Raise m is = refl
+same_cost low p (Read to buffer size) m is = refl
+same_cost low p (Write output buffer size) m is = refl
+same_cost low p (Exit status) m is = refl
 
 running_if : (b : Bool) (s t : LowState) → b ≡ true → s.ending ≡ Running → (if b then s else t).ending ≡ Running
 running_if b s t is running = ap (λ c. (if c then s else t).ending) is ∙ running
@@ -160,3 +209,58 @@ module _ (w : Setting) (law : IsSetting w) where
   does (Read to buffer size) m b end running good valid stays stands = does_read m b to buffer size end running good valid stays stands
   does (Write output buffer size) m b end running good valid stays stands = does_write m b output buffer size end running good valid stays stands
   does (Exit status) m b end running good valid stays stands = does_exit m b status end valid stays stands
+
+  -- ---- a step of low code
+
+  path_of : (b c : State) (events : List Event) (most : ℕ) → (walk : Walk b c 1 most events) → Path riscv_machine (λ s. IsSafe s.ending) b c (suc (walk.steps - 1)) events walk.steps
+  path_of b c events most walk =
+      let from = walk.from in
+      let one : walk.steps ≡ suc (walk.steps - 1) = omega arith in
+      subst (λ n. Path riscv_machine (λ s. IsSafe s.ending) b c n events walk.steps) one walk.path
+
+  stretch_of : (m m' : LowState) (b : State) (events : List Event) (price : ℕ) → Matches w m b → step w.low (placement_of w) m ≡ m' → shows (placement_of w) m.ending m ≡ events → cost w.low (placement_of w) m.ending m ≡ price → Outcome w m' b events price → Stretch (selected w) m b
+  stretch_of m m' b events price matches steps shown costs outcome =
+      let to = outcome.walk.to in
+      let after : Matches w m' outcome.after = record {
+        valid = subst (RunsValid w.low) steps (step_runs w.low (placement_of w) law.valid m matches.valid);
+        good = subst (NeverBad w.low (placement_of w)) steps (always_next (low_machine w.low (placement_of w)) (λ s. s.ending ≡ Bad → ⊥) m matches.good);
+        states = outcome.states;
+      } in
+      stretch_of_path (selected w) m b outcome.after (outcome.walk.steps - 1) events outcome.walk.steps (path_of b outcome.after events (18 * price) outcome.walk) (subst (λ s. Matches w s outcome.after) (sym steps) after) shown (omega arith)
+
+  running_step_by : (m : LowState) (b : State) (now : List Instruction) → m.top.now ≡ now → m.ending ≡ Running → Matches w m b → Goes w m b → Stretch (selected w) m b
+  unfolding step step_by_ending done shows cost code_items run
+  running_step_by m b [] now running matches goes =
+      let there : step w.low (placement_of w) m ≡ bad m = ap (λ e. step_by_ending w.low (placement_of w) e m) running ∙ ap (λ is. done w.low (placement_of w) is m) now in
+      absurd (matches.good 1 (ap (λ s. s.ending) there))
+  running_step_by m b (i ∷ is) now running matches goes =
+      let m' = record m { top = record m.top { now = is } } in
+      let there : step w.low (placement_of w) m ≡ act w.low (placement_of w) i m' = ap (λ e. step_by_ending w.low (placement_of w) e m) running ∙ ap (λ is. done w.low (placement_of w) is m) now in
+      let shown : shows (placement_of w) m.ending m ≡ shown_by (placement_of w) i m = ap (λ e. shows (placement_of w) e m) running ∙ ap (λ is. shown_next (placement_of w) is m) now in
+      let costs : cost w.low (placement_of w) m.ending m ≡ cost_by w.low (placement_of w) i m = ap (λ e. cost w.low (placement_of w) e m) running ∙ ap (λ is. cost_next w.low (placement_of w) is m) now in
+      let good : (act w.low (placement_of w) i m').ending ≡ Bad → ⊥ = λ is_bad. matches.good 1 (ap (λ s. s.ending) there ∙ is_bad) in
+      let all = subst (λ is. list_all (is_valid_instruction w.low (routine_in w m.top.routine)) is ≡ true) now matches.valid.top in
+      let valid = both_left (is_valid_instruction w.low (routine_in w m.top.routine) i) _ all in
+      let stands = subst (λ is. Stands w.placing m.top.routine b.pc (code_items (routine_in w m.top.routine) is) goes.ready.end) now goes.ready.stands in
+      let outcome = does i m' b goes.ready.end running good valid (stays_now w law m b is goes.stays) stands in
+      stretch_of m (act w.low (placement_of w) i m') b (shown_by (placement_of w) i m') (cost_by w.low (placement_of w) i m') matches there (shown ∙ same_shown (placement_of w) i m is) (costs ∙ same_cost w.low (placement_of w) i m is) outcome
+
+  ended_step : (m : LowState) (b : State) (status : ℕ) → m.ending ≡ Ended status → Matches w m b → Finished status m b → Stretch (selected w) m b
+  unfolding step step_by_ending shows cost riscv_step riscv_step_by_ending riscv_shows
+  ended_step m b status ended matches finished =
+      let there : step w.low (placement_of w) m ≡ m = ap (λ e. step_by_ending w.low (placement_of w) e m) ended in
+      let shown : shows (placement_of w) m.ending m ≡ [] = ap (λ e. shows (placement_of w) e m) ended in
+      let costs : cost w.low (placement_of w) m.ending m ≡ 1 = ap (λ e. cost w.low (placement_of w) e m) ended in
+      let stays : riscv_step b ≡ b = ap (λ e. riscv_step_by_ending e b) finished.ending in
+      let silent : riscv_shows b.ending b ≡ [] = ap (λ e. riscv_shows e b) finished.ending in
+      let one = path_step riscv_machine (λ s. IsSafe s.ending) b (safe_ended b.ending status finished.ending) in
+      let path = subst (λ c. Path riscv_machine (λ s. IsSafe s.ending) b c 1 [] 1) stays (subst (λ es. Path riscv_machine (λ s. IsSafe s.ending) b (riscv_step b) 1 es 1) silent one) in
+      stretch_of_path (selected w) m b b 0 [] 1 path (subst (λ s. Matches w s b) (sym there) matches) shown (omega arith)
+
+  step_by : (m : LowState) (b : State) (e : LowEnding) → m.ending ≡ e → Matches w m b → MatchesBy w e m b → Stretch (selected w) m b
+  step_by m b Running is matches states = running_step_by m b m.top.now refl is matches states
+  step_by m b (Ended status) is matches states = ended_step m b status is matches states
+  step_by m b Bad is matches states = absurd states
+
+  pub selected_follows : Follows (selected w)
+  selected_follows = record { go = λ m b matches. step_by m b m.ending refl matches matches.states }
