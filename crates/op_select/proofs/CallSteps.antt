@@ -40,7 +40,7 @@ use Rattle.op_select.proofs.ValueSteps.{Steps, both_left, both_right, inside, va
 use Rattle.op_select.proofs.Walks.{Walk, walk_none, walk_join, walk_weaken, walk_step, advanced_pc, placed, sound_placed, Becomes, plain_first, Split, split, nothing_more}
 use Rattle.op_select.proofs.WordLemmas.{cond_true, with_bytes-within, with_bytes-below, with_bytes-above, word_at-stored, word_at-same, word_at-bounded}
 
-zeros_get : (n k : ℕ) → get_or (replicate {A = ℕ} n 0) k 0 ≡ 0
+pub zeros_get : (n k : ℕ) → get_or (replicate {A = ℕ} n 0) k 0 ≡ 0
 zeros_get zero k = refl
 zeros_get (suc n) zero = refl
 zeros_get (suc n) (suc k) = zeros_get n k

@@ -1,3 +1,4 @@
+mod Beginning
 mod CallSteps
 mod ClearLemmas
 mod ControlSteps

@@ -5,3 +5,4 @@ pub mod Placing
 pub mod Selected
 pub mod Selection
 pub mod Sequences
+pub mod Starting

@@ -12,9 +12,11 @@ mod instruction;
 mod registers;
 mod routine;
 mod sequence;
+mod theorems;
 
 pub use frame::Home;
 pub use routine::select;
+pub use theorems::{selected_code_begins, selected_code_goes_along};
 
 #[cfg(test)]
 mod tests;

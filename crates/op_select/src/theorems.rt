@@ -1,0 +1,19 @@
+//! What is proved of selected code, each as the contract of a function without code.
+
+ghost use Rattle.op_rv.specs.State.{State};
+ghost use Rattle.op_select.specs.Going.{IsSetting, Setting};
+ghost use Rattle.op_select.specs.Selected.{selected};
+ghost use Rattle.op_select.specs.Starting.{Begins, Starts};
+ghost use Rattle.op_simulation.specs.Matching.{Follows};
+ghost use Rattle.std.specs.Prelude.{List, ℕ};
+
+/// Selected code that stands in memory goes along with low code: one step of low code is one or more steps of the machine,
+/// with the same events, at most 18 for a cost of one, and the machine does not fault.
+pub fn selected_code_goes_along()
+    ensures { (w : Setting) → IsSetting w → Follows (selected w) }
+{}
+
+/// From the head of the entry routine on, with an empty stack, it comes to where low code begins.
+pub fn selected_code_begins()
+    ensures { (w : Setting) → IsSetting w → (memory : ℕ → ℕ) (input : List ℕ) (b : State) → Starts w memory input b → Begins w memory input b }
+{}
