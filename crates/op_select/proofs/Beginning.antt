@@ -56,12 +56,12 @@ module _ (w : Setting) (law : IsSetting w) where
       record {
         sound = h.sound;
         memory = λ x lower.
-          elim (cases_lt x w.bottom) [
-            | inl old ↦ h.low x old ∙ s.memory_below x old ∙ sym (with_bytes-below memory w.bottom (replicate locals 0) x old)
-            | inr new ↦
-                let long : length (replicate locals 0) ≡ locals = length-replicate {A = ℕ} locals 0 in
-                h.locals x (omega arith) lower ∙ sym (with_bytes-within memory w.bottom (replicate locals 0) x (omega arith) (omega arith) ∙ zeros_get locals (x - w.bottom))
-          ];
+            elim (cases_lt x w.bottom) [
+              | inl old ↦ h.low x old ∙ s.memory_below x old ∙ sym (with_bytes-below memory w.bottom (replicate locals 0) x old)
+              | inr new ↦
+                  let long : length (replicate locals 0) ≡ locals = length-replicate {A = ℕ} locals 0 in
+                  h.locals x (omega arith) lower ∙ sym (with_bytes-within memory w.bottom (replicate locals 0) x (omega arith) (omega arith) ∙ zeros_get locals (x - w.bottom))
+            ];
         input = s.input_is;
         input_bytes = s.input_bytes;
         output = s.output;
@@ -88,9 +88,9 @@ module _ (w : Setting) (law : IsSetting w) where
         within = h.walk.to;
         path = h.walk.path;
         matches = λ good.
-          record {
-            valid = start_runs w.low (placement_of w) law.valid w.bottom (w.top - w.bottom) memory input;
-            good = good;
-            states = record { stays = start_stays memory input b s h; ready = block_stands w r 0 law };
-          };
+            record {
+              valid = start_runs w.low (placement_of w) law.valid w.bottom (w.top - w.bottom) memory input;
+              good = good;
+              states = record { stays = start_stays memory input b s h; ready = block_stands w r 0 law };
+            };
       }

@@ -129,25 +129,25 @@ module _ (w : Setting) (law : IsSetting w) where
       } in
       let rest : Below w h.memory m.top.routine m.limit sp m.callers = below_same w b.memory h.memory m.top.routine m.limit sp m.callers (λ x from. h.high x (omega arith)) stays.below in
       let held : (v : ℕ) → v < routine.registers → word_at h.memory (place_of routine (sp - frame) v) ≡ get_or vs v 0 = λ v within.
-        elim (cases_lt v routine.parameters) [
-          | inl under ↦
-              elim (cases_lt v 8) [
-                | inl early ↦ h.early v under early ∙ a.in_registers v (omega arith) early
-                | inr late ↦
-                    let place : place_of routine (sp - frame) v ≡ sp - (8 + 4 * v) = omega arith in
-                    h.late v under (omega arith) ∙ ap (word_at b.memory) place ∙ a.in_memory v (omega arith) (omega arith)
-              ]
-          | inr over ↦ h.fresh v within (omega arith) ∙ sym (past_end vs v (omega arith))
-        ] in
+      elim (cases_lt v routine.parameters) [
+        | inl under ↦
+            elim (cases_lt v 8) [
+              | inl early ↦ h.early v under early ∙ a.in_registers v (omega arith) early
+              | inr late ↦
+                  let place : place_of routine (sp - frame) v ≡ sp - (8 + 4 * v) = omega arith in
+                  h.late v under (omega arith) ∙ ap (word_at b.memory) place ∙ a.in_memory v (omega arith) (omega arith)
+            ]
+        | inr over ↦ h.fresh v within (omega arith) ∙ sym (past_end vs v (omega arith))
+      ] in
       record {
         sound = h.sound;
         memory = λ x lower.
-          elim (cases_lt x m.limit) [
-            | inl old ↦ h.low x old ∙ stays.memory x old ∙ sym (with_bytes-below m.memory m.limit (replicate locals 0) x old)
-            | inr new ↦
-                let long : length (replicate locals 0) ≡ locals = length-replicate {A = ℕ} locals 0 in
-                h.locals x (omega arith) lower ∙ sym (with_bytes-within m.memory m.limit (replicate locals 0) x (omega arith) (omega arith) ∙ zeros_get locals (x - m.limit))
-          ];
+            elim (cases_lt x m.limit) [
+              | inl old ↦ h.low x old ∙ stays.memory x old ∙ sym (with_bytes-below m.memory m.limit (replicate locals 0) x old)
+              | inr new ↦
+                  let long : length (replicate locals 0) ≡ locals = length-replicate {A = ℕ} locals 0 in
+                  h.locals x (omega arith) lower ∙ sym (with_bytes-within m.memory m.limit (replicate locals 0) x (omega arith) (omega arith) ∙ zeros_get locals (x - m.limit))
+            ];
         input = stays.input;
         input_bytes = stays.input_bytes;
         output = stays.output;
@@ -297,6 +297,7 @@ module _ (w : Setting) (law : IsSetting w) where
       in_registers m k r rs at rest one (suc i) within few =
           let same : k + suc i ≡ k + 1 + i = omega arith in
           one.registers (k + suc i) (omega arith) few ∙ ap (λ n. get_or rest.after.registers (10 + n) 0) same ∙ rest.in_registers i (omega arith) (omega arith)
+
       in_memory : (m : LowState) (k : ℕ) (r : VirtualRegister) (rs : List VirtualRegister) (at : ℕ) {middle : ℕ} {b : State} → 4 * (k + suc (length (values m rs))) + 4 ≤ m.limit + m.room → (rest : Passes w m b (k + 1) (values m rs) middle) → (one : PassesOne m rest.after k (value m r) at) → (i : ℕ) → i < suc (length (values m rs)) → 8 ≤ k + i → word_at one.after.memory (m.limit + m.room - (8 + 4 * (k + i))) ≡ get_or (value m r ∷ values m rs) i 0
       in_memory m k r rs at room rest one zero within many =
           let same : k + 0 ≡ k = omega arith in

@@ -132,15 +132,15 @@ module _ (w : Setting) (law : IsSetting w) where
         memory = more.memory;
         others = λ q other. more.others q other ∙ one.others q other;
         zeros = λ x lower upper.
-          elim (cases_lt x (a + 4)) [
-            | inl here ↦ more.same x (inl here) ∙ with_bytes-within b.memory a (bytes_low_first 0 4 0) x lower (omega arith) ∙ zero_bytes (x - a)
-            | inr later ↦ more.zeros x (omega arith) (omega arith)
-          ];
+            elim (cases_lt x (a + 4)) [
+              | inl here ↦ more.same x (inl here) ∙ with_bytes-within b.memory a (bytes_low_first 0 4 0) x lower (omega arith) ∙ zero_bytes (x - a)
+              | inr later ↦ more.zeros x (omega arith) (omega arith)
+            ];
         same = λ x side.
-          elim side [
-            | inl under ↦ more.same x (inl (omega arith)) ∙ with_bytes-outside b.memory a (bytes_low_first 0 4 0) x (λ lower upper. absurd (omega arith))
-            | inr over ↦ more.same x (inr (omega arith)) ∙ with_bytes-outside b.memory a (bytes_low_first 0 4 0) x (λ lower upper. absurd (omega arith))
-          ];
+            elim side [
+              | inl under ↦ more.same x (inl (omega arith)) ∙ with_bytes-outside b.memory a (bytes_low_first 0 4 0) x (λ lower upper. absurd (omega arith))
+              | inr over ↦ more.same x (inr (omega arith)) ∙ with_bytes-outside b.memory a (bytes_low_first 0 4 0) x (λ lower upper. absurd (omega arith))
+            ];
         sound = more.sound;
         walk = walk_weaken b (stored b more.registers end more.memory) 4 (3 + 3 * suc k) 1 (3 * suc (suc k)) [] (omega arith) (omega arith) (walk_join b c (stored b more.registers end more.memory) 3 3 1 (3 * suc k) [] [] one.walk more.walk);
       }

@@ -121,15 +121,16 @@ unfolding Below frame_of
 below_same w memory other r limit sp [] same below = below
 below_same w memory other r limit sp (c ∷ cs) same below =
     let waits = below.1 in
-    let ra = word_at-same memory other (sp + frame_in w r - 4) (λ x from before. same x (omega arith)) in
-    (below.0,
-    record {
-      exists = waits.exists;
-      keeps = waits.keeps;
-      back = subst (λ a. StandsFrom w.placing c.activation.routine a (answered (routine_in w c.activation.routine) c.to c.landing ++ code_items (routine_in w c.activation.routine) c.activation.now)) (sym ra) waits.back;
-      holds = λ v within. word_at-same memory other (place_of (routine_in w c.activation.routine) (sp + frame_in w r) v) (λ x from before. same x (omega arith)) ∙ waits.holds v within;
-    },
-    below_same w memory other c.activation.routine (limit - locals_in w r) (sp + frame_in w r) cs (λ x from. same x (omega arith)) below.2)
+    let ra = word_at-same memory other (sp + frame_in w r - 4) (λ x from before. same x (omega arith)) in (
+      below.0,
+      record {
+        exists = waits.exists;
+        keeps = waits.keeps;
+        back = subst (λ a. StandsFrom w.placing c.activation.routine a (answered (routine_in w c.activation.routine) c.to c.landing ++ code_items (routine_in w c.activation.routine) c.activation.now)) (sym ra) waits.back;
+        holds = λ v within. word_at-same memory other (place_of (routine_in w c.activation.routine) (sp + frame_in w r) v) (λ x from before. same x (omega arith)) ∙ waits.holds v within;
+      },
+      below_same w memory other c.activation.routine (limit - locals_in w r) (sp + frame_in w r) cs (λ x from. same x (omega arith)) below.2,
+    )
 
 -- the frames end at the top of the stack
 pub below_top : (w : Setting) (memory : ℕ → ℕ) (r limit sp : ℕ) (cs : List Caller) → Below w memory r limit sp cs → sp + frame_in w r ≤ w.top

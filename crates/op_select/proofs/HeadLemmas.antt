@@ -129,17 +129,17 @@ module _ (w : Setting) (law : IsSetting w) where
         size = put.size;
         others = λ p other. put.others p other ∙ first.others p other;
         homes = λ v under.
-          elim (cases_lt v count) [
-            | inl lower ↦ word_at-same first.memory memory (place_of routine sp v) (λ y from before. with_bytes-outside first.memory a bytes y (λ l u. absurd (omega arith))) ∙ first.homes v lower
-            | inr upper ↦
-                let is : v ≡ count = omega arith in
-                ap (λ k. word_at memory (place_of routine sp k)) is ∙ word_at-stored first.memory a x x_small ∙ x_is ∙ ap (λ k. get_or b.registers (10 + k) 0) (sym is)
-          ];
+            elim (cases_lt v count) [
+              | inl lower ↦ word_at-same first.memory memory (place_of routine sp v) (λ y from before. with_bytes-outside first.memory a bytes y (λ l u. absurd (omega arith))) ∙ first.homes v lower
+              | inr upper ↦
+                  let is : v ≡ count = omega arith in
+                  ap (λ k. word_at memory (place_of routine sp k)) is ∙ word_at-stored first.memory a x x_small ∙ x_is ∙ ap (λ k. get_or b.registers (10 + k) 0) (sym is)
+            ];
         same = λ y side.
-          elim side [
-            | inl under ↦ with_bytes-outside first.memory a bytes y (λ l u. absurd (omega arith)) ∙ first.same y (inl (omega arith))
-            | inr over ↦ with_bytes-outside first.memory a bytes y (λ l u. absurd (omega arith)) ∙ first.same y (inr over)
-          ];
+            elim side [
+              | inl under ↦ with_bytes-outside first.memory a bytes y (λ l u. absurd (omega arith)) ∙ first.same y (inl (omega arith))
+              | inr over ↦ with_bytes-outside first.memory a bytes y (λ l u. absurd (omega arith)) ∙ first.same y (inr over)
+            ];
         sound = sound_stored w law c put.registers at a bytes first.sound put.size (four-bounded x) writable;
         walk = walk_weaken b (stored b put.registers at memory) 1 (3 * count + 3) 0 (3 * suc count) [] (omega arith) (omega arith) (walk_join b c (stored b put.registers at memory) 0 (3 * count) 1 3 [] [] first.walk put.walk);
       }

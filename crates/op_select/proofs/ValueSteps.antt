@@ -335,9 +335,9 @@ module _ (w : Setting) (law : IsSetting w) where
       let fits = subst (λ n. n < 2 ^ 32) (same_load m b op a stays within) (load-bounded op b.memory a stays.sound.bytes) in
       let may = access_of w.rights.readable m a (load_size_of op) can in
       let acts : (c : State) → Stays w m c → get_or c.registers 10 0 ≡ value m base → act i c ≡ advanced (with_register c 10 v) = λ c stays_c is.
-        let may_c : can_access c.rights.readable a (load_size_of op) ≡ true = subst (λ rights. can_access rights.readable a (load_size_of op) ≡ true) (sym stays_c.sound.rights) may in
-        ap (λ n. load op 10 (offset_from n offset) c) is
-        ∙ cond_true (can_access c.rights.readable a (load_size_of op)) (advanced (with_register c 10 (load_value op c.memory a))) (faulted LoadFault c) may_c
-        ∙ ap (λ n. advanced (with_register c 10 n)) (same_load m c op a stays_c within) in
+      let may_c : can_access c.rights.readable a (load_size_of op) ≡ true = subst (λ rights. can_access rights.readable a (load_size_of op) ≡ true) (sym stays_c.sound.rights) may in
+      ap (λ n. load op 10 (offset_from n offset) c) is
+      ∙ cond_true (can_access c.rights.readable a (load_size_of op)) (advanced (with_register c 10 (load_value op c.memory a))) (faulted LoadFault c) may_c
+      ∙ ap (λ n. advanced (with_register c 10 n)) (same_load m c op a stays_c within) in
       let done = computed_steps m b i base to v whole.middle end stays base_in (inside m to (both_left _ _ both)) fits (λ c. refl) acts whole.first whole.second in
       subst (λ s. Steps w s b 7 []) (sym (cond_true (can_access (usable w.rights.readable m) a (load_size_of op)) (with_kept to v m) _ can)) done

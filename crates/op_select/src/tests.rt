@@ -1,6 +1,6 @@
 use crate::select;
 use op_base::{NoMemory, Sequence};
-use op_low::{Block, Call, Counts, Instruction, Low, Output, Routine, VirtualRegister};
+use op_low::{Block, Call, Counts, Instruction, Low, Output, Routine, VirtualRegister, valid};
 use op_rv::{
     AluOp, BlockId, BranchOp, GlobalId, GlobalVariable, ImmOp, Instr, Item, LoadOp, RoutineId,
     ShiftOp, StoreOp, Symbol,
@@ -121,6 +121,9 @@ fn program(
 fn code_of(alloc: Global, instruction: Instruction) -> Result<String, NoMemory> {
     let stop = Instruction::Jump { block: BlockId(0) };
     let low = program(alloc, 3, 8, vec![in alloc; instruction, stop]?)?;
+    if !valid(&low) {
+        return Ok(String::new(alloc));
+    }
     let objects = select(alloc, &low)?;
     match objects.routines.as_slice() {
         [_, main] => match main.blocks.as_slice() {
@@ -139,6 +142,9 @@ fn ends_of(alloc: Global, registers: u32, locals: u32) -> Result<(String, String
         locals,
         vec![in alloc; Instruction::Return { value: A }]?,
     )?;
+    if !valid(&low) {
+        return Ok((String::new(alloc), String::new(alloc)));
+    }
     let objects = select(alloc, &low)?;
     match objects.routines.as_slice() {
         [_, main] => match main.blocks.as_slice() {
