@@ -1,17 +1,16 @@
 -- The head of the entry routine makes the state that low code begins with.
-use Rattle.std.proofs.Common.{◌≡◌, ℕ, zero, suc, ◌+◌, ◌-◌, ◌*◌, ◌%◌, ◌^◌, ◌<◌, ◌≤◌, Bool, true, false, ◌&&◌, nat_eq, Option, Some, None, List, [], ◌∷◌, length, get_or, replicate, slice_get, refl, ap, sym, subst, ◌∙◌, arith, inl, inr}
+use Rattle.std.proofs.Common.{◌≡◌, ℕ, zero, suc, ◌+◌, ◌-◌, ◌*◌, ◌<◌, true, List, [], ◌∷◌, length, get_or, replicate, slice_get, refl, sym, subst, ◌∙◌, arith, inl, inr}
 use Rattle.std.proofs.lemmas.Bool.{cases_lt}
 use Rattle.std.proofs.lemmas.Bool.Decides.{nat_tests}
 use Rattle.std.proofs.lemmas.List.{length-replicate}
-use Rattle.op_low.specs.Machine.{NeverBad, start}
-use Rattle.op_low.specs.State.{State as LowState, routine_or, space}
+use Rattle.op_low.specs.Machine.{start}
+use Rattle.op_low.specs.State.{routine_or}
 use Rattle.op_low.specs.Valid.{is_valid, takes}
 use Rattle.op_low.specs.declared.code.Routine.{Routine}
 use Rattle.op_low.proofs.ValidRuns.{start_runs}
-use Rattle.op_rv.specs.State.{State, with_bytes, word_at}
+use Rattle.op_rv.specs.State.{State, word_at}
 use Rattle.op_select.specs.Frames.{frame_of}
-use Rattle.op_select.specs.Going.{Setting, IsSetting, routine_in, locals_in, frame_in, placement_of, place_of, Below, Stays, Goes}
-use Rattle.op_select.specs.Selected.{Matches}
+use Rattle.op_select.specs.Going.{Setting, IsSetting, routine_in, frame_in, placement_of, place_of, Below, Stays}
 use Rattle.op_select.specs.Starting.{start_in, Starts, Begins}
 use Rattle.op_select.proofs.CallSteps.{zeros_get}
 use Rattle.op_select.proofs.ClearLemmas.{stored}

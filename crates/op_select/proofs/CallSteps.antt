@@ -1,13 +1,13 @@
 -- Calls: the arguments are passed, the routine is entered, and its head makes the activation that low code begins.
-use Rattle.std.proofs.Common.{◌≡◌, ◌≢◌, ℕ, ℤ, pos, zero, suc, ◌+◌, ◌-◌, ◌*◌, ◌/◌, ◌%◌, ◌^◌, ◌-ℤ◌, ◌<◌, ◌≤◌, ◌⊎◌, inl, inr, Bool, true, false, cond, ◌&&◌, if◌then◌else◌, nat_eq, nat_le, nat_lt, Option, Some, None, List, [], ◌∷◌, ◌++◌, length, map, get_or, set, replicate, slice_get, refl, ap, ap₂, sym, subst, ◌∙◌, append_assoc, arith}
+use Rattle.std.proofs.Common.{◌≡◌, ℕ, pos, zero, suc, ◌+◌, ◌-◌, ◌*◌, ◌/◌, ◌%◌, ◌^◌, ◌-ℤ◌, ◌<◌, ◌≤◌, inl, inr, Bool, true, false, cond, ◌&&◌, nat_eq, nat_le, nat_lt, Option, Some, List, [], ◌∷◌, ◌++◌, length, get_or, set, replicate, slice_get, refl, ap, ap₂, sym, subst, ◌∙◌, append_assoc, arith}
 use Rattle.std.proofs.lemmas.Int.{ints}
 use Rattle.std.proofs.lemmas.Bool.{cases_lt, ltb-true, leb-true}
 use Rattle.std.proofs.lemmas.Bool.Decides.{nat_tests}
 use Rattle.std.proofs.lemmas.List.{length-replicate, length-map, get_or-set_same, get_or-set_other, length-set}
 use Rattle.std.specs.Int.{bytes_low_first}
 use Rattle.std.specs.List.{list_all}
-use Rattle.op_low.specs.Machine.{Event, act as low_act, call, call_found, entered, can_enter}
-use Rattle.op_low.specs.State.{State as LowState, Caller, Activation, space, block_of, routine_or, value, values}
+use Rattle.op_low.specs.Machine.{act as low_act, call, entered, can_enter}
+use Rattle.op_low.specs.State.{State as LowState, space, routine_or, value, values}
 use Rattle.op_low.specs.Valid.{is_valid_instruction, has, has_all, call_fits, call_at_fits, operands_fit, has_landing}
 use Rattle.op_low.specs.declared.code.Routine.{Routine}
 use Rattle.op_low.specs.declared.ids.VirtualRegister.{VirtualRegister}
@@ -17,28 +17,27 @@ use Rattle.op_rv.specs.Operation.{word_from}
 use Rattle.op_rv.specs.State.{State, register, with_bytes, word_at}
 use Rattle.op_rv.specs.Step.{act, offset_from}
 use Rattle.op_rv.specs.declared.instruction.StoreOp.TheVariants.{Sw}
-use Rattle.op_rv.specs.declared.instruction.Instr.{Instr}
 use Rattle.op_rv.specs.declared.instruction.Instr.TheVariants.{Jalr, Store}
 use Rattle.op_rv.specs.declared.objects.Item.{Item}
 use Rattle.op_rv.specs.declared.objects.Item.TheVariants.{Call as CallItem, CallAt as CallAtItem}
 use Rattle.op_rv.specs.declared.symbol.BlockId.{BlockId}
 use Rattle.op_rv.specs.declared.symbol.RoutineId.{RoutineId}
 use Rattle.op_select.specs.Frames.{frame_of, head_of, fetch, passed, passed_one, passed_in_memory}
-use Rattle.op_select.specs.Going.{Setting, IsSetting, routine_in, locals_in, frame_in, placement_of, Sound, place_of, Holds, Waits, Below, Stays, Goes}
-use Rattle.op_select.specs.Placing.{Placing, Stands, First, StandsFrom, StandsHere, Expands, Transfer, past}
+use Rattle.op_select.specs.Going.{Setting, IsSetting, routine_in, locals_in, frame_in, placement_of, Sound, place_of, Waits, Below, Stays}
+use Rattle.op_select.specs.Placing.{Stands, First, StandsFrom, StandsHere, Expands, past}
 use Rattle.op_select.specs.RiscvMachine.{instr_shows}
 use Rattle.op_select.specs.Selection.{items_of, code_items, answered}
-use Rattle.op_select.specs.Sequences.{below, word_store}
+use Rattle.op_select.specs.Sequences.{below}
 use Rattle.op_select.proofs.ClearLemmas.{stored}
 use Rattle.op_select.proofs.ControlSteps.{steps_join}
 use Rattle.op_select.proofs.EnterLemmas.{Heads, heads}
 use Rattle.op_select.proofs.FrameLemmas.{sizes, below_top, below_bottom, below_same, with_bytes-outside, sound_stored, four-bounded, stays_placed, fetches}
-use Rattle.op_select.proofs.ReturnSteps.{down_by, down-bounded, answered_aligned}
-use Rattle.op_select.proofs.SequenceLemmas.{Stores, stores}
+use Rattle.op_select.proofs.ReturnSteps.{down-bounded, answered_aligned}
+use Rattle.op_select.proofs.SequenceLemmas.{stores}
 use Rattle.op_select.proofs.TransferLemmas.{Linked, links, block_stands, head_stands}
 use Rattle.op_select.proofs.ValueSteps.{Steps, both_left, both_right, inside, value-bounded}
-use Rattle.op_select.proofs.Walks.{Walk, walk_none, walk_join, walk_weaken, walk_step, advanced_pc, placed, sound_placed, Becomes, plain_first, Split, split, nothing_more}
-use Rattle.op_select.proofs.WordLemmas.{cond_true, with_bytes-within, with_bytes-below, with_bytes-above, word_at-stored, word_at-same, word_at-bounded}
+use Rattle.op_select.proofs.Walks.{Walk, walk_none, walk_join, walk_weaken, walk_step, advanced_pc, placed, sound_placed, plain_first, split, nothing_more}
+use Rattle.op_select.proofs.WordLemmas.{cond_true, with_bytes-within, with_bytes-below, with_bytes-above, word_at-stored, word_at-same}
 
 pub zeros_get : (n k : ℕ) → get_or (replicate {A = ℕ} n 0) k 0 ≡ 0
 zeros_get zero k = refl

@@ -1,14 +1,14 @@
 -- Selected code goes along with low code, whatever the instruction.
-use Rattle.std.proofs.Common.{◌≡◌, ◌≢◌, ℕ, ℤ, zero, suc, ◌+◌, ◌-◌, ◌*◌, ◌%◌, ◌^◌, ◌<◌, ◌≤◌, Bool, true, false, cond, ◌&&◌, if◌then◌else◌, Option, Some, None, List, [], ◌∷◌, ◌++◌, length, take, refl, ap, sym, subst, ◌∙◌, append-nil, arith}
+use Rattle.std.proofs.Common.{◌≡◌, ℕ, ℤ, suc, ◌+◌, ◌-◌, ◌*◌, ◌≤◌, Bool, true, false, if◌then◌else◌, Option, Some, None, List, [], ◌∷◌, ◌++◌, length, take, refl, ap, sym, subst, ◌∙◌, arith}
 use Rattle.std.specs.List.{list_all}
-use Rattle.op_simulation.specs.System.{System, run, trace, spent}
-use Rattle.op_simulation.specs.Matching.{Matching, Stretch, Follows}
+use Rattle.op_simulation.specs.System.{run}
+use Rattle.op_simulation.specs.Matching.{Stretch, Follows}
 use Rattle.op_simulation.specs.Path.{Path}
 use Rattle.op_simulation.proofs.Paths.{path_step, stretch_of_path}
 use Rattle.op_simulation.proofs.Runs.{always_next}
 use Rattle.op_low.specs.Machine.{Event, Written, Taken, low_machine, NeverBad, step, step_by_ending, done, act, load, store, call, call_found, read, write, return_to, raise_to, can_enter, written, shows, shown_by, shown_next, cost, cost_by, cost_next}
-use Rattle.op_low.specs.Runs.{RunsValid, IsValidRest}
-use Rattle.op_low.specs.State.{Placement, State as LowState, Activation, Caller, Ending as LowEnding, Running, Ended, Bad, value, usable, bad, space}
+use Rattle.op_low.specs.Runs.{RunsValid}
+use Rattle.op_low.specs.State.{Placement, State as LowState, Caller, Ending as LowEnding, Running, Ended, Bad, value, usable, bad, space}
 use Rattle.op_low.specs.Valid.{is_valid_instruction}
 use Rattle.op_low.specs.declared.instruction.Instruction.{Instruction}
 use Rattle.op_low.specs.declared.instruction.Instruction.TheVariants.{Const, Address, Local, Move, Alu, AluImm, Shift, Load, Store, Call, CallAt, Branch, Jump, Return, Raise, Read, Write, Exit}
@@ -25,16 +25,16 @@ use Rattle.op_low.proofs.ValidRuns.{step_runs}
 use Rattle.op_rv.specs.State.{State, Ending, Ended as HasEnded, bytes_from, all_from}
 use Rattle.op_rv.specs.Step.{step as riscv_step, step_by_ending as riscv_step_by_ending, can_access, offset_from, load_size_of, store_size_of}
 use Rattle.op_select.specs.Frames.{frame_of}
-use Rattle.op_select.specs.Going.{Setting, IsSetting, routine_in, locals_in, frame_in, placement_of, Stays, Goes, IsSafe}
+use Rattle.op_select.specs.Going.{Setting, IsSetting, routine_in, locals_in, placement_of, Stays, Goes, IsSafe}
 use Rattle.op_select.specs.Placing.{Stands}
 use Rattle.op_select.specs.RiscvMachine.{riscv_machine, riscv_shows}
 use Rattle.op_select.specs.Selected.{Finished, MatchesBy, Matches, selected}
 use Rattle.op_select.specs.Selection.{items_of, code_items}
 use Rattle.op_select.proofs.CallSteps.{call_steps, call_at_steps}
-use Rattle.op_select.proofs.ControlSteps.{jump_steps, branch_steps, store_steps, exit_steps, ExitSteps}
+use Rattle.op_select.proofs.ControlSteps.{jump_steps, branch_steps, store_steps, exit_steps}
 use Rattle.op_select.proofs.OutsideSteps.{read_steps, write_steps}
 use Rattle.op_select.proofs.ReturnSteps.{stays_now, return_steps, raise_steps}
-use Rattle.op_select.proofs.ValueSteps.{Steps, both_left, both_right, const_steps, move_steps, local_steps, alu_steps, shift_steps, imm_steps, address_steps, load_steps}
+use Rattle.op_select.proofs.ValueSteps.{Steps, both_left, const_steps, move_steps, local_steps, alu_steps, shift_steps, imm_steps, address_steps, load_steps}
 use Rattle.op_select.proofs.Walks.{Walk, walk_weaken}
 use Rattle.op_select.proofs.WordLemmas.{cond_true}
 
