@@ -1,20 +1,27 @@
 -- The head of the entry routine makes the state that low code begins with.
-use Rattle.std.proofs.Common.{◌≡◌, ℕ, zero, suc, ◌+◌, ◌-◌, ◌*◌, ◌<◌, true, List, [], ◌∷◌, length, get_or, replicate, slice_get, refl, sym, subst, ◌∙◌, arith, inl, inr}
+use Rattle.std.proofs.Common.{◌≡◌, ℕ, zero, suc, ◌+◌, ◌-◌, ◌*◌, ◌<◌, true, List, [], ◌∷◌, length, get_or, replicate, slice_get, refl, ap, sym, subst, ◌∙◌, arith, inl, inr}
 use Rattle.std.proofs.lemmas.Bool.{cases_lt}
 use Rattle.std.proofs.lemmas.Bool.Decides.{nat_tests}
 use Rattle.std.proofs.lemmas.List.{length-replicate}
-use Rattle.op_low.specs.Machine.{start}
-use Rattle.op_low.specs.State.{routine_or}
+use Rattle.op_simulation.specs.System.{run}
+use Rattle.op_simulation.proofs.Composition.{joins_equal}
+use Rattle.op_simulation.proofs.Points.{agreement}
+use Rattle.op_simulation.proofs.Runs.{run_add}
+use Rattle.op_low.specs.Machine.{NeverBad, low_machine, start}
+use Rattle.op_low.specs.State.{State as LowState, Ended, routine_or, space}
 use Rattle.op_low.specs.Valid.{is_valid, takes}
 use Rattle.op_low.specs.declared.code.Routine.{Routine}
 use Rattle.op_low.proofs.ValidRuns.{start_runs}
 use Rattle.op_rv.specs.State.{State, word_at}
 use Rattle.op_select.specs.Frames.{frame_of}
 use Rattle.op_select.specs.Going.{Setting, IsSetting, routine_in, frame_in, placement_of, place_of, Below, Stays}
-use Rattle.op_select.specs.Starting.{start_in, Starts, Begins}
+use Rattle.op_select.specs.RiscvMachine.{riscv_machine}
+use Rattle.op_select.specs.Selected.{Finished, MatchesBy, Matches, selected}
+use Rattle.op_select.specs.Starting.{start_in, Starts, Begins, EndsAlike}
 use Rattle.op_select.proofs.CallSteps.{zeros_get}
 use Rattle.op_select.proofs.ClearLemmas.{stored}
 use Rattle.op_select.proofs.EnterLemmas.{Heads, heads}
+use Rattle.op_select.proofs.Following.{selected_follows}
 use Rattle.op_select.proofs.FrameLemmas.{sizes}
 use Rattle.op_select.proofs.TransferLemmas.{block_stands}
 use Rattle.op_select.proofs.ValueSteps.{both_left}
@@ -92,4 +99,21 @@ module _ (w : Setting) (law : IsSetting w) where
               good = good;
               states = record { stays = start_stays memory input b s h; ready = block_stands w r 0 law };
             };
+      }
+
+  -- ---- whole runs
+
+  finished_at : (status : ℕ) (m : LowState) (b : State) → m.ending ≡ Ended status → Matches w m b → Finished status m b
+  finished_at status m b ended matches = subst (λ e. MatchesBy w e m b) ended matches.states
+
+  pub ends_alike : (memory : ℕ → ℕ) (input : List ℕ) (b : State) → Starts w memory input b → NeverBad w.low (placement_of w) (start_in w memory input) → (n status : ℕ) → (run (low_machine w.low (placement_of w)) n (start_in w memory input)).ending ≡ Ended status → EndsAlike status (run (low_machine w.low (placement_of w)) n (start_in w memory input)) b
+  ends_alike memory input b s good n status ended =
+      let m = start_in w memory input in
+      let first = begins memory input b s in
+      let runs = agreement (selected w) (selected_follows w law) joins_equal m first.after (first.matches good) in
+      let low = run (low_machine w.low (placement_of w)) n m in
+      let there : run riscv_machine (runs.point n) first.after ≡ run riscv_machine (first.steps + runs.point n) b = ap (run riscv_machine (runs.point n)) (sym first.path.ends) ∙ sym (run_add riscv_machine first.steps (runs.point n) b) in
+      record {
+        steps = first.steps + runs.point n;
+        finished = subst (Finished status low) there (finished_at status low (run riscv_machine (runs.point n) first.after) ended (runs.states n));
       }

@@ -1,12 +1,13 @@
 -- How the machine begins, where the head of the entry routine stands.
 use Rattle.std.specs.Prelude.{◌≡◌, ◌<◌, ◌≤◌, ℕ, ◌+◌, ◌-◌, ◌*◌, ◌%◌, ◌^◌, List, [], slice_index}
 use Rattle.op_simulation.specs.Path.{Path}
+use Rattle.op_simulation.specs.System.{run}
 use Rattle.op_low.specs.Machine.{NeverBad, start}
 use Rattle.op_low.specs.State.{State as LowState, space}
 use Rattle.op_rv.specs.State.{State}
 use Rattle.op_select.specs.Going.{Setting, routine_in, locals_in, placement_of, Sound, IsSafe}
 use Rattle.op_select.specs.RiscvMachine.{riscv_machine}
-use Rattle.op_select.specs.Selected.{Matches}
+use Rattle.op_select.specs.Selected.{Finished, Matches}
 
 -- the state of low code at its beginning
 abbrev pub start_in : Setting → (ℕ → ℕ) → List ℕ → LowState
@@ -35,3 +36,8 @@ pub record Begins (w : Setting) (memory : ℕ → ℕ) (input : List ℕ) (b : S
   pub within : steps ≤ 36 + 3 * (routine_in w w.low.entry.0).registers + locals_in w w.low.entry.0
   pub path : Path riscv_machine (λ s. IsSafe s.ending) b after steps [] steps
   pub matches : NeverBad w.low (placement_of w) (start_in w memory input) → Matches w (start_in w memory input) after
+
+-- so many steps of the machine come to the end that low code comes to
+pub record EndsAlike (status : ℕ) (m : LowState) (b : State) : Type 0 where
+  pub steps : ℕ
+  pub finished : Finished status m (run riscv_machine steps b)
