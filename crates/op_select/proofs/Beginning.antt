@@ -8,7 +8,7 @@ use Rattle.op_simulation.proofs.Composition.{joins_equal}
 use Rattle.op_simulation.proofs.Points.{agreement}
 use Rattle.op_simulation.proofs.Runs.{run_add}
 use Rattle.op_low.specs.Machine.{NeverBad, low_machine, start}
-use Rattle.op_low.specs.State.{State as LowState, Ended, routine_or, space}
+use Rattle.op_low.specs.State.{State as LowState, Ended, routine_or}
 use Rattle.op_low.specs.Valid.{is_valid, takes}
 use Rattle.op_low.specs.declared.code.Routine.{Routine}
 use Rattle.op_low.proofs.ValidRuns.{start_runs}

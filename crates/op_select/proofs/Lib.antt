@@ -4,6 +4,7 @@ mod ClearLemmas
 mod ControlSteps
 mod EnterLemmas
 mod Following
+mod ExamplePlaced
 mod FrameLemmas
 mod HeadLemmas
 mod Loops

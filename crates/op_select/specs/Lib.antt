@@ -1,3 +1,4 @@
+pub mod Example
 pub mod Frames
 pub mod RiscvMachine
 pub mod Going

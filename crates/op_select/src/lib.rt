@@ -16,7 +16,9 @@ mod theorems;
 
 pub use frame::Home;
 pub use routine::select;
-pub use theorems::{selected_code_begins, selected_code_ends, selected_code_goes_along};
+pub use theorems::{
+    example_is_placed, selected_code_begins, selected_code_ends, selected_code_goes_along,
+};
 
 #[cfg(test)]
 mod tests;

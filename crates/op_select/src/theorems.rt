@@ -1,6 +1,7 @@
 //! What is proved of selected code, each as the contract of a function without code.
 
 ghost use Rattle.op_rv.specs.State.{State};
+ghost use Rattle.op_select.specs.Example.{example_setting};
 ghost use Rattle.op_select.specs.Going.{IsSetting, Setting, placement_of};
 ghost use Rattle.op_select.specs.Selected.{selected};
 ghost use Rattle.op_select.specs.Starting.{Begins, EndsAlike, Starts, start_in};
@@ -24,4 +25,9 @@ pub fn selected_code_begins()
 /// Where low code ends, the machine ends with the same status, and has written the same.
 pub fn selected_code_ends()
     ensures { (w : Setting) → IsSetting w → (memory : ℕ → ℕ) (input : List ℕ) (b : State) → Starts w memory input b → NeverBad w.low (placement_of w) (start_in w memory input) → (n status : ℕ) → (run (low_machine w.low (placement_of w)) n (start_in w memory input)).ending ≡ Ending.Ended status → EndsAlike status (run (low_machine w.low (placement_of w)) n (start_in w memory input)) b }
+{}
+
+/// The law that the others ask of where code and stack lie is met by an example.
+pub fn example_is_placed()
+    ensures { IsSetting example_setting }
 {}
