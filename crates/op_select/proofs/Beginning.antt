@@ -18,7 +18,7 @@ use Rattle.op_select.specs.Going.{Setting, IsSetting, routine_in, frame_in, plac
 use Rattle.op_select.specs.RiscvMachine.{riscv_machine}
 use Rattle.op_select.specs.Selected.{Finished, MatchesBy, Matches, selected}
 use Rattle.op_select.specs.Starting.{start_in, Starts, Begins, EndsAlike}
-use Rattle.op_select.proofs.CallSteps.{zeros_get}
+use Rattle.op_select.proofs.ArrivalLemmas.{zeros_get}
 use Rattle.op_select.proofs.ClearLemmas.{stored}
 use Rattle.op_select.proofs.EnterLemmas.{Heads, heads}
 use Rattle.op_select.proofs.Following.{selected_follows}

@@ -1,3 +1,4 @@
+mod ArrivalLemmas
 mod Beginning
 mod CallSteps
 mod ClearLemmas

@@ -173,7 +173,7 @@ fn call(alloc: Global, count: usize, landing: Option<BlockId>) -> Result<Call, A
 #[test]
 fn selects_values(rt: HostRuntime) -> Result<(), Fail> {
     let alloc = rt.alloc();
-    let (to, left, right) = (A, B, C);
+    let (to, from) = (A, C);
     let symbol = Symbol::Global(GlobalId(0));
     let cases = vec![in alloc;
         (
@@ -200,9 +200,23 @@ fn selects_values(rt: HostRuntime) -> Result<(), Fail> {
             "Addi x10, x8, -4; Sw x10, 8(x2); "
         ),
         (
-            Instruction::Move { to, from: right },
+            Instruction::Move { to, from },
             "Lw x10, 0(x2); Sw x10, 8(x2); "
         ),
+    ]?;
+    for (instruction, want) in cases {
+        let found = code_of(alloc, instruction)?;
+        let whole = format!(in alloc; "{want}j block 0; ")?;
+        assert_eq!(rt; found.as_str(), whole.as_str());
+    }
+    Ok(())
+}
+
+#[test]
+fn selects_operations(rt: HostRuntime) -> Result<(), Fail> {
+    let alloc = rt.alloc();
+    let (to, left, right) = (A, B, C);
+    let cases = vec![in alloc;
         (
             Instruction::Alu {
                 op: AluOp::Sub,
