@@ -1,13 +1,13 @@
 -- Calls: the arguments are passed, the routine is entered, and its head makes the activation that low code begins.
-use Rattle.std.proofs.Common.{◌≡◌, ◌≢◌, ℕ, ℤ, pos, zero, suc, ◌+◌, ◌-◌, ◌*◌, ◌/◌, ◌%◌, ◌^◌, ◌<◌, ◌≤◌, ◌⊎◌, inl, inr, Bool, true, false, cond, ◌&&◌, if◌then◌else◌, nat_eq, nat_le, nat_lt, Option, Some, None, List, [], ◌∷◌, ◌++◌, length, map, get_or, set, replicate, slice_get, refl, ap, ap₂, sym, subst, ◌∙◌, append_assoc, arith}
+use Rattle.std.proofs.Common.{◌≡◌, ℕ, pos, zero, suc, ◌+◌, ◌-◌, ◌*◌, ◌/◌, ◌%◌, ◌^◌, ◌-ℤ◌, ◌<◌, ◌≤◌, Bool, true, false, cond, ◌&&◌, nat_eq, nat_le, nat_lt, Option, Some, List, [], ◌∷◌, ◌++◌, length, get_or, set, slice_get, refl, ap, ap₂, sym, subst, ◌∙◌, append_assoc, arith}
 use Rattle.std.proofs.lemmas.Int.{ints}
-use Rattle.std.proofs.lemmas.Bool.{cases_lt, ltb-true, leb-true}
+use Rattle.std.proofs.lemmas.Bool.{ltb-true, leb-true}
 use Rattle.std.proofs.lemmas.Bool.Decides.{nat_tests}
-use Rattle.std.proofs.lemmas.List.{length-replicate, length-map, get_or-set_same, get_or-set_other, length-set}
+use Rattle.std.proofs.lemmas.List.{length-map, get_or-set_same, get_or-set_other, length-set}
 use Rattle.std.specs.Int.{bytes_low_first}
 use Rattle.std.specs.List.{list_all}
-use Rattle.op_low.specs.Machine.{Event, act as low_act, call, call_found, entered, can_enter}
-use Rattle.op_low.specs.State.{State as LowState, Caller, Activation, space, block_of, value, values}
+use Rattle.op_low.specs.Machine.{act as low_act, call, can_enter}
+use Rattle.op_low.specs.State.{State as LowState, space, routine_or, value, values}
 use Rattle.op_low.specs.Valid.{is_valid_instruction, has, has_all, call_fits, call_at_fits, operands_fit, has_landing}
 use Rattle.op_low.specs.declared.code.Routine.{Routine}
 use Rattle.op_low.specs.declared.ids.VirtualRegister.{VirtualRegister}
@@ -16,38 +16,28 @@ use Rattle.op_low.specs.declared.instruction.Instruction.TheVariants.{Call, Call
 use Rattle.op_rv.specs.Operation.{word_from}
 use Rattle.op_rv.specs.State.{State, register, with_bytes, word_at}
 use Rattle.op_rv.specs.Step.{act, offset_from}
-use Rattle.op_rv.specs.declared.instruction.Instr.{Instr}
-use Rattle.op_rv.specs.declared.instruction.Instr.TheVariants.{Jalr}
+use Rattle.op_rv.specs.declared.instruction.StoreOp.TheVariants.{Sw}
+use Rattle.op_rv.specs.declared.instruction.Instr.TheVariants.{Jalr, Store}
 use Rattle.op_rv.specs.declared.objects.Item.{Item}
 use Rattle.op_rv.specs.declared.objects.Item.TheVariants.{Call as CallItem, CallAt as CallAtItem}
 use Rattle.op_rv.specs.declared.symbol.BlockId.{BlockId}
 use Rattle.op_rv.specs.declared.symbol.RoutineId.{RoutineId}
-use Rattle.op_select.specs.Frames.{frame_of, fetch, passed, passed_one, passed_in_memory}
-use Rattle.op_select.specs.Going.{Setting, IsSetting, routine_in, locals_in, frame_in, placement_of, Sound, place_of, Holds, Waits, Below, Stays, Goes}
-use Rattle.op_select.specs.Placing.{Placing, Stands, First, StandsFrom, StandsHere, Expands, Transfer, past}
+use Rattle.op_select.specs.Frames.{frame_of, head_of, fetch, passed, passed_one, passed_in_memory}
+use Rattle.op_select.specs.Going.{Setting, IsSetting, routine_in, locals_in, placement_of, Sound, place_of, Stays}
+use Rattle.op_select.specs.Placing.{Stands, First, StandsHere, Expands, past}
 use Rattle.op_select.specs.RiscvMachine.{instr_shows}
 use Rattle.op_select.specs.Selection.{items_of, code_items, answered}
-use Rattle.op_select.specs.Sequences.{below, word_store}
+use Rattle.op_select.specs.Sequences.{below}
 use Rattle.op_select.proofs.ClearLemmas.{stored}
 use Rattle.op_select.proofs.ControlSteps.{steps_join}
-use Rattle.op_select.proofs.EnterLemmas.{Heads, heads}
 use Rattle.op_select.proofs.FrameLemmas.{sizes, below_top, below_bottom, below_same, with_bytes-outside, sound_stored, four-bounded, stays_placed, fetches}
-use Rattle.op_select.proofs.ReturnSteps.{down_by, down-bounded, answered_aligned}
-use Rattle.op_select.proofs.SequenceLemmas.{Stores, stores}
-use Rattle.op_select.proofs.TransferLemmas.{Linked, links, block_stands}
+use Rattle.op_select.proofs.ReturnSteps.{down-bounded}
+use Rattle.op_select.proofs.SequenceLemmas.{stores}
+use Rattle.op_select.proofs.TransferLemmas.{Linked, links, head_stands}
 use Rattle.op_select.proofs.ValueSteps.{Steps, both_left, both_right, inside, value-bounded}
-use Rattle.op_select.proofs.Walks.{Walk, walk_none, walk_join, walk_weaken, walk_step, advanced_pc, placed, sound_placed, Becomes, plain_first, Split, split, nothing_more}
-use Rattle.op_select.proofs.WordLemmas.{cond_true, with_bytes-within, with_bytes-below, with_bytes-above, word_at-stored, word_at-same, word_at-bounded}
-
-zeros_get : (n k : ℕ) → get_or (replicate {A = ℕ} n 0) k 0 ≡ 0
-zeros_get zero k = refl
-zeros_get (suc n) zero = refl
-zeros_get (suc n) (suc k) = zeros_get n k
-
-past_end : (xs : List ℕ) (k : ℕ) → length xs ≤ k → get_or xs k 0 ≡ 0
-past_end [] k over = refl
-past_end (x ∷ xs) zero over = absurd (omega arith)
-past_end (x ∷ xs) (suc k) over = past_end xs k (omega arith)
+use Rattle.op_select.proofs.Walks.{Walk, walk_none, walk_join, walk_weaken, walk_step, advanced_pc, placed, sound_placed, plain_first, split, nothing_more}
+use Rattle.op_select.proofs.WordLemmas.{cond_true, with_bytes-below, with_bytes-above, word_at-stored, word_at-same}
+use Rattle.op_select.proofs.ArrivalLemmas.{began, Arrives, arrives}
 
 -- the arguments from number k on are where the routine looks for them
 pub record Passes (w : Setting) (m : LowState) (b : State) (k : ℕ) (vs : List ℕ) (at : ℕ) : Type 0 where
@@ -58,108 +48,24 @@ pub record Passes (w : Setting) (m : LowState) (b : State) (k : ℕ) (vs : List 
   pub in_memory : (i : ℕ) → i < length vs → 8 ≤ k + i → word_at after.memory (m.limit + m.room - (8 + 4 * (k + i))) ≡ get_or vs i 0
   pub walk : Walk b after 0 (6 * length vs) []
 
--- low code's state at the beginning of a routine
-abbrev pub began : Setting → (r : ℕ) → (vs : List ℕ) → (to : VirtualRegister) → (landing : Option BlockId) → LowState → LowState
-began w r vs to landing m =
-    record m {
-      top = entered w.low r vs;
-      callers = record { activation = m.top; to = to; landing = landing } ∷ m.callers;
-      limit = m.limit + locals_in w r;
-      room = m.room - space w.low (placement_of w) r;
-      memory = with_bytes m.memory m.limit (replicate (locals_in w r) 0);
-    }
+equal_is : (a b : ℕ) → nat_eq a b ≡ true → a ≡ b
+equal_is a b test = grind (arith, nat_tests)
 
--- all that stands between a call and its routine's head
-pub record Arrives (w : Setting) (m : LowState) (b : State) (r : ℕ) (vs : List ℕ) (to : VirtualRegister) (landing : Option BlockId) : Type 0 where
-  pub stays : Stays w m b
-  pub there : b.pc ≡ w.placing.head r
-  pub in_registers : (i : ℕ) → i < length vs → i < 8 → get_or b.registers (10 + i) 0 ≡ get_or vs i 0
-  pub in_memory : (i : ℕ) → i < length vs → 8 ≤ i → word_at b.memory (m.limit + m.room - (8 + 4 * i)) ≡ get_or vs i 0
-  pub words : (i : ℕ) → i < length vs → get_or vs i 0 < 2 ^ 32
-  pub back : StandsFrom w.placing m.top.routine (get_or b.registers 1 0) (answered (routine_in w m.top.routine) to landing ++ code_items (routine_in w m.top.routine) m.top.now)
-  pub exists : r < length w.low.routines
-  pub caller_exists : m.top.routine < length w.low.routines
-  pub keeps : to.0 < (routine_in w m.top.routine).registers
-  pub count : length vs ≡ (routine_in w r).parameters
-  pub room : space w.low (placement_of w) r ≤ m.room
+-- a routine's head with the address behind the call in ra, where other items stand
+pub record Entered (w : Setting) (c : State) (r target : ℕ) (items : List Item) (end most : ℕ) : Type 0 where
+  pub back : ℕ
+  pub linked : Linked c target back most
+  pub rest : Stands w.placing r back items end
+
+-- a routine with a register exists
+routine_exists : (routines : List Routine) (r v : ℕ) → v < (routine_or (slice_get routines r)).registers → r < length routines
+routine_exists [] r v within = absurd (omega arith)
+routine_exists (x ∷ xs) zero v within = omega arith
+routine_exists (x ∷ xs) (suc r) v within =
+    let more = routine_exists xs r v within in
+    omega arith
 
 module _ (w : Setting) (law : IsSetting w) where
-  began_stays : (m : LowState) (b : State) (r : ℕ) (vs : List ℕ) (to : VirtualRegister) (landing : Option BlockId) → Arrives w m b r vs to landing → (h : Heads w b r (m.limit + m.room) m.limit (get_or b.registers 1 0)) → Stays w (began w r vs to landing m) (stored b h.registers (w.placing.block r 0) h.memory)
-  unfolding Below frame_of
-  began_stays m b r vs to landing a h =
-      let stays = a.stays in
-      let routine = routine_in w r in
-      let size = sizes w.low r law.valid in
-      let inside = size.parameters in
-      let locals_whole = size.locals_aligned in
-      let frame = frame_in w r in
-      let locals = routine.locals in
-      let sp = m.limit + m.room in
-      let room = a.room in
-      let limit_whole = stays.limit_aligned in
-      let sp_whole = stays.sp_aligned in
-      let bottom = below_bottom w b.memory m.top.routine m.limit sp m.callers stays.below in
-      let count = a.count in
-      let new_sp : sp - frame ≡ m.limit + locals + (m.room - (locals + frame)) = omega arith in
-      let old_sp : sp ≡ m.limit + locals + (m.room - (locals + frame)) + frame = omega arith in
-      let old_limit : m.limit ≡ m.limit + locals - locals = omega arith in
-      let waits : Waits w h.memory sp (record { activation = m.top; to = to; landing = landing }) = record {
-        exists = a.caller_exists;
-        keeps = a.keeps;
-        back = subst (λ n. StandsFrom w.placing m.top.routine n (answered (routine_in w m.top.routine) to landing ++ code_items (routine_in w m.top.routine) m.top.now)) (sym h.back_is) a.back;
-        holds = λ v within. word_at-same b.memory h.memory (place_of (routine_in w m.top.routine) sp v) (λ x lower upper. h.high x (omega arith)) ∙ stays.holds v within;
-      } in
-      let rest : Below w h.memory m.top.routine m.limit sp m.callers = below_same w b.memory h.memory m.top.routine m.limit sp m.callers (λ x from. h.high x (omega arith)) stays.below in
-      let held : (v : ℕ) → v < routine.registers → word_at h.memory (place_of routine (sp - frame) v) ≡ get_or vs v 0 = λ v within.
-        elim (cases_lt v routine.parameters) [
-          | inl under ↦
-              elim (cases_lt v 8) [
-                | inl early ↦ h.early v under early ∙ a.in_registers v (omega arith) early
-                | inr late ↦
-                    let place : place_of routine (sp - frame) v ≡ sp - (8 + 4 * v) = omega arith in
-                    h.late v under (omega arith) ∙ ap (word_at b.memory) place ∙ a.in_memory v (omega arith) (omega arith)
-              ]
-          | inr over ↦ h.fresh v within (omega arith) ∙ sym (past_end vs v (omega arith))
-        ] in
-      record {
-        sound = h.sound;
-        memory = λ x lower.
-          elim (cases_lt x m.limit) [
-            | inl old ↦ h.low x old ∙ stays.memory x old ∙ sym (with_bytes-below m.memory m.limit (replicate locals 0) x old)
-            | inr new ↦
-                let long : length (replicate locals 0) ≡ locals = length-replicate {A = ℕ} locals 0 in
-                h.locals x (omega arith) lower ∙ sym (with_bytes-within m.memory m.limit (replicate locals 0) x (omega arith) (omega arith) ∙ zeros_get locals (x - m.limit))
-          ];
-        input = stays.input;
-        input_bytes = stays.input_bytes;
-        output = stays.output;
-        errors = stays.errors;
-        limit = h.limit_is;
-        sp = h.sp_is ∙ new_sp;
-        limit_aligned = omega arith;
-        sp_aligned = omega arith;
-        holds = subst (λ n. (v : ℕ) → v < routine.registers → word_at h.memory (n + 4 * (routine.registers - 1 - v)) ≡ get_or vs v 0) new_sp held;
-        below = (omega arith, subst (λ n. Waits w h.memory n (record { activation = m.top; to = to; landing = landing })) old_sp waits, subst (λ n. Below w h.memory m.top.routine n (m.limit + locals + (m.room - (locals + frame)) + frame) m.callers) old_limit (subst (λ n. Below w h.memory m.top.routine m.limit n m.callers) old_sp rest));
-      }
-
-  -- from the head on
-  pub arrives : (m : LowState) (b : State) (r : ℕ) (vs : List ℕ) (to : VirtualRegister) (landing : Option BlockId) → Arrives w m b r vs to landing → Steps w (began w r vs to landing m) b (36 + 3 * (routine_in w r).registers + locals_in w r) []
-  arrives m b r vs to landing a =
-      let stays = a.stays in
-      let sp = m.limit + m.room in
-      let room = a.room in
-      let bottom = below_bottom w b.memory m.top.routine m.limit sp m.callers stays.below in
-      let top = below_top w b.memory m.top.routine m.limit sp m.callers stays.below in
-      let whole = answered_aligned w law m.top.routine (get_or b.registers 1 0) to landing _ a.back.end a.back.stands in
-      let small = whole.1 in
-      let count = a.count in
-      let h = heads w law b r sp m.limit (get_or b.registers 1 0) stays.sound a.exists a.there stays.sp stays.limit refl (omega arith) stays.sp_aligned stays.limit_aligned (omega arith) (omega arith) (omega arith) (λ v under early. subst (λ n. n < 2 ^ 32) (sym (a.in_registers v (omega arith) early)) (a.words v (omega arith))) in
-      record {
-        after = stored b h.registers (w.placing.block r 0) h.memory;
-        goes = record { stays = began_stays m b r vs to landing a h; ready = block_stands w r 0 law };
-        walk = h.walk;
-      }
-
   -- ---- arguments
 
   -- what is stored between the limit and sp leaves the rest
@@ -279,6 +185,7 @@ module _ (w : Setting) (law : IsSetting w) where
       in_registers m k r rs at rest one (suc i) within few =
           let same : k + suc i ≡ k + 1 + i = omega arith in
           one.registers (k + suc i) (omega arith) few ∙ ap (λ n. get_or rest.after.registers (10 + n) 0) same ∙ rest.in_registers i (omega arith) (omega arith)
+
       in_memory : (m : LowState) (k : ℕ) (r : VirtualRegister) (rs : List VirtualRegister) (at : ℕ) {middle : ℕ} {b : State} → 4 * (k + suc (length (values m rs))) + 4 ≤ m.limit + m.room → (rest : Passes w m b (k + 1) (values m rs) middle) → (one : PassesOne m rest.after k (value m r) at) → (i : ℕ) → i < suc (length (values m rs)) → 8 ≤ k + i → word_at one.after.memory (m.limit + m.room - (8 + 4 * (k + i))) ≡ get_or (value m r ∷ values m rs) i 0
       in_memory m k r rs at room rest one zero within many =
           let same : k + 0 ≡ k = omega arith in
@@ -286,3 +193,155 @@ module _ (w : Setting) (law : IsSetting w) where
       in_memory m k r rs at room rest one (suc i) within many =
           let same : k + suc i ≡ k + 1 + i = omega arith in
           one.memory (k + suc i) (omega arith) (omega arith) ∙ ap (λ n. word_at rest.after.memory (m.limit + m.room - (8 + 4 * n))) same ∙ rest.in_memory i (omega arith) (omega arith)
+
+  -- ---- calls
+
+  values-bounded : (m : LowState) (b : State) (rs : List VirtualRegister) (i : ℕ) → Stays w m b → list_all (has (routine_in w m.top.routine)) rs ≡ true → i < length (values m rs) → get_or (values m rs) i 0 < 2 ^ 32
+  values-bounded m b [] i stays all within = absurd (omega arith)
+  values-bounded m b (r ∷ rs) zero stays all within = value-bounded w law m b r stays (inside w law m r (both_left (has (routine_in w m.top.routine) r) _ all))
+  values-bounded m b (r ∷ rs) (suc i) stays all within = values-bounded m b rs i stays (both_right (has (routine_in w m.top.routine) r) _ all) (omega arith)
+
+  -- the routine is entered, with the address behind the call in ra
+  call_from : (m : LowState) (b : State) (r back most at end : ℕ) (rs : List VirtualRegister) (to : VirtualRegister) (landing : Option BlockId) → (p : Passes w m b 0 (values m rs) at) → (l : Linked p.after (w.placing.head r) back most) → Stays w m b → list_all (has (routine_in w m.top.routine)) rs ≡ true → Stands w.placing m.top.routine back (answered (routine_in w m.top.routine) to landing ++ code_items (routine_in w m.top.routine) m.top.now) end → to.0 < (routine_in w m.top.routine).registers → can_enter w.low (placement_of w) r (length rs) m ≡ true → Steps w (began w r (values m rs) to landing m) b (6 * length rs + most + (36 + 3 * (routine_in w r).registers + locals_in w r)) []
+  call_from m b r back most at end rs to landing p l stays all stands to_in enters =
+      let first : (nat_lt r (length w.low.routines) && nat_eq (length rs) (routine_in w r).parameters) ≡ true = both_left _ (nat_le (space w.low (placement_of w) r) m.room) enters in
+      let exists = ltb-true r (length w.low.routines) (both_left _ (nat_eq (length rs) (routine_in w r).parameters) first) in
+      let counts : nat_eq (length rs) (routine_in w r).parameters ≡ true = both_right (nat_lt r (length w.low.routines)) _ first in
+      let count : length rs ≡ (routine_in w r).parameters = equal_is (length rs) (routine_in w r).parameters counts in
+      let room = leb-true (space w.low (placement_of w) r) m.room (both_right (nat_lt r (length w.low.routines) && nat_eq (length rs) (routine_in w r).parameters) _ enters) in
+      let long : length (values m rs) ≡ length rs = length-map rs (value m) in
+      let d = placed p.after l.registers (w.placing.head r) in
+      let stays_d = stays_placed w law m p.after l.registers (w.placing.head r) p.stays l.size (l.others 2 (omega arith)) (l.others 8 (omega arith)) in
+      let arrived : Arrives w m d r (values m rs) to landing = record {
+        stays = stays_d;
+        there = refl;
+        in_registers = λ i within few. l.others (10 + i) (omega arith) ∙ ap (λ n. get_or p.after.registers (10 + n) 0) (sym (zero_more i)) ∙ p.in_registers i within (omega arith);
+        in_memory = λ i within many. ap (λ n. word_at p.after.memory (m.limit + m.room - (8 + 4 * n))) (sym (zero_more i)) ∙ p.in_memory i within (omega arith);
+        words = λ i within. values-bounded m b rs i stays all within;
+        back = record { end = end; stands = subst (λ n. Stands w.placing m.top.routine n (answered (routine_in w m.top.routine) to landing ++ code_items (routine_in w m.top.routine) m.top.now) end) (sym l.back_is) stands };
+        exists = exists;
+        caller_exists = routine_exists w.low.routines m.top.routine to.0 to_in;
+        keeps = to_in;
+        count = long ∙ count;
+        room = room;
+      } in
+      let steps = arrives w law m d r (values m rs) to landing arrived in
+      let walk = walk_join b p.after d 0 (6 * length (values m rs)) 1 most [] [] p.walk l.walk in
+      let joined_ = steps_join w law (began w r (values m rs) to landing m) b d 1 (6 * length (values m rs) + most) (36 + 3 * (routine_in w r).registers + locals_in w r) [] [] walk steps in
+      subst (λ n. Steps w (began w r (values m rs) to landing m) b (6 * n + most + (36 + 3 * (routine_in w r).registers + locals_in w r)) []) long joined_
+    where
+      zero_more : (i : ℕ) → 0 + i ≡ i
+      zero_more i = omega arith
+
+  -- there is room for the arguments
+  arguments_fit : (m : LowState) (r n : ℕ) → can_enter w.low (placement_of w) r n m ≡ true → 4 * (0 + n) + 4 ≤ m.room
+  unfolding frame_of
+  arguments_fit m r n enters =
+      let first : (nat_lt r (length w.low.routines) && nat_eq n (routine_in w r).parameters) ≡ true = both_left _ (nat_le (space w.low (placement_of w) r) m.room) enters in
+      let count : n ≡ (routine_in w r).parameters = equal_is n (routine_in w r).parameters (both_right (nat_lt r (length w.low.routines)) _ first) in
+      let room : space w.low (placement_of w) r ≤ m.room = leb-true (space w.low (placement_of w) r) m.room (both_right (nat_lt r (length w.low.routines) && nat_eq n (routine_in w r).parameters) _ enters) in
+      let size = sizes w.low r law.valid in
+      let inside_ = size.parameters in
+      omega arith
+
+  linked_first : (m : LowState) (c : State) (id : RoutineId) (landing : Option BlockId) (items : List Item) (end : ℕ) → Sound w c → Stands w.placing m.top.routine c.pc (CallItem id landing ∷ items) end → Entered w c m.top.routine (w.placing.head id.0) items end 2
+  unfolding Expands
+  linked_first m c id landing items end sound (First is expands here rest) =
+      record { back = past c.pc is; linked = links w law c (w.placing.head id.0) is sound expands here; rest = rest }
+
+  pub call_steps : (m : LowState) (b : State) (id : RoutineId) (operands : Operands) (end : ℕ) → Stays w m b → is_valid_instruction w.low (routine_in w m.top.routine) (Call id operands) ≡ true → can_enter w.low (placement_of w) id.0 (length operands.arguments) m ≡ true → Stands w.placing m.top.routine b.pc (items_of (routine_in w m.top.routine) (Call id operands) ++ code_items (routine_in w m.top.routine) m.top.now) end → Steps w (low_act w.low (placement_of w) (Call id operands) m) b (6 * length operands.arguments + 2 + (36 + 3 * (routine_in w id.0).registers + locals_in w id.0)) []
+  unfolding is_valid_instruction call_fits operands_fit has_all items_of low_act call
+  call_steps m b id operands end stays valid enters stands =
+      let r = m.top.routine in
+      let routine = routine_in w r in
+      let args = operands.arguments in
+      let behind_ = CallItem id operands.landing ∷ answered routine operands.to operands.landing in
+      let regrouped = subst (λ items. Stands w.placing r b.pc items end) (append_assoc (passed routine 0 args) behind_ (code_items routine m.top.now)) stands in
+      let parts = split w.placing r b.pc (passed routine 0 args) _ end regrouped in
+      let fit = both_right _ _ valid in
+      let named : (list_all (has routine) args && has routine operands.to) ≡ true = both_left _ (has_landing routine operands.landing) fit in
+      let all = both_left (list_all (has routine) args) _ named in
+      let to_in = inside w law m operands.to (both_right (list_all (has routine) args) _ named) in
+      let p = passes m b 0 args parts.middle stays all (arguments_fit m id.0 (length args) enters) parts.first in
+      let there = subst (λ n. Stands w.placing r n (CallItem id operands.landing ∷ (answered routine operands.to operands.landing ++ code_items routine m.top.now)) end) (sym p.there) parts.second in
+      let e = linked_first m p.after id operands.landing _ end p.stays.sound there in
+      let steps = call_from m b id.0 e.back 2 parts.middle end args operands.to operands.landing p e.linked stays all e.rest to_in enters in
+      subst (λ s. Steps w s b (6 * length args + 2 + (36 + 3 * (routine_in w id.0).registers + locals_in w id.0)) []) (sym (cond_true (can_enter w.low (placement_of w) id.0 (length args) m) (began w id.0 (values m args) operands.to operands.landing m) _ enters)) steps
+
+  -- ---- calls of an address
+
+  head_whole : (r : ℕ) → r < length w.low.routines → (w.placing.head r % 4 ≡ 0) × (w.placing.head r < 2 ^ 31)
+  unfolding head_of
+  head_whole r exists =
+      let stands = head_stands w r law exists in
+      let first = plain_first w.placing r (w.placing.head r) (Store Sw 2 1 (pos 0 -ℤ pos 4)) _ (w.placing.block r 0) stands in
+      (law.objects.aligned (w.placing.head r) _ first.0, law.objects.low (w.placing.head r) _ first.0)
+
+  jalr_first : (m : LowState) (c : State) (r : ℕ) (landing : Option BlockId) (items : List Item) (end : ℕ) → Sound w c → r < length w.low.routines → get_or c.registers 1 0 ≡ w.placing.head r → Stands w.placing m.top.routine c.pc (CallAtItem landing ∷ items) end → Entered w c m.top.routine (w.placing.head r) items end 1
+  unfolding Expands StandsHere past act instr_shows
+  jalr_first m c r landing items end sound exists at (First is expands here rest) =
+      let here' = subst (StandsHere w.placing c.pc) expands here in
+      let rest' = subst (λ js. Stands w.placing m.top.routine (past c.pc js) items end) expands rest in
+      let whole = head_whole r exists in
+      let aligned = whole.0 in
+      let low = whole.1 in
+      let target = w.placing.head r in
+      let back = c.pc + 4 in
+      let size = sound.size in
+      let registers = set c.registers 1 back in
+      let straight : (target + word_from (pos 0)) % 2 ^ 32 / 2 * 2 ≡ target = omega (arith, ints) in
+      let there : offset_from (register c 1) (pos 0) / 2 * 2 ≡ target = ap (λ n. offset_from n (pos 0) / 2 * 2) at ∙ straight in
+      let goes : placed c (set c.registers 1 ((c.pc + 4) % 2 ^ 32)) (offset_from (register c 1) (pos 0) / 2 * 2) ≡ placed c registers target = ap₂ (λ n t. placed c (set c.registers 1 n) t) (advanced_pc w law c (Jalr 1 1 (pos 0)) here'.0) there in
+      record {
+        back = back;
+        linked = record {
+          registers = registers;
+          size = length-set c.registers 1 back ∙ size;
+          back_is = get_or-set_same c.registers 1 back 0 (omega arith);
+          others = λ q other. get_or-set_other c.registers 1 q back 0 other;
+          walk = walk_step w law c (placed c registers target) (Jalr 1 1 (pos 0)) [] sound here'.0 refl goes;
+        };
+        rest = rest';
+      }
+
+  -- the address is fetched, and then called
+  linked_at : (m : LowState) (c : State) (address : VirtualRegister) (r at : ℕ) (landing : Option BlockId) (items : List Item) (end : ℕ) → Stays w m c → address.0 < (routine_in w m.top.routine).registers → r < length w.low.routines → w.routine_at (value m address) ≡ Some r → Stands w.placing m.top.routine c.pc (fetch (routine_in w m.top.routine) 1 address) at → Stands w.placing m.top.routine at (CallAtItem landing ∷ items) end → Entered w c m.top.routine (w.placing.head r) items end 4
+  linked_at m c address r at landing items end stays within exists found stands next =
+      let made = fetches w law m c 1 address at stays within (omega arith) (omega arith) (omega arith) stands in
+      let d = placed c made.registers at in
+      let sound_d = sound_placed w law c made.registers at stays.sound made.size in
+      let e = jalr_first m d r landing items end sound_d exists (made.value_is ∙ law.finds (value m address) r found) next in
+      record {
+        back = e.back;
+        linked = record {
+          registers = e.linked.registers;
+          size = e.linked.size;
+          back_is = e.linked.back_is;
+          others = λ q other. e.linked.others q other ∙ made.others q other other;
+          walk = walk_weaken c (placed c e.linked.registers (w.placing.head r)) 2 4 1 4 [] (omega arith) (omega arith) (walk_join c d (placed c e.linked.registers (w.placing.head r)) 1 3 1 1 [] [] made.walk e.linked.walk);
+        };
+        rest = e.rest;
+      }
+
+  pub call_at_steps : (m : LowState) (b : State) (address : VirtualRegister) (operands : Operands) (r end : ℕ) → Stays w m b → is_valid_instruction w.low (routine_in w m.top.routine) (CallAt address operands) ≡ true → w.routine_at (value m address) ≡ Some r → can_enter w.low (placement_of w) r (length operands.arguments) m ≡ true → Stands w.placing m.top.routine b.pc (items_of (routine_in w m.top.routine) (CallAt address operands) ++ code_items (routine_in w m.top.routine) m.top.now) end → Steps w (call w.low (placement_of w) r operands m) b (6 * length operands.arguments + 4 + (36 + 3 * (routine_in w r).registers + locals_in w r)) []
+  unfolding is_valid_instruction call_at_fits operands_fit has_all items_of call
+  call_at_steps m b address operands r end stays valid found enters stands =
+      let me = m.top.routine in
+      let routine = routine_in w me in
+      let args = operands.arguments in
+      let items = answered routine operands.to operands.landing ++ code_items routine m.top.now in
+      let front = passed routine 0 args ++ fetch routine 1 address in
+      let regrouped = subst (λ items. Stands w.placing me b.pc items end) (append_assoc front (CallAtItem operands.landing ∷ answered routine operands.to operands.landing) (code_items routine m.top.now)) stands in
+      let parts = split w.placing me b.pc front (CallAtItem operands.landing ∷ items) end regrouped in
+      let two = split w.placing me b.pc (passed routine 0 args) (fetch routine 1 address) parts.middle parts.first in
+      let fit = both_right (has routine address) _ valid in
+      let named : (list_all (has routine) args && has routine operands.to) ≡ true = both_left _ (has_landing routine operands.landing) fit in
+      let all = both_left (list_all (has routine) args) _ named in
+      let to_in = inside w law m operands.to (both_right (list_all (has routine) args) _ named) in
+      let address_in = inside w law m address (both_left (has routine address) _ valid) in
+      let exists = ltb-true r (length w.low.routines) (both_left _ (nat_eq (length args) (routine_in w r).parameters) (both_left _ (nat_le (space w.low (placement_of w) r) m.room) enters)) in
+      let p = passes m b 0 args two.middle stays all (arguments_fit m r (length args) enters) two.first in
+      let there = subst (λ n. Stands w.placing me n (fetch routine 1 address) parts.middle) (sym p.there) two.second in
+      let e = linked_at m p.after address r parts.middle operands.landing items end p.stays address_in exists found there parts.second in
+      let steps = call_from m b r e.back 4 two.middle end args operands.to operands.landing p e.linked stays all e.rest to_in enters in
+      subst (λ s. Steps w s b (6 * length args + 4 + (36 + 3 * (routine_in w r).registers + locals_in w r)) []) (sym (cond_true (can_enter w.low (placement_of w) r (length args) m) (began w r (values m args) operands.to operands.landing m) _ enters)) steps

@@ -1,28 +1,24 @@
 -- The loop of one store that puts zeros in memory.
-use Rattle.std.proofs.Common.{◌≡◌, ◌≢◌, ℕ, ℤ, pos, zero, suc, ◌+◌, ◌-◌, ◌*◌, ◌%◌, ◌^◌, ◌-ℤ◌, ◌<◌, ◌≤◌, ◌⊎◌, inl, inr, Bool, true, false, not, cond, if◌then◌else◌, nat_eq, Option, Some, None, List, [], ◌∷◌, ◌++◌, length, get_or, refl, ap, ap₂, sym, subst, ◌∙◌, arith}
+use Rattle.std.proofs.Common.{◌≡◌, ◌≢◌, ℕ, pos, zero, suc, ◌+◌, ◌-◌, ◌*◌, ◌%◌, ◌^◌, ◌-ℤ◌, ◌<◌, ◌≤◌, ◌⊎◌, inl, inr, Bool, true, false, not, cond, nat_eq, List, [], length, get_or, refl, ap, ap₂, sym, subst, ◌∙◌, arith}
 use Rattle.std.proofs.lemmas.Int.{ints}
 use Rattle.std.proofs.lemmas.Bool.{cases_lt}
 use Rattle.std.proofs.lemmas.Bool.Decides.{nat_tests}
 use Rattle.std.specs.Int.{bytes_low_first}
-use Rattle.op_low.specs.Machine.{Event}
 use Rattle.op_rv.specs.Operation.{word_from, branch_taken}
-use Rattle.op_rv.specs.State.{State, register, with_register, advanced, faulted, with_bytes}
+use Rattle.op_rv.specs.State.{State, register, advanced, faulted, with_bytes}
 use Rattle.op_rv.specs.Step.{act, store, can_access, offset_from}
 use Rattle.op_rv.specs.declared.fault.FaultKind.TheVariants.{Store as StoreFault}
 use Rattle.op_rv.specs.declared.instruction.BranchOp.TheVariants.{Bne}
 use Rattle.op_rv.specs.declared.instruction.ImmOp.TheVariants.{Addi}
 use Rattle.op_rv.specs.declared.instruction.StoreOp.TheVariants.{Sw}
-use Rattle.op_rv.specs.declared.instruction.Instr.{Instr}
 use Rattle.op_rv.specs.declared.instruction.Instr.TheVariants.{Branch, Imm, Store}
-use Rattle.op_rv.specs.declared.objects.Item.{Item}
-use Rattle.op_rv.specs.declared.objects.Item.TheVariants.{Plain}
 use Rattle.op_select.specs.Frames.{cleared}
 use Rattle.op_select.specs.Going.{Setting, IsSetting, Sound}
-use Rattle.op_select.specs.Placing.{Placing, Stands}
+use Rattle.op_select.specs.Placing.{Stands}
 use Rattle.op_select.specs.RiscvMachine.{instr_shows}
 use Rattle.op_select.proofs.FrameLemmas.{sound_stored, four-bounded, with_bytes-outside}
 use Rattle.op_select.proofs.TransferLemmas.{branches}
-use Rattle.op_select.proofs.Walks.{Walk, walk_join, walk_weaken, walk_step, advanced_pc, placed, sound_placed, Becomes, becomes, register_is, plain_first, nothing_more}
+use Rattle.op_select.proofs.Walks.{Walk, walk_join, walk_weaken, walk_step, advanced_pc, placed, sound_placed, becomes, register_is, plain_first, nothing_more}
 use Rattle.op_select.proofs.WordLemmas.{cond_true, can_access_word, with_bytes-within}
 
 -- a state with other memory
@@ -132,15 +128,15 @@ module _ (w : Setting) (law : IsSetting w) where
         memory = more.memory;
         others = λ q other. more.others q other ∙ one.others q other;
         zeros = λ x lower upper.
-          elim (cases_lt x (a + 4)) [
-            | inl here ↦ more.same x (inl here) ∙ with_bytes-within b.memory a (bytes_low_first 0 4 0) x lower (omega arith) ∙ zero_bytes (x - a)
-            | inr later ↦ more.zeros x (omega arith) (omega arith)
-          ];
+            elim (cases_lt x (a + 4)) [
+              | inl here ↦ more.same x (inl here) ∙ with_bytes-within b.memory a (bytes_low_first 0 4 0) x lower (omega arith) ∙ zero_bytes (x - a)
+              | inr later ↦ more.zeros x (omega arith) (omega arith)
+            ];
         same = λ x side.
-          elim side [
-            | inl under ↦ more.same x (inl (omega arith)) ∙ with_bytes-outside b.memory a (bytes_low_first 0 4 0) x (λ lower upper. absurd (omega arith))
-            | inr over ↦ more.same x (inr (omega arith)) ∙ with_bytes-outside b.memory a (bytes_low_first 0 4 0) x (λ lower upper. absurd (omega arith))
-          ];
+            elim side [
+              | inl under ↦ more.same x (inl (omega arith)) ∙ with_bytes-outside b.memory a (bytes_low_first 0 4 0) x (λ lower upper. absurd (omega arith))
+              | inr over ↦ more.same x (inr (omega arith)) ∙ with_bytes-outside b.memory a (bytes_low_first 0 4 0) x (λ lower upper. absurd (omega arith))
+            ];
         sound = more.sound;
         walk = walk_weaken b (stored b more.registers end more.memory) 4 (3 + 3 * suc k) 1 (3 * suc (suc k)) [] (omega arith) (omega arith) (walk_join b c (stored b more.registers end more.memory) 3 3 1 (3 * suc k) [] [] one.walk more.walk);
       }

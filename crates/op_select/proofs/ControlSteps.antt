@@ -1,46 +1,43 @@
 -- Instructions that go elsewhere, and those that write memory or call the outside.
-use Rattle.std.proofs.Common.{◌≡◌, ◌≢◌, ℕ, ℤ, pos, negsuc, zero, suc, ◌+◌, ◌-◌, ◌*◌, ◌%◌, ◌^◌, ◌<◌, ◌≤◌, ◌⊎◌, inl, inr, Bool, true, false, cond, ◌&&◌, if◌then◌else◌, nat_eq, nat_lt, nat_le, Option, Some, None, List, [], ◌∷◌, ◌++◌, length, get_or, set, take, drop, refl, ap, ap₂, sym, subst, ◌∙◌, append_assoc, arith}
-use Rattle.std.proofs.lemmas.Bool.{ltb-true, cases_lt}
-use Rattle.std.proofs.lemmas.Bool.Decides.{nat_tests}
+use Rattle.std.proofs.Common.{◌≡◌, ◌≢◌, ℕ, ℤ, zero, suc, ◌+◌, ◌-◌, ◌%◌, ◌^◌, ◌<◌, ◌≤◌, Bool, true, false, cond, ◌&&◌, if◌then◌else◌, nat_eq, nat_lt, nat_le, List, [], ◌∷◌, ◌++◌, length, get_or, refl, ap, ap₂, sym, subst, ◌∙◌, append_assoc, arith}
 use Rattle.std.specs.Int.{bytes_low_first, byte_at}
-use Rattle.op_low.specs.Machine.{Event, Written, Taken, act as low_act, store as low_store, write as low_write, read as low_read, written, taken, exit}
-use Rattle.op_low.specs.State.{State as LowState, keep as with_kept, value, usable, jump, block_of}
-use Rattle.op_low.specs.Valid.{is_valid_instruction, has, has_two, has_three, has_block, imm_fits, branch_fits}
+use Rattle.op_low.specs.Machine.{Event, act as low_act, store as low_store}
+use Rattle.op_low.specs.State.{State as LowState, value, usable, jump}
+use Rattle.op_low.specs.Valid.{is_valid_instruction, has, imm_fits, branch_fits}
 use Rattle.op_low.specs.declared.ids.VirtualRegister.{VirtualRegister}
-use Rattle.op_low.specs.declared.code.Routine.{Routine}
-use Rattle.op_low.specs.declared.instruction.Instruction.TheVariants.{Branch, Jump, Store, Read, Write, Exit}
-use Rattle.op_low.specs.declared.instruction.Output.{Output}
-use Rattle.op_low.specs.declared.instruction.Output.TheVariants.{Console, Errors}
-use Rattle.op_rv.specs.Environment.{environment_call, read_call, write_call, exit_call, returned, filled, is_readable, is_writable}
+use Rattle.op_low.specs.declared.instruction.Instruction.TheVariants.{Branch, Jump, Store, Exit}
+use Rattle.op_rv.specs.Environment.{environment_call, read_call, write_call, exit_call}
 use Rattle.op_rv.specs.Operation.{branch_taken}
-use Rattle.op_rv.specs.State.{State, Ending, Ended, register, with_register, advanced, faulted, with_bytes, all_from, bytes_from, word_at}
+use Rattle.op_rv.specs.State.{State, Ended, register, faulted, with_bytes}
 use Rattle.op_rv.specs.Step.{act, store, can_access, offset_from, store_size_of}
-use Rattle.op_rv.specs.declared.fault.FaultKind.TheVariants.{Store as StoreFault, Load as LoadFault, Call as CallFault}
+use Rattle.op_rv.specs.declared.fault.FaultKind.TheVariants.{Store as StoreFault, Call as CallFault}
 use Rattle.op_rv.specs.declared.instruction.BranchOp.{BranchOp}
 use Rattle.op_rv.specs.declared.instruction.StoreOp.{StoreOp}
 use Rattle.op_rv.specs.declared.instruction.StoreOp.TheVariants.{Sb, Sh, Sw}
-use Rattle.op_rv.specs.declared.instruction.Instr.{Instr}
 use Rattle.op_rv.specs.declared.instruction.Instr.TheVariants.{Ecall, Store as StoreInstr}
 use Rattle.op_rv.specs.declared.objects.Item.{Item}
-use Rattle.op_rv.specs.declared.objects.Item.TheVariants.{Plain, Branch as BranchItem, Jump as JumpItem}
+use Rattle.op_rv.specs.declared.objects.Item.TheVariants.{Branch as BranchItem, Jump as JumpItem}
 use Rattle.op_rv.specs.declared.symbol.BlockId.{BlockId}
-use Rattle.op_select.specs.Frames.{fetch, keep, frame_of}
-use Rattle.op_select.specs.Going.{Setting, IsSetting, routine_in, frame_in, placement_of, Sound, Holds, place_of, Stays, Goes}
-use Rattle.op_select.specs.Placing.{Placing, Stands, First, StandsFrom, StandsHere, Expands, Transfer, Choice, past}
-use Rattle.op_select.specs.RiscvMachine.{instr_shows, call_event, event_if, read_event, write_event}
-use Rattle.op_select.specs.Selection.{items_of, code_items, transfer, descriptor_of}
+use Rattle.op_select.specs.Frames.{fetch, frame_of}
+use Rattle.op_select.specs.Going.{Setting, IsSetting, routine_in, placement_of, Sound, place_of, Stays, Goes}
+use Rattle.op_select.specs.Placing.{Stands, First, Expands, past}
+use Rattle.op_select.specs.RiscvMachine.{instr_shows, call_event, read_event, write_event}
+use Rattle.op_select.specs.Selection.{items_of, code_items}
 use Rattle.op_select.specs.Sequences.{small}
-use Rattle.op_select.proofs.FrameLemmas.{stays_placed, sound_stored, below_same, with_bytes-outside, fetches, keeps}
+use Rattle.op_select.proofs.FrameLemmas.{stays_placed, sound_stored, below_same, with_bytes-outside, fetches}
 use Rattle.op_select.proofs.SequenceLemmas.{smalls}
-use Rattle.op_select.proofs.TransferLemmas.{Moved, jumps, chooses, block_stands}
-use Rattle.op_select.proofs.ValueSteps.{Result, Two, Steps, both_left, both_right, inside, finish, two_fetched, usable_all, all_of, access_of}
-use Rattle.op_select.proofs.Walks.{Walk, walk_join, walk_weaken, walk_step, advanced_pc, placed, sound_placed, Becomes, becomes, register_is, plain_first, Split, split, nothing_more}
-use Rattle.op_select.proofs.WordLemmas.{cond_true, cond_false, and_true, word_at-same}
+use Rattle.op_select.proofs.TransferLemmas.{jumps, chooses, block_stands}
+use Rattle.op_select.proofs.ValueSteps.{Steps, both_left, both_right, inside, two_fetched, usable_all, access_of}
+use Rattle.op_select.proofs.Walks.{Walk, walk_join, walk_weaken, walk_step, advanced_pc, placed, sound_placed, plain_first, split, nothing_more}
+use Rattle.op_select.proofs.WordLemmas.{cond_true, word_at-same}
 
 -- the machine has ended
 pub record ExitSteps (m : LowState) (b : State) (most : ℕ) (status : ℕ) : Type 0 where
   pub after : State
   pub ended : after.ending ≡ Ended status
+  pub output : after.output ≡ m.output
+  pub errors : after.errors ≡ m.errors
+  pub input : after.input ≡ m.input
   pub walk : Walk b after 1 most []
 
 -- where a branch has led: to its block, or to the next item
@@ -176,6 +173,9 @@ module _ (w : Setting) (law : IsSetting w) where
       record {
         after = exit_call d;
         ended = ap (λ n. Ended (n % 256)) status_is;
+        output = stays.output;
+        errors = stays.errors;
+        input = stays.input;
         walk = walk_weaken b (exit_call d) 3 5 1 5 [] (omega arith) (omega arith) walk;
       }
 

@@ -1,30 +1,21 @@
 -- The head of a routine as a whole, and the activation that it begins.
-use Rattle.std.proofs.Common.{◌≡◌, ◌≢◌, ℕ, ℤ, pos, zero, suc, ◌+◌, ◌-◌, ◌*◌, ◌%◌, ◌^◌, ◌-ℤ◌, ◌<◌, ◌≤◌, ◌⊎◌, inl, inr, Bool, true, false, cond, ◌&&◌, if◌then◌else◌, nat_eq, nat_le, nat_lt, min, Option, Some, None, List, [], ◌∷◌, ◌++◌, length, get_or, replicate, refl, ap, ap₂, sym, subst, ◌∙◌, arith}
-use Rattle.std.proofs.lemmas.Bool.{cases_lt}
-use Rattle.std.proofs.lemmas.Bool.Decides.{nat_tests}
-use Rattle.std.proofs.lemmas.List.{length-replicate}
+use Rattle.std.proofs.Common.{◌≡◌, ℕ, pos, ◌+◌, ◌-◌, ◌*◌, ◌%◌, ◌^◌, ◌-ℤ◌, ◌<◌, ◌≤◌, ◌⊎◌, inl, inr, min, List, [], ◌∷◌, ◌++◌, length, get_or, sym, subst, ◌∙◌, arith}
 use Rattle.std.specs.Int.{bytes_low_first}
-use Rattle.op_low.specs.Machine.{Event, entered}
-use Rattle.op_low.specs.State.{State as LowState, Caller, Activation, space, block_of}
 use Rattle.op_low.specs.declared.code.Routine.{Routine}
-use Rattle.op_low.specs.declared.ids.VirtualRegister.{VirtualRegister}
 use Rattle.op_rv.specs.State.{State, with_bytes, word_at}
 use Rattle.op_rv.specs.declared.instruction.StoreOp.TheVariants.{Sw}
 use Rattle.op_rv.specs.declared.instruction.Instr.TheVariants.{Store}
 use Rattle.op_rv.specs.declared.objects.Item.TheVariants.{Plain}
-use Rattle.op_rv.specs.declared.symbol.BlockId.{BlockId}
 use Rattle.op_select.specs.Frames.{frame_of, received, cleared_registers, cleared_locals, head_of}
-use Rattle.op_select.specs.Going.{Setting, IsSetting, routine_in, locals_in, frame_in, placement_of, Sound, place_of, Holds, Waits, Below, Stays, Goes}
-use Rattle.op_select.specs.Placing.{Placing, Stands, StandsFrom}
-use Rattle.op_select.specs.Selection.{answered, code_items}
+use Rattle.op_select.specs.Going.{Setting, IsSetting, routine_in, locals_in, frame_in, Sound, place_of}
+use Rattle.op_select.specs.Placing.{Stands}
 use Rattle.op_select.specs.Sequences.{below, sum}
 use Rattle.op_select.proofs.ClearLemmas.{stored}
-use Rattle.op_select.proofs.FrameLemmas.{sizes, below_top, below_bottom, below_same, with_bytes-outside}
-use Rattle.op_select.proofs.HeadLemmas.{Saves, Receives, Zeroes, saves, receives, zeroes_registers, zeroes_locals}
-use Rattle.op_select.proofs.TransferLemmas.{head_stands, block_stands}
-use Rattle.op_select.proofs.ValueSteps.{Steps}
+use Rattle.op_select.proofs.FrameLemmas.{sizes, with_bytes-outside}
+use Rattle.op_select.proofs.HeadLemmas.{saves, receives, zeroes_registers, zeroes_locals}
+use Rattle.op_select.proofs.TransferLemmas.{head_stands}
 use Rattle.op_select.proofs.Walks.{Walk, walk_join, walk_weaken, split}
-use Rattle.op_select.proofs.WordLemmas.{with_bytes-within, with_bytes-below, with_bytes-above, word_at-stored, word_at-same}
+use Rattle.op_select.proofs.WordLemmas.{word_at-stored, word_at-same}
 
 -- what a head leaves, from the state before it: the frame below sp, the locals above the limit
 pub record Heads (w : Setting) (b : State) (r sp limit back : ℕ) : Type 0 where

@@ -1,26 +1,23 @@
 -- Virtual registers in their homes: what fetching and keeping them does, and what stays.
-use Rattle.std.proofs.Common.{◌≡◌, ◌≢◌, ℕ, zero, suc, ◌+◌, ◌-◌, ◌*◌, ◌%◌, ◌^◌, ◌<◌, ◌≤◌, ◌⊎◌, inl, inr, Bool, true, false, cond, ◌&&◌, if◌then◌else◌, nat_eq, nat_lt, nat_le, Option, Some, None, List, [], ◌∷◌, ◌++◌, length, get_or, slice_get, refl, ap, sym, subst, ◌∙◌, arith}
+use Rattle.std.proofs.Common.{◌≡◌, ◌≢◌, ℕ, zero, suc, ◌+◌, ◌-◌, ◌*◌, ◌%◌, ◌^◌, ◌<◌, ◌≤◌, ◌⊎◌, inl, inr, Bool, true, false, cond, ◌&&◌, nat_eq, nat_lt, nat_le, List, [], ◌∷◌, ◌++◌, length, get_or, slice_get, refl, ap, sym, subst, ◌∙◌, arith}
 use Rattle.std.proofs.lemmas.Bool.{cases_lt}
 use Rattle.std.proofs.lemmas.Bool.Decides.{nat_tests}
 use Rattle.std.specs.Int.{bytes_low_first}
 use Rattle.std.specs.List.{list_all}
-use Rattle.op_low.specs.Machine.{Event}
-use Rattle.op_low.specs.State.{Caller, State as LowState, routine_of, routine_or, no_routine, keep as with_kept, value}
+use Rattle.op_low.specs.State.{Caller, State as LowState, routine_of, routine_or, keep as with_kept, value}
 use Rattle.op_low.specs.Valid.{is_valid, is_valid_routine, is_sized}
 use Rattle.op_low.specs.declared.code.Low.{Low}
 use Rattle.op_low.specs.declared.code.Routine.{Routine}
 use Rattle.op_low.specs.declared.ids.VirtualRegister.{VirtualRegister}
 use Rattle.op_rv.specs.Decoding.{instr_at}
 use Rattle.op_rv.specs.State.{State, with_bytes, word_at}
-use Rattle.op_rv.specs.declared.instruction.Instr.{Instr}
-use Rattle.op_rv.specs.declared.objects.Item.{Item}
 use Rattle.op_select.specs.Frames.{frame_of, home, load_home, store_home, fetch, keep}
-use Rattle.op_select.specs.Going.{Setting, IsSetting, routine_in, locals_in, frame_in, Sound, place_of, Holds, Waits, Below, Stays}
+use Rattle.op_select.specs.Going.{Setting, IsSetting, routine_in, locals_in, frame_in, Sound, place_of, Holds, Below, Stays}
 use Rattle.op_select.specs.Placing.{Stands, StandsFrom}
 use Rattle.op_select.specs.Selection.{answered, code_items}
-use Rattle.op_select.proofs.SequenceLemmas.{Stores, loads, stores}
+use Rattle.op_select.proofs.SequenceLemmas.{loads, stores}
 use Rattle.op_select.proofs.Walks.{Walk, placed, sound_placed, Becomes}
-use Rattle.op_select.proofs.WordLemmas.{cond_true, cond_false, with_bytes-within, with_bytes-below, with_bytes-above, word_at-stored, word_at-same, word_at-bounded}
+use Rattle.op_select.proofs.WordLemmas.{cond_true, cond_false, with_bytes-below, with_bytes-above, word_at-stored, word_at-same}
 
 -- ---- sizes
 
@@ -121,15 +118,16 @@ unfolding Below frame_of
 below_same w memory other r limit sp [] same below = below
 below_same w memory other r limit sp (c ∷ cs) same below =
     let waits = below.1 in
-    let ra = word_at-same memory other (sp + frame_in w r - 4) (λ x from before. same x (omega arith)) in
-    (below.0,
-    record {
-      exists = waits.exists;
-      keeps = waits.keeps;
-      back = subst (λ a. StandsFrom w.placing c.activation.routine a (answered (routine_in w c.activation.routine) c.to c.landing ++ code_items (routine_in w c.activation.routine) c.activation.now)) (sym ra) waits.back;
-      holds = λ v within. word_at-same memory other (place_of (routine_in w c.activation.routine) (sp + frame_in w r) v) (λ x from before. same x (omega arith)) ∙ waits.holds v within;
-    },
-    below_same w memory other c.activation.routine (limit - locals_in w r) (sp + frame_in w r) cs (λ x from. same x (omega arith)) below.2)
+    let ra = word_at-same memory other (sp + frame_in w r - 4) (λ x from before. same x (omega arith)) in (
+      below.0,
+      record {
+        exists = waits.exists;
+        keeps = waits.keeps;
+        back = subst (λ a. StandsFrom w.placing c.activation.routine a (answered (routine_in w c.activation.routine) c.to c.landing ++ code_items (routine_in w c.activation.routine) c.activation.now)) (sym ra) waits.back;
+        holds = λ v within. word_at-same memory other (place_of (routine_in w c.activation.routine) (sp + frame_in w r) v) (λ x from before. same x (omega arith)) ∙ waits.holds v within;
+      },
+      below_same w memory other c.activation.routine (limit - locals_in w r) (sp + frame_in w r) cs (λ x from. same x (omega arith)) below.2,
+    )
 
 -- the frames end at the top of the stack
 pub below_top : (w : Setting) (memory : ℕ → ℕ) (r limit sp : ℕ) (cs : List Caller) → Below w memory r limit sp cs → sp + frame_in w r ≤ w.top

@@ -1,27 +1,27 @@
 -- The head of a routine, stage by stage.
-use Rattle.std.proofs.Common.{◌≡◌, ◌≢◌, ℕ, ℤ, pos, zero, suc, ◌+◌, ◌-◌, ◌*◌, ◌/◌, ◌%◌, ◌^◌, ◌-ℤ◌, ◌<◌, ◌≤◌, ◌⊎◌, inl, inr, Bool, true, false, not, cond, if◌then◌else◌, nat_eq, min, Option, Some, None, List, [], ◌∷◌, ◌++◌, length, get_or, refl, ap, ap₂, sym, subst, ◌∙◌, arith}
+use Rattle.std.proofs.Common.{◌≡◌, ◌≢◌, ℕ, pos, zero, suc, ◌+◌, ◌-◌, ◌*◌, ◌/◌, ◌%◌, ◌^◌, ◌-ℤ◌, ◌<◌, ◌≤◌, ◌⊎◌, inl, inr, Bool, true, false, cond, nat_eq, List, [], ◌∷◌, ◌++◌, length, get_or, refl, ap, sym, subst, ◌∙◌, arith}
 use Rattle.std.proofs.lemmas.Bool.{cases_lt}
 use Rattle.std.proofs.lemmas.Bool.Decides.{nat_tests}
 use Rattle.std.specs.Int.{bytes_low_first}
 use Rattle.op_low.specs.declared.code.Routine.{Routine}
 use Rattle.op_rv.specs.Operation.{word_from}
-use Rattle.op_rv.specs.State.{State, register, with_register, advanced, faulted, with_bytes, word_at}
+use Rattle.op_rv.specs.State.{State, register, advanced, faulted, with_bytes, word_at}
 use Rattle.op_rv.specs.Step.{act, store, can_access, offset_from}
 use Rattle.op_rv.specs.declared.fault.FaultKind.TheVariants.{Store as StoreFault}
 use Rattle.op_rv.specs.declared.instruction.ImmOp.TheVariants.{Addi}
 use Rattle.op_rv.specs.declared.instruction.StoreOp.TheVariants.{Sw}
 use Rattle.op_rv.specs.declared.instruction.Instr.TheVariants.{Imm, Store}
 use Rattle.op_rv.specs.declared.objects.Item.TheVariants.{Plain}
-use Rattle.op_select.specs.Frames.{frame_of, home, store_home, keep, received, cleared, cleared_registers, cleared_locals, head_of}
-use Rattle.op_select.specs.Going.{Setting, IsSetting, routine_in, locals_in, frame_in, Sound, place_of}
-use Rattle.op_select.specs.Placing.{Placing, Stands}
+use Rattle.op_select.specs.Frames.{home, store_home, keep, received, cleared, cleared_registers, cleared_locals}
+use Rattle.op_select.specs.Going.{Setting, IsSetting, routine_in, locals_in, Sound, place_of}
+use Rattle.op_select.specs.Placing.{Stands}
 use Rattle.op_select.specs.RiscvMachine.{instr_shows}
 use Rattle.op_select.specs.Sequences.{below, sum}
 use Rattle.op_select.proofs.ClearLemmas.{stored, Clears, clears, no_distance}
 use Rattle.op_select.proofs.FrameLemmas.{sizes, sound_stored, four-bounded, with_bytes-outside}
 use Rattle.op_select.proofs.ReturnSteps.{four_below, down_by, down-bounded}
-use Rattle.op_select.proofs.SequenceLemmas.{Stores, sums, stores}
-use Rattle.op_select.proofs.Walks.{Walk, walk_none, walk_join, walk_weaken, walk_step, advanced_pc, placed, sound_placed, Becomes, becomes, register_is, plain_first, Split, split, nothing_more}
+use Rattle.op_select.proofs.SequenceLemmas.{sums, stores}
+use Rattle.op_select.proofs.Walks.{Walk, walk_none, walk_join, walk_weaken, walk_step, advanced_pc, placed, sound_placed, becomes, plain_first, split, nothing_more}
 use Rattle.op_select.proofs.WordLemmas.{cond_true, can_access_word, word_at-stored, word_at-same}
 
 -- the return address is saved, and sp is that of the routine
@@ -129,17 +129,17 @@ module _ (w : Setting) (law : IsSetting w) where
         size = put.size;
         others = λ p other. put.others p other ∙ first.others p other;
         homes = λ v under.
-          elim (cases_lt v count) [
-            | inl lower ↦ word_at-same first.memory memory (place_of routine sp v) (λ y from before. with_bytes-outside first.memory a bytes y (λ l u. absurd (omega arith))) ∙ first.homes v lower
-            | inr upper ↦
-                let is : v ≡ count = omega arith in
-                ap (λ k. word_at memory (place_of routine sp k)) is ∙ word_at-stored first.memory a x x_small ∙ x_is ∙ ap (λ k. get_or b.registers (10 + k) 0) (sym is)
-          ];
+            elim (cases_lt v count) [
+              | inl lower ↦ word_at-same first.memory memory (place_of routine sp v) (λ y from before. with_bytes-outside first.memory a bytes y (λ l u. absurd (omega arith))) ∙ first.homes v lower
+              | inr upper ↦
+                  let is : v ≡ count = omega arith in
+                  ap (λ k. word_at memory (place_of routine sp k)) is ∙ word_at-stored first.memory a x x_small ∙ x_is ∙ ap (λ k. get_or b.registers (10 + k) 0) (sym is)
+            ];
         same = λ y side.
-          elim side [
-            | inl under ↦ with_bytes-outside first.memory a bytes y (λ l u. absurd (omega arith)) ∙ first.same y (inl (omega arith))
-            | inr over ↦ with_bytes-outside first.memory a bytes y (λ l u. absurd (omega arith)) ∙ first.same y (inr over)
-          ];
+            elim side [
+              | inl under ↦ with_bytes-outside first.memory a bytes y (λ l u. absurd (omega arith)) ∙ first.same y (inl (omega arith))
+              | inr over ↦ with_bytes-outside first.memory a bytes y (λ l u. absurd (omega arith)) ∙ first.same y (inr over)
+            ];
         sound = sound_stored w law c put.registers at a bytes first.sound put.size (four-bounded x) writable;
         walk = walk_weaken b (stored b put.registers at memory) 1 (3 * count + 3) 0 (3 * suc count) [] (omega arith) (omega arith) (walk_join b c (stored b put.registers at memory) 0 (3 * count) 1 3 [] [] first.walk put.walk);
       }

@@ -1,7 +1,11 @@
+mod ArrivalLemmas
+mod Beginning
 mod CallSteps
 mod ClearLemmas
 mod ControlSteps
 mod EnterLemmas
+mod Following
+mod ExamplePlaced
 mod FrameLemmas
 mod HeadLemmas
 mod Loops

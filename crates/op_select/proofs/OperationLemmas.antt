@@ -1,12 +1,12 @@
 -- What the operators compute on words are words.
-use Rattle.std.proofs.Common.{◌≡◌, ℕ, ℤ, pos, negsuc, zero, suc, ◌+◌, ◌-◌, ◌*◌, ◌/◌, ◌%◌, ◌^◌, ◌*ℤ◌, neg_ℤ, ◌<◌, ◌≤◌, Bool, true, false, cond, not, nat_eq, nat_lt, int_lt, bit_and, bit_or, bit_xor, refl, ap, sym, subst, ◌∙◌, arith}
+use Rattle.std.proofs.Common.{◌≡◌, ℕ, ℤ, pos, negsuc, zero, suc, ◌+◌, ◌-◌, ◌*◌, ◌/◌, ◌%◌, ◌^◌, ◌*ℤ◌, neg_ℤ, ◌<◌, ◌≤◌, Bool, true, false, cond, nat_eq, nat_lt, int_lt, arith}
 use Rattle.std.proofs.Math.Nat.{div-le_self, mod-le, mul-le-mul}
 use Rattle.std.proofs.lemmas.Int.{ints, unsigned_abs-mul}
 use Rattle.std.proofs.lemmas.Nat.{xor_of_32, or_of_32, and_le_l}
-use Rattle.std.specs.Int.{w8, w16, w32, w64, cast_signed, cast_unsigned, from_bool, int_shr}
+use Rattle.std.specs.Int.{w8, w16, cast_signed, from_bool, int_shr}
 use Rattle.std.specs.Int.RustNames.{int_div, int_rem, unsigned_abs}
 use Rattle.op_rv.specs.Operation.{signed, word_from, upper_word, shift_value, alu_value, imm_value}
-use Rattle.op_rv.specs.State.{half_at, word_at}
+use Rattle.op_rv.specs.State.{half_at}
 use Rattle.op_rv.specs.Step.{load_value}
 use Rattle.op_rv.specs.declared.instruction.AluOp.{AluOp}
 use Rattle.op_rv.specs.declared.instruction.AluOp.TheVariants.{Add, Sub, Sll, Slt, Sltu, Xor, Srl, Sra, Or, And, Mul, Mulh, Mulhsu, Mulhu, Div, Divu, Rem, Remu}

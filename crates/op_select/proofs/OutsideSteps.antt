@@ -1,32 +1,31 @@
 -- Instructions that read and write.
-use Rattle.std.proofs.Common.{◌≡◌, ◌≢◌, ℕ, zero, suc, ◌+◌, ◌-◌, ◌*◌, ◌%◌, ◌^◌, ◌<◌, ◌≤◌, Bool, true, false, cond, ◌&&◌, if◌then◌else◌, nat_eq, nat_lt, nat_le, Option, Some, None, List, [], ◌∷◌, ◌++◌, length, get_or, set, take, drop, refl, ap, ap₂, sym, subst, ◌∙◌, append_assoc, arith}
+use Rattle.std.proofs.Common.{◌≡◌, ◌≢◌, ℕ, zero, suc, ◌+◌, ◌%◌, ◌^◌, ◌<◌, ◌≤◌, true, ◌&&◌, if◌then◌else◌, nat_eq, List, [], ◌∷◌, ◌++◌, length, get_or, set, take, drop, refl, ap, ap₂, sym, subst, ◌∙◌, arith}
 use Rattle.std.proofs.lemmas.List.{get_or-drop, get_or-set_same, get_or-set_other, length-set}
-use Rattle.op_low.specs.Machine.{Event, Written, Taken, act as low_act, write as low_write, read as low_read, written, taken}
+use Rattle.op_low.specs.Machine.{Written, Taken, act as low_act, write as low_write, read as low_read, written}
 use Rattle.op_low.specs.State.{State as LowState, keep as with_kept, value, usable}
-use Rattle.op_low.specs.Valid.{is_valid_instruction, has, has_two, has_three}
+use Rattle.op_low.specs.Valid.{is_valid_instruction, has}
 use Rattle.op_low.specs.declared.ids.VirtualRegister.{VirtualRegister}
 use Rattle.op_low.specs.declared.instruction.Instruction.TheVariants.{Read, Write}
 use Rattle.op_low.specs.declared.instruction.Output.{Output}
 use Rattle.op_low.specs.declared.instruction.Output.TheVariants.{Console, Errors}
 use Rattle.op_rv.specs.Environment.{environment_call, read_call, write_call, exit_call, returned, filled, is_readable, is_writable}
-use Rattle.op_rv.specs.State.{State, register, with_register, advanced, faulted, with_bytes, all_from, bytes_from}
+use Rattle.op_rv.specs.State.{State, register, faulted, with_bytes, all_from, bytes_from}
 use Rattle.op_rv.specs.Step.{act}
 use Rattle.op_rv.specs.declared.fault.FaultKind.TheVariants.{Store as StoreFault, Load as LoadFault, Call as CallFault}
 use Rattle.op_rv.specs.declared.instruction.Instr.TheVariants.{Ecall}
-use Rattle.op_rv.specs.declared.objects.Item.TheVariants.{Plain}
-use Rattle.op_select.specs.Frames.{fetch, keep}
-use Rattle.op_select.specs.Going.{Setting, IsSetting, routine_in, placement_of, Sound, Stays, Goes}
-use Rattle.op_select.specs.Placing.{Stands, StandsFrom}
+use Rattle.op_select.specs.Frames.{fetch}
+use Rattle.op_select.specs.Going.{Setting, IsSetting, routine_in, placement_of, Stays, Goes}
+use Rattle.op_select.specs.Placing.{Stands}
 use Rattle.op_select.specs.RiscvMachine.{instr_shows, call_event, event_if, read_event, write_event}
 use Rattle.op_select.specs.Selection.{items_of, code_items, transfer, descriptor_of}
 use Rattle.op_select.specs.Sequences.{small}
 use Rattle.op_select.proofs.ControlSteps.{stays_written}
 use Rattle.op_select.proofs.FrameLemmas.{stays_placed, keeps}
 use Rattle.op_select.proofs.SequenceLemmas.{smalls}
-use Rattle.op_select.proofs.ValueSteps.{Two, Steps, both_left, both_right, inside, value-bounded, usable_all, all_of}
-use Rattle.op_select.proofs.Walks.{Walk, walk_join, walk_weaken, walk_step, advanced_pc, placed, sound_placed, Becomes, plain_first, Split, split, nothing_more}
+use Rattle.op_select.proofs.ValueSteps.{Steps, both_left, both_right, inside, value-bounded, usable_all, all_of}
+use Rattle.op_select.proofs.Walks.{Walk, walk_join, walk_weaken, walk_step, advanced_pc, placed, sound_placed, plain_first, split, nothing_more}
 use Rattle.op_select.proofs.FrameLemmas.{fetches}
-use Rattle.op_select.proofs.WordLemmas.{cond_true, cond_false}
+use Rattle.op_select.proofs.WordLemmas.{cond_true}
 
 -- the registers of an environment call
 pub record Arguments (b : State) (a n descriptor number at : ℕ) : Type 0 where

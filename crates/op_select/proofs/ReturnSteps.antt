@@ -1,12 +1,11 @@
 -- The end of a routine: back to the caller, which goes on behind its call or at the call's landing.
-use Rattle.std.proofs.Common.{◌≡◌, ◌≢◌, ℕ, ℤ, pos, zero, suc, ◌+◌, ◌-◌, ◌*◌, ◌/◌, ◌%◌, ◌^◌, ◌-ℤ◌, ◌<◌, ◌≤◌, Bool, true, false, not, cond, if◌then◌else◌, nat_eq, min, Option, Some, None, List, [], ◌∷◌, ◌++◌, length, get_or, refl, ap, ap₂, sym, subst, ◌∙◌, append_assoc, append-nil, arith}
+use Rattle.std.proofs.Common.{◌≡◌, ◌≢◌, ℕ, pos, ◌+◌, ◌-◌, ◌*◌, ◌/◌, ◌%◌, ◌^◌, ◌-ℤ◌, ◌<◌, ◌≤◌, Bool, true, false, cond, nat_eq, min, Option, Some, None, List, [], ◌∷◌, ◌++◌, length, get_or, refl, ap, sym, subst, ◌∙◌, append-nil, arith}
 use Rattle.std.proofs.lemmas.Int.{ints}
 use Rattle.std.proofs.lemmas.Bool.Decides.{nat_tests}
-use Rattle.op_low.specs.Machine.{Event, act as low_act, left, return_to, raise_to}
-use Rattle.op_low.specs.State.{Activation, Caller, State as LowState, keep as with_kept, with_value, value, landed, routine_of, block_of}
-use Rattle.op_low.specs.Valid.{is_valid_instruction, has}
+use Rattle.op_low.specs.Machine.{act as low_act, left, return_to, raise_to}
+use Rattle.op_low.specs.State.{Activation, Caller, State as LowState, keep as with_kept, value, landed, block_of}
+use Rattle.op_low.specs.Valid.{is_valid_instruction}
 use Rattle.op_low.specs.declared.ids.VirtualRegister.{VirtualRegister}
-use Rattle.op_low.specs.declared.code.Routine.{Routine}
 use Rattle.op_low.specs.declared.instruction.Instruction.{Instruction}
 use Rattle.op_low.specs.declared.instruction.Instruction.TheVariants.{Return, Raise}
 use Rattle.op_rv.specs.Operation.{word_from, branch_taken}
@@ -18,21 +17,21 @@ use Rattle.op_rv.specs.declared.instruction.LoadOp.TheVariants.{Lw}
 use Rattle.op_rv.specs.declared.instruction.Instr.{Instr}
 use Rattle.op_rv.specs.declared.instruction.Instr.TheVariants.{Jalr, Load}
 use Rattle.op_rv.specs.declared.objects.Item.{Item}
-use Rattle.op_rv.specs.declared.objects.Item.TheVariants.{Plain, Branch as BranchItem}
+use Rattle.op_rv.specs.declared.objects.Item.TheVariants.{Branch as BranchItem}
 use Rattle.op_rv.specs.declared.symbol.BlockId.{BlockId}
 use Rattle.op_select.specs.Frames.{frame_of, fetch, keep, lowered, epilogue}
-use Rattle.op_select.specs.Going.{Setting, IsSetting, routine_in, locals_in, frame_in, placement_of, Sound, Waits, Below, Stays, Goes}
-use Rattle.op_select.specs.Placing.{Placing, Stands, First, StandsFrom, StandsHere, Expands, Choice, Direct, Over}
+use Rattle.op_select.specs.Going.{Setting, IsSetting, routine_in, locals_in, frame_in, placement_of, Waits, Below, Stays, Goes}
+use Rattle.op_select.specs.Placing.{Stands, First, StandsFrom, StandsHere, Expands, Choice, Direct, Over}
 use Rattle.op_select.specs.RiscvMachine.{instr_shows}
 use Rattle.op_select.specs.Selection.{items_of, code_items, answered, landing_of, raise_block}
 use Rattle.op_select.specs.Sequences.{below, small, sum}
-use Rattle.op_select.proofs.ControlSteps.{IsAt, ChoiceAt, choice_at, steps_join}
+use Rattle.op_select.proofs.ControlSteps.{choice_at, steps_join}
 use Rattle.op_select.proofs.FrameLemmas.{sizes, below_top, below_bottom, stays_placed, fetches, keeps}
 use Rattle.op_select.proofs.SequenceLemmas.{sums, smalls}
 use Rattle.op_select.proofs.TransferLemmas.{block_stands, stub_stands}
-use Rattle.op_select.proofs.ValueSteps.{Steps, both_left, both_right, inside, value-bounded}
-use Rattle.op_select.proofs.Walks.{Walk, walk_none, walk_join, walk_weaken, walk_step, placed, sound_placed, Becomes, becomes, plain_first, Split, split, nothing_more}
-use Rattle.op_select.proofs.WordLemmas.{cond_true, can_access_word, word_at-bounded}
+use Rattle.op_select.proofs.ValueSteps.{Steps, inside, value-bounded}
+use Rattle.op_select.proofs.Walks.{Walk, walk_none, walk_join, walk_weaken, walk_step, placed, sound_placed, becomes, plain_first, split, nothing_more}
+use Rattle.op_select.proofs.WordLemmas.{cond_true, can_access_word}
 
 -- the limit has been lowered
 pub record Lowers (b : State) (limit at : ℕ) : Type 0 where

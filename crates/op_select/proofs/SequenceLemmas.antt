@@ -1,7 +1,7 @@
 -- What the short sequences do.
-use Rattle.std.proofs.Common.{◌≡◌, ◌≢◌, ℕ, ℤ, pos, zero, suc, ◌+◌, ◌-◌, ◌*◌, ◌%◌, ◌^◌, ◌<◌, ◌≤◌, Bool, true, false, cond, if◌then◌else◌, nat_eq, Option, Some, None, List, [], ◌∷◌, ◌++◌, length, get_or, refl, ap, sym, subst, ◌∙◌, arith}
+use Rattle.std.proofs.Common.{◌≡◌, ◌≢◌, ℕ, pos, ◌+◌, ◌*◌, ◌%◌, ◌^◌, ◌<◌, ◌≤◌, Bool, true, false, cond, List, [], ◌∷◌, length, get_or, refl, ap, sym, subst, ◌∙◌, arith}
 use Rattle.std.proofs.lemmas.Int.{ints}
-use Rattle.std.specs.Int.{w32, cast_unsigned, bytes_low_first}
+use Rattle.std.specs.Int.{bytes_low_first}
 use Rattle.op_rv.specs.Operation.{word_from}
 use Rattle.op_rv.specs.State.{State, register, with_register, advanced, faulted, with_bytes, word_at}
 use Rattle.op_rv.specs.Step.{act, load, store, can_access}
@@ -10,15 +10,13 @@ use Rattle.op_rv.specs.declared.instruction.AluOp.TheVariants.{Add}
 use Rattle.op_rv.specs.declared.instruction.ImmOp.TheVariants.{Addi}
 use Rattle.op_rv.specs.declared.instruction.LoadOp.TheVariants.{Lw}
 use Rattle.op_rv.specs.declared.instruction.StoreOp.TheVariants.{Sw}
-use Rattle.op_rv.specs.declared.instruction.Instr.{Instr}
 use Rattle.op_rv.specs.declared.instruction.Instr.TheVariants.{Lui, Load, Store, Imm, Alu}
-use Rattle.op_rv.specs.declared.objects.Item.{Item}
 use Rattle.op_rv.specs.declared.objects.Item.TheVariants.{Plain}
 use Rattle.op_select.specs.Going.{Setting, IsSetting, Sound}
 use Rattle.op_select.specs.Placing.{Stands}
 use Rattle.op_select.specs.RiscvMachine.{instr_shows}
 use Rattle.op_select.specs.Sequences.{upper_of, lower_of, is_near, small, constant, reach, reached, sum, word_load, word_store}
-use Rattle.op_select.proofs.Walks.{Walk, walk_none, walk_join, walk_weaken, walk_step, advanced_pc, placed, sound_placed, Becomes, becomes, register_is, plain_first, Split, split, nothing_more}
+use Rattle.op_select.proofs.Walks.{Walk, walk_none, walk_join, walk_weaken, walk_step, advanced_pc, placed, sound_placed, Becomes, becomes, register_is, plain_first, split, nothing_more}
 use Rattle.op_select.proofs.WordLemmas.{cond_true, near_sum, far_sum, far_constant, near_constant, can_access_word}
 
 -- the place at a distance is reached

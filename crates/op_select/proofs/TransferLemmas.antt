@@ -1,26 +1,23 @@
 -- Transfers and choices, near and far; where blocks stand.
-use Rattle.std.proofs.Common.{◌≡◌, ◌≢◌, ℕ, ℤ, zero, suc, ◌+◌, ◌-◌, ◌*◌, ◌/◌, ◌%◌, ◌^◌, ◌<◌, ◌≤◌, Bool, true, false, not, cond, if◌then◌else◌, nat_eq, nat_lt, int_lt, Option, Some, None, List, [], ◌∷◌, ◌++◌, length, map, option_map, get_or, set, slice_get, refl, ap, ap₂, sym, subst, ◌∙◌, arith}
+use Rattle.std.proofs.Common.{◌≡◌, ◌≢◌, ℕ, ℤ, zero, suc, ◌+◌, ◌*◌, ◌/◌, ◌%◌, ◌^◌, ◌<◌, Bool, true, false, not, cond, nat_eq, nat_lt, int_lt, Option, Some, None, List, [], ◌∷◌, ◌++◌, length, map, option_map, get_or, set, slice_get, refl, ap, ap₂, sym, subst, ◌∙◌, arith}
 use Rattle.std.proofs.lemmas.List.{get_or-set_same, get_or-set_other, length-set}
-use Rattle.op_low.specs.Machine.{Event}
-use Rattle.op_low.specs.State.{routine_of, routine_or, block_of, code_or}
+use Rattle.op_low.specs.State.{routine_or, block_of, code_or}
 use Rattle.op_low.specs.declared.code.Block.{Block}
 use Rattle.op_low.specs.declared.code.Routine.{Routine}
 use Rattle.op_low.specs.declared.instruction.Instruction.TheVariants.{Raise}
 use Rattle.op_rv.specs.Operation.{word_from, signed, branch_taken}
-use Rattle.op_rv.specs.State.{State, register, with_register, advanced}
+use Rattle.op_rv.specs.State.{State, register, advanced}
 use Rattle.op_rv.specs.Step.{act, offset_from}
 use Rattle.op_rv.specs.declared.instruction.BranchOp.{BranchOp}
 use Rattle.op_rv.specs.declared.instruction.BranchOp.TheVariants.{Beq, Bne, Blt, Bge, Bltu, Bgeu}
 use Rattle.op_rv.specs.declared.instruction.Instr.{Instr}
 use Rattle.op_rv.specs.declared.instruction.Instr.TheVariants.{Lui, Jal, Jalr, Branch}
-use Rattle.op_rv.specs.declared.objects.ObjectBlock.{ObjectBlock}
-use Rattle.op_rv.specs.declared.objects.ObjectRoutine.{ObjectRoutine}
 use Rattle.op_select.specs.Going.{Setting, IsSetting, routine_in, Sound}
-use Rattle.op_select.specs.Placing.{Placing, Stands, Nothing, StandsFrom, StandsHere, Transfer, Near, Far, Choice, Direct, Over, opposite, joined, past}
+use Rattle.op_select.specs.Placing.{Stands, Nothing, StandsFrom, StandsHere, Transfer, Near, Far, Choice, Direct, Over, opposite, joined, past}
 use Rattle.op_select.specs.Frames.{head_of}
 use Rattle.op_select.specs.RiscvMachine.{instr_shows}
 use Rattle.op_select.specs.Selection.{items_of, code_items, object_block_of, object_routine_of, select_of}
-use Rattle.op_select.proofs.Walks.{Walk, walk_join, walk_weaken, walk_step, advanced_pc, placed, sound_placed, Becomes, becomes}
+use Rattle.op_select.proofs.Walks.{Walk, walk_join, walk_weaken, walk_step, advanced_pc, placed, sound_placed, becomes}
 use Rattle.op_select.proofs.WordLemmas.{cond_true, cond_false}
 
 -- the code goes on at an address; ra may have changed

@@ -1,14 +1,12 @@
 -- Instructions that compute a value: a step of low code with one of them is some steps of the machine.
-use Rattle.std.proofs.Common.{◌≡◌, ◌≢◌, ℕ, ℤ, pos, negsuc, zero, suc, ◌+◌, ◌-◌, ◌*◌, ◌%◌, ◌^◌, ◌<◌, ◌≤◌, ◌⊎◌, inl, inr, Bool, true, false, cond, ◌&&◌, if◌then◌else◌, nat_eq, nat_lt, Option, Some, None, List, [], ◌∷◌, ◌++◌, length, get_or, refl, ap, ap₂, sym, subst, ◌∙◌, arith}
+use Rattle.std.proofs.Common.{◌≡◌, ◌≢◌, ℕ, ℤ, pos, negsuc, zero, suc, ◌+◌, ◌-◌, ◌*◌, ◌%◌, ◌^◌, ◌<◌, ◌≤◌, inl, inr, Bool, true, false, ◌&&◌, nat_eq, nat_lt, Some, List, [], ◌∷◌, ◌++◌, length, get_or, refl, ap, ap₂, sym, subst, ◌∙◌, arith}
 use Rattle.std.proofs.lemmas.Bool.{ltb-true, cases_lt}
-use Rattle.std.proofs.lemmas.Bool.Decides.{nat_tests}
 use Rattle.std.proofs.lemmas.Int.{ints}
-use Rattle.std.specs.Int.{w8, w16, w32, cast_unsigned, cast_signed}
+use Rattle.std.specs.Int.{w8, w16, cast_signed}
 use Rattle.op_low.specs.Machine.{Event, act as low_act, load as low_load}
 use Rattle.op_low.specs.State.{State as LowState, keep as with_kept, value, usable}
-use Rattle.op_low.specs.Valid.{is_valid_instruction, has, has_two, has_three, const_fits, address_fits, local_fits, imm_fits, shift_fits}
+use Rattle.op_low.specs.Valid.{is_valid_instruction, has, const_fits, address_fits, local_fits, imm_fits, shift_fits}
 use Rattle.op_low.specs.declared.ids.VirtualRegister.{VirtualRegister}
-use Rattle.op_low.specs.declared.code.Routine.{Routine}
 use Rattle.op_low.specs.declared.instruction.Instruction.TheVariants.{Const, Address, Local, Move, Alu, AluImm, Shift, Load}
 use Rattle.op_rv.specs.Encoding.{is_imm}
 use Rattle.op_rv.specs.Operation.{word_from, alu_value, imm_value, shift_value}
@@ -24,18 +22,18 @@ use Rattle.op_rv.specs.declared.instruction.ShiftOp.{ShiftOp}
 use Rattle.op_rv.specs.declared.instruction.Instr.{Instr}
 use Rattle.op_rv.specs.declared.instruction.Instr.TheVariants.{Lui, Imm as ImmInstr, Shift as ShiftInstr, Alu as AluInstr, Load as LoadInstr}
 use Rattle.op_rv.specs.declared.objects.Item.{Item}
-use Rattle.op_rv.specs.declared.objects.Item.TheVariants.{Plain, Address as AddressItem}
+use Rattle.op_rv.specs.declared.objects.Item.TheVariants.{Address as AddressItem}
 use Rattle.op_rv.specs.declared.symbol.Symbol.{Symbol}
 use Rattle.op_select.specs.Frames.{fetch, keep}
-use Rattle.op_select.specs.Going.{Setting, IsSetting, routine_in, placement_of, Sound, Stays, Goes}
-use Rattle.op_select.specs.Placing.{Placing, Stands, First, StandsFrom, StandsHere, Expands, Loading, InTwo, past, joined}
+use Rattle.op_select.specs.Going.{Setting, IsSetting, routine_in, placement_of, Stays, Goes}
+use Rattle.op_select.specs.Placing.{Placing, Stands, First, StandsHere, Expands, Loading, InTwo, past, joined}
 use Rattle.op_select.specs.RiscvMachine.{instr_shows}
 use Rattle.op_select.specs.Selection.{items_of, code_items, computed}
 use Rattle.op_select.specs.Sequences.{below, constant, sum}
-use Rattle.op_select.proofs.FrameLemmas.{sizes, below_top, below_bottom, stays_placed, fetches, keeps}
-use Rattle.op_select.proofs.OperationLemmas.{alu-bounded, imm-bounded, shift-bounded, load-bounded, word_from-bounded}
+use Rattle.op_select.proofs.FrameLemmas.{below_top, below_bottom, stays_placed, fetches, keeps}
+use Rattle.op_select.proofs.OperationLemmas.{alu-bounded, imm-bounded, shift-bounded, load-bounded}
 use Rattle.op_select.proofs.SequenceLemmas.{constants, sums}
-use Rattle.op_select.proofs.Walks.{Walk, walk_join, walk_weaken, placed, sound_placed, Becomes, becomes, register_is, plain_first, Split, split, nothing_more}
+use Rattle.op_select.proofs.Walks.{Walk, walk_join, walk_weaken, placed, sound_placed, Becomes, becomes, plain_first, split}
 use Rattle.op_select.proofs.WordLemmas.{cond_true, and_true, word_at-bounded, word_at-same}
 
 -- a value in a0, and sp and the limit as they were
@@ -335,9 +333,9 @@ module _ (w : Setting) (law : IsSetting w) where
       let fits = subst (λ n. n < 2 ^ 32) (same_load m b op a stays within) (load-bounded op b.memory a stays.sound.bytes) in
       let may = access_of w.rights.readable m a (load_size_of op) can in
       let acts : (c : State) → Stays w m c → get_or c.registers 10 0 ≡ value m base → act i c ≡ advanced (with_register c 10 v) = λ c stays_c is.
-        let may_c : can_access c.rights.readable a (load_size_of op) ≡ true = subst (λ rights. can_access rights.readable a (load_size_of op) ≡ true) (sym stays_c.sound.rights) may in
-        ap (λ n. load op 10 (offset_from n offset) c) is
-        ∙ cond_true (can_access c.rights.readable a (load_size_of op)) (advanced (with_register c 10 (load_value op c.memory a))) (faulted LoadFault c) may_c
-        ∙ ap (λ n. advanced (with_register c 10 n)) (same_load m c op a stays_c within) in
+      let may_c : can_access c.rights.readable a (load_size_of op) ≡ true = subst (λ rights. can_access rights.readable a (load_size_of op) ≡ true) (sym stays_c.sound.rights) may in
+      ap (λ n. load op 10 (offset_from n offset) c) is
+      ∙ cond_true (can_access c.rights.readable a (load_size_of op)) (advanced (with_register c 10 (load_value op c.memory a))) (faulted LoadFault c) may_c
+      ∙ ap (λ n. advanced (with_register c 10 n)) (same_load m c op a stays_c within) in
       let done = computed_steps m b i base to v whole.middle end stays base_in (inside m to (both_left _ _ both)) fits (λ c. refl) acts whole.first whole.second in
       subst (λ s. Steps w s b 7 []) (sym (cond_true (can_access (usable w.rights.readable m) a (load_size_of op)) (with_kept to v m) _ can)) done

@@ -1,14 +1,13 @@
 -- Runs of the instruction machine over code that stands.
-use Rattle.std.proofs.Common.{◌≡◌, ◌≢◌, ℕ, zero, suc, ◌+◌, ◌-◌, ◌*◌, ◌%◌, ◌^◌, ◌<◌, ◌≤◌, Bool, true, false, cond, if◌then◌else◌, nat_eq, Option, Some, None, List, [], ◌∷◌, ◌++◌, length, get_or, set, refl, ap, sym, subst, ◌∙◌, arith}
+use Rattle.std.proofs.Common.{◌≡◌, ◌≢◌, ℕ, ◌+◌, ◌%◌, ◌^◌, ◌<◌, ◌≤◌, true, false, cond, nat_eq, Some, List, [], ◌∷◌, ◌++◌, length, get_or, set, refl, ap, sym, subst, ◌∙◌, arith}
 use Rattle.std.proofs.lemmas.Bool.Decides.{nat_tests}
 use Rattle.std.proofs.lemmas.List.{get_or-set_same, get_or-set_other, length-set}
-use Rattle.op_simulation.specs.System.{System, run, trace, spent}
 use Rattle.op_simulation.specs.Path.{Path}
 use Rattle.op_simulation.proofs.Paths.{path_none, path_step, path_join}
 use Rattle.op_low.specs.Machine.{Event}
 use Rattle.op_rv.specs.Decoding.{instr_at}
 use Rattle.op_rv.specs.State.{State, Ending, Running, register, with_register, advanced, word_at}
-use Rattle.op_rv.specs.Step.{act, step, step_by_ending, running_step, performed, can_fetch, can_access}
+use Rattle.op_rv.specs.Step.{act, step, step_by_ending, running_step, performed, can_fetch}
 use Rattle.op_rv.specs.declared.instruction.Instr.{Instr}
 use Rattle.op_rv.specs.declared.objects.Item.{Item}
 use Rattle.op_rv.specs.declared.objects.Item.TheVariants.{Plain}

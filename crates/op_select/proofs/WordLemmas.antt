@@ -1,12 +1,12 @@
 -- The two parts of a word, sums of addresses, and words of memory.
-use Rattle.std.proofs.Common.{◌≡◌, ◌≢◌, ℕ, ℤ, pos, zero, suc, ◌+◌, ◌-◌, ◌*◌, ◌/◌, ◌%◌, ◌^◌, ◌-ℤ◌, ◌<◌, ◌≤◌, Bool, true, false, ◌&&◌, cond, nat_eq, nat_le, nat_lt, if◌then◌else◌, List, [], ◌∷◌, length, get_or, refl, ap, ap₂, sym, subst, ◌∙◌, arith}
+use Rattle.std.proofs.Common.{◌≡◌, ℕ, pos, ◌+◌, ◌-◌, ◌*◌, ◌/◌, ◌%◌, ◌^◌, ◌-ℤ◌, ◌<◌, ◌≤◌, Bool, true, false, ◌&&◌, cond, nat_eq, List, length, get_or, refl, ap, sym, ◌∙◌, arith}
 use Rattle.std.proofs.lemmas.Int.{ints}
 use Rattle.std.proofs.lemmas.Bool.Decides.{nat_tests}
-use Rattle.std.specs.Int.{w32, cast_unsigned, bytes_low_first, byte_at}
+use Rattle.std.specs.Int.{bytes_low_first}
 use Rattle.op_rv.specs.Operation.{word_from}
 use Rattle.op_rv.specs.State.{with_bytes, word_at, all_from}
 use Rattle.op_rv.specs.Step.{can_access}
-use Rattle.op_select.specs.Sequences.{upper_of, lower_of, is_near, below}
+use Rattle.op_select.specs.Sequences.{upper_of, lower_of, is_near}
 
 -- ---- choices
 

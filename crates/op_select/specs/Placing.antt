@@ -1,6 +1,6 @@
 -- Objects that stand in memory: which instructions may stand for an item, and what it means that a routine stands there.
 -- It is said of any addresses, and knows nothing of how they were found.
-use Rattle.std.specs.Prelude.{◌≡◌, ◌<◌, ℕ, ℤ, pos, ◌+◌, ◌*◌, ◌/◌, ◌%◌, ◌^◌, Option, Some, None, List, [], ◌∷◌, slice_get, length}
+use Rattle.std.specs.Prelude.{◌≡◌, ◌<◌, ℕ, ℤ, pos, ◌+◌, ◌*◌, ◌/◌, ◌%◌, ◌^◌, Option, Some, List, [], ◌∷◌, slice_get, length}
 use Rattle.op_rv.specs.Operation.{word_from}
 use Rattle.op_rv.specs.Step.{offset_from}
 use Rattle.op_rv.specs.declared.instruction.BranchOp.{BranchOp}

@@ -1,5 +1,5 @@
 -- The machine of the instruction table as one that shows what it reads and writes.
-use Rattle.std.specs.Prelude.{ℕ, Bool, true, false, ◌&&◌, Option, Some, None, List, [], ◌∷◌, take, nat_eq, if◌then◌else◌}
+use Rattle.std.specs.Prelude.{Bool, ◌&&◌, Option, Some, List, [], ◌∷◌, take, nat_eq, if◌then◌else◌}
 use Rattle.op_simulation.specs.System.{System}
 use Rattle.op_low.specs.Machine.{Event, Written, Taken}
 use Rattle.op_low.specs.declared.instruction.Output.TheVariants.{Console, Errors}

@@ -1,7 +1,6 @@
 -- Short sequences of instructions: words put in registers, and words of memory at a distance from a register. A distance
 -- is a word; one below a register is negative, so addresses wrap.
 use Rattle.std.specs.Prelude.{ℕ, ℤ, pos, ◌+◌, ◌-◌, ◌/◌, ◌%◌, ◌^◌, ◌-ℤ◌, Bool, List, [], ◌∷◌, ◌++◌, nat_eq, if◌then◌else◌}
-use Rattle.op_rv.specs.declared.instruction.Instr.{Instr}
 use Rattle.op_rv.specs.declared.instruction.Instr.TheVariants.{Lui, Load, Store, Imm, Alu}
 use Rattle.op_rv.specs.declared.instruction.AluOp.TheVariants.{Add}
 use Rattle.op_rv.specs.declared.instruction.ImmOp.TheVariants.{Addi}

@@ -12,9 +12,13 @@ mod instruction;
 mod registers;
 mod routine;
 mod sequence;
+mod theorems;
 
 pub use frame::Home;
 pub use routine::select;
+pub use theorems::{
+    example_is_placed, selected_code_begins, selected_code_ends, selected_code_goes_along,
+};
 
 #[cfg(test)]
 mod tests;

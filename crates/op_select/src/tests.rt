@@ -1,6 +1,6 @@
 use crate::select;
 use op_base::{NoMemory, Sequence};
-use op_low::{Block, Call, Counts, Instruction, Low, Output, Routine, VirtualRegister};
+use op_low::{Block, Call, Counts, Instruction, Low, Output, Routine, VirtualRegister, valid};
 use op_rv::{
     AluOp, BlockId, BranchOp, GlobalId, GlobalVariable, ImmOp, Instr, Item, LoadOp, RoutineId,
     ShiftOp, StoreOp, Symbol,
@@ -121,6 +121,9 @@ fn program(
 fn code_of(alloc: Global, instruction: Instruction) -> Result<String, NoMemory> {
     let stop = Instruction::Jump { block: BlockId(0) };
     let low = program(alloc, 3, 8, vec![in alloc; instruction, stop]?)?;
+    if !valid(&low) {
+        return Ok(String::new(alloc));
+    }
     let objects = select(alloc, &low)?;
     match objects.routines.as_slice() {
         [_, main] => match main.blocks.as_slice() {
@@ -139,6 +142,9 @@ fn ends_of(alloc: Global, registers: u32, locals: u32) -> Result<(String, String
         locals,
         vec![in alloc; Instruction::Return { value: A }]?,
     )?;
+    if !valid(&low) {
+        return Ok((String::new(alloc), String::new(alloc)));
+    }
     let objects = select(alloc, &low)?;
     match objects.routines.as_slice() {
         [_, main] => match main.blocks.as_slice() {
@@ -167,7 +173,7 @@ fn call(alloc: Global, count: usize, landing: Option<BlockId>) -> Result<Call, A
 #[test]
 fn selects_values(rt: HostRuntime) -> Result<(), Fail> {
     let alloc = rt.alloc();
-    let (to, left, right) = (A, B, C);
+    let (to, from) = (A, C);
     let symbol = Symbol::Global(GlobalId(0));
     let cases = vec![in alloc;
         (
@@ -194,9 +200,23 @@ fn selects_values(rt: HostRuntime) -> Result<(), Fail> {
             "Addi x10, x8, -4; Sw x10, 8(x2); "
         ),
         (
-            Instruction::Move { to, from: right },
+            Instruction::Move { to, from },
             "Lw x10, 0(x2); Sw x10, 8(x2); "
         ),
+    ]?;
+    for (instruction, want) in cases {
+        let found = code_of(alloc, instruction)?;
+        let whole = format!(in alloc; "{want}j block 0; ")?;
+        assert_eq!(rt; found.as_str(), whole.as_str());
+    }
+    Ok(())
+}
+
+#[test]
+fn selects_operations(rt: HostRuntime) -> Result<(), Fail> {
+    let alloc = rt.alloc();
+    let (to, left, right) = (A, B, C);
+    let cases = vec![in alloc;
         (
             Instruction::Alu {
                 op: AluOp::Sub,

@@ -1,4 +1,4 @@
-use Rattle.std.proofs.Common.{ℕ, List, ◌≡◌, ◌<◌, ◌≤◌, ◌^◌, length, get_or, subst, sym, ap, ◌∙◌}
+use Rattle.std.proofs.Common.{List, ◌<◌, ◌≤◌, ◌^◌, length, get_or, subst, sym, ap, ◌∙◌}
 use Rattle.op_low.specs.declared.code.Routine.{Routine}
 use Rattle.op_select.proofs.Loops.{sized_at}
 use Rattle.op_select.proofs.routine.object_routines.Goals as goal
