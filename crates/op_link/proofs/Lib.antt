@@ -1,7 +1,9 @@
 pub mod Distances
 pub mod Growth
 pub mod Headers
+pub mod Lengths
 pub mod Linked
+pub mod Loads
 pub mod Longest
 pub mod Parts
 pub mod Settled

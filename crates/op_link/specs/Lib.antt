@@ -1,6 +1,7 @@
 pub mod Code
 pub mod Image
 pub mod Linking
+pub mod Loaded
 pub mod Memory
 pub mod Placing
 pub mod Reach
