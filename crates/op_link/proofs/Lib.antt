@@ -5,6 +5,7 @@ pub mod Lengths
 pub mod Linked
 pub mod Loads
 pub mod Longest
+pub mod Mapped
 pub mod Parts
 pub mod Settled
 pub mod Whole

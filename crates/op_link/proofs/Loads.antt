@@ -92,11 +92,11 @@ header_read front s rest at long fits =
     (word_behind front xs at 20 long ∙ memory_size_read s rest fits)
     (word_behind front xs at 24 long ∙ flags_read s rest fits)
 
-abbrev AllWords : List Segment → Type 0
+abbrev pub AllWords : List Segment → Type 0
 AllWords [] = Unit {0}
 AllWords (s ∷ ss) = AreWords s × AllWords ss
 
-length-program_header : (s : Segment) → length (program_header s) ≡ 32
+pub length-program_header : (s : Segment) → length (program_header s) ≡ 32
 unfolding program_header
 length-program_header s = refl
 
@@ -159,7 +159,7 @@ unfolding has_header_table half_in word_in image_with file_header
 table ss rest long = le-leb 244 (length (image_with ss rest)) long
 
 -- each segment is loadable where its bytes stand in the file
-abbrev AllStand : ℕ → List Segment → Type 0
+abbrev pub AllStand : ℕ → List Segment → Type 0
 AllStand size [] = Unit {0}
 AllStand size (s ∷ ss) = (s.file_size ≤ s.memory_size) × (s.offset + s.file_size ≤ size) × AllStand size ss
 
@@ -170,7 +170,7 @@ all_loadable image (s ∷ ss) stand =
     and_from _ (list_all (is_loadable image) (map header_of ss)) (and_from _ _ (le-leb s.file_size s.memory_size stand.0) (le-leb (s.offset + s.file_size) (length image) stand.1)) (all_loadable image ss stand.2)
 
 -- each range begins behind the one before it
-abbrev Rising : ℕ → List Segment → Type 0
+abbrev pub Rising : ℕ → List Segment → Type 0
 Rising from [] = Unit {0}
 Rising from (s ∷ ss) = (from ≤ s.address) × Rising (s.address + s.memory_size) ss
 
@@ -188,7 +188,7 @@ rising_apart from (s ∷ ss) rising =
     and_from _ (are_apart (map memory_range ss)) (all_apart (memory_range s) (s.address + s.memory_size) ss (omega arith) rising.1) (rising_apart (s.address + s.memory_size) ss rising.1)
 
 -- each segment is in reach
-abbrev AllInReach : List Segment → Type 0
+abbrev pub AllInReach : List Segment → Type 0
 AllInReach [] = Unit {0}
 AllInReach (s ∷ ss) = (0x00010000 ≤ s.address) × (s.address + s.memory_size ≤ 0x70000000) × AllInReach ss
 
