@@ -10,7 +10,7 @@ use Rattle.op_link.specs.Code.{distance_within}
 forward : (from to : ℕ) → from ≤ to → pos to -ℤ pos from ≡ pos (to - from)
 forward from to h = omega (arith, ints)
 
-backward : (from to : ℕ) → to < from → pos to -ℤ pos from ≡ negsuc (from - suc to)
+pub backward : (from to : ℕ) → to < from → pos to -ℤ pos from ≡ negsuc (from - suc to)
 backward from to h = omega (arith, ints)
 
 fits_both_ways : (k from to : ℕ) → (reaches (2 ^ k) from to && nat_eq (from % 2) (to % 2)) ≡ true → (is_signed k (pos to -ℤ pos from) && is_even (pos to -ℤ pos from)) ≡ true

@@ -1,3 +1,4 @@
+pub mod Decoded
 pub mod Distances
 pub mod Growth
 pub mod Headers

@@ -1,6 +1,5 @@
 -- What a linked image is, once it is loaded.
-use Rattle.std.specs.Prelude.{◌≡◌, ℕ, Some, None, List, length, take, drop}
-use Rattle.std.specs.List.{All}
+use Rattle.std.specs.Prelude.{◌≡◌, ℕ, Option, Some, None, List, [], ◌∷◌, take, drop, ⊤}
 use Rattle.op_layout.specs.declared.layout.Layout.{Layout}
 use Rattle.op_rv.specs.Decoding.{instr_at}
 use Rattle.op_rv.specs.Encoding.{word_of}
@@ -25,3 +24,22 @@ pub record IsLoaded (image : List ℕ) (wanted : List Segment) : Type 0 where
   pub meets : first_failing image ≡ None
   pub segments : segments image ≡ wanted
   pub entry : entry_in image ≡ code_address
+
+-- the code of a program
+unfoldable pub linked_code : Objects → Layout → Settings → Option (List Instr)
+linked_code objects layout settings =
+    let known = settled layout objects settings in
+    let placement = placement_by known objects.routines in
+    program_code layout (addresses_of known placement.routines (sizes_of placement.end layout objects) objects) settings objects
+
+-- each instruction is what its word decodes to
+abbrev pub Decodes : List Instr → Type 0
+Decodes [] = ⊤
+Decodes (i ∷ code) = (instr_at (word_of i) ≡ Some i) × Decodes code
+
+-- an image in whose code, of so many bytes, these instructions stand
+pub record HasCode (image : List ℕ) (size : ℕ) (found : Option (List Instr)) : Type 0 where
+  pub code : List Instr
+  pub is : found ≡ Some code
+  pub stands : take size (drop 4096 image) ≡ words_of code
+  pub decodes : Decodes code
