@@ -4,6 +4,7 @@ pub mod Growth
 pub mod Headers
 pub mod Lengths
 pub mod Linked
+pub mod Loading
 pub mod Loads
 pub mod Longest
 pub mod Mapped

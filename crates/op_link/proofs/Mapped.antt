@@ -19,7 +19,7 @@ use Rattle.op_link.proofs.Loads.{Fit, AreWords, length-program_header}
 
 -- ---- addresses
 
-constants_from : (sizes : Sizes) → 0x00010000 + sizes.code ≤ constants_address sizes
+pub constants_from : (sizes : Sizes) → 0x00010000 + sizes.code ≤ constants_address sizes
 unfolding constants_address
 constants_from sizes = omega arith
 
@@ -27,7 +27,7 @@ constants_below : (sizes : Sizes) → constants_address sizes < 0x00010000 + siz
 unfolding constants_address
 constants_below sizes = omega arith
 
-globals_from : (sizes : Sizes) → constants_address sizes + sizes.constants ≤ globals_address sizes
+pub globals_from : (sizes : Sizes) → constants_address sizes + sizes.constants ≤ globals_address sizes
 unfolding globals_address
 globals_from sizes = omega arith
 

@@ -10,11 +10,11 @@ use Rattle.op_link.specs.Placing.{items_in_routines, placement_by}
 use Rattle.op_link.specs.Linking.{image_by, image_of, linked_size, linked_size_by, linked_size_of, longest, settled, sizes_of}
 use Rattle.op_link.proofs.Growth.{code_end, code_end_at_most}
 
-settled_first : (objects : Objects) (layout : Layout) (settings : Settings) (image : List ℕ) → Some image ≡ image_by (longest objects) layout objects settings → settled layout objects settings ≡ longest objects
+pub settled_first : (objects : Objects) (layout : Layout) (settings : Settings) (image : List ℕ) → Some image ≡ image_by (longest objects) layout objects settings → settled layout objects settings ≡ longest objects
 unfolding settled
 settled_first objects layout settings image is = ap (λ found. if is_some found then longest objects else []) (sym is)
 
-settled_second : (objects : Objects) (layout : Layout) (settings : Settings) → None ≡ image_by (longest objects) layout objects settings → settled layout objects settings ≡ []
+pub settled_second : (objects : Objects) (layout : Layout) (settings : Settings) → None ≡ image_by (longest objects) layout objects settings → settled layout objects settings ≡ []
 unfolding settled
 settled_second objects layout settings is = ap (λ found. if is_some found then longest objects else []) (sym is)
 
