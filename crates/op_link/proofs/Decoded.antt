@@ -1,7 +1,6 @@
 -- Each word of the code decodes.
-use Rattle.std.proofs.Common.{◌≡◌, ℕ, ℤ, pos, negsuc, suc, ◌+◌, ◌-◌, ◌/◌, ◌%◌, ◌^◌, ◌<◌, ◌≤◌, ◌-ℤ◌, inl, inr, Bool, true, false, ◌&&◌, nat_lt, if◌then◌else◌, Option, Some, None, IfSome, IsTrue, List, [], ◌∷◌, ◌++◌, refl, ap, sym, ◌∙◌, subst, arith}
+use Rattle.std.proofs.Common.{◌≡◌, ℕ, ℤ, pos, suc, ◌+◌, ◌-◌, ◌/◌, ◌%◌, ◌^◌, ◌<◌, inl, inr, true, ◌&&◌, nat_lt, Option, Some, None, IfSome, IsTrue, List, [], ◌∷◌, ◌++◌, refl, ◌∙◌, subst, arith}
 use Rattle.std.proofs.lemmas.Bool.{and_parts, and_from, lt-ltb, cases_Bool, ltb-false}
-use Rattle.std.proofs.lemmas.Bool.Decides.{nat_tests}
 use Rattle.std.proofs.lemmas.List.Folds.{list_all-append}
 use Rattle.std.specs.List.{list_all}
 use Rattle.std.specs.Option.{option_map}
@@ -9,9 +8,8 @@ use Rattle.op_layout.specs.declared.layout.Layout.{Layout}
 use Rattle.op_rv.proofs.Table.{instr_at-word_of}
 use Rattle.op_rv.specs.Encoding.{fits, is_even, is_imm, is_register, is_signed}
 use Rattle.op_rv.specs.declared.instruction.BranchOp.{BranchOp}
-use Rattle.op_rv.specs.declared.instruction.ImmOp.TheVariants.{Addi}
 use Rattle.op_rv.specs.declared.instruction.Instr.{Instr}
-use Rattle.op_rv.specs.declared.instruction.Instr.TheVariants.{Lui, Jal, Jalr, Branch as BranchTo, Imm}
+use Rattle.op_rv.specs.declared.instruction.Instr.TheVariants.{Jal, Jalr, Branch as BranchTo}
 use Rattle.op_rv.specs.declared.objects.Item.{Item}
 use Rattle.op_rv.specs.declared.objects.Item.TheVariants.{Plain, Address, Branch, Jump, Call, CallAt}
 use Rattle.op_rv.specs.declared.objects.ObjectBlock.{ObjectBlock}

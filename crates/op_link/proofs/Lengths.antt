@@ -1,9 +1,7 @@
 -- The code ends where its placement says.
-use Rattle.std.proofs.Common.{◌≡◌, ℕ, pos, suc, ◌+◌, ◌-◌, ◌*◌, ◌≤◌, Option, Some, None, List, [], ◌∷◌, ◌++◌, length, refl, ap, sym, ◌∙◌, subst, arith, length-append}
+use Rattle.std.proofs.Common.{◌≡◌, ℕ, pos, suc, ◌+◌, ◌*◌, Option, Some, None, List, [], ◌∷◌, ◌++◌, length, refl, subst, arith, length-append}
 use Rattle.std.specs.Option.{option_map}
-use Rattle.byteorder.specs.Endian.{little_bytes}
 use Rattle.op_layout.specs.declared.layout.Layout.{Layout}
-use Rattle.op_rv.specs.Encoding.{word_of}
 use Rattle.op_rv.specs.declared.instruction.BranchOp.{BranchOp}
 use Rattle.op_rv.specs.declared.instruction.Instr.{Instr}
 use Rattle.op_rv.specs.declared.instruction.Instr.TheVariants.{Branch as BranchTo, Jalr}

@@ -1,5 +1,5 @@
 -- A linked image is loaded as it was meant.
-use Rattle.std.proofs.Common.{◌≡◌, ℕ, suc, ◌+◌, ◌-◌, ◌*◌, ◌≤◌, inl, inr, Bool, true, IsTrue, nat_lt, nat_le, Option, Some, None, List, [], ◌∷◌, ◌++◌, length, take, drop, replicate, refl, ap, sym, ◌∙◌, subst, arith, append_assoc, length-append}
+use Rattle.std.proofs.Common.{◌≡◌, ℕ, ◌+◌, ◌-◌, ◌*◌, ◌≤◌, inl, inr, true, IsTrue, nat_lt, nat_le, Option, Some, None, List, [], ◌∷◌, ◌++◌, length, take, drop, replicate, refl, ap, sym, ◌∙◌, subst, arith, append_assoc, length-append}
 use Rattle.std.proofs.lemmas.Bool.{and_parts, cases_Bool, leb-true}
 use Rattle.std.proofs.lemmas.List.{drop_at, take_at}
 use Rattle.std.proofs.lemmas.List.Sums.{sum_by-cons}
@@ -14,14 +14,14 @@ use Rattle.op_link.specs.declared.memory_map.Settings.{Settings}
 use Rattle.op_link.specs.declared.memory_map.Sizes.{Sizes}
 use Rattle.op_link.specs.declared.place.RoutinePlace.{RoutinePlace}
 use Rattle.op_link.specs.Code.{routine_has_fields, words_of}
-use Rattle.op_link.specs.Memory.{are_in_range, begins_as_zero, constants_address, constants_size, global_size, globals_address, globals_size, initial_size, most_linked, segments_of, zero_part, zero_size}
-use Rattle.op_link.specs.Placing.{behind_routines, first_spot, placement_by}
-use Rattle.op_link.specs.Linking.{addresses_of, all_names_exist, data_bytes, file_header, front_bytes, image_by, image_bytes, is_linkable, linked_size_by, linked_size_of, longest, program_code, program_headers, settled, sizes_of}
+use Rattle.op_link.specs.Memory.{are_in_range, begins_as_zero, constants_size, global_size, globals_address, globals_size, initial_size, most_linked, segments_of, zero_part, zero_size}
+use Rattle.op_link.specs.Placing.{placement_by}
+use Rattle.op_link.specs.Linking.{addresses_of, all_names_exist, data_bytes, file_header, front_bytes, image_by, image_bytes, is_linkable, linked_size_by, longest, program_code, program_headers, settled, sizes_of}
 use Rattle.op_link.specs.Loaded.{HasCode, IsLoaded, linked_code, linked_sizes}
 use Rattle.op_link.proofs.Decoded.{program_decodes}
 use Rattle.op_link.proofs.Growth.{code_end}
 use Rattle.op_link.proofs.Lengths.{code_end_is, length-words_of}
-use Rattle.op_link.proofs.Loads.{Fit, fitting_loads}
+use Rattle.op_link.proofs.Loads.{fitting_loads}
 use Rattle.op_link.proofs.Mapped.{constants_from, fits, globals_from, length-data, length-front}
 use Rattle.op_link.proofs.Settled.{settled_first, settled_second}
 

@@ -1,19 +1,16 @@
 -- A linked image meets the conditions on images, and has the segments that were meant.
-use Rattle.std.proofs.Common.{◌≡◌, ℕ, suc, ◌+◌, ◌-◌, ◌*◌, ◌%◌, ◌^◌, ◌<◌, ◌≤◌, Bool, true, false, ◌&&◌, ◌||◌, None, nat_eq, nat_le, List, [], ◌∷◌, ◌++◌, length, map, drop, replicate, sum_by, refl, ap, sym, ◌∙◌, subst, arith, append_assoc, length-append}
-use Rattle.std.proofs.lemmas.Bool.{and_from, le-leb, eq-eqb}
+use Rattle.std.proofs.Common.{◌≡◌, ℕ, ◌+◌, ◌%◌, ◌^◌, ◌<◌, ◌≤◌, Bool, true, ◌&&◌, None, nat_eq, nat_le, List, [], ◌∷◌, ◌++◌, length, map, drop, sum_by, refl, ap, sym, ◌∙◌, subst, arith, append_assoc, length-append}
+use Rattle.std.proofs.lemmas.Bool.{and_from, le-leb}
 use Rattle.std.proofs.lemmas.Bool.Decides.{nat_tests}
-use Rattle.std.proofs.lemmas.List.{drop_at, drop-drop, length-replicate}
+use Rattle.std.proofs.lemmas.List.{drop_at, drop-drop}
 use Rattle.std.specs.List.{list_all, list_any}
-use Rattle.byteorder.specs.Endian.{little_number, little_bytes}
+use Rattle.byteorder.specs.Endian.{little_number}
 use Rattle.byteorder.specs.Numbers.{little_number-reads_back}
-use Rattle.op_link.specs.declared.memory_map.Settings.{Settings}
-use Rattle.op_link.specs.declared.memory_map.Sizes.{Sizes}
 use Rattle.op_link.specs.declared.table.ProgramHeader.{ProgramHeader}
 use Rattle.op_link.specs.declared.table.Segment.{Segment}
 use Rattle.op_link.specs.Region.{Range, is_apart, are_apart}
-use Rattle.op_link.specs.Image.{half_in, word_in, entry_in, number_in, segment_at, header_at, headers_from, headers, segments, memory_range, is_loadable, is_in_reach, has_entry, first_from, first_failing, has_image_size, has_magic, has_identity, is_executable_file, is_for_riscv, has_header_table, has_loadable_segments, has_segments_in_reach, has_executable_entry}
-use Rattle.op_link.specs.Memory.{segments_of, constants_address, globals_address, stack_address, stack_size, most_linked, are_in_range}
-use Rattle.op_link.specs.Linking.{file_header, program_header, program_headers, words}
+use Rattle.op_link.specs.Image.{half_in, word_in, entry_in, number_in, header_at, headers_from, headers, segments, memory_range, is_loadable, is_in_reach, has_entry, first_from, first_failing, has_image_size, has_magic, has_identity, is_executable_file, is_for_riscv, has_header_table, has_loadable_segments, has_segments_in_reach, has_executable_entry}
+use Rattle.op_link.specs.Linking.{file_header, program_header, program_headers}
 use Rattle.op_link.specs.Loaded.{IsLoaded}
 
 -- ---- program headers are read back

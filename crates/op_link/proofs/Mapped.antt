@@ -1,10 +1,9 @@
 -- The segments of a linked image lie where they may.
-use Rattle.std.proofs.Common.{◌≡◌, ℕ, suc, ◌+◌, ◌-◌, ◌*◌, ◌/◌, ◌^◌, ◌<◌, ◌≤◌, inl, inr, Bool, true, ◌&&◌, ◌||◌, IsTrue, nat_le, List, [], ◌∷◌, ◌++◌, length, drop, map, replicate, refl, ap, sym, ◌∙◌, subst, arith, length-append}
-use Rattle.std.proofs.lemmas.Bool.{and_parts, and_from, leb-true, lt-ltb, cases_Bool}
+use Rattle.std.proofs.Common.{◌≡◌, ℕ, suc, ◌+◌, ◌-◌, ◌*◌, ◌/◌, ◌<◌, ◌≤◌, inl, inr, Bool, true, ◌||◌, IsTrue, nat_le, List, [], ◌∷◌, ◌++◌, length, drop, map, replicate, refl, ap, arith, length-append}
+use Rattle.std.proofs.lemmas.Bool.{and_parts, leb-true, lt-ltb, cases_Bool}
 use Rattle.std.proofs.lemmas.List.{length-replicate, length-map}
 use Rattle.std.proofs.lemmas.List.Sums.{sum_by-cons}
-use Rattle.std.specs.List.{list_any, flat_map, sum_by}
-use Rattle.byteorder.specs.Endian.{little_bytes}
+use Rattle.std.specs.List.{list_any}
 use Rattle.op_layout.specs.declared.layout.Layout.{Layout}
 use Rattle.op_rv.specs.declared.objects.GlobalVariable.{GlobalVariable}
 use Rattle.op_rv.specs.declared.objects.Objects.{Objects}
@@ -15,7 +14,7 @@ use Rattle.op_link.specs.declared.table.Segment.{Segment}
 use Rattle.op_link.specs.Image.{has_entry}
 use Rattle.op_link.specs.Memory.{are_in_range, segments_of, constants_address, constants_size, globals_address, stack_address, most_linked, global_size, global_bytes, begins_as_zero, initial_part, initial_size, initial_bytes}
 use Rattle.op_link.specs.Linking.{file_header, program_header, program_headers, front_bytes, data_bytes, constants_bytes, code_padding, constants_padding, entry_word, words, linked_size_of}
-use Rattle.op_link.proofs.Loads.{Fit, AreWords, length-program_header}
+use Rattle.op_link.proofs.Loads.{Fit, length-program_header}
 
 -- ---- addresses
 

@@ -9,7 +9,7 @@ use Rattle.op_link.specs.declared.memory_map.Settings.{Settings}
 use Rattle.op_link.specs.declared.memory_map.Sizes.{Sizes}
 use Rattle.op_link.specs.declared.table.Segment.{Segment}
 use Rattle.op_link.specs.Image.{entry_in, first_failing, segments}
-use Rattle.op_link.specs.Memory.{code_address, segments_of}
+use Rattle.op_link.specs.Memory.{code_address}
 use Rattle.op_link.specs.Code.{words_of}
 use Rattle.op_link.specs.Placing.{placement_by}
 use Rattle.op_link.specs.Linking.{addresses_of, program_code, settled, sizes_of}
