@@ -118,3 +118,17 @@ length-words_of (i ∷ code) =
     let rest = length-words_of code in
     let four : length (words_of (i ∷ code)) ≡ suc (suc (suc (suc (length (words_of code))))) = refl in
     omega (arith, rest, four)
+
+-- the same of found code
+
+pub item_ends_at : (layout : Layout) (addresses : Addresses) (r : ℕ) (spot : Spot) (item : Item) (code : List Instr) → item_code layout addresses r spot item ≡ Some code → spot.address + 4 * length code ≡ (behind addresses.known r spot item).address
+unfolding Ends
+item_ends_at layout addresses r spot item code is = item_ends layout addresses r spot item code is
+
+pub items_end_at : (layout : Layout) (addresses : Addresses) (r : ℕ) (spot : Spot) (items : List Item) (code : List Instr) → items_code layout addresses r spot items ≡ Some code → spot.address + 4 * length code ≡ (behind_items addresses.known r spot items).address
+unfolding Ends
+items_end_at layout addresses r spot items code is = items_end layout addresses r spot items code is
+
+pub routine_ends_at : (layout : Layout) (addresses : Addresses) (r : ℕ) (spot : Spot) (routine : ObjectRoutine) (code : List Instr) → routine_code layout addresses r spot routine ≡ Some code → spot.address + 4 * length code ≡ (behind_routine addresses.known r spot routine).address
+unfolding Ends
+routine_ends_at layout addresses r spot routine code is = routine_ends layout addresses r spot routine code is

@@ -10,5 +10,6 @@ pub mod Longest
 pub mod Mapped
 pub mod Parts
 pub mod Settled
+pub mod Standing
 pub mod Whole
 pub mod Written

@@ -9,20 +9,20 @@ use Rattle.op_layout.specs.declared.layout.Layout.{Layout}
 use Rattle.op_rv.specs.declared.instruction.Instr.{Instr}
 use Rattle.op_rv.specs.declared.objects.GlobalVariable.{GlobalVariable}
 use Rattle.op_rv.specs.declared.objects.Objects.{Objects}
-use Rattle.op_link.specs.declared.addresses.Addresses.{Addresses}
 use Rattle.op_link.specs.declared.memory_map.Settings.{Settings}
 use Rattle.op_link.specs.declared.memory_map.Sizes.{Sizes}
 use Rattle.op_link.specs.declared.place.RoutinePlace.{RoutinePlace}
 use Rattle.op_link.specs.Code.{routine_has_fields, words_of}
 use Rattle.op_link.specs.Memory.{are_in_range, begins_as_zero, constants_size, global_size, globals_address, globals_size, initial_size, most_linked, segments_of, zero_part, zero_size}
-use Rattle.op_link.specs.Placing.{placement_by}
+use Rattle.op_link.specs.Placing.{first_spot, placement_by, routine_places}
 use Rattle.op_link.specs.Linking.{addresses_of, all_names_exist, data_bytes, file_header, front_bytes, image_by, image_bytes, is_linkable, linked_size_by, longest, program_code, program_headers, settled, sizes_of}
-use Rattle.op_link.specs.Loaded.{HasCode, IsLoaded, linked_code, linked_sizes}
+use Rattle.op_link.specs.Loaded.{HasCode, HasCodeBy, IsLoaded, addresses_by, linked_sizes, sizes_by}
 use Rattle.op_link.proofs.Decoded.{program_decodes}
 use Rattle.op_link.proofs.Growth.{code_end}
 use Rattle.op_link.proofs.Lengths.{code_end_is, length-words_of}
 use Rattle.op_link.proofs.Loads.{fitting_loads}
 use Rattle.op_link.proofs.Mapped.{constants_from, fits, globals_from, length-data, length-front}
+use Rattle.op_link.proofs.Standing.{all_stand}
 use Rattle.op_link.proofs.Settled.{settled_first, settled_second}
 
 -- ---- what linkable objects have
@@ -64,21 +64,17 @@ found_of : (f : List Instr → List ℕ) (found : Option (List Instr)) (image : 
 found_of f None image is = absurd (cc)
 found_of f (Some code) image is = record { code = code; is = refl; gives = some_same image (f code) is }
 
-addresses_by : List RoutinePlace → Layout → Objects → Addresses
-addresses_by known layout objects =
-    addresses_of known (placement_by known objects.routines).routines (sizes_of (placement_by known objects.routines).end layout objects) objects
-
 bytes_by : List RoutinePlace → Layout → Objects → Settings → List Instr → List ℕ
 bytes_by known layout objects settings code =
     image_bytes layout objects settings (sizes_of (placement_by known objects.routines).end layout objects) (placement_by known objects.routines).routines code
 
 found_by : (known : List RoutinePlace) (layout : Layout) (objects : Objects) (settings : Settings) (image : List ℕ) → Some image ≡ image_by known layout objects settings → Found (bytes_by known layout objects settings) (program_code layout (addresses_by known layout objects) settings objects) image
-unfolding image_by bytes_by addresses_by
+unfolding image_by bytes_by addresses_by sizes_by
 found_by known layout objects settings image is =
     found_of (bytes_by known layout objects settings) (program_code layout (addresses_by known layout objects) settings objects) image is
 
 code_size : (known : List RoutinePlace) (layout : Layout) (objects : Objects) (settings : Settings) (code : List Instr) → program_code layout (addresses_by known layout objects) settings objects ≡ Some code → 4 * length code ≡ (sizes_of (placement_by known objects.routines).end layout objects).code
-unfolding sizes_of placement_by addresses_by addresses_of
+unfolding sizes_of placement_by addresses_by addresses_of sizes_by
 code_size known layout objects settings code is =
     let end = code_end_is layout (addresses_by known layout objects) settings objects code is in omega (arith, end)
 
@@ -96,9 +92,6 @@ begins_with_headers : (layout : Layout) (objects : Objects) (settings : Settings
 unfolding image_bytes front_bytes
 begins_with_headers layout objects settings sizes routines code =
     regroup file_header (program_headers (segments_of sizes settings)) (replicate 3852 0) (words_of code) (data_bytes layout objects sizes routines)
-
-sizes_by : List RoutinePlace → Layout → Objects → Sizes
-sizes_by known layout objects = sizes_of (placement_by known objects.routines).end layout objects
 
 loaded_bytes : (known : List RoutinePlace) (layout : Layout) (objects : Objects) (settings : Settings) (code : List Instr) → Linkable objects → IsTrue (are_in_range settings) → linked_size_by known layout objects ≤ most_linked → program_code layout (addresses_by known layout objects) settings objects ≡ Some code → IsLoaded (bytes_by known layout objects settings code) (segments_of (sizes_by known layout objects) settings)
 unfolding bytes_by sizes_by sizes_of linked_size_by
@@ -127,7 +120,11 @@ code_stands layout objects settings sizes routines code is_code =
     ∙ ap (take sizes.code) (drop_at front (words_of code ++ behind) 4096 (length-front sizes settings))
     ∙ take_at (words_of code) behind sizes.code long
 
-code_by : (known : List RoutinePlace) (layout : Layout) (objects : Objects) (settings : Settings) (image : List ℕ) → IsTrue (is_linkable objects layout) → Some image ≡ image_by known layout objects settings → HasCode image (sizes_by known layout objects).code (program_code layout (addresses_by known layout objects) settings objects)
+places_by : (known : List RoutinePlace) (layout : Layout) (objects : Objects) → (addresses_by known layout objects).routines ≡ routine_places (addresses_by known layout objects).known 0 first_spot objects.routines
+unfolding addresses_by addresses_of placement_by
+places_by known layout objects = refl
+
+code_by : (known : List RoutinePlace) (layout : Layout) (objects : Objects) (settings : Settings) (image : List ℕ) → IsTrue (is_linkable objects layout) → Some image ≡ image_by known layout objects settings → HasCodeBy known image objects layout settings
 unfolding bytes_by sizes_by
 code_by known layout objects settings image is_linkable_too is =
     let found = found_by known layout objects settings image is in
@@ -137,25 +134,24 @@ code_by known layout objects settings image is_linkable_too is =
       is = found.is;
       stands = ap (λ (image : List ℕ). take sizes.code (drop 4096 image)) found.gives ∙ code_stands layout objects settings sizes (placement_by known objects.routines).routines found.code (code_size known layout objects settings found.code found.is);
       decodes = program_decodes layout (addresses_by known layout objects) settings objects found.code (linkable objects layout is_linkable_too).fields found.is;
+      items = all_stand found.code layout (addresses_by known layout objects) settings objects (places_by known layout objects) found.is;
     }
 
 -- ---- the attempt that counts
 
 loaded_settled : (known : List RoutinePlace) (layout : Layout) (objects : Objects) (settings : Settings) (image : List ℕ) → settled layout objects settings ≡ known → IsTrue (is_linkable objects layout) → IsTrue (are_in_range settings) → linked_size_by known layout objects ≤ most_linked → Some image ≡ image_by known layout objects settings → IsLoaded image (segments_of (linked_sizes objects layout settings) settings)
-unfolding sizes_by
 loaded_settled known layout objects settings image is_known is_linkable_too range within is =
     subst (λ (known : List RoutinePlace). IsLoaded image (segments_of (sizes_by known layout objects) settings)) (sym is_known) (loaded_by known layout objects settings image is_linkable_too range within is)
 
-code_settled : (known : List RoutinePlace) (layout : Layout) (objects : Objects) (settings : Settings) (image : List ℕ) → settled layout objects settings ≡ known → IsTrue (is_linkable objects layout) → Some image ≡ image_by known layout objects settings → HasCode image (linked_sizes objects layout settings).code (linked_code objects layout settings)
-unfolding sizes_by addresses_by linked_code
+code_settled : (known : List RoutinePlace) (layout : Layout) (objects : Objects) (settings : Settings) (image : List ℕ) → settled layout objects settings ≡ known → IsTrue (is_linkable objects layout) → Some image ≡ image_by known layout objects settings → HasCode image objects layout settings
 code_settled known layout objects settings image is_known is_linkable_too is =
-    subst (λ (known : List RoutinePlace). HasCode image (sizes_by known layout objects).code (program_code layout (addresses_by known layout objects) settings objects)) (sym is_known) (code_by known layout objects settings image is_linkable_too is)
+    subst (λ (known : List RoutinePlace). HasCodeBy known image objects layout settings) (sym is_known) (code_by known layout objects settings image is_linkable_too is)
 
 pub first_loaded : (objects : Objects) (layout : Layout) (settings : Settings) (image : List ℕ) → IsTrue (is_linkable objects layout) → IsTrue (are_in_range settings) → linked_size_by (longest objects) layout objects ≤ most_linked → Some image ≡ image_by (longest objects) layout objects settings → IsLoaded image (segments_of (linked_sizes objects layout settings) settings)
 first_loaded objects layout settings image is_linkable_too range within is =
     loaded_settled (longest objects) layout objects settings image (settled_first objects layout settings image is) is_linkable_too range within is
 
-pub first_code : (objects : Objects) (layout : Layout) (settings : Settings) (image : List ℕ) → IsTrue (is_linkable objects layout) → Some image ≡ image_by (longest objects) layout objects settings → HasCode image (linked_sizes objects layout settings).code (linked_code objects layout settings)
+pub first_code : (objects : Objects) (layout : Layout) (settings : Settings) (image : List ℕ) → IsTrue (is_linkable objects layout) → Some image ≡ image_by (longest objects) layout objects settings → HasCode image objects layout settings
 first_code objects layout settings image is_linkable_too is =
     code_settled (longest objects) layout objects settings image (settled_first objects layout settings image is) is_linkable_too is
 
@@ -163,6 +159,6 @@ pub second_loaded : (objects : Objects) (layout : Layout) (settings : Settings) 
 second_loaded objects layout settings image none is_linkable_too range within is =
     loaded_settled [] layout objects settings image (settled_second objects layout settings none) is_linkable_too range within is
 
-pub second_code : (objects : Objects) (layout : Layout) (settings : Settings) (image : List ℕ) → None ≡ image_by (longest objects) layout objects settings → IsTrue (is_linkable objects layout) → Some image ≡ image_by [] layout objects settings → HasCode image (linked_sizes objects layout settings).code (linked_code objects layout settings)
+pub second_code : (objects : Objects) (layout : Layout) (settings : Settings) (image : List ℕ) → None ≡ image_by (longest objects) layout objects settings → IsTrue (is_linkable objects layout) → Some image ≡ image_by [] layout objects settings → HasCode image objects layout settings
 second_code objects layout settings image none is_linkable_too is =
     code_settled [] layout objects settings image (settled_second objects layout settings none) is_linkable_too is

@@ -6,4 +6,5 @@ pub mod Memory
 pub mod Placing
 pub mod Reach
 pub mod Region
+pub mod Standing
 pub mod Writes

@@ -5,7 +5,7 @@ use Rattle.op_link.specs.declared.linker.LinkError.{LinkError}
 use Rattle.op_link.specs.declared.linker.LinkError.TheVariants.{Limit}
 use Rattle.op_link.specs.declared.place.RoutinePlace.{RoutinePlace}
 use Rattle.op_link.specs.Linking.{image_by, image_of, linked_size, linked_size_by, longest}
-use Rattle.op_link.specs.Loaded.{HasCode, IsLoaded, linked_code, linked_sizes}
+use Rattle.op_link.specs.Loaded.{HasCode, IsLoaded, linked_sizes}
 use Rattle.op_link.specs.Memory.{most_linked, segments_of}
 use Rattle.op_link.proofs.Loading.{first_loaded, first_code, second_loaded, second_code}
 use Rattle.op_link.proofs.Settled.{if_ok_both, first_image, first_size, second_image, second_size, past_limit, too_many, if_ok, if_err}
@@ -87,4 +87,4 @@ returns-in-Ok-None-clause-code c =
     let objects = c.args.objects.now in
     let layout = c.args.layout.now in
     let settings = c.args.settings.now in
-    if_ok c.link_longest.result (λ (image : Vec ℕ Global). Some image.items ≡ image_by [] layout objects settings) (λ (image : Vec ℕ Global). HasCode image.items (linked_sizes objects layout settings).code (linked_code objects layout settings)) (λ image is. second_code objects layout settings image.items (none c) c.requires.linkable is) c.link_longest.ensures.image
+    if_ok c.link_longest.result (λ (image : Vec ℕ Global). Some image.items ≡ image_by [] layout objects settings) (λ (image : Vec ℕ Global). HasCode image.items objects layout settings) (λ image is. second_code objects layout settings image.items (none c) c.requires.linkable is) c.link_longest.ensures.image
