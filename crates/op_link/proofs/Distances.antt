@@ -1,5 +1,5 @@
 -- The distances that branches and jumps have fit their fields.
-use Rattle.std.proofs.Common.{◌≡◌, ℕ, ℤ, pos, negsuc, suc, ◌+◌, ◌-◌, ◌%◌, ◌^◌, ◌<◌, ◌≤◌, ◌-ℤ◌, Bool, true, false, ◌&&◌, nat_eq, nat_lt, nat_le, Option, Some, None, IfSome, IsTrue, refl, sym, ap, ◌∙◌, subst, cond, inl, inr, if◌then◌else◌, arith}
+use Rattle.std.proofs.Common.{◌≡◌, ℕ, ℤ, pos, negsuc, suc, ◌-◌, ◌%◌, ◌^◌, ◌<◌, ◌≤◌, ◌-ℤ◌, Bool, true, false, ◌&&◌, nat_eq, Option, Some, None, IfSome, IsTrue, refl, sym, subst, inl, inr, if◌then◌else◌, arith}
 use Rattle.std.proofs.lemmas.Bool.Decides.{nat_tests}
 use Rattle.std.proofs.lemmas.Bool.{cases_lt}
 use Rattle.std.proofs.lemmas.Int.{ints}
@@ -10,7 +10,7 @@ use Rattle.op_link.specs.Code.{distance_within}
 forward : (from to : ℕ) → from ≤ to → pos to -ℤ pos from ≡ pos (to - from)
 forward from to h = omega (arith, ints)
 
-backward : (from to : ℕ) → to < from → pos to -ℤ pos from ≡ negsuc (from - suc to)
+pub backward : (from to : ℕ) → to < from → pos to -ℤ pos from ≡ negsuc (from - suc to)
 backward from to h = omega (arith, ints)
 
 fits_both_ways : (k from to : ℕ) → (reaches (2 ^ k) from to && nat_eq (from % 2) (to % 2)) ≡ true → (is_signed k (pos to -ℤ pos from) && is_even (pos to -ℤ pos from)) ≡ true

@@ -1,9 +1,15 @@
+pub mod Decoded
 pub mod Distances
 pub mod Growth
 pub mod Headers
+pub mod Lengths
 pub mod Linked
+pub mod Loading
+pub mod Loads
 pub mod Longest
+pub mod Mapped
 pub mod Parts
 pub mod Settled
+pub mod Standing
 pub mod Whole
 pub mod Written

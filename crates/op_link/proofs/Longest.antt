@@ -1,9 +1,9 @@
 -- If every item has its longest form, nothing is out of reach.
-use Rattle.std.proofs.Common.{◌≡◌, ℕ, zero, suc, ◌+◌, ◌<◌, ◌≤◌, ◌^◌, Bool, true, false, ◌&&◌, Option, Some, None, IsTrue, List, [], ◌∷◌, length, is_some, slice_get, nat_lt, nat_le, refl, ap, sym, ◌∙◌, subst, arith, add-zero}
-use Rattle.std.proofs.lemmas.Bool.{and_parts, ltb-true, false≢true, both_ways}
+use Rattle.std.proofs.Common.{◌≡◌, ℕ, zero, suc, ◌+◌, ◌<◌, ◌≤◌, ◌^◌, true, Option, Some, None, IsTrue, List, [], ◌∷◌, length, is_some, slice_get, nat_lt, refl, ap, ◌∙◌, subst, arith, add-zero}
+use Rattle.std.proofs.lemmas.Bool.{and_parts, ltb-true, false≢true}
 use Rattle.std.proofs.lemmas.Bool.Decides.{nat_tests}
 use Rattle.std.specs.List.{list_all}
-use Rattle.std.specs.Option.{option_map, option_map_or}
+use Rattle.std.specs.Option.{option_map}
 use Rattle.op_layout.specs.declared.layout.Layout.{Layout}
 use Rattle.op_rv.specs.declared.instruction.BranchOp.{BranchOp}
 use Rattle.op_rv.specs.declared.instruction.Instr.{Instr}
@@ -24,10 +24,10 @@ use Rattle.op_link.specs.declared.place.RoutinePlace.{RoutinePlace}
 use Rattle.op_link.specs.declared.place.Spot.{Spot}
 use Rattle.op_link.specs.declared.reach.Reach.TheVariants.{ByRegister}
 use Rattle.op_link.specs.Reach.{reach_of, branch_reach, jump_reach, block_in, head_in}
-use Rattle.op_link.specs.Placing.{behind, behind_items, behind_blocks, behind_routine, block_addresses, routine_place, routine_places, first_spot, placement_by}
+use Rattle.op_link.specs.Placing.{behind, behind_items, behind_routine, block_addresses, routine_place, routine_places, first_spot, placement_by}
 use Rattle.op_link.specs.Code.{address_at, address_of_place, symbol_address, then_code, code_at, jump_code, branch_code, item_code, items_code, blocks_code, routine_code, routines_code}
-use Rattle.op_link.specs.Memory.{constants_address, constants_size, globals_address, global_addresses, initial_part, zero_part, most_linked, page_up, code_address}
-use Rattle.op_link.specs.Linking.{addresses_of, program_code, lies_within, has_symbol, names_exist, all_names_exist, image_bytes, image_by, is_linkable, linked_size_by, sizes_of, start_code}
+use Rattle.op_link.specs.Memory.{constants_address, constants_size, globals_address, global_addresses, initial_part, zero_part, most_linked}
+use Rattle.op_link.specs.Linking.{addresses_of, program_code, lies_within, has_symbol, names_exist, all_names_exist, image_by, is_linkable, linked_size_by, sizes_of, start_code}
 
 -- ---- options
 

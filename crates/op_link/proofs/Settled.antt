@@ -1,20 +1,20 @@
 -- Which of the two attempts counts.
-use Rattle.std.proofs.Common.{◌≡◌, ℕ, ◌+◌, ◌-◌, ◌*◌, ◌<◌, ◌≤◌, Bool, true, false, Option, Some, None, Result, Ok, Err, IfOk, IfErr, List, [], is_some, if◌then◌else◌, refl, ap, sym, ◌∙◌, subst, arith}
+use Rattle.std.proofs.Common.{◌≡◌, ℕ, ◌<◌, ◌≤◌, Bool, true, false, Some, None, Result, Ok, Err, IfOk, IfErr, List, [], is_some, if◌then◌else◌, ap, sym, ◌∙◌, arith}
 use Rattle.std.specs.Option.{option_map_or}
 use Rattle.op_layout.specs.declared.layout.Layout.{Layout}
 use Rattle.op_rv.specs.declared.objects.Objects.{Objects}
 use Rattle.op_link.specs.declared.memory_map.Settings.{Settings}
 use Rattle.op_link.specs.declared.place.RoutinePlace.{RoutinePlace}
-use Rattle.op_link.specs.Memory.{code_address, most_linked, constants_size, initial_size}
-use Rattle.op_link.specs.Placing.{items_in_routines, placement_by}
-use Rattle.op_link.specs.Linking.{image_by, image_of, linked_size, linked_size_by, linked_size_of, longest, settled, sizes_of}
+use Rattle.op_link.specs.Memory.{most_linked}
+use Rattle.op_link.specs.Placing.{items_in_routines}
+use Rattle.op_link.specs.Linking.{image_by, image_of, linked_size, linked_size_by, longest, settled, sizes_of}
 use Rattle.op_link.proofs.Growth.{code_end, code_end_at_most}
 
-settled_first : (objects : Objects) (layout : Layout) (settings : Settings) (image : List ℕ) → Some image ≡ image_by (longest objects) layout objects settings → settled layout objects settings ≡ longest objects
+pub settled_first : (objects : Objects) (layout : Layout) (settings : Settings) (image : List ℕ) → Some image ≡ image_by (longest objects) layout objects settings → settled layout objects settings ≡ longest objects
 unfolding settled
 settled_first objects layout settings image is = ap (λ found. if is_some found then longest objects else []) (sym is)
 
-settled_second : (objects : Objects) (layout : Layout) (settings : Settings) → None ≡ image_by (longest objects) layout objects settings → settled layout objects settings ≡ []
+pub settled_second : (objects : Objects) (layout : Layout) (settings : Settings) → None ≡ image_by (longest objects) layout objects settings → settled layout objects settings ≡ []
 unfolding settled
 settled_second objects layout settings is = ap (λ found. if is_some found then longest objects else []) (sym is)
 
@@ -73,6 +73,10 @@ too_many objects layout settings many = size_of_many (settled layout objects set
 pub if_ok : {T E : Type 0} (answer : Result T E) (P Q : T → Type 0) → ((t : T) → P t → Q t) → IfOk answer P → IfOk answer Q
 if_ok (Ok t) P Q follows p = follows t p
 if_ok (Err error) P Q follows p = tt
+
+pub if_ok_both : {T E : Type 0} (answer : Result T E) (P Q R : T → Type 0) → ((t : T) → P t → Q t → R t) → IfOk answer P → IfOk answer Q → IfOk answer R
+if_ok_both (Ok t) P Q R follows p q = follows t p q
+if_ok_both (Err error) P Q R follows p q = tt
 
 pub if_err : {T E : Type 0} (answer : Result T E) (P Q : E → Type 0) → ((error : E) → P error → Q error) → IfErr answer P → IfErr answer Q
 if_err (Ok t) P Q follows p = tt

@@ -1,6 +1,6 @@
 -- The instructions that items become.
-use Rattle.std.specs.Prelude.{◌≡◌, ℕ, ℤ, pos, suc, ◌+◌, ◌*◌, ◌/◌, ◌%◌, ◌^◌, ◌-ℤ◌, Bool, true, ◌&&◌, Option, Some, None, Result, List, [], ◌∷◌, ◌++◌, length, slice_get, nat_eq, nat_lt, ⊤, if◌then◌else◌}
-use Rattle.std.specs.Option.{option_map, option_map_or}
+use Rattle.std.specs.Prelude.{ℕ, ℤ, pos, suc, ◌+◌, ◌/◌, ◌%◌, ◌^◌, ◌-ℤ◌, Bool, true, ◌&&◌, Option, Some, None, List, [], ◌∷◌, ◌++◌, slice_get, nat_eq, nat_lt, if◌then◌else◌}
+use Rattle.std.specs.Option.{option_map}
 use Rattle.std.specs.List.{flat_map, list_all}
 use Rattle.byteorder.specs.Endian.{little_bytes}
 use Rattle.op_layout.specs.declared.layout.Layout.{Layout}

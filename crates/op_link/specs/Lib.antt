@@ -1,8 +1,10 @@
 pub mod Code
 pub mod Image
 pub mod Linking
+pub mod Loaded
 pub mod Memory
 pub mod Placing
 pub mod Reach
 pub mod Region
+pub mod Standing
 pub mod Writes

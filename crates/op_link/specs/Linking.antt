@@ -1,5 +1,5 @@
 -- Objects as an image.
-use Rattle.std.specs.Prelude.{ℕ, suc, ◌+◌, ◌-◌, ◌*◌, Bool, true, false, ◌&&◌, Option, Some, None, List, [], ◌∷◌, ◌++◌, length, map, replicate, slice_get, is_some, nat_eq, nat_lt, nat_le, if◌then◌else◌}
+use Rattle.std.specs.Prelude.{ℕ, ◌+◌, ◌-◌, Bool, true, false, ◌&&◌, Option, Some, None, List, [], ◌∷◌, ◌++◌, length, map, replicate, slice_get, is_some, nat_lt, nat_le, if◌then◌else◌}
 use Rattle.std.specs.List.{flat_map, list_all}
 use Rattle.std.specs.Option.{option_map, option_map_or}
 use Rattle.byteorder.specs.Endian.{little_bytes}
@@ -20,7 +20,7 @@ use Rattle.op_link.specs.declared.table.Segment.{Segment}
 use Rattle.op_link.specs.Reach.{head_in}
 use Rattle.op_link.specs.Placing.{first_spot, placement_by}
 use Rattle.op_link.specs.Code.{code_at, go_by_register, routine_has_fields, routines_code, set_address, then_code, words_of}
-use Rattle.op_link.specs.Memory.{code_address, constants_address, constants_size, global_addresses, globals_address, globals_size, initial_bytes, initial_size, most_linked, segments_of, stack_address, stack_top, zero_size}
+use Rattle.op_link.specs.Memory.{code_address, constants_address, constants_size, global_addresses, globals_address, globals_size, initial_bytes, initial_size, segments_of, stack_address, stack_top, zero_size}
 
 -- ---- headers
 

@@ -4,7 +4,8 @@ ghost use Rattle.std.specs.List.{list_all};
 ghost use Rattle.std.specs.Option.{option_map};
 ghost use Rattle.op_link.specs.Code.{routine_has_fields};
 ghost use Rattle.op_link.specs.Linking.{addresses_of, image_by, image_of, is_linkable, linked_size, linked_size_by, linked_size_of, longest, settled, sizes_of};
-ghost use Rattle.op_link.specs.Memory.{are_in_range, code_address, constants_address, constants_size, globals_address, globals_size, initial_size, most_linked};
+ghost use Rattle.op_link.specs.Loaded.{HasCode, IsLoaded, linked_sizes};
+ghost use Rattle.op_link.specs.Memory.{are_in_range, code_address, constants_address, constants_size, globals_address, globals_size, initial_size, most_linked, segments_of};
 ghost use Rattle.op_link.specs.Placing.{items_in_routines, placement_by};
 
 use crate::addresses::Addresses;
@@ -173,6 +174,8 @@ pub fn link(
     requires settings { IsTrue (are_in_range settings.now) }
     ensures image { IfOk result (λ image. image.items ≡ image_of objects.now layout.now settings.now) }
     ensures within { OnOk result (linked_size objects.now layout.now settings.now ≤ most_linked) }
+    ensures loads { IfOk result (λ image. IsLoaded image.items (segments_of (linked_sizes objects.now layout.now settings.now) settings.now)) }
+    ensures code { IfOk result (λ image. HasCode image.items objects.now layout.now settings.now) }
     ensures limit { IfErr result (λ error. error ≡ LinkError.Limit → most_linked < linked_size objects.now layout.now settings.now) }
 {
     if !is_small(objects.routines.as_slice()) {

@@ -1,4 +1,4 @@
-use Rattle.std.proofs.Common.{◌≡◌, ◌+◌, ◌*◌, ◌-◌, ◌≤◌, IsTrue, length, drop}
+use Rattle.std.proofs.Common.{◌≡◌, ◌+◌, ◌*◌, ◌≤◌, IsTrue, drop}
 use Rattle.std.specs.List.{list_all}
 use Rattle.op_link.specs.Code.{written, blocks_code, have_fields}
 use Rattle.op_link.specs.Placing.{behind_blocks, items_in_blocks}

@@ -1,4 +1,4 @@
-use Rattle.std.proofs.Common.{◌≡◌, ◌+◌, ◌*◌, ◌≤◌, ◌++◌, length, drop}
+use Rattle.std.proofs.Common.{◌≡◌, ◌+◌, ◌*◌, ◌≤◌, ◌++◌, drop}
 use Rattle.op_link.specs.Placing.{behind_routines, routine_places, items_in_routines, first_spot}
 use Rattle.op_link.proofs.place.place.Given as goal
 

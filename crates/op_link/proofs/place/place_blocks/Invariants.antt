@@ -1,4 +1,4 @@
-use Rattle.std.proofs.Common.{◌≡◌, ◌+◌, ◌*◌, ◌≤◌, ◌++◌, length, drop}
+use Rattle.std.proofs.Common.{◌≡◌, ◌+◌, ◌*◌, ◌≤◌, ◌++◌, drop}
 use Rattle.op_link.specs.Placing.{behind_blocks, block_addresses, items_in_blocks}
 use Rattle.op_link.proofs.place.place_blocks.Given as goal
 
