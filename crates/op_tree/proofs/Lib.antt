@@ -1,5 +1,7 @@
+pub mod ClassUnique
 pub mod DenoterUnique
 pub mod ExpressionUnique
 pub mod HeadingUnique
+pub mod MethodUnique
 pub mod Rows
 pub mod StatementUnique
