@@ -46,7 +46,7 @@ unique_accessors {b' = b1} {p' = q} {r' = z} (has_accessor v n) w (has_accessor 
 abbrev property_with : Name → Denoter → Option Name → Option Name → Property
 property_with n t a b = record { name = n; denoter = t; read = a; write = b }
 
-semicolon_stops : (p : Position) (r : List Terminal) → StopsDenoter (kind.Semicolon at p ∷ r)
+pub semicolon_stops : (p : Position) (r : List Terminal) → StopsDenoter (kind.Semicolon at p ∷ r)
 semicolon_stops p r = record { operator = refl; selector = refl; range = refl }
 
 unique_property : {d d' : ℕ} {a a' : Property} {ks r r' : List Terminal} → IsProperty d a ks r → IsProperty d' a' ks r' → (a ≡ a') × (r ≡ r')
@@ -224,7 +224,7 @@ body_begins (begins_with_members (are_members a as_) ss) = member_begins a
 abbrev class_with : List Name → List Section → Class
 class_with ns ss = record { ancestors = ns; sections = ss }
 
-no_body : {A : Type 0} {d : ℕ} {ss : List Section} {p : Position} {ks r s : List Terminal} → IsClassBody d ss ks r → kind.Semicolon at p ∷ s ≡ ks → A
+pub no_body : {A : Type 0} {d : ℕ} {ss : List Section} {p : Position} {ks r s : List Terminal} → IsClassBody d ss ks r → kind.Semicolon at p ∷ s ≡ ks → A
 no_body {ks = ks} b q = differ is_semicolon q refl (apart no_semicolon_in_class ks (body_begins b))
 
 pub unique_class : {d d' : ℕ} {c c' : Class} {p p' : Position} {ks r r' : List Terminal} → IsClass d c ks (kind.Semicolon at p ∷ r) → IsClass d' c' ks (kind.Semicolon at p' ∷ r') → (c ≡ c') × (r ≡ r')
@@ -288,7 +288,7 @@ abbrev interface_with : Option Name → Option (List ℕ) → List Method → In
 interface_with n t as_ = record { ancestor = n; identifier = t; methods = as_ }
 
 -- a semicolon is no list of methods
-no_methods_here : {A : Type 0} {d : ℕ} {as_ : List Method} {p q : Position} {ks r s : List Terminal} → AreMethods d as_ ks (kind.End at q ∷ r) → kind.Semicolon at p ∷ s ≡ ks → A
+pub no_methods_here : {A : Type 0} {d : ℕ} {as_ : List Method} {p q : Position} {ks r s : List Terminal} → AreMethods d as_ ks (kind.End at q ∷ r) → kind.Semicolon at p ∷ s ≡ ks → A
 no_methods_here {ks = ks} as_ q = differ is_semicolon q refl (apart methods_no_semicolon ks (before_end as_))
 
 pub no_bracket : {d : ℕ} {as_ : List Method} {q : Position} {ks r : List Terminal} → AreMethods d as_ ks (kind.End at q ∷ r) → IsNot is_bracket ks

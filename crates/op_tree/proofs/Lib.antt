@@ -1,4 +1,5 @@
 pub mod ClassUnique
+pub mod DeclarationUnique
 pub mod DenoterUnique
 pub mod ExpressionUnique
 pub mod HeadingUnique

@@ -1,10 +1,11 @@
 -- At most one tree spells a list of tokens.
 use Rattle.std.specs.Prelude.{◌≡◌, ℕ, List, ◌∷◌}
 use Rattle.op_scan.specs.declared.token.TokenKind.TheVariants as kind
-use Rattle.op_tree.specs.Declaration.{Class, Heading, Interface, Method}
+use Rattle.op_tree.specs.Declaration.{Class, Declarations, Heading, Interface, Method}
+use Rattle.op_tree.specs.DeclarationGrammar.{AreDeclarations, AreInterfaceDeclarations}
 use Rattle.op_tree.specs.Denoter.{Denoter}
 use Rattle.op_tree.specs.DenoterGrammar.{IsDenoter, IsInitial}
-use Rattle.op_tree.specs.Ends.{EndsChain, EndsStatement, NoDirective, Stops, StopsDenoter}
+use Rattle.op_tree.specs.Ends.{EndsChain, EndsDeclarations, EndsStatement, NoDirective, Stops, StopsDenoter}
 use Rattle.op_tree.specs.Expression.{Expression}
 use Rattle.op_tree.specs.ExpressionGrammar.{IsChain}
 use Rattle.op_tree.specs.Initial.{Initial}
@@ -45,3 +46,10 @@ OneClass = (d d' : ℕ) (c c' : Class) (p p' : Position) (ks r r' : List Termina
 
 abbrev pub OneInterface : Type 0
 OneInterface = (d d' : ℕ) (i i' : Interface) (p p' : Position) (ks r r' : List Terminal) → IsInterface d i ks (kind.Semicolon at p ∷ r) → IsInterface d' i' ks (kind.Semicolon at p' ∷ r') → (i ≡ i') × (r ≡ r')
+
+-- The same of lists of declarations, and of those of an interface part, before what would belong to neither.
+abbrev pub OneListOfDeclarations : Type 0
+OneListOfDeclarations = (d d' : ℕ) (es es' : Declarations) (ks r r' : List Terminal) → AreDeclarations d es ks r → AreDeclarations d' es' ks r' → EndsDeclarations r → EndsDeclarations r' → (es ≡ es') × (r ≡ r')
+
+abbrev pub OneInterfacePart : Type 0
+OneInterfacePart = (d d' : ℕ) (es es' : Declarations) (ks r r' : List Terminal) → AreInterfaceDeclarations d es ks r → AreInterfaceDeclarations d' es' ks r' → EndsDeclarations r → EndsDeclarations r' → (es ≡ es') × (r ≡ r')

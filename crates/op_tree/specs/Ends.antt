@@ -152,3 +152,19 @@ pub record StopsDenoter (r : List Terminal) : Type 0 where
 -- no directive stands in front
 abbrev pub NoDirective : List Terminal → Type 0
 NoDirective r = (w : Directive) (ws : List Directive) (z : List Terminal) → AreDirectives (w ∷ ws) r z → ⊥
+
+-- the kind begins a declaration, or goes on with a list of constants, types or variables
+abbrev pub continues_declarations : TokenKind → Bool
+continues_declarations kind.Const_ = true
+continues_declarations kind.Type_ = true
+continues_declarations kind.Var = true
+continues_declarations kind.Procedure = true
+continues_declarations kind.Function = true
+continues_declarations kind.Constructor = true
+continues_declarations kind.Destructor = true
+continues_declarations (kind.Identifier text) = true
+continues_declarations other = false
+
+-- nothing that follows would belong to the declarations
+abbrev pub EndsDeclarations : List Terminal → Type 0
+EndsDeclarations r = IsNot continues_declarations r

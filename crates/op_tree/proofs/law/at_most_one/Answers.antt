@@ -1,4 +1,5 @@
 use Rattle.op_tree.proofs.ClassUnique.{unique_class, unique_interface}
+use Rattle.op_tree.proofs.DeclarationUnique.{unique_declarations, unique_interface_part}
 use Rattle.op_tree.proofs.DenoterUnique.{unique_denoter, unique_initial}
 use Rattle.op_tree.proofs.ExpressionUnique.{unique_chain}
 use Rattle.op_tree.proofs.HeadingUnique.{unique_heading}
@@ -16,4 +17,6 @@ returns c = record {
   method = λ d d' a a' ks r r' f f' h h'. unique_method f f' h h';
   class = λ d d' c c' p p' ks r r' f f'. unique_class f f';
   interface = λ d d' i i' p p' ks r r' f f'. unique_interface f f';
+  declarations = λ d d' es es' ks r r' f f' h h'. unique_declarations f f' h h';
+  interface_part = λ d d' es es' ks r r' f f' h h'. unique_interface_part f f' h h';
 }
