@@ -215,13 +215,13 @@ unique_types (are_types t more) (are_types {d = y} {ts = t1} {r = z} t' more') h
 -- ---- constants, types or variables
 
 -- the kind begins constants, types or variables
-abbrev begins_data : TokenKind → Bool
+abbrev pub begins_data : TokenKind → Bool
 begins_data kind.Const_ = true
 begins_data kind.Type_ = true
 begins_data kind.Var = true
 begins_data other = false
 
-data_begins : {d : ℕ} {e : Declaration} {ks r : List Terminal} → IsDataDeclaration d e ks r → Begins begins_data ks
+pub data_begins : {d : ℕ} {e : Declaration} {ks r : List Terminal} → IsDataDeclaration d e ks r → Begins begins_data ks
 data_begins (declares_constants cs) = refl
 data_begins (declares_types ts) = refl
 data_begins (declares_variables vs) = refl
@@ -296,7 +296,7 @@ unique_interface_part {r = r} {r' = r'} (heading_in_interface {m = m} a es) (hea
 
 -- ---- routines
 
-routine_begins : {d : ℕ} {e : Declaration} {ks r : List Terminal} → IsRoutine d e ks r → Begins begins_heading ks
+pub routine_begins : {d : ℕ} {e : Declaration} {ks r : List Terminal} → IsRoutine d e ks r → Begins begins_heading ks
 routine_begins (is_routine h ws b) = heading_begins h
 
 declarations_no_identifier : {d : ℕ} {es : Declarations} {ks r : List Terminal} → AreDeclarations d es ks r → IsNot is_identifier r → IsNot is_identifier ks
@@ -304,7 +304,7 @@ declarations_no_identifier are_no_declarations h = h
 declarations_no_identifier {ks = ks} (data_declared e es) h = apart data_no_identifier ks (data_begins e)
 declarations_no_identifier {ks = ks} (routine_declared e es) h = apart heading_no_identifier ks (routine_begins e)
 
-block_no_declaration : {d : ℕ} {ss : Statements} {ks r : List Terminal} → IsBlock d ss ks r → EndsDeclarations ks
+pub block_no_declaration : {d : ℕ} {ss : Statements} {ks r : List Terminal} → IsBlock d ss ks r → EndsDeclarations ks
 block_no_declaration (is_begin_end ss) = refl
 
 block_no_identifier : {d : ℕ} {ss : Statements} {ks r : List Terminal} → IsBlock d ss ks r → IsNot is_identifier ks

@@ -2,6 +2,7 @@ pub mod ClassUnique
 pub mod DeclarationUnique
 pub mod DenoterUnique
 pub mod ExpressionUnique
+pub mod FileUnique
 pub mod HeadingUnique
 pub mod MethodUnique
 pub mod Rows

@@ -8,6 +8,8 @@ use Rattle.op_tree.specs.DenoterGrammar.{IsDenoter, IsInitial}
 use Rattle.op_tree.specs.Ends.{EndsChain, EndsDeclarations, EndsStatement, NoDirective, Stops, StopsDenoter}
 use Rattle.op_tree.specs.Expression.{Expression}
 use Rattle.op_tree.specs.ExpressionGrammar.{IsChain}
+use Rattle.op_tree.specs.File.{File}
+use Rattle.op_tree.specs.FileGrammar.{Spells}
 use Rattle.op_tree.specs.Initial.{Initial}
 use Rattle.op_tree.specs.Statement.{Statement}
 use Rattle.op_tree.specs.StatementGrammar.{IsStatement}
@@ -53,3 +55,7 @@ OneListOfDeclarations = (d d' : ℕ) (es es' : Declarations) (ks r r' : List Ter
 
 abbrev pub OneInterfacePart : Type 0
 OneInterfacePart = (d d' : ℕ) (es es' : Declarations) (ks r r' : List Terminal) → AreInterfaceDeclarations d es ks r → AreInterfaceDeclarations d' es' ks r' → EndsDeclarations r → EndsDeclarations r' → (es ≡ es') × (r ≡ r')
+
+-- One file's tree, at most, spells a list of tokens.
+abbrev pub OneFile : Type 0
+OneFile = (f f' : File) (ks : List Terminal) → Spells f ks → Spells f' ks → f ≡ f'

@@ -1,5 +1,5 @@
 //! Laws of the grammar.
-ghost use Rattle.op_tree.specs.AtMostOne.{OneClass, OneDenoter, OneExpression, OneHeading, OneInitial, OneInterface, OneInterfacePart, OneListOfDeclarations, OneMethod, OneStatement};
+ghost use Rattle.op_tree.specs.AtMostOne.{OneClass, OneDenoter, OneExpression, OneFile, OneHeading, OneInitial, OneInterface, OneInterfacePart, OneListOfDeclarations, OneMethod, OneStatement};
 ghost use Rattle.op_tree.specs.Lists.{ListNodes};
 
 /// At most one tree of each sort stands at the front of a list of tokens and is whole.
@@ -14,6 +14,7 @@ pub fn at_most_one()
     ensures interface { OneInterface }
     ensures declarations { OneListOfDeclarations }
     ensures interface_part { OneInterfacePart }
+    ensures file { OneFile }
 {}
 
 /// What a node with a list says is what the list's parts say.

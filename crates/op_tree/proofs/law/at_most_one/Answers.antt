@@ -2,6 +2,7 @@ use Rattle.op_tree.proofs.ClassUnique.{unique_class, unique_interface}
 use Rattle.op_tree.proofs.DeclarationUnique.{unique_declarations, unique_interface_part}
 use Rattle.op_tree.proofs.DenoterUnique.{unique_denoter, unique_initial}
 use Rattle.op_tree.proofs.ExpressionUnique.{unique_chain}
+use Rattle.op_tree.proofs.FileUnique.{unique_file}
 use Rattle.op_tree.proofs.HeadingUnique.{unique_heading}
 use Rattle.op_tree.proofs.MethodUnique.{unique_method}
 use Rattle.op_tree.proofs.StatementUnique.{unique_statement}
@@ -19,4 +20,5 @@ returns c = record {
   interface = λ d d' i i' p p' ks r r' f f'. unique_interface f f';
   declarations = λ d d' es es' ks r r' f f' h h'. unique_declarations f f' h h';
   interface_part = λ d d' es es' ks r r' f f' h h'. unique_interface_part f f' h h';
+  file = λ f f' ks s s'. (unique_file s s').0;
 }
