@@ -1,0 +1,9 @@
+pub mod DeclarationPieces
+pub mod DenoterPieces
+pub mod ExpressionPieces
+pub mod HeadingPieces
+pub mod NamePieces
+pub mod Page
+pub mod Print
+pub mod Spelling
+pub mod StatementPieces
