@@ -3,3 +3,7 @@ pub mod Denoters
 pub mod Expressions
 pub mod Statements
 pub mod Declarations
+pub mod Words
+pub mod Symbols
+pub mod Quotes
+pub mod Scanned

@@ -1,9 +1,10 @@
-pub mod DeclarationPieces
-pub mod DenoterPieces
-pub mod ExpressionPieces
-pub mod HeadingPieces
-pub mod NamePieces
+pub mod DeclarationFragments
+pub mod DenoterFragments
+pub mod ExpressionFragments
+pub mod HeadingFragments
+pub mod NameFragments
 pub mod Page
 pub mod Print
+pub mod Scanned
 pub mod Spelling
-pub mod StatementPieces
+pub mod StatementFragments

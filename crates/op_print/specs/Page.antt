@@ -4,16 +4,16 @@ use Rattle.op_scan.specs.Byte.{is_name_byte}
 use Rattle.op_scan.specs.declared.token.TokenKind.{TokenKind}
 use Rattle.op_print.specs.Spelling.{spelling}
 
-pub data Piece : Type 0 where
+pub data Fragment : Type 0 where
   -- with a blank before it
-  word : (kind : TokenKind) → Piece
+  word : (kind : TokenKind) → Fragment
   -- with a blank before it only where it would run into what stands there
-  tight : (kind : TokenKind) → Piece
+  tight : (kind : TokenKind) → Fragment
   -- what follows begins a line
-  line : Piece
+  line : Fragment
   -- from now on lines begin two columns further in, or two less
-  indent : Piece
-  outdent : Piece
+  indent : Fragment
+  outdent : Fragment
 
 -- What was printed so far, the blanks with which a line begins, and how many bytes more fit on this one.
 pub record Page : Type 0 where
@@ -33,7 +33,7 @@ empty_page = record { text = []; margin = []; room = line_length }
 unfoldable pub runs_together : ℕ → ℕ → Bool
 runs_together last first =
     (is_name_byte last && is_name_byte first) ||
-    ((nat_eq last 39 && nat_eq first 39) ||
+    ((nat_eq last 39 && (nat_eq first 39 || nat_eq first 35)) ||
     ((nat_eq last 40 && nat_eq first 42) ||
     ((nat_eq last 47 && nat_eq first 47) ||
     ((nat_eq last 46 && nat_eq first 46) ||
@@ -69,14 +69,14 @@ written bytes page = record { text = page.text ++ bytes; margin = page.margin; r
 unfoldable pub put : Bool → List ℕ → Page → Page
 put is_tight bytes page = written bytes (if wants_gap is_tight page.text bytes then parted page else page)
 
-abbrev pub step : Page → Piece → Page
+abbrev pub step : Page → Fragment → Page
 step page (word kind) = put false (spelling kind) page
 step page (tight kind) = put true (spelling kind) page
 step page line = start_line page
 step page indent = record { text = page.text; margin = page.margin ++ 32 ∷ 32 ∷ []; room = page.room }
 step page outdent = record { text = page.text; margin = take (length page.margin - 2) page.margin; room = page.room }
 
--- the page behind these pieces
-abbrev pub after : Page → List Piece → Page
+-- the page behind these fragments
+abbrev pub after : Page → List Fragment → Page
 after page [] = page
-after page (piece ∷ pieces) = after (step page piece) pieces
+after page (fragment ∷ fragments) = after (step page fragment) fragments

@@ -3,9 +3,9 @@
 
 ghost use Rattle.std.specs.Prelude.{◌≡◌, ◌∷◌, ◌++◌, [], ℕ, List, IfOk, map};
 ghost use Rattle.std.specs.List.{flat_map};
-ghost use Rattle.op_print.specs.DenoterPieces.{denoter_pieces};
-ghost use Rattle.op_print.specs.HeadingPieces.{accessor_pieces, ancestor_pieces, class_pieces, identifier_pieces, interface_pieces, member_pieces, method_line, property_pieces, section_pieces, visibility_pieces, visibility_word};
-ghost use Rattle.op_print.specs.NamePieces.{names_pieces};
+ghost use Rattle.op_print.specs.DenoterFragments.{denoter_fragments};
+ghost use Rattle.op_print.specs.HeadingFragments.{accessor_fragments, ancestor_fragments, class_fragments, identifier_fragments, interface_fragments, member_fragments, method_line, property_fragments, section_fragments, visibility_fragments, visibility_word};
+ghost use Rattle.op_print.specs.NameFragments.{names_fragments};
 ghost use Rattle.op_print.specs.Page.{after, line, tight, word};
 ghost use Rattle.op_scan.specs.declared.token.TokenKind.TheVariants as kind;
 ghost use Rattle.op_tree.specs.Declaration.{class_of, interface_of, member_of, method_of, property_of, section_of};
@@ -31,7 +31,7 @@ fn visibility_word(visibility: Visibility) -> &'static [u8]
 
 /// A word and a name, where there is one.
 fn accessor(page: &mut Printer, word: &[u8], accessor: &Option<Name>) -> Result<(), NoMemory>
-    ensures { IfOk result (λ _. page.new ≡ after page.old (accessor_pieces word.now accessor.now)) }
+    ensures { IfOk result (λ _. page.new ≡ after page.old (accessor_fragments word.now accessor.now)) }
 {
     match accessor {
         None => Ok(()),
@@ -43,7 +43,7 @@ fn accessor(page: &mut Printer, word: &[u8], accessor: &Option<Name>) -> Result<
 }
 
 fn property(page: &mut Printer, property: &Property) -> Result<(), NoMemory>
-    ensures { IfOk result (λ _. page.new ≡ after page.old (property_pieces (property_of property.now))) }
+    ensures { IfOk result (λ _. page.new ≡ after page.old (property_fragments (property_of property.now))) }
 {
     page.word(b"property")?;
     name(page, &property.name)?;
@@ -55,7 +55,7 @@ fn property(page: &mut Printer, property: &Property) -> Result<(), NoMemory>
 }
 
 fn fields(page: &mut Printer, fields: &Fields) -> Result<(), NoMemory>
-    ensures { IfOk result (λ _. page.new ≡ after page.old (names_pieces fields.now.names ++ tight kind.Colon ∷ denoter_pieces (denoter_of fields.now.denoter) ++ tight kind.Semicolon ∷ [])) }
+    ensures { IfOk result (λ _. page.new ≡ after page.old (names_fragments fields.now.names ++ tight kind.Colon ∷ denoter_fragments (denoter_of fields.now.denoter) ++ tight kind.Semicolon ∷ [])) }
 {
     names(page, fields.names.as_slice())?;
     page.tight(b":")?;
@@ -65,7 +65,7 @@ fn fields(page: &mut Printer, fields: &Fields) -> Result<(), NoMemory>
 
 /// A member on a line of its own.
 fn member(page: &mut Printer, member: &Member) -> Result<(), NoMemory>
-    ensures { IfOk result (λ _. page.new ≡ after page.old (member_pieces (member_of member.now))) }
+    ensures { IfOk result (λ _. page.new ≡ after page.old (member_fragments (member_of member.now))) }
 {
     page.start_line()?;
     match member {
@@ -76,7 +76,7 @@ fn member(page: &mut Printer, member: &Member) -> Result<(), NoMemory>
 }
 
 fn members(page: &mut Printer, list: &[Member]) -> Result<(), NoMemory>
-    ensures { IfOk result (λ _. page.new ≡ after page.old (flat_map member_pieces (map member_of list.now))) }
+    ensures { IfOk result (λ _. page.new ≡ after page.old (flat_map member_fragments (map member_of list.now))) }
 {
     for each in list {
         member(page, each)?;
@@ -85,7 +85,7 @@ fn members(page: &mut Printer, list: &[Member]) -> Result<(), NoMemory>
 }
 
 fn visibility(page: &mut Printer, visibility: Option<Visibility>) -> Result<(), NoMemory>
-    ensures { IfOk result (λ _. page.new ≡ after page.old (visibility_pieces visibility)) }
+    ensures { IfOk result (λ _. page.new ≡ after page.old (visibility_fragments visibility)) }
 {
     match visibility {
         None => Ok(()),
@@ -97,14 +97,14 @@ fn visibility(page: &mut Printer, visibility: Option<Visibility>) -> Result<(), 
 }
 
 fn section(page: &mut Printer, section: &Section) -> Result<(), NoMemory>
-    ensures { IfOk result (λ _. page.new ≡ after page.old (section_pieces (section_of section.now))) }
+    ensures { IfOk result (λ _. page.new ≡ after page.old (section_fragments (section_of section.now))) }
 {
     visibility(page, section.visibility)?;
     members(page, &section.members)
 }
 
 fn sections(page: &mut Printer, list: &[Section]) -> Result<(), NoMemory>
-    ensures { IfOk result (λ _. page.new ≡ after page.old (flat_map section_pieces (map section_of list.now))) }
+    ensures { IfOk result (λ _. page.new ≡ after page.old (flat_map section_fragments (map section_of list.now))) }
 {
     for each in list {
         section(page, each)?;
@@ -113,7 +113,7 @@ fn sections(page: &mut Printer, list: &[Section]) -> Result<(), NoMemory>
 }
 
 pub fn class(page: &mut Printer, class: &Class) -> Result<(), NoMemory>
-    ensures { IfOk result (λ _. page.new ≡ after page.old (class_pieces (class_of class.now))) }
+    ensures { IfOk result (λ _. page.new ≡ after page.old (class_fragments (class_of class.now))) }
 {
     page.word(b"class")?;
     bracketed_names(page, class.ancestors.as_slice())?;
@@ -125,7 +125,7 @@ pub fn class(page: &mut Printer, class: &Class) -> Result<(), NoMemory>
 }
 
 fn ancestor(page: &mut Printer, ancestor: &Option<Name>) -> Result<(), NoMemory>
-    ensures { IfOk result (λ _. page.new ≡ after page.old (ancestor_pieces ancestor.now)) }
+    ensures { IfOk result (λ _. page.new ≡ after page.old (ancestor_fragments ancestor.now)) }
 {
     match ancestor {
         None => Ok(()),
@@ -139,7 +139,7 @@ fn ancestor(page: &mut Printer, ancestor: &Option<Name>) -> Result<(), NoMemory>
 
 /// The text in square brackets of an interface, where there is one.
 pub fn identifier(page: &mut Printer, identifier: &Option<Text>) -> Result<(), NoMemory>
-    ensures { IfOk result (λ _. page.new ≡ after page.old (identifier_pieces identifier.now)) }
+    ensures { IfOk result (λ _. page.new ≡ after page.old (identifier_fragments identifier.now)) }
 {
     match identifier {
         None => Ok(()),
@@ -170,7 +170,7 @@ fn methods(page: &mut Printer, list: &[Method]) -> Result<(), NoMemory>
 
 /// `interface`, the ancestor and the text in square brackets.
 fn interface_head(page: &mut Printer, interface: &Interface) -> Result<(), NoMemory>
-    ensures { IfOk result (λ _. page.new ≡ after page.old (word kind.Interface ∷ ancestor_pieces interface.now.ancestor ++ identifier_pieces interface.now.identifier)) }
+    ensures { IfOk result (λ _. page.new ≡ after page.old (word kind.Interface ∷ ancestor_fragments interface.now.ancestor ++ identifier_fragments interface.now.identifier)) }
 {
     page.word(b"interface")?;
     ancestor(page, &interface.ancestor)?;
@@ -178,7 +178,7 @@ fn interface_head(page: &mut Printer, interface: &Interface) -> Result<(), NoMem
 }
 
 pub fn interface(page: &mut Printer, interface: &Interface) -> Result<(), NoMemory>
-    ensures { IfOk result (λ _. page.new ≡ after page.old (interface_pieces (interface_of interface.now))) }
+    ensures { IfOk result (λ _. page.new ≡ after page.old (interface_fragments (interface_of interface.now))) }
 {
     interface_head(page, interface)?;
     page.indent()?;

@@ -4,7 +4,7 @@
 ghost use Rattle.std.specs.Prelude.{◌≡◌, IfOk, map};
 ghost use Rattle.std.specs.List.{flat_map};
 ghost use Rattle.std.specs.Option.{option_map};
-ghost use Rattle.op_print.specs.DeclarationPieces.{block_pieces, body_pieces, constant_pieces, declaration_pieces, declarations_pieces, definition_pieces, first_value_pieces, type_declaration_pieces, variables_pieces};
+ghost use Rattle.op_print.specs.DeclarationFragments.{block_fragments, body_fragments, constant_fragments, declaration_fragments, declarations_fragments, definition_fragments, first_value_fragments, type_declaration_fragments, variables_fragments};
 ghost use Rattle.op_print.specs.Page.{after};
 ghost use Rattle.op_tree.specs.Declaration.{body_of, constant_of, declaration_of, declarations_of, definition_of, type_of, variables_of};
 ghost use Rattle.op_tree.specs.Initial.{initial_of};
@@ -24,7 +24,7 @@ use op_tree::{
 };
 
 fn constant(page: &mut Printer, constant: &Constant) -> Result<(), NoMemory>
-    ensures { IfOk result (λ _. page.new ≡ after page.old (constant_pieces (constant_of constant.now))) }
+    ensures { IfOk result (λ _. page.new ≡ after page.old (constant_fragments (constant_of constant.now))) }
 {
     page.start_line()?;
     name(page, &constant.name)?;
@@ -35,7 +35,7 @@ fn constant(page: &mut Printer, constant: &Constant) -> Result<(), NoMemory>
 }
 
 fn constants(page: &mut Printer, list: &[Constant]) -> Result<(), NoMemory>
-    ensures { IfOk result (λ _. page.new ≡ after page.old (flat_map constant_pieces (map constant_of list.now))) }
+    ensures { IfOk result (λ _. page.new ≡ after page.old (flat_map constant_fragments (map constant_of list.now))) }
 {
     for each in list {
         constant(page, each)?;
@@ -45,7 +45,7 @@ fn constants(page: &mut Printer, list: &[Constant]) -> Result<(), NoMemory>
 
 /// `=` and a first value, where there is one.
 fn first_value(page: &mut Printer, value: &Option<Initializer>) -> Result<(), NoMemory>
-    ensures { IfOk result (λ _. page.new ≡ after page.old (first_value_pieces (option_map initial_of value.now))) }
+    ensures { IfOk result (λ _. page.new ≡ after page.old (first_value_fragments (option_map initial_of value.now))) }
 {
     match value {
         None => Ok(()),
@@ -57,7 +57,7 @@ fn first_value(page: &mut Printer, value: &Option<Initializer>) -> Result<(), No
 }
 
 fn variables_of_one_type(page: &mut Printer, variables: &Variables) -> Result<(), NoMemory>
-    ensures { IfOk result (λ _. page.new ≡ after page.old (variables_pieces (variables_of variables.now))) }
+    ensures { IfOk result (λ _. page.new ≡ after page.old (variables_fragments (variables_of variables.now))) }
 {
     page.start_line()?;
     names(page, variables.names.as_slice())?;
@@ -68,7 +68,7 @@ fn variables_of_one_type(page: &mut Printer, variables: &Variables) -> Result<()
 }
 
 fn variables(page: &mut Printer, list: &[Variables]) -> Result<(), NoMemory>
-    ensures { IfOk result (λ _. page.new ≡ after page.old (flat_map variables_pieces (map variables_of list.now))) }
+    ensures { IfOk result (λ _. page.new ≡ after page.old (flat_map variables_fragments (map variables_of list.now))) }
 {
     for each in list {
         variables_of_one_type(page, each)?;
@@ -77,7 +77,7 @@ fn variables(page: &mut Printer, list: &[Variables]) -> Result<(), NoMemory>
 }
 
 fn definition(page: &mut Printer, definition: &TypeDefinition) -> Result<(), NoMemory>
-    ensures { IfOk result (λ _. page.new ≡ after page.old (definition_pieces (definition_of definition.now))) }
+    ensures { IfOk result (λ _. page.new ≡ after page.old (definition_fragments (definition_of definition.now))) }
 {
     match definition {
         TypeDefinition::Denoter(denoted) => denoter(page, denoted),
@@ -92,7 +92,7 @@ fn definition(page: &mut Printer, definition: &TypeDefinition) -> Result<(), NoM
 }
 
 fn type_declaration(page: &mut Printer, declared: &TypeDeclaration) -> Result<(), NoMemory>
-    ensures { IfOk result (λ _. page.new ≡ after page.old (type_declaration_pieces (type_of declared.now))) }
+    ensures { IfOk result (λ _. page.new ≡ after page.old (type_declaration_fragments (type_of declared.now))) }
 {
     page.start_line()?;
     name(page, &declared.name)?;
@@ -102,7 +102,7 @@ fn type_declaration(page: &mut Printer, declared: &TypeDeclaration) -> Result<()
 }
 
 fn types(page: &mut Printer, list: &[TypeDeclaration]) -> Result<(), NoMemory>
-    ensures { IfOk result (λ _. page.new ≡ after page.old (flat_map type_declaration_pieces (map type_of list.now))) }
+    ensures { IfOk result (λ _. page.new ≡ after page.old (flat_map type_declaration_fragments (map type_of list.now))) }
 {
     for each in list {
         type_declaration(page, each)?;
@@ -112,7 +112,7 @@ fn types(page: &mut Printer, list: &[TypeDeclaration]) -> Result<(), NoMemory>
 
 /// `begin`, statements and `end`, on lines of their own.
 pub fn begin_end(page: &mut Printer, list: &[Stmt]) -> Result<(), NoMemory>
-    ensures { IfOk result (λ _. page.new ≡ after page.old (block_pieces (stmts_of list.now))) }
+    ensures { IfOk result (λ _. page.new ≡ after page.old (block_fragments (stmts_of list.now))) }
 {
     page.start_line()?;
     block(page, b"begin", list)?;
@@ -121,7 +121,7 @@ pub fn begin_end(page: &mut Printer, list: &[Stmt]) -> Result<(), NoMemory>
 
 #[cycle(declaration)]
 pub fn declarations(page: &mut Printer, list: &[Declaration]) -> Result<(), NoMemory>
-    ensures { IfOk result (λ _. page.new ≡ after page.old (declarations_pieces (declarations_of list.now))) }
+    ensures { IfOk result (λ _. page.new ≡ after page.old (declarations_fragments (declarations_of list.now))) }
 {
     for each in list {
         declaration(page, each)?;
@@ -131,7 +131,7 @@ pub fn declarations(page: &mut Printer, list: &[Declaration]) -> Result<(), NoMe
 
 #[cycle(declaration)]
 fn declaration(page: &mut Printer, declared: &Declaration) -> Result<(), NoMemory>
-    ensures { IfOk result (λ _. page.new ≡ after page.old (declaration_pieces (declaration_of declared.now))) }
+    ensures { IfOk result (λ _. page.new ≡ after page.old (declaration_fragments (declaration_of declared.now))) }
 {
     match declared {
         Declaration::Constants(list) => {
@@ -172,7 +172,7 @@ fn declaration(page: &mut Printer, declared: &Declaration) -> Result<(), NoMemor
 
 #[cycle(declaration)]
 fn body(page: &mut Printer, body: &Body) -> Result<(), NoMemory>
-    ensures { IfOk result (λ _. page.new ≡ after page.old (body_pieces (body_of body.now))) }
+    ensures { IfOk result (λ _. page.new ≡ after page.old (body_fragments (body_of body.now))) }
 {
     match body {
         Body::Forward => page.word(b"forward"),

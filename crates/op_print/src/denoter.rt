@@ -2,7 +2,7 @@
 #![tactic(auto, using(crate::proofs::After::after_append))]
 
 ghost use Rattle.std.specs.Prelude.{◌≡◌, IfOk};
-ghost use Rattle.op_print.specs.DenoterPieces.{denoter_pieces, fields_pieces, indices_pieces, packed_pieces};
+ghost use Rattle.op_print.specs.DenoterFragments.{denoter_fragments, fields_fragments, indices_fragments, packed_fragments};
 ghost use Rattle.op_print.specs.Page.{after};
 ghost use Rattle.op_tree.specs.Denoter.{denoter_of};
 ghost use Rattle.op_tree.specs.Lists.{denoters_of, field_lists_of};
@@ -14,7 +14,7 @@ use op_base::NoMemory;
 use op_tree::{Fields, TypeDenoter};
 
 fn packed_word(page: &mut Printer, packed: bool) -> Result<(), NoMemory>
-    ensures { IfOk result (λ _. page.new ≡ after page.old (packed_pieces packed)) }
+    ensures { IfOk result (λ _. page.new ≡ after page.old (packed_fragments packed)) }
 {
     if packed {
         return page.word(b"packed");
@@ -24,7 +24,7 @@ fn packed_word(page: &mut Printer, packed: bool) -> Result<(), NoMemory>
 
 #[cycle(denoter)]
 pub fn denoter(page: &mut Printer, denoted: &TypeDenoter) -> Result<(), NoMemory>
-    ensures { IfOk result (λ _. page.new ≡ after page.old (denoter_pieces (denoter_of denoted.now))) }
+    ensures { IfOk result (λ _. page.new ≡ after page.old (denoter_fragments (denoter_of denoted.now))) }
 {
     match denoted {
         TypeDenoter::Named(name) => qualified_name(page, name),
@@ -75,7 +75,7 @@ pub fn denoter(page: &mut Printer, denoted: &TypeDenoter) -> Result<(), NoMemory
 /// The indices of an array, in brackets where there are any.
 #[cycle(denoter)]
 fn indices(page: &mut Printer, list: &[TypeDenoter]) -> Result<(), NoMemory>
-    ensures { IfOk result (λ _. page.new ≡ after page.old (indices_pieces (denoters_of list.now))) }
+    ensures { IfOk result (λ _. page.new ≡ after page.old (indices_fragments (denoters_of list.now))) }
 {
     let Some((first, others)) = list.split_first() else {
         return Ok(());
@@ -92,7 +92,7 @@ fn indices(page: &mut Printer, list: &[TypeDenoter]) -> Result<(), NoMemory>
 /// The fields of a record, each list on a line of its own.
 #[cycle(denoter)]
 fn fields(page: &mut Printer, list: &[Fields]) -> Result<(), NoMemory>
-    ensures { IfOk result (λ _. page.new ≡ after page.old (fields_pieces (field_lists_of list.now))) }
+    ensures { IfOk result (λ _. page.new ≡ after page.old (fields_fragments (field_lists_of list.now))) }
 {
     for each in list {
         page.start_line()?;

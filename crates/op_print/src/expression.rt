@@ -2,7 +2,7 @@
 #![tactic(auto, using(crate::proofs::After::after_append))]
 
 ghost use Rattle.std.specs.Prelude.{◌≡◌, IfOk};
-ghost use Rattle.op_print.specs.ExpressionPieces.{argument_pieces, arguments_pieces, designator_pieces, element_pieces, elements_pieces, expression_pieces, expressions_pieces, operations_pieces, operator_kind, prefix_kind, root_pieces, selector_pieces, selectors_pieces};
+ghost use Rattle.op_print.specs.ExpressionFragments.{argument_fragments, arguments_fragments, designator_fragments, element_fragments, elements_fragments, expression_fragments, expressions_fragments, operations_fragments, operator_kind, prefix_kind, root_fragments, selector_fragments, selectors_fragments};
 ghost use Rattle.op_print.specs.Page.{after};
 ghost use Rattle.op_print.specs.Spelling.{spelling};
 ghost use Rattle.op_tree.specs.Expression.{argument_of, element_of, expr_of, root_of, selector_of};
@@ -54,7 +54,7 @@ fn prefix_word(operator: PrefixOperator) -> &'static [u8]
 
 #[cycle(expression)]
 pub fn expression(page: &mut Printer, expr: &Expr) -> Result<(), NoMemory>
-    ensures { IfOk result (λ _. page.new ≡ after page.old (expression_pieces (expr_of expr.now))) }
+    ensures { IfOk result (λ _. page.new ≡ after page.old (expression_fragments (expr_of expr.now))) }
 {
     match expr {
         Expr::Chain { first, rest } => {
@@ -97,7 +97,7 @@ pub fn expression(page: &mut Printer, expr: &Expr) -> Result<(), NoMemory>
 
 #[cycle(expression)]
 fn operations(page: &mut Printer, list: &[Operation]) -> Result<(), NoMemory>
-    ensures { IfOk result (λ _. page.new ≡ after page.old (operations_pieces (operations_of list.now))) }
+    ensures { IfOk result (λ _. page.new ≡ after page.old (operations_fragments (operations_of list.now))) }
 {
     for operation in list {
         page.word(operator_word(operation.operator))?;
@@ -108,7 +108,7 @@ fn operations(page: &mut Printer, list: &[Operation]) -> Result<(), NoMemory>
 
 #[cycle(expression)]
 pub fn designator(page: &mut Printer, called: &Designator) -> Result<(), NoMemory>
-    ensures { IfOk result (λ _. page.new ≡ after page.old (designator_pieces (designator_of called.now))) }
+    ensures { IfOk result (λ _. page.new ≡ after page.old (designator_fragments (designator_of called.now))) }
 {
     root(page, &called.root)?;
     selectors(page, &called.selectors)
@@ -116,7 +116,7 @@ pub fn designator(page: &mut Printer, called: &Designator) -> Result<(), NoMemor
 
 #[cycle(expression)]
 fn root(page: &mut Printer, root: &Root) -> Result<(), NoMemory>
-    ensures { IfOk result (λ _. page.new ≡ after page.old (root_pieces (root_of root.now))) }
+    ensures { IfOk result (λ _. page.new ≡ after page.old (root_fragments (root_of root.now))) }
 {
     match root {
         Root::Named(name) => page.word(name.text.as_slice()),
@@ -131,7 +131,7 @@ fn root(page: &mut Printer, root: &Root) -> Result<(), NoMemory>
 
 #[cycle(expression)]
 fn selectors(page: &mut Printer, list: &[Selector]) -> Result<(), NoMemory>
-    ensures { IfOk result (λ _. page.new ≡ after page.old (selectors_pieces (selectors_of list.now))) }
+    ensures { IfOk result (λ _. page.new ≡ after page.old (selectors_fragments (selectors_of list.now))) }
 {
     for each in list {
         selector(page, each)?;
@@ -141,7 +141,7 @@ fn selectors(page: &mut Printer, list: &[Selector]) -> Result<(), NoMemory>
 
 #[cycle(expression)]
 fn selector(page: &mut Printer, selector: &Selector) -> Result<(), NoMemory>
-    ensures { IfOk result (λ _. page.new ≡ after page.old (selector_pieces (selector_of selector.now))) }
+    ensures { IfOk result (λ _. page.new ≡ after page.old (selector_fragments (selector_of selector.now))) }
 {
     match selector {
         Selector::Member(name) => {
@@ -163,7 +163,7 @@ fn selector(page: &mut Printer, selector: &Selector) -> Result<(), NoMemory>
 
 #[cycle(expression)]
 fn expressions(page: &mut Printer, list: &[Expr]) -> Result<(), NoMemory>
-    ensures { IfOk result (λ _. page.new ≡ after page.old (expressions_pieces (expressions_of list.now))) }
+    ensures { IfOk result (λ _. page.new ≡ after page.old (expressions_fragments (expressions_of list.now))) }
 {
     let Some((first, others)) = list.split_first() else {
         return Ok(());
@@ -178,7 +178,7 @@ fn expressions(page: &mut Printer, list: &[Expr]) -> Result<(), NoMemory>
 
 #[cycle(expression)]
 pub fn elements(page: &mut Printer, list: &[Element]) -> Result<(), NoMemory>
-    ensures { IfOk result (λ _. page.new ≡ after page.old (elements_pieces (elements_of list.now))) }
+    ensures { IfOk result (λ _. page.new ≡ after page.old (elements_fragments (elements_of list.now))) }
 {
     let Some((first, others)) = list.split_first() else {
         return Ok(());
@@ -193,7 +193,7 @@ pub fn elements(page: &mut Printer, list: &[Element]) -> Result<(), NoMemory>
 
 #[cycle(expression)]
 fn element(page: &mut Printer, element: &Element) -> Result<(), NoMemory>
-    ensures { IfOk result (λ _. page.new ≡ after page.old (element_pieces (element_of element.now))) }
+    ensures { IfOk result (λ _. page.new ≡ after page.old (element_fragments (element_of element.now))) }
 {
     match element {
         Element::One(one) => expression(page, one),
@@ -207,7 +207,7 @@ fn element(page: &mut Printer, element: &Element) -> Result<(), NoMemory>
 
 #[cycle(expression)]
 fn arguments(page: &mut Printer, list: &[Argument]) -> Result<(), NoMemory>
-    ensures { IfOk result (λ _. page.new ≡ after page.old (arguments_pieces (arguments_of list.now))) }
+    ensures { IfOk result (λ _. page.new ≡ after page.old (arguments_fragments (arguments_of list.now))) }
 {
     let Some((first, others)) = list.split_first() else {
         return Ok(());
@@ -222,7 +222,7 @@ fn arguments(page: &mut Printer, list: &[Argument]) -> Result<(), NoMemory>
 
 #[cycle(expression)]
 fn argument(page: &mut Printer, argument: &Argument) -> Result<(), NoMemory>
-    ensures { IfOk result (λ _. page.new ≡ after page.old (argument_pieces (argument_of argument.now))) }
+    ensures { IfOk result (λ _. page.new ≡ after page.old (argument_fragments (argument_of argument.now))) }
 {
     match argument {
         Argument::Value(value) => expression(page, value),

@@ -3,10 +3,11 @@
 
 ghost use Rattle.std.specs.Prelude.{◌≡◌, ◌∷◌, ◌++◌, [], IfOk};
 ghost use Rattle.std.specs.Option.{option_map};
-ghost use Rattle.op_print.specs.NamePieces.{name_piece};
-ghost use Rattle.op_print.specs.DeclarationPieces.{declarations_pieces};
+ghost use Rattle.op_print.specs.NameFragments.{name_fragment};
+ghost use Rattle.op_print.specs.DeclarationFragments.{declarations_fragments};
 ghost use Rattle.op_print.specs.Page.{after, line, tight, word};
-ghost use Rattle.op_print.specs.Print.{file_pieces, print_of, program_heading_pieces, program_pieces, tail_part_pieces, tail_pieces, unit_pieces, uses_pieces};
+ghost use Rattle.op_print.specs.Print.{file_fragments, print_of, program_heading_fragments, program_fragments, tail_part_fragments, tail_fragments, unit_fragments, uses_fragments};
+ghost use Rattle.op_print.specs.Scanned.{ScansAsPrinted};
 ghost use Rattle.op_print.specs.Spelling.{spelling};
 ghost use Rattle.op_scan.specs.declared.token.TokenKind.{TokenKind};
 ghost use Rattle.op_scan.specs.declared.token.TokenKind.TheVariants as kind;
@@ -23,7 +24,7 @@ use op_tree::{Declaration, Name, Program, ProgramHeading, Stmt, Tree, Unit};
 use std::alloc::Global;
 
 fn program_heading(page: &mut Printer, heading: &Option<ProgramHeading>) -> Result<(), NoMemory>
-    ensures { IfOk result (λ _. page.new ≡ after page.old (program_heading_pieces heading.now)) }
+    ensures { IfOk result (λ _. page.new ≡ after page.old (program_heading_fragments heading.now)) }
 {
     match heading {
         None => Ok(()),
@@ -37,7 +38,7 @@ fn program_heading(page: &mut Printer, heading: &Option<ProgramHeading>) -> Resu
 }
 
 fn uses(page: &mut Printer, list: &[Name]) -> Result<(), NoMemory>
-    ensures { IfOk result (λ _. page.new ≡ after page.old (uses_pieces list.now)) }
+    ensures { IfOk result (λ _. page.new ≡ after page.old (uses_fragments list.now)) }
 {
     if list.is_empty() {
         return Ok(());
@@ -49,7 +50,7 @@ fn uses(page: &mut Printer, list: &[Name]) -> Result<(), NoMemory>
 }
 
 fn program(page: &mut Printer, program: &Program) -> Result<(), NoMemory>
-    ensures { IfOk result (λ _. page.new ≡ after page.old (program_pieces (program_of program.now))) }
+    ensures { IfOk result (λ _. page.new ≡ after page.old (program_fragments (program_of program.now))) }
 {
     program_heading(page, &program.heading)?;
     uses(page, program.uses.as_slice())?;
@@ -59,7 +60,7 @@ fn program(page: &mut Printer, program: &Program) -> Result<(), NoMemory>
 
 /// A word and statements, where there are any.
 fn tail_part(page: &mut Printer, opening: &[u8], list: &Option<Vec<Stmt>>) -> Result<(), NoMemory>
-    ensures { (k : TokenKind) → opening.now ≡ spelling k → IfOk result (λ _. page.new ≡ after page.old (tail_part_pieces k (option_map (λ ss. stmts_of ss.items) list.now))) }
+    ensures { (k : TokenKind) → opening.now ≡ spelling k → IfOk result (λ _. page.new ≡ after page.old (tail_part_fragments k (option_map (λ ss. stmts_of ss.items) list.now))) }
 {
     match list {
         None => Ok(()),
@@ -69,7 +70,7 @@ fn tail_part(page: &mut Printer, opening: &[u8], list: &Option<Vec<Stmt>>) -> Re
 
 /// What a unit does at the beginning and at the end, and `end`.
 fn tail(page: &mut Printer, unit: &Unit) -> Result<(), NoMemory>
-    ensures { IfOk result (λ _. page.new ≡ after page.old (tail_pieces (unit_of unit.now).tail)) }
+    ensures { IfOk result (λ _. page.new ≡ after page.old (tail_fragments (unit_of unit.now).tail)) }
 {
     page.start_line()?;
     tail_part(page, b"initialization", &unit.initialization)?;
@@ -84,7 +85,7 @@ fn part(
     used: &[Name],
     list: &[Declaration],
 ) -> Result<(), NoMemory>
-    ensures { (k : TokenKind) → opening.now ≡ spelling k → IfOk result (λ _. page.new ≡ after page.old (line ∷ word k ∷ uses_pieces used.now ++ declarations_pieces (declarations_of list.now))) }
+    ensures { (k : TokenKind) → opening.now ≡ spelling k → IfOk result (λ _. page.new ≡ after page.old (line ∷ word k ∷ uses_fragments used.now ++ declarations_fragments (declarations_of list.now))) }
 {
     page.start_line()?;
     page.word(opening)?;
@@ -94,7 +95,7 @@ fn part(
 
 /// `unit` and its name.
 fn unit_heading(page: &mut Printer, unit: &Unit) -> Result<(), NoMemory>
-    ensures { IfOk result (λ _. page.new ≡ after page.old (word kind.Unit ∷ name_piece unit.now.name ∷ tight kind.Semicolon ∷ [])) }
+    ensures { IfOk result (λ _. page.new ≡ after page.old (word kind.Unit ∷ name_fragment unit.now.name ∷ tight kind.Semicolon ∷ [])) }
 {
     page.word(b"unit")?;
     name(page, &unit.name)?;
@@ -102,7 +103,7 @@ fn unit_heading(page: &mut Printer, unit: &Unit) -> Result<(), NoMemory>
 }
 
 fn unit(page: &mut Printer, unit: &Unit) -> Result<(), NoMemory>
-    ensures { IfOk result (λ _. page.new ≡ after page.old (unit_pieces (unit_of unit.now))) }
+    ensures { IfOk result (λ _. page.new ≡ after page.old (unit_fragments (unit_of unit.now))) }
 {
     unit_heading(page, unit)?;
     part(
@@ -121,7 +122,7 @@ fn unit(page: &mut Printer, unit: &Unit) -> Result<(), NoMemory>
 }
 
 fn file(page: &mut Printer, tree: &Tree) -> Result<(), NoMemory>
-    ensures { IfOk result (λ _. page.new ≡ after page.old (file_pieces (file_of tree.now))) }
+    ensures { IfOk result (λ _. page.new ≡ after page.old (file_fragments (file_of tree.now))) }
 {
     match tree {
         Tree::Program(tree) => program(page, tree)?,
@@ -137,7 +138,9 @@ fn file(page: &mut Printer, tree: &Tree) -> Result<(), NoMemory>
 /// allocator has no room.
 #[tactic(auto, unfolding(crate::specs::Print::print_of))]
 pub fn print(alloc: Global, tree: &Tree) -> Result<Text, NoMemory>
-    ensures { IfOk result (λ text. text ≡ print_of (file_of tree.now)) }
+    ensures text { IfOk result (λ text. text ≡ print_of (file_of tree.now)) }
+    // Scanning it gives the tokens of its words, where each of them can be a token.
+    ensures scans { IfOk result (λ text. ScansAsPrinted (file_of tree.now) text) }
 {
     let mut page = Printer::new(alloc);
     file(&mut page, tree)?;

@@ -3,7 +3,7 @@
 
 ghost use Rattle.std.specs.Prelude.{◌≡◌, Option, IfOk};
 ghost use Rattle.std.specs.Option.{option_map};
-ghost use Rattle.op_print.specs.HeadingPieces.{directive_word, directives_pieces, heading_pieces, method_pieces, mode_pieces, open_array_pieces, parameter_pieces, parameter_type_pieces, parameters_pieces, routine_word, type_pieces};
+ghost use Rattle.op_print.specs.HeadingFragments.{directive_word, directives_fragments, heading_fragments, method_fragments, mode_fragments, open_array_fragments, parameter_fragments, parameter_type_fragments, parameters_fragments, routine_word, type_fragments};
 ghost use Rattle.op_print.specs.Page.{after};
 ghost use Rattle.op_print.specs.Spelling.{spelling};
 ghost use Rattle.op_tree.specs.Declaration.{heading_of, method_of};
@@ -44,7 +44,7 @@ fn directive_word(directive: Directive) -> &'static [u8]
 }
 
 fn mode(page: &mut Printer, mode: ParameterMode) -> Result<(), NoMemory>
-    ensures { IfOk result (λ _. page.new ≡ after page.old (mode_pieces mode)) }
+    ensures { IfOk result (λ _. page.new ≡ after page.old (mode_fragments mode)) }
 {
     match mode {
         ParameterMode::Value => Ok(()),
@@ -55,7 +55,7 @@ fn mode(page: &mut Printer, mode: ParameterMode) -> Result<(), NoMemory>
 }
 
 fn open_array(page: &mut Printer, open_array: bool) -> Result<(), NoMemory>
-    ensures { IfOk result (λ _. page.new ≡ after page.old (open_array_pieces open_array)) }
+    ensures { IfOk result (λ _. page.new ≡ after page.old (open_array_fragments open_array)) }
 {
     if !open_array {
         return Ok(());
@@ -65,7 +65,7 @@ fn open_array(page: &mut Printer, open_array: bool) -> Result<(), NoMemory>
 }
 
 fn parameter_type(page: &mut Printer, of: &ParameterType) -> Result<(), NoMemory>
-    ensures { IfOk result (λ _. page.new ≡ after page.old (parameter_type_pieces of.now)) }
+    ensures { IfOk result (λ _. page.new ≡ after page.old (parameter_type_fragments of.now)) }
 {
     match of {
         ParameterType::Named(name) => qualified_name(page, name),
@@ -74,7 +74,7 @@ fn parameter_type(page: &mut Printer, of: &ParameterType) -> Result<(), NoMemory
 }
 
 fn parameter(page: &mut Printer, parameter: &Parameter) -> Result<(), NoMemory>
-    ensures { IfOk result (λ _. page.new ≡ after page.old (parameter_pieces parameter.now)) }
+    ensures { IfOk result (λ _. page.new ≡ after page.old (parameter_fragments parameter.now)) }
 {
     mode(page, parameter.mode)?;
     names(page, parameter.names.as_slice())?;
@@ -85,7 +85,7 @@ fn parameter(page: &mut Printer, parameter: &Parameter) -> Result<(), NoMemory>
 
 /// Parameters in brackets, where there are any.
 fn parameters(page: &mut Printer, list: &[Parameter]) -> Result<(), NoMemory>
-    ensures { IfOk result (λ _. page.new ≡ after page.old (parameters_pieces list.now)) }
+    ensures { IfOk result (λ _. page.new ≡ after page.old (parameters_fragments list.now)) }
 {
     let Some((first, others)) = list.split_first() else {
         return Ok(());
@@ -101,7 +101,7 @@ fn parameters(page: &mut Printer, list: &[Parameter]) -> Result<(), NoMemory>
 
 /// A colon and a type, where there is one.
 pub fn optional_type(page: &mut Printer, denoted: &Option<TypeDenoter>) -> Result<(), NoMemory>
-    ensures { IfOk result (λ _. page.new ≡ after page.old (type_pieces (option_map denoter_of denoted.now))) }
+    ensures { IfOk result (λ _. page.new ≡ after page.old (type_fragments (option_map denoter_of denoted.now))) }
 {
     match denoted {
         None => Ok(()),
@@ -113,7 +113,7 @@ pub fn optional_type(page: &mut Printer, denoted: &Option<TypeDenoter>) -> Resul
 }
 
 pub fn heading(page: &mut Printer, heading: &Heading) -> Result<(), NoMemory>
-    ensures { IfOk result (λ _. page.new ≡ after page.old (heading_pieces (heading_of heading.now))) }
+    ensures { IfOk result (λ _. page.new ≡ after page.old (heading_fragments (heading_of heading.now))) }
 {
     page.word(routine_word(heading.kind))?;
     qualified(page, &heading.class, &heading.name)?;
@@ -123,7 +123,7 @@ pub fn heading(page: &mut Printer, heading: &Heading) -> Result<(), NoMemory>
 
 /// The words behind a heading.
 pub fn directives(page: &mut Printer, list: &[Directive]) -> Result<(), NoMemory>
-    ensures { IfOk result (λ _. page.new ≡ after page.old (directives_pieces list.now)) }
+    ensures { IfOk result (λ _. page.new ≡ after page.old (directives_fragments list.now)) }
 {
     for each in list {
         page.word(directive_word(*each))?;
@@ -133,7 +133,7 @@ pub fn directives(page: &mut Printer, list: &[Directive]) -> Result<(), NoMemory
 }
 
 pub fn method(page: &mut Printer, method: &Method) -> Result<(), NoMemory>
-    ensures { IfOk result (λ _. page.new ≡ after page.old (method_pieces (method_of method.now))) }
+    ensures { IfOk result (λ _. page.new ≡ after page.old (method_fragments (method_of method.now))) }
 {
     heading(page, &method.heading)?;
     page.tight(b";")?;

@@ -2,7 +2,7 @@
 #![tactic(auto, using(crate::proofs::After::after_append))]
 
 ghost use Rattle.std.specs.Prelude.{◌≡◌, IfOk};
-ghost use Rattle.op_print.specs.DenoterPieces.{field_initials_pieces, initial_pieces, initials_pieces};
+ghost use Rattle.op_print.specs.DenoterFragments.{field_initials_fragments, initial_fragments, initials_fragments};
 ghost use Rattle.op_print.specs.Page.{after};
 ghost use Rattle.op_tree.specs.Initial.{initial_of};
 ghost use Rattle.op_tree.specs.Lists.{field_initials_of, initials_of};
@@ -15,7 +15,7 @@ use op_tree::{FieldInitializer, Initializer};
 
 #[cycle(initializer)]
 pub fn initializer(page: &mut Printer, value: &Initializer) -> Result<(), NoMemory>
-    ensures { IfOk result (λ _. page.new ≡ after page.old (initial_pieces (initial_of value.now))) }
+    ensures { IfOk result (λ _. page.new ≡ after page.old (initial_fragments (initial_of value.now))) }
 {
     match value {
         Initializer::Value(value) => expression(page, value),
@@ -34,7 +34,7 @@ pub fn initializer(page: &mut Printer, value: &Initializer) -> Result<(), NoMemo
 
 #[cycle(initializer)]
 fn initializers(page: &mut Printer, list: &[Initializer]) -> Result<(), NoMemory>
-    ensures { IfOk result (λ _. page.new ≡ after page.old (initials_pieces (initials_of list.now))) }
+    ensures { IfOk result (λ _. page.new ≡ after page.old (initials_fragments (initials_of list.now))) }
 {
     let Some((first, others)) = list.split_first() else {
         return Ok(());
@@ -49,7 +49,7 @@ fn initializers(page: &mut Printer, list: &[Initializer]) -> Result<(), NoMemory
 
 #[cycle(initializer)]
 fn field_initializers(page: &mut Printer, list: &[FieldInitializer]) -> Result<(), NoMemory>
-    ensures { IfOk result (λ _. page.new ≡ after page.old (field_initials_pieces (field_initials_of list.now))) }
+    ensures { IfOk result (λ _. page.new ≡ after page.old (field_initials_fragments (field_initials_of list.now))) }
 {
     let Some((first, others)) = list.split_first() else {
         return Ok(());

@@ -2,7 +2,7 @@
 #![tactic(auto, using(crate::proofs::After::after_append))]
 
 ghost use Rattle.std.specs.Prelude.{◌≡◌, ◌∷◌, [], IfOk};
-ghost use Rattle.op_print.specs.NamePieces.{bracketed_pieces, name_piece, names_pieces, qualified_of, qualified_pieces};
+ghost use Rattle.op_print.specs.NameFragments.{bracketed_fragments, name_fragment, names_fragments, qualified_of, qualified_fragments};
 ghost use Rattle.op_print.specs.Page.{after};
 
 use crate::printer::Printer;
@@ -10,14 +10,14 @@ use op_base::NoMemory;
 use op_tree::{Name, QualifiedName};
 
 pub fn name(page: &mut Printer, name: &Name) -> Result<(), NoMemory>
-    ensures { IfOk result (λ _. page.new ≡ after page.old (name_piece name.now ∷ [])) }
+    ensures { IfOk result (λ _. page.new ≡ after page.old (name_fragment name.now ∷ [])) }
 {
     page.word(name.text.as_slice())
 }
 
 /// Names with commas between them.
 pub fn names(page: &mut Printer, list: &[Name]) -> Result<(), NoMemory>
-    ensures { IfOk result (λ _. page.new ≡ after page.old (names_pieces list.now)) }
+    ensures { IfOk result (λ _. page.new ≡ after page.old (names_fragments list.now)) }
 {
     let Some((first, others)) = list.split_first() else {
         return Ok(());
@@ -32,7 +32,7 @@ pub fn names(page: &mut Printer, list: &[Name]) -> Result<(), NoMemory>
 
 /// Names in brackets, where there are any.
 pub fn bracketed_names(page: &mut Printer, list: &[Name]) -> Result<(), NoMemory>
-    ensures { IfOk result (λ _. page.new ≡ after page.old (bracketed_pieces list.now)) }
+    ensures { IfOk result (λ _. page.new ≡ after page.old (bracketed_fragments list.now)) }
 {
     if list.is_empty() {
         return Ok(());
@@ -57,7 +57,7 @@ pub fn qualified(page: &mut Printer, unit: &Option<Name>, last: &Name) -> Result
 }
 
 pub fn qualified_name(page: &mut Printer, qualified_name: &QualifiedName) -> Result<(), NoMemory>
-    ensures { IfOk result (λ _. page.new ≡ after page.old (qualified_pieces qualified_name.now)) }
+    ensures { IfOk result (λ _. page.new ≡ after page.old (qualified_fragments qualified_name.now)) }
 {
     qualified(page, &qualified_name.unit, &qualified_name.name)
 }

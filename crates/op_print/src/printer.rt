@@ -43,7 +43,7 @@ fn runs_together(last: u8, first: u8) -> bool
     ensures { result ≡ runs_together last first }
 {
     (is_name_byte(last) && is_name_byte(first))
-        || (last == b'\'' && first == b'\'')
+        || (last == b'\'' && (first == b'\'' || first == b'#'))
         || (last == b'(' && first == b'*')
         || (last == b'/' && first == b'/')
         || (last == b'.' && first == b'.')

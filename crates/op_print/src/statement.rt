@@ -2,11 +2,11 @@
 #![tactic(auto, using(crate::proofs::After::after_append))]
 
 ghost use Rattle.std.specs.Prelude.{◌≡◌, ◌++◌, ◌∷◌, [], IfOk};
-ghost use Rattle.op_print.specs.ExpressionPieces.{expression_pieces};
-ghost use Rattle.op_print.specs.NamePieces.{name_piece};
+ghost use Rattle.op_print.specs.ExpressionFragments.{expression_fragments};
+ghost use Rattle.op_print.specs.NameFragments.{name_fragment};
 ghost use Rattle.op_print.specs.Page.{after, word};
 ghost use Rattle.op_print.specs.Spelling.{spelling};
-ghost use Rattle.op_print.specs.StatementPieces.{begun, branches_pieces, direction_kind, handlers_pieces, indented, on_pieces, opened, statement_pieces, statements_pieces, variable_pieces};
+ghost use Rattle.op_print.specs.StatementFragments.{begun, branches_fragments, direction_kind, handlers_fragments, indented, on_fragments, opened, statement_fragments, statements_fragments, variable_fragments};
 ghost use Rattle.op_scan.specs.declared.token.TokenKind.{TokenKind};
 ghost use Rattle.op_scan.specs.declared.token.TokenKind.TheVariants as kind;
 ghost use Rattle.op_tree.specs.Expression.{expr_of};
@@ -30,7 +30,7 @@ fn direction_word(direction: Direction) -> &'static [u8]
 
 /// `if condition then`
 fn if_then(page: &mut Printer, condition: &Expr) -> Result<(), NoMemory>
-    ensures { IfOk result (λ _. page.new ≡ after page.old (word kind.If_ ∷ expression_pieces (expr_of condition.now) ++ word kind.Then ∷ [])) }
+    ensures { IfOk result (λ _. page.new ≡ after page.old (word kind.If_ ∷ expression_fragments (expr_of condition.now) ++ word kind.Then ∷ [])) }
 {
     page.word(b"if")?;
     expression(page, condition)?;
@@ -39,7 +39,7 @@ fn if_then(page: &mut Printer, condition: &Expr) -> Result<(), NoMemory>
 
 /// `case selector of`
 fn case_of(page: &mut Printer, selector: &Expr) -> Result<(), NoMemory>
-    ensures { IfOk result (λ _. page.new ≡ after page.old (word kind.Case ∷ expression_pieces (expr_of selector.now) ++ word kind.Of ∷ [])) }
+    ensures { IfOk result (λ _. page.new ≡ after page.old (word kind.Case ∷ expression_fragments (expr_of selector.now) ++ word kind.Of ∷ [])) }
 {
     page.word(b"case")?;
     expression(page, selector)?;
@@ -54,7 +54,7 @@ fn for_to(
     direction: Direction,
     last: &Expr,
 ) -> Result<(), NoMemory>
-    ensures { IfOk result (λ _. page.new ≡ after page.old (word kind.For_ ∷ name_piece variable.now ∷ word kind.Assign ∷ expression_pieces (expr_of first.now) ++ word (direction_kind direction) ∷ expression_pieces (expr_of last.now) ++ word kind.Do_ ∷ [])) }
+    ensures { IfOk result (λ _. page.new ≡ after page.old (word kind.For_ ∷ name_fragment variable.now ∷ word kind.Assign ∷ expression_fragments (expr_of first.now) ++ word (direction_kind direction) ∷ expression_fragments (expr_of last.now) ++ word kind.Do_ ∷ [])) }
 {
     page.word(b"for")?;
     name(page, variable)?;
@@ -67,7 +67,7 @@ fn for_to(
 
 /// `for variable in collection do`
 fn for_in(page: &mut Printer, variable: &Name, collection: &Expr) -> Result<(), NoMemory>
-    ensures { IfOk result (λ _. page.new ≡ after page.old (word kind.For_ ∷ name_piece variable.now ∷ word kind.In_ ∷ expression_pieces (expr_of collection.now) ++ word kind.Do_ ∷ [])) }
+    ensures { IfOk result (λ _. page.new ≡ after page.old (word kind.For_ ∷ name_fragment variable.now ∷ word kind.In_ ∷ expression_fragments (expr_of collection.now) ++ word kind.Do_ ∷ [])) }
 {
     page.word(b"for")?;
     name(page, variable)?;
@@ -77,7 +77,7 @@ fn for_in(page: &mut Printer, variable: &Name, collection: &Expr) -> Result<(), 
 }
 
 fn variable_of_handler(page: &mut Printer, variable: &Option<Name>) -> Result<(), NoMemory>
-    ensures { IfOk result (λ _. page.new ≡ after page.old (variable_pieces variable.now)) }
+    ensures { IfOk result (λ _. page.new ≡ after page.old (variable_fragments variable.now)) }
 {
     match variable {
         None => Ok(()),
@@ -90,7 +90,7 @@ fn variable_of_handler(page: &mut Printer, variable: &Option<Name>) -> Result<()
 
 /// `on variable: class do`, on a line of its own
 fn on(page: &mut Printer, variable: &Option<Name>, class: &QualifiedName) -> Result<(), NoMemory>
-    ensures { IfOk result (λ _. page.new ≡ after page.old (on_pieces variable.now class.now)) }
+    ensures { IfOk result (λ _. page.new ≡ after page.old (on_fragments variable.now class.now)) }
 {
     page.start_line()?;
     page.word(b"on")?;
@@ -111,7 +111,7 @@ fn begin_line(page: &mut Printer, stmt: &Stmt) -> Result<(), NoMemory>
 
 #[cycle(statement)]
 fn statement(page: &mut Printer, stmt: &Stmt) -> Result<(), NoMemory>
-    ensures { IfOk result (λ _. page.new ≡ after page.old (statement_pieces (stmt_of stmt.now))) }
+    ensures { IfOk result (λ _. page.new ≡ after page.old (statement_fragments (stmt_of stmt.now))) }
 {
     match stmt {
         Stmt::Empty => Ok(()),
@@ -230,7 +230,7 @@ fn statement(page: &mut Printer, stmt: &Stmt) -> Result<(), NoMemory>
 /// A word, and statements further in behind it. What follows begins a line.
 #[cycle(statement)]
 pub fn block(page: &mut Printer, opening: &[u8], list: &[Stmt]) -> Result<(), NoMemory>
-    ensures { (k : TokenKind) → opening.now ≡ spelling k → IfOk result (λ _. page.new ≡ after page.old (opened k (statements_pieces (stmts_of list.now)))) }
+    ensures { (k : TokenKind) → opening.now ≡ spelling k → IfOk result (λ _. page.new ≡ after page.old (opened k (statements_fragments (stmts_of list.now)))) }
 {
     page.word(opening)?;
     page.indent()?;
@@ -242,7 +242,7 @@ pub fn block(page: &mut Printer, opening: &[u8], list: &[Stmt]) -> Result<(), No
 /// Statements with semicolons between them.
 #[cycle(statement)]
 fn statements(page: &mut Printer, list: &[Stmt]) -> Result<(), NoMemory>
-    ensures { IfOk result (λ _. page.new ≡ after page.old (statements_pieces (stmts_of list.now))) }
+    ensures { IfOk result (λ _. page.new ≡ after page.old (statements_fragments (stmts_of list.now))) }
 {
     let Some((first, others)) = list.split_first() else {
         return Ok(());
@@ -260,7 +260,7 @@ fn statements(page: &mut Printer, list: &[Stmt]) -> Result<(), NoMemory>
 /// The branches of a case, further in. What follows begins a line.
 #[cycle(statement)]
 fn branches(page: &mut Printer, list: &[Branch]) -> Result<(), NoMemory>
-    ensures { IfOk result (λ _. page.new ≡ after page.old (indented (branches_pieces (branches_of list.now)))) }
+    ensures { IfOk result (λ _. page.new ≡ after page.old (indented (branches_fragments (branches_of list.now)))) }
 {
     page.indent()?;
     for each in list {
@@ -277,7 +277,7 @@ fn branches(page: &mut Printer, list: &[Branch]) -> Result<(), NoMemory>
 /// `except` and handlers, further in. What follows begins a line.
 #[cycle(statement)]
 fn handlers(page: &mut Printer, list: &[Handler]) -> Result<(), NoMemory>
-    ensures { IfOk result (λ _. page.new ≡ after page.old (opened kind.Except (handlers_pieces (handlers_of list.now)))) }
+    ensures { IfOk result (λ _. page.new ≡ after page.old (opened kind.Except (handlers_fragments (handlers_of list.now)))) }
 {
     page.word(b"except")?;
     page.indent()?;

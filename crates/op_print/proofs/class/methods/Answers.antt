@@ -1,6 +1,6 @@
 use Rattle.std.proofs.Common.{arith}
 use Rattle.op_print.proofs.After.{next_mapped}
-use Rattle.op_print.specs.HeadingPieces.{method_line}
+use Rattle.op_print.specs.HeadingFragments.{method_line}
 use Rattle.op_tree.specs.Declaration.{method_of}
 use Rattle.op_print.proofs.class.methods.Goals as goal
 

@@ -1,7 +1,7 @@
 use Rattle.std.proofs.Common.{◌≡◌, map, drop}
 use Rattle.std.specs.List.{flat_map}
 use Rattle.op_print.specs.Page.{after}
-use Rattle.op_print.specs.HeadingPieces.{method_line}
+use Rattle.op_print.specs.HeadingFragments.{method_line}
 use Rattle.op_tree.specs.Declaration.{method_of}
 use Rattle.op_print.proofs.class.methods.Given as goal
 

@@ -1,6 +1,6 @@
 use Rattle.std.proofs.Common.{arith}
 use Rattle.op_print.proofs.After.{after_append}
-use Rattle.op_print.proofs.Denoters.{array_pieces, record_pieces, next_index, next_fields}
+use Rattle.op_print.proofs.Denoters.{array_fragments, record_fragments, next_index, next_fields}
 use Rattle.op_print.proofs.denoter.+denoter.Goals as goal
 
 pub indices-loop-each-preserved : goal.indices-loop-each-preserved
@@ -15,10 +15,10 @@ fields-loop-each-preserved t c =
 
 pub denoter-returns-in_ok-word-in-Array-2 : goal.denoter-returns-in_ok-word-in-Array-2
 denoter-returns-in_ok-word-in-Array-2 t c =
-    let e = array_pieces c.in-Array.position c.in-Array.packed c.in-Array.list c.in-Array.element c.in-Array.is in
+    let e = array_fragments c.in-Array.position c.in-Array.packed c.in-Array.list c.in-Array.element c.in-Array.is in
     grind (arith, after_append, e)
 
 pub denoter-returns-in_ok-start_line-in-Record : goal.denoter-returns-in_ok-start_line-in-Record
 denoter-returns-in_ok-start_line-in-Record t c =
-    let e = record_pieces c.in-Record.position c.in-Record.packed c.in-Record.list c.in-Record.is in
+    let e = record_fragments c.in-Record.position c.in-Record.packed c.in-Record.list c.in-Record.is in
     grind (arith, after_append, e)

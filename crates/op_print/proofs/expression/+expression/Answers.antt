@@ -1,31 +1,31 @@
 use Rattle.std.proofs.Common.{arith}
 use Rattle.op_print.proofs.After.{after_append}
-use Rattle.op_print.proofs.Expressions.{chain_pieces, set_pieces, literal_pieces, designated_pieces, inherited_pieces, index_pieces, call_pieces, next_operation, next_selector, next_expression, next_element, next_argument}
+use Rattle.op_print.proofs.Expressions.{chain_fragments, set_fragments, literal_fragments, designated_fragments, inherited_fragments, index_fragments, call_fragments, next_operation, next_selector, next_expression, next_element, next_argument}
 use Rattle.op_print.proofs.expression.+expression.Goals as goal
 
 pub expression-returns-in_ok-expression-in-Chain : goal.expression-returns-in_ok-expression-in-Chain
 expression-returns-in_ok-expression-in-Chain t c =
-    let e = chain_pieces c.in-Chain.first c.in-Chain.rest c.in-Chain.is in
+    let e = chain_fragments c.in-Chain.first c.in-Chain.rest c.in-Chain.is in
     grind (arith, after_append, e)
 
 pub expression-returns-in_ok-elements-in-Set : goal.expression-returns-in_ok-elements-in-Set
 expression-returns-in_ok-elements-in-Set t c =
-    let e = set_pieces c.in-Set.position c.in-Set.list c.in-Set.is in
+    let e = set_fragments c.in-Set.position c.in-Set.list c.in-Set.is in
     grind (arith, after_append, e)
 
 pub expression-returns-in_ok-string-in-Literal : goal.expression-returns-in_ok-string-in-Literal
 expression-returns-in_ok-string-in-Literal t c =
-    let e = literal_pieces c.in-Literal.text c.in-Literal.position c.in-Literal.list c.in-Literal.is in
+    let e = literal_fragments c.in-Literal.text c.in-Literal.position c.in-Literal.list c.in-Literal.is in
     grind (arith, after_append, e)
 
 pub expression-returns-in_ok-word-in-Inherited : goal.expression-returns-in_ok-word-in-Inherited
 expression-returns-in_ok-word-in-Inherited t c =
-    let e = inherited_pieces c.in-Inherited.position c.in-Inherited.called c.in-Inherited.is in
+    let e = inherited_fragments c.in-Inherited.position c.in-Inherited.called c.in-Inherited.is in
     grind (arith, after_append, e)
 
 pub selector-returns-in_ok-expressions-in-Index : goal.selector-returns-in_ok-expressions-in-Index
 selector-returns-in_ok-expressions-in-Index t c =
-    let e = index_pieces c.in-Index.position c.in-Index.indices c.in-Index.is in
+    let e = index_fragments c.in-Index.position c.in-Index.indices c.in-Index.is in
     grind (arith, after_append, e)
 
 pub operations-loop-operation-preserved : goal.operations-loop-operation-preserved
@@ -55,10 +55,10 @@ arguments-loop-each-preserved t c =
 
 pub expression-returns-in-Designator : goal.expression-returns-in-Designator
 expression-returns-in-Designator t c =
-    let e = designated_pieces c.in-Designator.called c.in-Designator.is in
+    let e = designated_fragments c.in-Designator.called c.in-Designator.is in
     grind (arith, after_append, e)
 
 pub selector-returns-in_ok-arguments-in-Call : goal.selector-returns-in_ok-arguments-in-Call
 selector-returns-in_ok-arguments-in-Call t c =
-    let e = call_pieces c.in-Call.list c.in-Call.is in
+    let e = call_fragments c.in-Call.list c.in-Call.is in
     grind (arith, after_append, e)

@@ -1,6 +1,6 @@
 use Rattle.std.proofs.Common.{arith}
 use Rattle.op_print.proofs.After.{next_part}
-use Rattle.op_print.specs.HeadingPieces.{after_semicolon}
+use Rattle.op_print.specs.HeadingFragments.{after_semicolon}
 use Rattle.op_print.proofs.heading.parameters.Goals as goal
 
 pub loop-each-preserved : goal.loop-each-preserved

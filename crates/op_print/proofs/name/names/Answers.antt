@@ -1,6 +1,6 @@
 use Rattle.std.proofs.Common.{arith}
 use Rattle.op_print.proofs.After.{next_part}
-use Rattle.op_print.specs.NamePieces.{after_comma}
+use Rattle.op_print.specs.NameFragments.{after_comma}
 use Rattle.op_print.proofs.name.names.Goals as goal
 
 pub loop-each-preserved : goal.loop-each-preserved

@@ -1,0 +1,13 @@
+use Rattle.std.proofs.Common.{◌≡◌, sym, subst, ap, ◌∙◌}
+use Rattle.op_print.proofs.Scanned.{scanned_text}
+use Rattle.op_print.specs.Page.{after, empty_page}
+use Rattle.op_print.specs.Print.{file_fragments}
+use Rattle.op_print.specs.Scanned.{kinds_of, ScansTo}
+use Rattle.op_tree.specs.File.{file_of}
+use Rattle.op_print.proofs.file.print.Goals as goal
+
+pub returns-clause-scans : goal.returns-clause-scans
+returns-clause-scans c = λ h n.
+    let fragments = file_fragments (file_of c.args.tree.now) in
+    let e : c.into_text.result ≡ (after empty_page fragments).text = c.into_text.ensures ∙ ap (λ p. p.text) (c.in_ok-file.ensures ∙ ap (λ p. after p fragments) c.new-page.ensures) in
+    subst (λ z. ScansTo n z (kinds_of fragments)) (sym e) (scanned_text fragments h n)
