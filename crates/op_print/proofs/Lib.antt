@@ -7,3 +7,11 @@ pub mod Words
 pub mod Symbols
 pub mod Quotes
 pub mod Scanned
+pub mod ExpressionAgain
+pub mod Spelling
+pub mod DenoterAgain
+pub mod NameAgain
+pub mod StatementAgain
+pub mod HeadingAgain
+pub mod DeclarationAgain
+pub mod FileAgain

@@ -8,3 +8,4 @@ pub mod Print
 pub mod Scanned
 pub mod Spelling
 pub mod StatementFragments
+pub mod Unplaced

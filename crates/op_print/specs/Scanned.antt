@@ -5,6 +5,7 @@ use Rattle.std.specs.List.{list_all}
 use Rattle.op_base.specs.declared.place.Place.{Place}
 use Rattle.op_print.specs.Page.{Fragment, word, tight, line, indent, outdent}
 use Rattle.op_print.specs.Print.{file_fragments}
+use Rattle.op_print.specs.Unplaced.{unplaced}
 use Rattle.op_scan.specs.Byte.{is_name_start, is_name_byte}
 use Rattle.op_scan.specs.Keyword.{keyword_of}
 use Rattle.op_scan.specs.Scan.{IsOutcome, whole}
@@ -12,6 +13,8 @@ use Rattle.op_scan.specs.declared.token.Token.{Token}
 use Rattle.op_scan.specs.declared.token.TokenKind.{TokenKind}
 use Rattle.op_scan.specs.declared.token.TokenKind.TheVariants as kind
 use Rattle.op_tree.specs.File.{File}
+use Rattle.op_tree.specs.FileGrammar.{Spells}
+use Rattle.op_tree.specs.Terminal.{Terminal, terminals}
 
 abbrev pub begins_as_name : List ℕ → Bool
 begins_as_name [] = false
@@ -54,3 +57,16 @@ pub record ScansTo (file : ℕ) (text : List ℕ) (kinds : List TokenKind) : Typ
 -- Where each of its words can be a token, the text of a file has tokens of the words' kinds, and no others.
 abbrev pub ScansAsPrinted : File → List ℕ → Type 0
 ScansAsPrinted file text = AreSpellable (kinds_of (file_fragments file)) → (n : ℕ) → ScansTo n text (kinds_of (file_fragments file))
+
+-- The text's tokens are spelled by a tree that is this one but for its places.
+pub record SpelledAgain (n : ℕ) (file : File) (text : List ℕ) : Type 0 where
+  pub tokens : List Token
+  pub end : Place
+  pub outcome : IsOutcome n text (whole tokens end)
+  pub tree : File
+  pub spells : Spells tree (terminals tokens)
+  pub same : unplaced tree ≡ unplaced file
+
+-- That is so of a tree that spells any tokens, where each of its words can be a token.
+abbrev pub PrintsAgain : File → List ℕ → Type 0
+PrintsAgain file text = (ks : List Terminal) → Spells file ks → AreSpellable (kinds_of (file_fragments file)) → (n : ℕ) → SpelledAgain n file text

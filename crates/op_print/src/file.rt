@@ -7,7 +7,7 @@ ghost use Rattle.op_print.specs.NameFragments.{name_fragment};
 ghost use Rattle.op_print.specs.DeclarationFragments.{declarations_fragments};
 ghost use Rattle.op_print.specs.Page.{after, line, tight, word};
 ghost use Rattle.op_print.specs.Print.{file_fragments, print_of, program_heading_fragments, program_fragments, tail_part_fragments, tail_fragments, unit_fragments, uses_fragments};
-ghost use Rattle.op_print.specs.Scanned.{ScansAsPrinted};
+ghost use Rattle.op_print.specs.Scanned.{PrintsAgain, ScansAsPrinted};
 ghost use Rattle.op_print.specs.Spelling.{spelling};
 ghost use Rattle.op_scan.specs.declared.token.TokenKind.{TokenKind};
 ghost use Rattle.op_scan.specs.declared.token.TokenKind.TheVariants as kind;
@@ -141,6 +141,8 @@ pub fn print(alloc: Global, tree: &Tree) -> Result<Text, NoMemory>
     ensures text { IfOk result (λ text. text ≡ print_of (file_of tree.now)) }
     // Scanning it gives the tokens of its words, where each of them can be a token.
     ensures scans { IfOk result (λ text. ScansAsPrinted (file_of tree.now) text) }
+    // These are spelled by the same tree but for places, where the tree spells any tokens.
+    ensures again { IfOk result (λ text. PrintsAgain (file_of tree.now) text) }
 {
     let mut page = Printer::new(alloc);
     file(&mut page, tree)?;
