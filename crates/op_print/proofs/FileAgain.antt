@@ -2,18 +2,23 @@
 use Rattle.std.proofs.Common.{◌≡◌, ℕ, List, [], ◌∷◌, ◌++◌, map, Option, Some, None, refl, ap, ◌∙◌, subst}
 use Rattle.std.specs.Option.{option_map}
 use Rattle.op_print.proofs.DeclarationAgain.{again_block, again_declarations, again_interface_part}
+use Rattle.op_print.proofs.FileKept.{kept_file}
+use Rattle.op_print.proofs.Kept.{words_spellable}
 use Rattle.op_print.proofs.NameAgain.{again_brackets, again_names}
 use Rattle.op_print.proofs.Scanned.{scanned_text}
 use Rattle.op_print.proofs.Spelling.{Spelled, at_end, a_word, a_tight, a_line, an_indent, an_outdent, parts, before, closed, ended, all_spelled, inside, only, Closed, Before}
 use Rattle.op_print.proofs.StatementAgain.{again_statements}
+use Rattle.op_print.proofs.TokensKept.{tokens_able}
 use Rattle.op_print.specs.DeclarationFragments.{block_fragments, declarations_fragments}
 use Rattle.op_print.specs.NameFragments.{bracketed_fragments, names_fragments}
 use Rattle.op_print.specs.Page.{Fragment, word, tight, line, after, empty_page}
 use Rattle.op_print.specs.Print.{file_fragments, part_fragments, program_heading_fragments, tail_fragments, unit_fragments, uses_fragments}
-use Rattle.op_print.specs.Scanned.{AreSpellable, kinds_of, SpelledAgain}
+use Rattle.op_print.specs.Scanned.{SpelledAgain}
 use Rattle.op_print.specs.StatementFragments.{indented, statements_fragments}
 use Rattle.op_print.specs.Unplaced.{nowhere, bare_names, bare_program_heading, bare_tail, unplaced}
+use Rattle.op_scan.specs.Scan.{StandFor}
 use Rattle.op_scan.specs.declared.token.Token.{Token}
+use Rattle.op_scan.specs.declared.token.Tokens.{Tokens}
 use Rattle.op_scan.specs.declared.token.TokenKind.{TokenKind}
 use Rattle.op_scan.specs.declared.token.TokenKind.TheVariants as kind
 use Rattle.op_tree.proofs.ExpressionUnique.{same2, same3}
@@ -152,8 +157,9 @@ kinds_same : (tokens : List Token) → map (λ t. t.kind) (terminals tokens) ≡
 kinds_same [] = refl
 kinds_same (t ∷ tokens) = ap (λ z. t.kind ∷ z) (kinds_same tokens)
 
-pub printed_again : (f : File) (ks : List Terminal) → Spells f ks → AreSpellable (kinds_of (file_fragments f)) → (n : ℕ) → SpelledAgain n f (after empty_page (file_fragments f)).text
-printed_again f ks s h n =
+pub printed_again : (f : File) (m : ℕ) (bytes : List ℕ) (source : Tokens) → StandFor m bytes source → Spells f (terminals source.list) → (n : ℕ) → SpelledAgain n f (after empty_page (file_fragments f)).text
+printed_again f m bytes source g s n =
+    let h = words_spellable (kept_file s (tokens_able g)) in
     let t = scanned_text (file_fragments f) h n in
     let u = again_file s (all_spelled (file_fragments f) (terminals t.tokens) (kinds_same t.tokens ∙ t.kinds_are)) in
     record { tokens = t.tokens; end = t.end; outcome = t.outcome; tree = u.0; spells = u.1; same = u.2 }

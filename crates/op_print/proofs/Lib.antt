@@ -15,3 +15,11 @@ pub mod StatementAgain
 pub mod HeadingAgain
 pub mod DeclarationAgain
 pub mod FileAgain
+pub mod DenoterKept
+pub mod ExpressionKept
+pub mod Kept
+pub mod DeclarationKept
+pub mod HeadingKept
+pub mod StatementKept
+pub mod FileKept
+pub mod TokensKept

@@ -8,13 +8,14 @@ use Rattle.op_print.specs.Print.{file_fragments}
 use Rattle.op_print.specs.Unplaced.{unplaced}
 use Rattle.op_scan.specs.Byte.{is_name_start, is_name_byte}
 use Rattle.op_scan.specs.Keyword.{keyword_of}
-use Rattle.op_scan.specs.Scan.{IsOutcome, whole}
+use Rattle.op_scan.specs.Scan.{IsOutcome, StandFor, whole}
 use Rattle.op_scan.specs.declared.token.Token.{Token}
+use Rattle.op_scan.specs.declared.token.Tokens.{Tokens}
 use Rattle.op_scan.specs.declared.token.TokenKind.{TokenKind}
 use Rattle.op_scan.specs.declared.token.TokenKind.TheVariants as kind
 use Rattle.op_tree.specs.File.{File}
 use Rattle.op_tree.specs.FileGrammar.{Spells}
-use Rattle.op_tree.specs.Terminal.{Terminal, terminals}
+use Rattle.op_tree.specs.Terminal.{terminals}
 
 abbrev pub begins_as_name : List ℕ → Bool
 begins_as_name [] = false
@@ -67,6 +68,6 @@ pub record SpelledAgain (n : ℕ) (file : File) (text : List ℕ) : Type 0 where
   pub spells : Spells tree (terminals tokens)
   pub same : unplaced tree ≡ unplaced file
 
--- That is so of a tree that spells any tokens, where each of its words can be a token.
+-- That is so of every tree that spells the tokens of some text.
 abbrev pub PrintsAgain : File → List ℕ → Type 0
-PrintsAgain file text = (ks : List Terminal) → Spells file ks → AreSpellable (kinds_of (file_fragments file)) → (n : ℕ) → SpelledAgain n file text
+PrintsAgain file text = (m : ℕ) (bytes : List ℕ) (tokens : Tokens) → StandFor m bytes tokens → Spells file (terminals tokens.list) → (n : ℕ) → SpelledAgain n file text

@@ -141,7 +141,7 @@ pub fn print(alloc: Global, tree: &Tree) -> Result<Text, NoMemory>
     ensures text { IfOk result (λ text. text ≡ print_of (file_of tree.now)) }
     // Scanning it gives the tokens of its words, where each of them can be a token.
     ensures scans { IfOk result (λ text. ScansAsPrinted (file_of tree.now) text) }
-    // These are spelled by the same tree but for places, where the tree spells any tokens.
+    // Where the tree spells the tokens of a text, those of the print are spelled by the same tree but for places.
     ensures again { IfOk result (λ text. PrintsAgain (file_of tree.now) text) }
 {
     let mut page = Printer::new(alloc);

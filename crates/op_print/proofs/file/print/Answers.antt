@@ -14,7 +14,7 @@ returns-clause-scans c = λ h n.
     subst (λ z. ScansTo n z (kinds_of fragments)) (sym e) (scanned_text fragments h n)
 
 pub returns-clause-again : goal.returns-clause-again
-returns-clause-again c = λ ks s h n.
+returns-clause-again c = λ m bytes tokens g s n.
     let file = file_of c.args.tree.now in
     let e : c.into_text.result ≡ (after empty_page (file_fragments file)).text = c.into_text.ensures ∙ ap (λ p. p.text) (c.in_ok-file.ensures ∙ ap (λ p. after p (file_fragments file)) c.new-page.ensures) in
-    subst (λ z. SpelledAgain n file z) (sym e) (printed_again file ks s h n)
+    subst (λ z. SpelledAgain n file z) (sym e) (printed_again file m bytes tokens g s n)
