@@ -106,12 +106,12 @@ no_enumeration (are_bracketed_names (are_names n b)) a h =
 
 -- ---- types
 
-abbrev is_structure : TokenKind → Bool
+abbrev pub is_structure : TokenKind → Bool
 is_structure kind.Array = true
 is_structure kind.Record = true
 is_structure other = false
 
-structure_begins : {d : ℕ} {p : Position} {b : Bool} {t : Denoter} {ks r : List Terminal} → IsStructure d p b t ks r → Begins is_structure ks
+pub structure_begins : {d : ℕ} {p : Position} {b : Bool} {t : Denoter} {ks r : List Terminal} → IsStructure d p b t ks r → Begins is_structure ks
 structure_begins (is_dynamic_array t) = refl
 structure_begins (is_static_array ts t) = refl
 structure_begins (is_record fs) = refl

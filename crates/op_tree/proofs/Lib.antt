@@ -1,5 +1,9 @@
+pub mod ClassUnique
+pub mod DeclarationUnique
 pub mod DenoterUnique
 pub mod ExpressionUnique
+pub mod FileUnique
 pub mod HeadingUnique
+pub mod MethodUnique
 pub mod Rows
 pub mod StatementUnique

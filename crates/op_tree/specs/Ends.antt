@@ -4,11 +4,13 @@ use Rattle.std.specs.Prelude.{◌≡◌, Bool, true, false, List, [], ◌∷◌,
 use Rattle.op_scan.specs.declared.token.TokenKind.{TokenKind}
 use Rattle.op_scan.specs.declared.token.TokenKind.TheVariants as kind
 use Rattle.op_tree.specs.Expression.{Expression, chain, prefixed, number, nil, set, literal, designated, inherited, Operations, no_operations, operation}
+use Rattle.op_tree.specs.HeadingGrammar.{AreDirectives}
 use Rattle.op_tree.specs.Operator.{operator_of, level_of}
 use Rattle.op_tree.specs.Statement.{Statement, empty, block, if_then, if_else, case_of, case_else, while_do, repeat_until, for_to, for_in, try_finally, try_except, try_on, try_on_else, raise, reraise, inherited as alone, inherited_call, call, assign}
 use Rattle.op_tree.specs.Terminal.{Terminal}
 use Rattle.op_tree.specs.declared.operator.Level.{Level}
 use Rattle.op_tree.specs.declared.operator.Level.TheVariants.{Relational, Additive, Multiplicative}
+use Rattle.op_tree.specs.declared.heading.Directive.{Directive}
 use Rattle.op_tree.specs.declared.operator.Operator.{Operator}
 
 -- the first token, if there is one, is none of these kinds
@@ -146,3 +148,23 @@ pub record StopsDenoter (r : List Terminal) : Type 0 where
   pub operator : IsNot (binds Additive) r
   pub selector : IsNot begins_selector r
   pub range : IsNot is_dot_dot r
+
+-- no directive stands in front
+abbrev pub NoDirective : List Terminal → Type 0
+NoDirective r = (w : Directive) (ws : List Directive) (z : List Terminal) → AreDirectives (w ∷ ws) r z → ⊥
+
+-- the kind begins a declaration, or goes on with a list of constants, types or variables
+abbrev pub continues_declarations : TokenKind → Bool
+continues_declarations kind.Const_ = true
+continues_declarations kind.Type_ = true
+continues_declarations kind.Var = true
+continues_declarations kind.Procedure = true
+continues_declarations kind.Function = true
+continues_declarations kind.Constructor = true
+continues_declarations kind.Destructor = true
+continues_declarations (kind.Identifier text) = true
+continues_declarations other = false
+
+-- nothing that follows would belong to the declarations
+abbrev pub EndsDeclarations : List Terminal → Type 0
+EndsDeclarations r = IsNot continues_declarations r
