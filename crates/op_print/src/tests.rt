@@ -263,3 +263,176 @@ fn prints_a_program(rt: HostRuntime) -> Result<(), Fail> {
     assert!(rt; scan(alloc, text.as_slice(), 0).is_ok());
     Ok(())
 }
+
+fn no_directives(alloc: Global) -> Directives {
+    Directives::from(Vec::new(alloc))
+}
+
+fn procedure(alloc: Global, text: &str, directives: Directives) -> Result<Method, NoTree> {
+    Ok(Method {
+        heading: Heading {
+            kind: RoutineKind::Procedure,
+            class: None,
+            name: name(alloc, text)?,
+            parameters: Parameters::from(Vec::new(alloc)),
+            result: None,
+        },
+        directives,
+    })
+}
+
+/// `TBox = class(TObject) private FSize: Integer; procedure Grow; virtual; property Size: Integer read FSize write Grow; end`
+fn class(alloc: Global) -> Result<TypeDeclaration, NoTree> {
+    let directives = Directives::from(vec![in alloc; Directive::Virtual_]?);
+    let field = Fields {
+        names: names(alloc, "FSize")?,
+        denoter: named(alloc, "Integer")?,
+    };
+    let property = Property {
+        name: name(alloc, "Size")?,
+        denoter: named(alloc, "Integer")?,
+        read: Some(name(alloc, "FSize")?),
+        write: Some(name(alloc, "Grow")?),
+    };
+    let hidden = Section {
+        visibility: Some(Visibility::Private),
+        members: vec![in alloc; Member::Fields(field)]?,
+    };
+    let method = Member::Method(procedure(alloc, "Grow", directives)?);
+    let shown = Section {
+        visibility: Some(Visibility::Public),
+        members: vec![in alloc; method, Member::Property(property)]?,
+    };
+    Ok(TypeDeclaration {
+        name: name(alloc, "TBox")?,
+        definition: TypeDefinition::Class(Class {
+            ancestors: names(alloc, "TObject")?,
+            sections: vec![in alloc; hidden, shown]?,
+        }),
+    })
+}
+
+fn contract(alloc: Global) -> Result<TypeDeclaration, NoTree> {
+    let method = procedure(alloc, "Grow", no_directives(alloc))?;
+    Ok(TypeDeclaration {
+        name: name(alloc, "IBox")?,
+        definition: TypeDefinition::Interface(Interface {
+            ancestor: None,
+            identifier: Some(Text::copy_of(alloc, b"{1}")?),
+            methods: vec![in alloc; method]?,
+        }),
+    })
+}
+
+/// `try case Size of 1, 3 .. 5: raise end except on E: Exception do inherited Free end`
+fn attempt(alloc: Global) -> Result<Stmt, NoTree> {
+    let labels = vec![in alloc;
+        Element::One(number(1)),
+        Element::Range(number(3), number(5)),
+    ]?;
+    let branch = Branch {
+        labels,
+        body: Stmt::Reraise { position: HERE },
+    };
+    let choice = Stmt::Case {
+        selector: variable(alloc, "Size")?,
+        branches: vec![in alloc; branch]?,
+    };
+    let handler = Handler {
+        variable: Some(name(alloc, "E")?),
+        class: QualifiedName {
+            unit: Some(name(alloc, "SysUtils")?),
+            name: name(alloc, "Exception")?,
+        },
+        body: Stmt::InheritedCall {
+            position: HERE,
+            call: called(alloc, "Free")?,
+        },
+    };
+    Ok(Stmt::TryOn {
+        body: vec![in alloc; choice]?,
+        handlers: vec![in alloc; handler]?,
+    })
+}
+
+/// A body that follows later, and a body that is here, of a method.
+fn routines(alloc: Global) -> Result<Vec<Declaration>, NoTree> {
+    let later = procedure(alloc, "Later", no_directives(alloc))?;
+    let mut grow = procedure(alloc, "Grow", no_directives(alloc))?;
+    grow.heading.class = Some(name(alloc, "TBox")?);
+    let forward = Declaration::Routine(Routine {
+        heading: later.heading,
+        directives: later.directives,
+        body: Body::Forward,
+    });
+    let here = Declaration::Routine(Routine {
+        heading: grow.heading,
+        directives: grow.directives,
+        body: Body::Block {
+            declarations: Vec::new(alloc),
+            statements: vec![in alloc; attempt(alloc)?]?,
+        },
+    });
+    let all = vec![in alloc; forward, here]?;
+    Ok(all)
+}
+
+fn unit(alloc: Global) -> Result<Tree, NoTree> {
+    let types = vec![in alloc; class(alloc)?, contract(alloc)?]?;
+    let heading = procedure(alloc, "Later", no_directives(alloc))?;
+    Ok(Tree::Unit(Unit {
+        position: HERE,
+        name: name(alloc, "Boxes")?,
+        interface_uses: no_names(alloc),
+        interface_declarations: vec![in alloc;
+            Declaration::Types(types),
+            Declaration::Heading(heading),
+        ]?,
+        uses: names(alloc, "SysUtils")?,
+        declarations: routines(alloc)?,
+        initialization: None,
+        finalization: Some(vec![in alloc; Stmt::Empty]?),
+    }))
+}
+
+const UNIT: &str = "unit Boxes;
+interface
+type
+  TBox = class(TObject)
+    private
+    FSize: Integer;
+    public
+    procedure Grow; virtual;
+    property Size: Integer read FSize write Grow;
+  end;
+  IBox = interface['{1}']
+    procedure Grow;
+  end;
+procedure Later;
+implementation
+uses SysUtils;
+procedure Later; forward;
+procedure TBox.Grow;
+begin
+  try
+    case Size of
+      1, 3 .. 5: raise;
+    end
+  except
+    on E: SysUtils.Exception do inherited Free;
+  end
+end;
+finalization
+end.
+";
+
+// The same of a unit.
+#[test]
+fn prints_a_unit(rt: HostRuntime) -> Result<(), Fail> {
+    let alloc = rt.alloc();
+    let tree = unit(alloc).expect(&rt, "a tree");
+    let text = print(alloc, &tree).expect(&rt, "a text");
+    assert!(rt; text.as_slice() == UNIT.as_bytes());
+    assert!(rt; scan(alloc, text.as_slice(), 0).is_ok());
+    Ok(())
+}
