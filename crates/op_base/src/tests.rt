@@ -104,8 +104,13 @@ fn read(
     name: &str,
 ) -> Result<&'static str, Fail> {
     Ok(match files.read(alloc, name, 3)? {
-        FileAnswer::Found(bytes) if bytes.as_slice() == b"abc".as_slice() => "found",
-        FileAnswer::Found(_) => "other",
+        FileAnswer::Found(bytes) => {
+            if bytes.as_slice() == b"abc".as_slice() {
+                "found"
+            } else {
+                "other"
+            }
+        }
         FileAnswer::Long => "long",
         FileAnswer::Missing => "missing",
         FileAnswer::Failed => "failed",
