@@ -8,7 +8,10 @@ use op_base::Sequence;
 pub enum Item {
     Plain(Instr),
     /// The address of a symbol, put in `rd`.
-    Address { rd: u8, symbol: Symbol },
+    Address {
+        rd: u8,
+        symbol: Symbol,
+    },
     /// To a block of the same routine where the comparison holds, and on to the next item otherwise.
     Branch {
         op: BranchOp,
@@ -17,7 +20,9 @@ pub enum Item {
         block: BlockId,
     },
     /// To a block of the same routine.
-    Jump { block: BlockId },
+    Jump {
+        block: BlockId,
+    },
     /// To the head of a routine, with the address of the next item in `x1`. `landing` is the block where the caller goes on
     /// if the routine raises; with none the caller raises in its turn.
     Call {
@@ -25,7 +30,9 @@ pub enum Item {
         landing: Option<BlockId>,
     },
     /// To the address that stands in `x1`, as `Call` does.
-    CallAt { landing: Option<BlockId> },
+    CallAt {
+        landing: Option<BlockId>,
+    },
 }
 
 /// Items that are entered at the first one alone.

@@ -6,7 +6,7 @@ use Rattle.op_base.specs.declared.files.NamedFile.{NamedFile}
 use Rattle.op_base.specs.declared.place.Place.{Place}
 use Rattle.op_base.specs.declared.rule.Rule.{Rule}
 use Rattle.op_tool.specs.ConstantLines.{IsConstantLines}
-use Rattle.op_tool.specs.Compiles.{FailsAs, IsOtherText, IsRefused, RefusesBy, not_built_yet}
+use Rattle.op_tool.specs.Compiles.{FailsAs, IsOtherText, IsRefused, RefusesBy, file_missing, not_built_yet}
 use Rattle.op_tool.specs.declared.compiler.CompileError.{CompileError}
 use Rattle.op_tool.specs.declared.compiler.CompileError.TheVariants.{Refused, ReadFault, Limit, NoMemory}
 
@@ -27,3 +27,7 @@ pub refused_text : (stored : Option (List NamedFile)) (name : List ℕ) (rule : 
 unfolding text_of_rule text_of_feature
 refused_text stored name rule place (at, inl (is, why)) = subst (λ r. IsSome (text_of_rule r)) (sym is) refl
 refused_text stored name rule place (at, inr (is, why)) = subst (λ r. IsSome (text_of_rule r)) (sym is) refl
+
+pub file_missing_text : IsSome (text_of_rule file_missing)
+unfolding text_of_rule text_of_feature
+file_missing_text = refl

@@ -1,5 +1,5 @@
 -- The output and the errors of a run only grow, and its input only shrinks.
-use Rattle.std.proofs.Common.{◌≡◌, ℕ, ℤ, zero, suc, ◌+◌, ◌-◌, ◌≤◌, Bool, true, false, nat_eq, if◌then◌else◌, Option, Some, None, List, [], ◌++◌, length, take, drop, refl, ap, sym, ◌∙◌, append_assoc, arith, length-drop}
+use Rattle.std.proofs.Common.{◌≡◌, ℕ, ℤ, zero, suc, ◌≤◌, Bool, true, false, nat_eq, if◌then◌else◌, Option, Some, None, List, [], ◌++◌, length, take, refl, ap, sym, ◌∙◌, append_assoc, arith, length-drop}
 use Rattle.std.proofs.lemmas.List.{append-nil}
 use Rattle.std.specs.Int.{bytes_low_first}
 use Rattle.op_rv.specs.State.{State, Ending, Running, Ended, Faulted, register, with_register, advanced, word_at, with_bytes, bytes_from, faulted}
@@ -11,7 +11,7 @@ use Rattle.op_rv.specs.declared.fault.FaultKind.{FaultKind}
 use Rattle.op_rv.specs.declared.fault.FaultKind.TheVariants.{Fetch, Illegal, Call}
 use Rattle.op_rv.specs.declared.fault.FaultKind.TheVariants.{Load as LoadFault, Store as StoreFault}
 use Rattle.op_rv.specs.declared.instruction.Instr.{Instr}
-use Rattle.op_rv.specs.declared.instruction.Instr.TheVariants.{Lui, Auipc, Jal, Jalr, Branch, Load, Store, Imm, Shift, Alu, Fence, Ecall, Ebreak}
+use Rattle.op_rv.specs.declared.instruction.Instr.TheVariants.{Branch, Load, Store, Ecall}
 use Rattle.op_rv.specs.declared.instruction.LoadOp.{LoadOp}
 use Rattle.op_rv.specs.declared.instruction.StoreOp.{StoreOp}
 

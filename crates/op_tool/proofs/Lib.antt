@@ -1,5 +1,6 @@
 pub mod After
 pub mod Compiling
+pub mod Executing
 pub mod Grows
 pub mod ImageLoads
 pub mod ImageRuns
@@ -8,6 +9,7 @@ pub mod PartLemmas
 pub mod ProgramLemmas
 pub mod ReadingLemmas
 pub mod Running
+pub mod RunningFiles
 pub mod Saying
 pub mod Words
 pub mod WriterLemmas

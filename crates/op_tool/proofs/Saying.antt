@@ -1,24 +1,66 @@
--- What a report at the end of a call says.
-use Rattle.std.proofs.Common.{◌≡◌, ◌≢◌, ℕ, inl, inr, Option, Some, None, List, [], codes, refl, ap, sym, subst}
+-- What an answer says of the streams.
+use Rattle.std.proofs.Common.{◌≡◌, ◌≢◌, ℕ, ◌≤◌, inl, inr, Option, Some, None, List, [], ◌++◌, codes, decimal, false, refl, ap, sym, ◌∙◌, subst, arith, append_assoc}
 use Rattle.std.proofs.lemmas.List.{append-nil}
-use Rattle.op_base.specs.Outside.{appended, AppendsFront, Rose}
+use Rattle.op_base.specs.Outside.{appended, preceded, AppendsFront, Rose}
 use Rattle.op_emu.specs.Acts.{Streams, Faults, streams, faults}
 use Rattle.op_base.specs.declared.rule.Refusal.{Refusal}
-use Rattle.op_tool.specs.Command.{IsExec}
-use Rattle.op_tool.specs.Compiles.{Compiles, IsRefused}
-use Rattle.op_tool.specs.Says.{Call, Owes, OwesRun, ReportIs, Reports, ReportsRefusal, Says, WritesAll, line}
+use Rattle.op_tool.specs.Effects.{Effect, effect, OnlyReports, ReportIs, Says, WouldWrite, WritesAll, line}
+use Rattle.op_tool.specs.Owes.{OnlyRefuses, Reports, ReportsBadImage, ReportsRefusal}
 use Rattle.op_tool.specs.declared.finish.Finish.{Finish}
 use Rattle.op_tool.specs.declared.finish.Finish.TheVariants.{Ended, Usage, Refused, ReadFault, WriteFault, Spent, NoMemory, BadImage, Faulted, Limit}
 
-nothing_appended : (o : Option (List ℕ)) → o ≡ appended o []
+pub nothing_appended : (o : Option (List ℕ)) → o ≡ appended o []
 nothing_appended None = refl
 nothing_appended (Some bytes) = ap Some (sym (append-nil bytes))
 
+pub none_preceded : (i : Option (List ℕ)) → preceded [] i ≡ i
+none_preceded None = refl
+none_preceded (Some rest) = refl
+
+-- nothing is a front, and so is all
 nothing_in_front : (o : Option (List ℕ)) (bytes : List ℕ) → AppendsFront o bytes o
 nothing_in_front o bytes = record { front = []; rest = bytes; parts = refl; appends = nothing_appended o }
 
+all_in_front : (old new : Option (List ℕ)) (bytes : List ℕ) → new ≡ appended old bytes → AppendsFront old bytes new
+all_in_front old new bytes all = record { front = bytes; rest = []; parts = append-nil bytes; appends = all }
+
+-- a front of a front
+pub front_of_front : (old new : Option (List ℕ)) (bytes more all : List ℕ) → all ≡ bytes ++ more → AppendsFront old bytes new → AppendsFront old all new
+front_of_front old new bytes more all e front =
+    record {
+      front = front.front;
+      rest = front.rest ++ more;
+      parts = sym (append_assoc front.front front.rest more) ∙ ap (λ xs. xs ++ more) front.parts ∙ sym e;
+      appends = front.appends;
+    }
+
+pub appended_twice : (o : Option (List ℕ)) (first more : List ℕ) → appended (appended o first) more ≡ appended o (first ++ more)
+appended_twice None first more = refl
+appended_twice (Some old) first more = ap Some (append_assoc old first more)
+
+-- a front of more, behind all of what was first
+pub front_behind : (old middle new : Option (List ℕ)) (first more : List ℕ) → middle ≡ appended old first → AppendsFront middle more new → AppendsFront old (first ++ more) new
+front_behind old middle new first more all front =
+    record {
+      front = first ++ front.front;
+      rest = front.rest;
+      parts = append_assoc first front.front front.rest ∙ ap (λ xs. first ++ xs) front.parts;
+      appends = front.appends ∙ ap (λ o. appended o front.front) all ∙ appended_twice old first front.front;
+    }
+
+rose_earlier : (a b c : ℕ) → a ≤ b → Rose b c → Rose a c
+rose_earlier a b c le (inl more) = inl (omega arith)
+rose_earlier a b c le (inr most) = inr most
+
+-- two parts of a line, one after the other
+pub reports_behind : (finish answer : Finish) (first more : List ℕ) (o o' o'' : Option (List ℕ)) (c c' c'' : ℕ) → o' ≡ appended o first → c ≤ c' → ReportIs finish more answer o' o'' c' c'' → ReportIs finish (first ++ more) answer o o'' c c''
+reports_behind finish answer first more o o' o'' c c' c'' all le (inl (is, rest)) =
+    inl (is, rest ∙ ap (λ s. appended s more) all ∙ appended_twice o first more)
+reports_behind finish answer first more o o' o'' c c' c'' all le (inr (is, front, rose)) =
+    inr (is, front_behind o o' o'' first more all front, rose_earlier c c' c'' le rose)
+
 -- an answer that is no failure of an output
-says_all : (owed : Finish → List ℕ → List ℕ → Type 0) (finish : Finish) (told : Streams) (counts : Faults) → finish ≢ WriteFault → WritesAll (owed finish) told → Says owed finish told counts
+says_all : (owed : Finish → Effect → Type 0) (finish : Finish) (told : Streams) (counts : Faults) → finish ≢ WriteFault → WritesAll (owed finish) told → Says owed finish told counts
 unfolding Says
 says_all owed (Ended status) told counts other all = all
 says_all owed Usage told counts other all = all
@@ -31,51 +73,85 @@ says_all owed (BadImage condition) told counts other all = all
 says_all owed (Faulted kind pc) told counts other all = all
 says_all owed Limit told counts other all = all
 
--- a report of an answer that owes its line alone
-pub says_report : (owed : Finish → List ℕ → List ℕ → Type 0) (finish answer : Finish) (bytes : List ℕ) (i o e e' : Option (List ℕ)) (r r' n c c' : ℕ) → finish ≢ WriteFault → owed finish [] bytes → ReportIs finish bytes answer e e' c c' → Says owed answer (streams i i o o e e') (faults r r' n n c c')
+-- an effect whose last bytes to the errors are these
+abbrev pub reporting : List ℕ → Effect → Effect
+reporting bytes done = record done { err = done.err ++ bytes }
+
+-- what was owed but for a last line, and then the report of that line
+pub says_behind : (owed : Finish → Effect → Type 0) (finish answer : Finish) (bytes : List ℕ) (i i' o o' e e' e'' : Option (List ℕ)) (r r' n n' c c' c'' : ℕ) → finish ≢ WriteFault → c ≤ c' → WritesAll (λ done. owed finish (reporting bytes done)) (streams i i' o o' e e') → ReportIs finish bytes answer e' e'' c' c'' → Says owed answer (streams i i' o o' e e'') (faults r r' n n' c c'')
 unfolding Says
-says_report owed finish answer bytes i o e e' r r' n c c' other owes (inl (is, all)) =
-    subst (λ f. Says owed f (streams i i o o e e') (faults r r' n n c c')) (sym is) (says_all owed finish (streams i i o o e e') (faults r r' n n c c') other (record {
-      out = [];
-      err = bytes;
-      is_owed = owes;
-      output = nothing_appended o;
-      errors = all;
-      unread = refl;
+says_behind owed finish answer bytes i i' o o' e e' e'' r r' n n' c c' c'' other le all (inl (is, rest)) =
+    subst (λ f. Says owed f (streams i i' o o' e e'') (faults r r' n n' c c'')) (sym is) (says_all owed finish (streams i i' o o' e e'') (faults r r' n n' c c'') other (record {
+      intake = record { taken = all.intake.taken; ended = all.intake.ended; parts = all.intake.parts; exhausted = all.intake.exhausted };
+      steps = all.steps;
+      out = all.out;
+      err = all.err ++ bytes;
+      is_owed = all.is_owed;
+      output = all.output;
+      errors = rest ∙ ap (λ s. appended s bytes) all.errors ∙ appended_twice e all.err bytes;
     }))
-says_report owed finish answer bytes i o e e' r r' n c c' other owes (inr (is, front, rose)) =
-    subst (λ f. Says owed f (streams i i o o e e') (faults r r' n n c c')) (sym is) (record {
-      finish = finish;
-      out = [];
-      err = bytes;
-      is_owed = owes;
-      output = nothing_in_front o [];
-      errors = front;
-      failed = inr rose;
+says_behind owed finish answer bytes i i' o o' e e' e'' r r' n n' c c' c'' other le all (inr (is, front, rose)) =
+    subst (λ f. Says owed f (streams i i' o o' e e'') (faults r r' n n' c c'')) (sym is) (record {
+      intake = record { taken = all.intake.taken; ended = all.intake.ended; parts = all.intake.parts; exhausted = all.intake.exhausted };
+      would = λ left may. record {
+        finish = finish;
+        done = effect all.steps (all.intake.taken ++ left) left all.out (all.err ++ bytes);
+        is_owed = all.is_owed left may;
+        over = refl;
+        output = all_in_front o o' all.out all.output;
+        errors = front_behind e e' e'' all.err bytes all.errors front;
+      };
+      failed = inr (rose_earlier c c' c'' le rose);
     })
 
--- what each answer owes, for what it owes too
-map_all : (f g : List ℕ → List ℕ → Type 0) (told : Streams) → ((out err : List ℕ) → f out err → g out err) → WritesAll f told → WritesAll g told
-map_all f g told leads all =
+-- nothing was read and nothing written
+untouched : (owed : Effect → Type 0) (i o e : Option (List ℕ)) → ((input : List ℕ) → owed (effect 0 input input [] [])) → WritesAll owed (streams i i o o e e)
+untouched owed i o e owes =
     record {
-      out = all.out;
-      err = all.err;
-      is_owed = leads all.out all.err all.is_owed;
-      output = all.output;
-      errors = all.errors;
-      unread = all.unread;
+      intake = record { taken = []; ended = false; parts = sym (none_preceded i); exhausted = λ ended. cc };
+      steps = 0;
+      out = [];
+      err = [];
+      is_owed = λ left may. owes left;
+      output = nothing_appended o;
+      errors = nothing_appended e;
     }
 
-pub says_also : (f g : Finish → List ℕ → List ℕ → Type 0) (finish : Finish) (told : Streams) (counts : Faults) → ((finish : Finish) (out err : List ℕ) → f finish out err → g finish out err) → Says f finish told counts → Says g finish told counts
+-- a report of an answer that owes its line alone
+pub says_report : (owed : Finish → Effect → Type 0) (finish answer : Finish) (bytes : List ℕ) (i o e e' : Option (List ℕ)) (r r' n c c' : ℕ) → finish ≢ WriteFault → ((input : List ℕ) → owed finish (effect 0 input input [] bytes)) → ReportIs finish bytes answer e e' c c' → Says owed answer (streams i i o o e e') (faults r r' n n c c')
+says_report owed finish answer bytes i o e e' r r' n c c' other owes is =
+    says_behind owed finish answer bytes i i o o e e e' r r' n n c c c' other (omega arith) (untouched (λ done. owed finish (reporting bytes done)) i o e owes) is
+
+-- what each answer owes, for what it owes too
+map_all : (f g : Effect → Type 0) (told : Streams) → ((done : Effect) → f done → g done) → WritesAll f told → WritesAll g told
+map_all f g told leads all =
+    record {
+      intake = all.intake;
+      steps = all.steps;
+      out = all.out;
+      err = all.err;
+      is_owed = λ left may. leads (effect all.steps (all.intake.taken ++ left) left all.out all.err) (all.is_owed left may);
+      output = all.output;
+      errors = all.errors;
+    }
+
+map_would : (f g : Finish → Effect → Type 0) (told : Streams) (input : List ℕ) → ((finish : Finish) (done : Effect) → f finish done → g finish done) → WouldWrite f told input → WouldWrite g told input
+map_would f g told input leads would =
+    record {
+      finish = would.finish;
+      done = would.done;
+      is_owed = leads would.finish would.done would.is_owed;
+      over = would.over;
+      output = would.output;
+      errors = would.errors;
+    }
+
+pub says_also : (f g : Finish → Effect → Type 0) (finish : Finish) (told : Streams) (counts : Faults) → ((finish : Finish) (done : Effect) → f finish done → g finish done) → Says f finish told counts → Says g finish told counts
 unfolding Says
 says_also f g WriteFault told counts leads part =
     record {
-      finish = part.finish;
-      out = part.out;
-      err = part.err;
-      is_owed = leads part.finish part.out part.err part.is_owed;
-      output = part.output;
-      errors = part.errors;
+      intake = part.intake;
+      would = λ left may. map_would f g told (part.intake.taken ++ left) leads (part.would left may);
       failed = part.failed;
     }
 says_also f g (Ended status) told counts leads all = map_all (f (Ended status)) (g (Ended status)) told (leads (Ended status)) all
@@ -88,38 +164,20 @@ says_also f g (BadImage condition) told counts leads all = map_all (f (BadImage 
 says_also f g (Faulted kind pc) told counts leads all = map_all (f (Faulted kind pc)) (g (Faulted kind pc)) told (leads (Faulted kind pc)) all
 says_also f g Limit told counts leads all = map_all (f Limit) (g Limit) told (leads Limit) all
 
--- what a run owes is what the command owes
-pub owes_of_run : (now : Call) (name text : List ℕ) → IsExec now.words name → Compiles now.stored name now.image text → (finish : Finish) (out err : List ℕ) → OwesRun text finish out err → Owes now finish out err
-owes_of_run now name text exec compiles (Ended status) out err (is, is_out, is_err) =
-    (is, name, exec, subst (λ bytes. Compiles now.stored name now.image bytes) (sym is_out) compiles, is_err)
-owes_of_run now name text exec compiles Usage out err owes = absurd owes
-owes_of_run now name text exec compiles (Refused rule place) out err owes = absurd owes
-owes_of_run now name text exec compiles ReadFault out err owes = absurd owes
-owes_of_run now name text exec compiles WriteFault out err owes = owes
-owes_of_run now name text exec compiles Spent out err owes = owes
-owes_of_run now name text exec compiles NoMemory out err owes = owes
-owes_of_run now name text exec compiles (BadImage condition) out err owes = owes
-owes_of_run now name text exec compiles (Faulted kind pc) out err owes = owes
-owes_of_run now name text exec compiles Limit out err owes = owes
+-- reports that stand alone, by what it takes that their line is owed
+pub says_no_memory : (owed : Finish → Effect → Type 0) (answer : Finish) (i o e e' : Option (List ℕ)) (r r' n c c' : ℕ) → ((done : Effect) → OnlyReports (line (codes "opc: out of memory")) done → owed NoMemory done) → ReportIs NoMemory (line (codes "opc: out of memory")) answer e e' c c' → Says owed answer (streams i i o o e e') (faults r r' n n c c')
+says_no_memory owed answer i o e e' r r' n c c' owes is =
+    says_report owed NoMemory answer (line (codes "opc: out of memory")) i o e e' r r' n c c' (λ same. cc) (λ input. owes (effect 0 input input [] (line (codes "opc: out of memory"))) (refl, refl, refl)) is
 
-pub says_usage : (now : Call) (answer : Finish) (i o e e' : Option (List ℕ)) (r r' n c c' : ℕ) → ((name : List ℕ) → IsExec now.words name → ⊥) → now.image ≡ [] → ReportIs Usage (line (codes "opc: bad command line")) answer e e' c c' → Says (Owes now) answer (streams i i o o e e') (faults r r' n n c c')
-says_usage now answer i o e e' r r' n c c' not_exec empty is =
-    says_report (Owes now) Usage answer (line (codes "opc: bad command line")) i o e e' r r' n c c' (λ same. cc) (not_exec, empty, refl, refl) is
+pub says_bad_image : (owed : Finish → Effect → Type 0) (condition : ℕ) (answer : Finish) (i o e e' : Option (List ℕ)) (r r' n c c' : ℕ) → ((done : Effect) → OnlyReports (line (codes "opc: bad image: Elf" ++ decimal condition)) done → owed (BadImage condition) done) → ((done : Effect) → OnlyReports (line (codes "opc: out of memory")) done → owed NoMemory done) → ReportsBadImage condition answer e e' c c' → Says owed answer (streams i i o o e e') (faults r r' n n c c')
+says_bad_image owed condition answer i o e e' r r' n c c' owes owes_no_memory (inl is) =
+    let bytes = line (codes "opc: bad image: Elf" ++ decimal condition) in
+    says_report owed (BadImage condition) answer bytes i o e e' r r' n c c' (λ same. cc) (λ input. owes (effect 0 input input [] bytes) (refl, refl, refl)) is
+says_bad_image owed condition answer i o e e' r r' n c c' owes owes_no_memory (inr is) =
+    says_no_memory owed answer i o e e' r r' n c c' owes_no_memory is
 
-pub says_no_memory : (now : Call) (answer : Finish) (i o e e' : Option (List ℕ)) (r r' n c c' : ℕ) → ReportIs NoMemory (line (codes "opc: out of memory")) answer e e' c c' → Says (Owes now) answer (streams i i o o e e') (faults r r' n n c c')
-says_no_memory now answer i o e e' r r' n c c' is =
-    says_report (Owes now) NoMemory answer (line (codes "opc: out of memory")) i o e e' r r' n c c' (λ same. cc) (refl, refl) is
-
-pub says_read_fault : (now : Call) (answer : Finish) (i o e e' : Option (List ℕ)) (r r' n c c' : ℕ) → Rose now.file_faults_before now.file_faults_after → now.image ≡ [] → ReportIs ReadFault (line (codes "opc: read fault")) answer e e' c c' → Says (Owes now) answer (streams i i o o e e') (faults r r' n n c c')
-says_read_fault now answer i o e e' r r' n c c' rose empty is =
-    says_report (Owes now) ReadFault answer (line (codes "opc: read fault")) i o e e' r r' n c c' (λ same. cc) (rose, empty, refl, refl) is
-
-pub says_refused : (now : Call) (name file : List ℕ) (refusal : Refusal) (answer : Finish) (i o e e' : Option (List ℕ)) (r r' n c c' : ℕ) → IsExec now.words name → file ≡ name → IsRefused now.stored name refusal.rule refusal.place → now.image ≡ [] → ReportsRefusal file refusal answer e e' c c' → Says (Owes now) answer (streams i i o o e e') (faults r r' n n c c')
-says_refused now name file refusal answer i o e e' r r' n c c' exec is_file refused empty (inl (bytes, reports, is)) =
-    says_report (Owes now) (Refused refusal.rule refusal.place) answer bytes i o e e' r r' n c c' (λ same. cc) (name, exec, refused, empty, refl, subst (λ f. Reports f refusal.place refusal.rule bytes) is_file reports) is
-says_refused now name file refusal answer i o e e' r r' n c c' exec is_file refused empty (inr is) =
-    says_no_memory now answer i o e e' r r' n c c' is
-
-pub says_run_no_memory : (text : List ℕ) (answer : Finish) (i o e e' : Option (List ℕ)) (r r' n c c' : ℕ) → ReportIs NoMemory (line (codes "opc: out of memory")) answer e e' c c' → Says (OwesRun text) answer (streams i i o o e e') (faults r r' n n c c')
-says_run_no_memory text answer i o e e' r r' n c c' is =
-    says_report (OwesRun text) NoMemory answer (line (codes "opc: out of memory")) i o e e' r r' n c c' (λ same. cc) (refl, refl) is
+pub says_refused : (owed : Finish → Effect → Type 0) (name file : List ℕ) (refusal : Refusal) (answer : Finish) (i o e e' : Option (List ℕ)) (r r' n c c' : ℕ) → file ≡ name → ((done : Effect) → OnlyRefuses name refusal.place refusal.rule done → owed (Refused refusal.rule refusal.place) done) → ((done : Effect) → OnlyReports (line (codes "opc: out of memory")) done → owed NoMemory done) → ReportsRefusal file refusal answer e e' c c' → Says owed answer (streams i i o o e e') (faults r r' n n c c')
+says_refused owed name file refusal answer i o e e' r r' n c c' is_file owes owes_no_memory (inl (bytes, reports, is)) =
+    says_report owed (Refused refusal.rule refusal.place) answer bytes i o e e' r r' n c c' (λ same. cc) (λ input. owes (effect 0 input input [] bytes) (bytes, subst (λ f. Reports f refusal.place refusal.rule bytes) is_file reports, (refl, refl, refl))) is
+says_refused owed name file refusal answer i o e e' r r' n c c' is_file owes owes_no_memory (inr is) =
+    says_no_memory owed answer i o e e' r r' n c c' owes_no_memory is

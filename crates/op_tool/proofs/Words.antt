@@ -1,6 +1,6 @@
 -- The words of the command line, and the parts of the line of a refusal.
 use Rattle.std.proofs.Common.{◌≡◌, ℕ, ◌<◌, ◌≤◌, List, [], ◌∷◌, length, map, codes, slice_index_or, refl, ap, sym, ◌∙◌, arith, ◌++◌, append_assoc}
-use Rattle.op_tool.specs.Says.{line}
+use Rattle.op_tool.specs.Effects.{line}
 
 -- two words are the first and the second one
 pub two_words : {S : Type 0} (bytes : S → List ℕ) (words : List S) (first second : S) → 2 ≤ length words → length words < 3 → first ≡ slice_index_or words 0 first → second ≡ slice_index_or words 1 second → map bytes words ≡ bytes first ∷ bytes second ∷ []

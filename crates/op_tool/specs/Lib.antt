@@ -1,8 +1,10 @@
 pub mod Command
 pub mod Compiles
 pub mod ConstantLines
+pub mod Effects
+pub mod ImageRun
+pub mod Owes
 pub mod Prints
 pub mod Reading
-pub mod Says
 pub mod Status
 pub mod Writer

@@ -1,6 +1,22 @@
 //! The words of the command line.
-ghost use Rattle.std.specs.Prelude.{◌≡◌, map, string_bytes, MatchOption, List, ℕ};
-ghost use Rattle.op_tool.specs.Command.{IsExec, is_source_name};
+ghost use Rattle.std.specs.Prelude.{◌≡◌, ℕ, List, map, string_bytes, MatchOption};
+ghost use Rattle.op_tool.specs.Command.{is_name, is_source_name, IsCommand, IsExec, IsNoCommand, IsRun};
+
+/// A command with its operand.
+#[derive(Clone, Copy)]
+pub(crate) enum Command<'a> {
+    /// Compiles the program in this file and runs it.
+    Exec(&'a str),
+    /// Runs the image in this file.
+    Run(&'a str),
+}
+
+/// Whether this names a file: it is not empty and does not begin with `-`.
+fn is_name(name: &str) -> bool
+    ensures { result ≡ is_name name.now }
+{
+    !name.is_empty() && !name.as_bytes().starts_with(b"-")
+}
 
 /// Whether this names a source file: it ends in `.pas` and does not begin with `-`.
 fn is_source_name(name: &str) -> bool
@@ -11,7 +27,7 @@ fn is_source_name(name: &str) -> bool
 }
 
 /// The file of the words `exec FILE`, if they are so.
-pub(crate) fn exec_file(words: &[String]) -> Option<&str>
+fn exec_file(words: &[String]) -> Option<&str>
     ensures { MatchOption result ((name : List ℕ) → IsExec (map string_bytes words.now) name → ⊥) (λ name. IsExec (map string_bytes words.now) name.now) }
 {
     match words {
@@ -19,5 +35,27 @@ pub(crate) fn exec_file(words: &[String]) -> Option<&str>
             Some(file.as_str())
         }
         _ => None,
+    }
+}
+
+/// The image of the words `run IMAGE`, if they are so.
+fn run_name(words: &[String]) -> Option<&str>
+    ensures { MatchOption result ((name : List ℕ) → IsRun (map string_bytes words.now) name → ⊥) (λ name. IsRun (map string_bytes words.now) name.now) }
+{
+    match words {
+        [command, image] if command.as_str() == "run" && is_name(image.as_str()) => {
+            Some(image.as_str())
+        }
+        _ => None,
+    }
+}
+
+/// The command that the words are, if they are one.
+pub(crate) fn command_of(words: &[String]) -> Option<Command<'_>>
+    ensures { MatchOption result (IsNoCommand (map string_bytes words.now)) (IsCommand (map string_bytes words.now)) }
+{
+    match exec_file(words) {
+        Some(file) => Some(Command::Exec(file)),
+        None => run_name(words).map(Command::Run),
     }
 }

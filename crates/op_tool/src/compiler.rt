@@ -12,6 +12,13 @@ use std::alloc::{AllocError, Global};
 /// The most bytes that a source file may have.
 const MOST_BYTES: usize = 65_536;
 
+/// The beginning of the file that a command names.
+pub(crate) const MAIN_START: Place = Place {
+    file: 0,
+    line: 1,
+    col: 1,
+};
+
 /// Why a file was not compiled.
 #[derive(Debug, Drop)]
 pub enum CompileError {
@@ -48,13 +55,12 @@ impl From<AllocError> for CompileError {
 fn refuse(alloc: Global, main: &str, rule: Rule) -> CompileError
     ensures { RefusesBy main.now rule result }
 {
-    let place = Place {
-        file: 0,
-        line: 1,
-        col: 1,
+    let refusal = Refusal {
+        rule,
+        place: MAIN_START,
     };
     match Text::copy_of(alloc, main.as_bytes()) {
-        Ok(file) => CompileError::Refused(Refusal { rule, place }, file),
+        Ok(file) => CompileError::Refused(refusal, file),
         Err(NoMemory) => CompileError::NoMemory,
     }
 }

@@ -1,99 +1,19 @@
 //! The call that the program `opc` makes.
-ghost use Rattle.std.specs.Prelude.{◌≡◌, ◌≤◌, ◌⊎◌, List, ℕ, [], IfOk, IsSome, codes, map, string_bytes};
-ghost use Rattle.op_base.specs.Rule.{text_of_rule};
+ghost use Rattle.std.specs.Prelude.{◌≡◌, ◌≤◌, List, ℕ, [], map, string_bytes};
 ghost use Rattle.op_emu.specs.Acts.{streams, faults, Rises};
-ghost use Rattle.op_tool.specs.Command.{IsExec};
-ghost use Rattle.op_tool.specs.Compiles.{Compiles, IsRefused};
-ghost use Rattle.op_tool.specs.Prints.{Prints};
-ghost use Rattle.op_tool.specs.Says.{call, line, Owes, OwesRun, ReportIs, Reports, ReportsRefusal, Says};
+ghost use Rattle.op_tool.specs.Effects.{Says};
+ghost use Rattle.op_tool.specs.Owes.{call, Owes, OwesExec, OwesRun};
 
-use crate::command::exec_file;
+use crate::command::{Command, command_of};
+use crate::compiler::MAIN_START;
+use crate::image_run::run_image;
+use crate::report::{report, report_bad_image, report_no_memory, report_refusal};
 use crate::{CompileError, Finish, compile};
-use op_base::{Files, NoMemory, Put, Refusal, Sink, Source, rule_text};
-use op_emu::{MachineError, Stop, load};
+use op_base::{FILE_MISSING, FileAnswer, Files, NoMemory, Refusal, Sink, Source};
 use std::alloc::Global;
 
-/// The most steps that a program may take.
-const STEP_LIMIT: u64 = 4_000_000_000;
-
-/// Writes a line to the errors, as the last act of a call that answers so.
-fn report<E: Sink>(err: &mut E, line: &[u8], finish: Finish) -> Finish
-    ensures says { ReportIs finish line.now result (E.written err.old) (E.written err.new) (E.faults err.old) (E.faults err.new) }
-    ensures counts { E.faults err.old ≤ E.faults err.new }
-{
-    match err.put(line) {
-        Put::Done => finish,
-        Put::Failed => Finish::WriteFault,
-    }
-}
-
-/// The line of a refusal in this file.
-fn refusal_line(alloc: Global, file: &[u8], refusal: Refusal) -> Result<Vec<u8>, NoMemory>
-    requires { IsSome (text_of_rule refusal.rule) }
-    ensures { IfOk result (λ line. Reports file.now refusal.place refusal.rule line.items) }
-{
-    let Refusal { rule, place } = refusal;
-    let text = rule_text(rule);
-    let rest = format!(in alloc;
-        ":{}:{}: V{} {}\n",
-        place.line, place.col, rule.number, text
-    )?;
-    let mut line = Vec::from_slice(alloc, b"opc: ")?;
-    line.extend_from_slice(file)?;
-    line.extend_from_slice(rest.as_bytes())?;
-    Ok(line)
-}
-
-/// Writes the line of a refusal in this file.
-fn report_refusal<E: Sink>(alloc: Global, file: &[u8], refusal: Refusal, err: &mut E) -> Finish
-    requires { IsSome (text_of_rule refusal.rule) }
-    ensures says { ReportsRefusal file.now refusal result (E.written err.old) (E.written err.new) (E.faults err.old) (E.faults err.new) }
-    ensures counts { E.faults err.old ≤ E.faults err.new }
-{
-    match refusal_line(alloc, file, refusal) {
-        Ok(line) => report(
-            err,
-            line.as_slice(),
-            Finish::Refused(refusal.rule, refusal.place),
-        ),
-        Err(NoMemory) => report_no_memory(err),
-    }
-}
-
-/// Writes that the allocator had no room, as the last act of a call that answers so.
-pub fn report_no_memory<E: Sink>(err: &mut E) -> Finish
-    ensures says { ReportIs Finish.NoMemory (line (codes "opc: out of memory")) result (E.written err.old) (E.written err.new) (E.faults err.old) (E.faults err.new) }
-    ensures counts { E.faults err.old ≤ E.faults err.new }
-{
-    report(err, b"opc: out of memory\n", Finish::NoMemory)
-}
-
-/// Runs an image that prints something.
-fn run_image<R: Source, W: Sink, E: Sink>(
-    alloc: Global,
-    image: &[u8],
-    input: &mut R,
-    out: &mut W,
-    err: &mut E,
-) -> Finish
-    requires { (text : List ℕ) × Prints image.now text }
-    ensures says { (text : List ℕ) → Prints image.now text → Says (OwesRun text) result
-        (streams (R.left input.old) (R.left input.new) (W.written out.old) (W.written out.new) (E.written err.old) (E.written err.new))
-        (faults (R.faults input.old) (R.faults input.new) (W.faults out.old) (W.faults out.new) (E.faults err.old) (E.faults err.new)) }
-    ensures counts { Rises (faults (R.faults input.old) (R.faults input.new) (W.faults out.old) (W.faults out.new) (E.faults err.old) (E.faults err.new)) }
-{
-    match load(alloc, image) {
-        Ok(mut machine) => match machine.run(STEP_LIMIT, input, out, err) {
-            Stop::Ended(status) => Finish::Ended(status),
-            Stop::WriteFault => Finish::WriteFault,
-            Stop::Spent => unreachable!(),
-            Stop::Fault(..) => unreachable!(),
-            Stop::ReadFault => unreachable!(),
-        },
-        Err(MachineError::NoMemory) => report_no_memory(err),
-        Err(MachineError::Bad(_)) => unreachable!(),
-    }
-}
+/// The most bytes that an image may have.
+const MOST_IMAGE_BYTES: usize = 100_663_296;
 
 /// Compiles a file and runs its image.
 fn exec<F: Files, R: Source, W: Sink, E: Sink>(
@@ -106,8 +26,8 @@ fn exec<F: Files, R: Source, W: Sink, E: Sink>(
     image: &mut Vec<u8>,
 ) -> Finish
     requires { image.old.items ≡ [] }
-    ensures says { (words : List (List ℕ)) → IsExec words file.now →
-        Says (Owes (call words (F.stored files.old) (F.faults files.old) (F.faults files.new) image.new.items)) result
+    ensures says { (words : List (List ℕ)) →
+        Says (OwesExec (call words (F.stored files.old) (F.faults files.old) (F.faults files.new) image.new.items) file.now) result
         (streams (R.left input.old) (R.left input.new) (W.written out.old) (W.written out.new) (E.written err.old) (E.written err.new))
         (faults (R.faults input.old) (R.faults input.new) (W.faults out.old) (W.faults out.new) (E.faults err.old) (E.faults err.new)) }
     ensures counts { Rises (faults (R.faults input.old) (R.faults input.new) (W.faults out.old) (W.faults out.new) (E.faults err.old) (E.faults err.new)) }
@@ -128,11 +48,50 @@ fn exec<F: Files, R: Source, W: Sink, E: Sink>(
     }
 }
 
+/// Runs the image in a file.
+fn run<F: Files, R: Source, W: Sink, E: Sink>(
+    alloc: Global,
+    name: &str,
+    files: &mut F,
+    input: &mut R,
+    out: &mut W,
+    err: &mut E,
+    image: &mut Vec<u8>,
+) -> Finish
+    ensures says { (words : List (List ℕ)) →
+        Says (OwesRun (call words (F.stored files.old) (F.faults files.old) (F.faults files.new) image.new.items) name.now) result
+        (streams (R.left input.old) (R.left input.new) (W.written out.old) (W.written out.new) (E.written err.old) (E.written err.new))
+        (faults (R.faults input.old) (R.faults input.new) (W.faults out.old) (W.faults out.new) (E.faults err.old) (E.faults err.new)) }
+    ensures counts { Rises (faults (R.faults input.old) (R.faults input.new) (W.faults out.old) (W.faults out.new) (E.faults err.old) (E.faults err.new)) }
+    ensures file_counts { F.faults files.old ≤ F.faults files.new }
+    ensures unchanged { F.stored files.new ≡ F.stored files.old }
+{
+    match files.read(alloc, name, MOST_IMAGE_BYTES) {
+        Ok(FileAnswer::Found(bytes)) => {
+            *image = bytes.into_vec();
+            run_image(alloc, image.as_slice(), input, out, err)
+        }
+        Ok(FileAnswer::Long) => report_bad_image(alloc, 1, err),
+        Ok(FileAnswer::Missing) => report_refusal(
+            alloc,
+            name.as_bytes(),
+            Refusal {
+                rule: FILE_MISSING,
+                place: MAIN_START,
+            },
+            err,
+        ),
+        Ok(FileAnswer::Failed) => report(err, b"opc: read fault\n", Finish::ReadFault),
+        Err(NoMemory) => report_no_memory(err),
+    }
+}
+
 /// Does what the words after the program's name say. `exec FILE` compiles the program in the file, whose name ends in
-/// `.pas`, and runs it: what it writes goes to `out` and `err`. All other words are `Usage`.
+/// `.pas`, and runs it; `run IMAGE` runs the image in the file. What the program writes goes to `out` and `err`, and it
+/// reads from `input`. All other words are `Usage`.
 ///
-/// An answer but `Ended` and `WriteFault` writes one line to `err` as its last act. `image` gets the image that was made,
-/// and is empty where there was none.
+/// An answer but `Ended` and `WriteFault` writes one line to `err` as its last act. `image` gets the image that was made
+/// or found, and is empty where there was none.
 pub fn tool<F: Files, R: Source, W: Sink, E: Sink>(
     alloc: Global,
     words: &[String],
@@ -150,8 +109,9 @@ pub fn tool<F: Files, R: Source, W: Sink, E: Sink>(
     ensures unchanged { F.stored files.new ≡ F.stored files.old }
 {
     image.clear();
-    match exec_file(words) {
-        Some(file) => exec(alloc, file, files, input, out, err, image),
+    match command_of(words) {
+        Some(Command::Exec(file)) => exec(alloc, file, files, input, out, err, image),
+        Some(Command::Run(name)) => run(alloc, name, files, input, out, err, image),
         None => report(err, b"opc: bad command line\n", Finish::Usage),
     }
 }

@@ -6,11 +6,14 @@ mod compiler;
 mod constant_lines;
 mod driver;
 mod finish;
+mod image_run;
+mod report;
 mod writer;
 
 pub use compiler::{CompileError, compile};
-pub use driver::{report_no_memory, tool};
+pub use driver::tool;
 pub use finish::{Finish, status};
+pub use report::report_no_memory;
 
 #[cfg(test)]
 mod tests;

@@ -1,5 +1,8 @@
 use super::*;
-use op_base::{FILE_MISSING, MemFiles, MemSink, MemSource, NOT_BUILT_YET, Place, Rule};
+use op_base::{
+    FILE_MISSING, Got, MemFiles, MemSink, MemSource, NOT_BUILT_YET, Place, Rule, Source,
+};
+use op_emu::FaultKind;
 use std::alloc::Global;
 use std::test::Fail;
 
@@ -11,6 +14,7 @@ const USAGE: &str = "opc: bad command line\n";
 #[derive(Clone, Copy)]
 struct Outside {
     files: &'static [u64],
+    input: &'static [u64],
     out: &'static [u64],
     err: &'static [u64],
     room: usize,
@@ -18,6 +22,7 @@ struct Outside {
 
 const SOUND: Outside = Outside {
     files: &[],
+    input: &[],
     out: &[],
     err: &[],
     room: 64,
@@ -27,6 +32,7 @@ const SOUND: Outside = Outside {
 #[derive(Drop)]
 struct Said {
     finish: Finish,
+    input: MemSource,
     out: MemSink,
     err: MemSink,
     image: Vec<u8>,
@@ -39,8 +45,13 @@ fn long(alloc: Global) -> Result<Vec<u8>, Fail> {
     Ok(bytes)
 }
 
-/// Calls the tool over four files.
+/// Calls the tool over four sources.
 fn say(alloc: Global, line: &[&str], outside: Outside) -> Result<Said, Fail> {
+    call(alloc, line, b"", outside)
+}
+
+/// Calls the tool over four sources and an image, `i`. The input is `abcdef`.
+fn call(alloc: Global, line: &[&str], image: &[u8], outside: Outside) -> Result<Said, Fail> {
     let mut words = Vec::new(alloc);
     for word in line {
         words.push(word.to_string(alloc)?)?;
@@ -50,7 +61,8 @@ fn say(alloc: Global, line: &[&str], outside: Outside) -> Result<Said, Fail> {
     files.add("empty.pas", b"program p; begin end.".to_vec(alloc)?)?;
     files.add("a.pas", b"program p; begin WriteLn(1); end.".to_vec(alloc)?)?;
     files.add("long.pas", long(alloc)?)?;
-    let mut input = MemSource::new(Vec::new(alloc), Vec::new(alloc));
+    files.add("i", image.to_vec(alloc)?)?;
+    let mut input = MemSource::new(b"abcdef".to_vec(alloc)?, outside.input.to_vec(alloc)?);
     let mut out = MemSink::new(alloc, outside.room, outside.out.to_vec(alloc)?)?;
     let mut err = MemSink::new(alloc, 64, outside.err.to_vec(alloc)?)?;
     let mut image = b"before".to_vec(alloc)?;
@@ -60,6 +72,7 @@ fn say(alloc: Global, line: &[&str], outside: Outside) -> Result<Said, Fail> {
     );
     Ok(Said {
         finish,
+        input,
         out,
         err,
         image,
@@ -116,6 +129,10 @@ fn other_words_are_usage(rt: HostRuntime) -> Result<(), Fail> {
         &["exec", "-a.pas"][..],
         &["exec", "a.pas", "b.pas"][..],
         &["Exec", "h.pas"][..],
+        &["run"][..],
+        &["run", ""][..],
+        &["run", "-i"][..],
+        &["run", "i", "i"][..],
     ] {
         let said = say(rt.alloc(), line, SOUND)?;
         assert!(rt; said.finish == Finish::Usage);
@@ -127,35 +144,50 @@ fn other_words_are_usage(rt: HostRuntime) -> Result<(), Fail> {
     Ok(())
 }
 
+const NO_FILES: Outside = Outside {
+    files: &[0],
+    ..SOUND
+};
+
+const NO_OUTPUT: Outside = Outside { out: &[0], ..SOUND };
+
+const NO_ERRORS: Outside = Outside { err: &[0], ..SOUND };
+
+const NO_INPUT: Outside = Outside {
+    input: &[0],
+    ..SOUND
+};
+
+/// Each fails at a call that does not come.
+const LATER: Outside = Outside {
+    files: &[1],
+    input: &[0],
+    out: &[1],
+    err: &[0],
+    room: 6,
+};
+
+/// An output with room for so many bytes.
+const fn narrow(room: usize) -> Outside {
+    Outside { room, ..SOUND }
+}
+
 #[test]
 fn failures_of_the_outside(rt: HostRuntime) -> Result<(), Fail> {
     let hello = &["exec", "h.pas"][..];
-    let files = Outside {
-        files: &[0],
-        ..SOUND
-    };
-    let out = Outside { out: &[0], ..SOUND };
-    let err = Outside { err: &[0], ..SOUND };
-    let narrow = Outside { room: 3, ..SOUND };
-    let later = Outside {
-        files: &[1],
-        out: &[1],
-        err: &[0],
-        room: 6,
-    };
     for (line, outside, finish, number, written, reported) in [
         (
             hello,
-            files,
+            NO_FILES,
             Finish::ReadFault,
             122,
             "",
             "opc: read fault\n",
         ),
-        (hello, out, Finish::WriteFault, 123, "", ""),
-        (hello, narrow, Finish::WriteFault, 123, "Hel", ""),
-        (&["exec"][..], err, Finish::WriteFault, 123, "", ""),
-        (hello, later, Finish::Ended(0), 0, "Hello\n", ""),
+        (hello, NO_OUTPUT, Finish::WriteFault, 123, "", ""),
+        (hello, narrow(3), Finish::WriteFault, 123, "Hel", ""),
+        (&["exec"][..], NO_ERRORS, Finish::WriteFault, 123, "", ""),
+        (hello, LATER, Finish::Ended(0), 0, "Hello\n", ""),
     ] {
         let said = say(rt.alloc(), line, outside)?;
         assert!(rt; said.finish == finish);
@@ -163,5 +195,167 @@ fn failures_of_the_outside(rt: HostRuntime) -> Result<(), Fail> {
         assert_eq!(rt; said.out.bytes(), written.as_bytes());
         assert_eq!(rt; said.err.bytes(), reported.as_bytes());
     }
+    Ok(())
+}
+
+/// An image of one segment with these words at 0x00010000, which may be read, written and executed.
+fn image(alloc: Global, code: &[u32]) -> Result<Vec<u8>, Fail> {
+    let size = 4 * code.len() as u32;
+    let header = [
+        0x464c_457f,
+        0x0001_0101,
+        0,
+        0,
+        0x00f3_0002,
+        1,
+        0x0001_0000,
+        52,
+        0,
+        0,
+        0x0020_0034,
+        1,
+        0,
+        1,
+        84,
+        0x0001_0000,
+        0x0001_0000,
+        size,
+        size,
+        7,
+        4096,
+    ];
+    let mut bytes = Vec::new(alloc);
+    for word in header.iter().chain(code.iter()) {
+        bytes.extend_from_slice(&word.to_le_bytes())?;
+    }
+    Ok(bytes)
+}
+
+/// How many bytes the input still gives, into a buffer.
+fn taken(input: &mut MemSource, buffer: &mut [u8]) -> usize {
+    match input.take(buffer) {
+        Got::Gave(count) => count,
+        Got::End | Got::Failed => 0,
+    }
+}
+
+/// Reads four bytes, writes the first three of them, and ends with 5.
+const COPY: [u32; 14] = [
+    0x03f0_0893,
+    0x0000_0513,
+    0x0001_05b7,
+    0x0345_8593,
+    0x0040_0613,
+    0x0000_0073,
+    0xfff5_0613,
+    0x0010_0513,
+    0x0400_0893,
+    0x0000_0073,
+    0x05d0_0893,
+    0x0050_0513,
+    0x0000_0073,
+    0x0000_0000,
+];
+
+/// Code that faults at once, with the kind and the address of the fault and the line on it.
+const FAULTS: [(&[u32], FaultKind, u32, &str); 6] = [
+    (
+        &[0xffff_ffff],
+        FaultKind::Illegal,
+        0x0001_0000,
+        "opc: fault Illegal at 00010000\n",
+    ),
+    (
+        &[0x0010_0073],
+        FaultKind::Break,
+        0x0001_0000,
+        "opc: fault Break at 00010000\n",
+    ),
+    (
+        &[0x67],
+        FaultKind::Fetch,
+        0,
+        "opc: fault Fetch at 00000000\n",
+    ),
+    (
+        &[0x13, 0x2083],
+        FaultKind::Load,
+        0x0001_0004,
+        "opc: fault Load at 00010004\n",
+    ),
+    (
+        &[0x2023],
+        FaultKind::Store,
+        0x0001_0000,
+        "opc: fault Store at 00010000\n",
+    ),
+    (
+        &[0x73],
+        FaultKind::Call,
+        0x0001_0000,
+        "opc: fault Call at 00010000\n",
+    ),
+];
+
+#[test]
+fn images_fault(rt: HostRuntime) -> Result<(), Fail> {
+    for (code, kind, pc, line) in FAULTS {
+        let image = image(rt.alloc(), code)?;
+        let said = call(rt.alloc(), &["run", "i"], image.as_slice(), SOUND)?;
+        assert!(rt; said.finish == Finish::Faulted(kind, pc), "{line}");
+        assert_eq!(rt; status(&said.finish), 126);
+        assert_eq!(rt; said.out.bytes(), b"".as_slice());
+        assert_eq!(rt; said.err.bytes(), line.as_bytes());
+        assert_eq!(rt; said.image.as_slice(), image.as_slice());
+    }
+    Ok(())
+}
+
+#[test]
+fn images_read_and_write(rt: HostRuntime) -> Result<(), Fail> {
+    let seven = &[0x05d0_0893, 0x0070_0513, 0x73][..];
+    let read_fault = "opc: read fault\n";
+    for (code, outside, finish, out, line, left) in [
+        (seven, SOUND, Finish::Ended(7), "", "", "abcdef"),
+        (&COPY, SOUND, Finish::Ended(5), "abc", "", "ef"),
+        (&COPY, NO_INPUT, Finish::ReadFault, "", read_fault, "abcdef"),
+        (&COPY, narrow(2), Finish::WriteFault, "ab", "", "ef"),
+    ] {
+        let image = image(rt.alloc(), code)?;
+        let mut said = call(rt.alloc(), &["run", "i"], image.as_slice(), outside)?;
+        let mut rest = [0; 8];
+        let count = taken(&mut said.input, &mut rest);
+        assert!(rt; said.finish == finish, "{out}");
+        assert_eq!(rt; said.out.bytes(), out.as_bytes());
+        assert_eq!(rt; said.err.bytes(), line.as_bytes());
+        assert_eq!(rt; &rest[..count], left.as_bytes());
+    }
+    Ok(())
+}
+
+#[test]
+fn bad_images_are_told_by_their_condition(rt: HostRuntime) -> Result<(), Fail> {
+    let built = say(rt.alloc(), &["exec", "h.pas"], SOUND)?.image;
+    for (size, condition) in [(0, 1), (51, 1), (52, 6), (83, 6), (115, 6)] {
+        let said = call(rt.alloc(), &["run", "i"], &built[..size], SOUND)?;
+        assert!(rt; said.finish == Finish::BadImage(condition), "{size}");
+        assert_eq!(rt; status(&said.finish), 126);
+        let line = format!(in rt.alloc(); "opc: bad image: Elf{condition}\n")?;
+        assert_eq!(rt; said.err.bytes(), line.as_bytes());
+        assert_eq!(rt; said.out.bytes(), b"".as_slice());
+    }
+    let mut other = built.clone()?;
+    other[18] = 3;
+    let said = call(rt.alloc(), &["run", "i"], other.as_slice(), SOUND)?;
+    assert!(rt; said.finish == Finish::BadImage(5));
+    let whole = call(rt.alloc(), &["run", "i"], built.as_slice(), SOUND)?;
+    assert!(rt; whole.finish == Finish::Ended(0));
+    assert_eq!(rt; whole.out.bytes(), b"Hello\n".as_slice());
+    let missing = say(rt.alloc(), &["run", "j"], SOUND)?;
+    assert!(rt; missing.finish == refused(FILE_MISSING));
+    assert_eq!(rt;
+        missing.err.bytes(),
+        b"opc: j:1:1: V10 file missing\n".as_slice()
+    );
     Ok(())
 }

@@ -1,9 +1,25 @@
-use Rattle.op_tool.proofs.Saying.{says_usage}
+use Rattle.std.proofs.Common.{codes, map, refl, string_bytes, subst}
+use Rattle.op_tool.specs.Command.{IsCommand}
+use Rattle.op_tool.specs.Effects.{line}
+use Rattle.op_tool.specs.Owes.{Owes, OwesExec, OwesRun, call}
+use Rattle.op_tool.specs.declared.finish.Finish.TheVariants as finish
+use Rattle.op_tool.proofs.Saying.{says_also, says_report}
 use Rattle.op_tool.proofs.driver.tool.Goals as goal
 
-pub returns-in-Some-clause-says : goal.returns-in-Some-clause-says
-returns-in-Some-clause-says g c = c.exec.ensures.says _ c.in-Some.ensures
+pub returns-in-Some-Exec-clause-says : goal.returns-in-Some-Exec-clause-says
+returns-in-Some-Exec-clause-says g c =
+    let words = map string_bytes c.args.words.now in
+    let is = subst (IsCommand words) c.in-Some-Exec.field-0-is c.in-Some-Exec.ensures in
+    let now = call words (g.F.Files.stored c.args.files.now) (g.F.Files.faults c.args.files.now) (g.F.Files.faults c.exec.new.files) c.exec.new.image.items in
+    says_also (OwesExec now c.in-Some-Exec.file.now) (Owes now) c.exec.result _ _ (λ answer done owes. Owes.by_exec c.in-Some-Exec.file.now is owes) (c.exec.ensures.says words)
+
+pub returns-in-Some-Run-clause-says : goal.returns-in-Some-Run-clause-says
+returns-in-Some-Run-clause-says g c =
+    let words = map string_bytes c.args.words.now in
+    let is = subst (IsCommand words) c.in-Some-Run.field-0-is c.in-Some-Run.ensures in
+    let now = call words (g.F.Files.stored c.args.files.now) (g.F.Files.faults c.args.files.now) (g.F.Files.faults c.run.new.files) c.run.new.image.items in
+    says_also (OwesRun now c.in-Some-Run.name.now) (Owes now) c.run.result _ _ (λ answer done owes. Owes.by_run c.in-Some-Run.name.now is owes) (c.run.ensures.says words)
 
 pub returns-in-None-clause-says : goal.returns-in-None-clause-says
 returns-in-None-clause-says g c =
-    says_usage _ c.report.result _ _ _ _ _ _ _ _ _ c.in-None.ensures c.clear.ensures.items c.report.ensures.says
+    says_report _ finish.Usage c.report.result (line (codes "opc: bad command line")) _ _ _ _ _ _ _ _ _ (λ same. cc) (λ input. Owes.by_none c.in-None.ensures c.clear.ensures.items (refl, refl, refl)) c.report.ensures.says

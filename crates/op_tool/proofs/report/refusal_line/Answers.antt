@@ -2,7 +2,7 @@ use Rattle.std.proofs.Common.{codes, ◌++◌}
 use Rattle.std.proofs.Common.{ap, ◌∙◌}
 use Rattle.std.specs.Prelude.{decimal}
 use Rattle.op_tool.proofs.Words.{line_parts}
-use Rattle.op_tool.proofs.driver.refusal_line.Goals as goal
+use Rattle.op_tool.proofs.report.refusal_line.Goals as goal
 
 -- the parts of the line
 pub returns : goal.returns

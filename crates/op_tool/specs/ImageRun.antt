@@ -1,0 +1,93 @@
+-- What the run of an image owes.
+use Rattle.std.specs.Prelude.{◌≡◌, ℕ, ◌+◌, ◌/◌, ◌%◌, ◌^◌, ◌<◌, ◌≤◌, Some, None, List, [], ◌∷◌, ◌++◌, map, codes, decimal, length, nat_lt, if◌then◌else◌, IsTrue}
+use Rattle.op_rv.specs.Environment.{read_call, is_writable}
+use Rattle.op_rv.specs.State.{State, Ending, Running, register}
+use Rattle.op_rv.specs.State as state
+use Rattle.op_rv.specs.Step.{step, after}
+use Rattle.op_rv.specs.declared.fault.FaultKind.{FaultKind}
+use Rattle.op_rv.specs.declared.fault.FaultKind.TheVariants.{Fetch, Illegal, Load, Store, Call, Break}
+use Rattle.op_link.specs.Image.{first_failing, start}
+use Rattle.op_tool.specs.Effects.{Effect, OnlyReports, line}
+use Rattle.op_tool.specs.declared.finish.Finish.{Finish}
+use Rattle.op_tool.specs.declared.finish.Finish.TheVariants.{Ended, Usage, Refused, ReadFault, WriteFault, Spent, NoMemory, BadImage, Faulted, Limit}
+
+-- the most steps that an image may do
+abbrev pub step_limit : ℕ
+step_limit = 4000000000
+
+-- a hexadecimal digit
+abbrev pub hex_digit : ℕ → ℕ
+hex_digit d = if nat_lt d 10 then 48 + d else 87 + d
+
+-- a word in eight hexadecimal digits
+abbrev pub eight_digits : ℕ → List ℕ
+eight_digits n =
+    map
+    hex_digit
+    (n / 2 ^ 28
+    ∷ n / 2 ^ 24 % 16
+    ∷ n / 2 ^ 20 % 16
+    ∷ n / 2 ^ 16 % 16
+    ∷ n / 2 ^ 12 % 16
+    ∷ n / 2 ^ 8 % 16
+    ∷ n / 2 ^ 4 % 16
+    ∷ n % 16
+    ∷ [])
+
+abbrev pub fault_name : FaultKind → List ℕ
+fault_name Fetch = codes "Fetch"
+fault_name Illegal = codes "Illegal"
+fault_name Load = codes "Load"
+fault_name Store = codes "Store"
+fault_name Call = codes "Call"
+fault_name Break = codes "Break"
+
+abbrev pub fault_front : FaultKind → List ℕ
+fault_front kind = codes "opc: fault " ++ fault_name kind ++ codes " at "
+
+abbrev pub fault_line : FaultKind → ℕ → List ℕ
+fault_line kind pc = fault_front kind ++ line (eight_digits pc)
+
+-- the state that the image is in
+abbrev pub state_in : List ℕ → Effect → State
+state_in image done = after done.steps (start image done.input)
+
+-- it has written what was written, but for a last line to the errors
+abbrev pub HasWritten : State → List ℕ → Effect → Type 0
+HasWritten s last done = (done.out ≡ s.output) × (done.err ≡ s.errors ++ last)
+
+-- the next step is the call that reads from the input, and it wants more than the bytes before what is left
+pub record WantsBeyond (s : State) (left : List ℕ) : Type 0 where
+  pub runs : s.ending ≡ Running
+  pub reads : step s ≡ read_call s
+  pub from_input : register s 10 ≡ 0
+  pub may : IsTrue (is_writable s)
+  pub taken : List ℕ
+  pub parts : s.input ≡ taken ++ left
+  pub more : length taken < register s 12
+
+-- after so many steps the image, over these bytes and whatever follows them, wants more than they are
+abbrev pub FaultsReading : List ℕ → List ℕ → Effect → Type 0
+FaultsReading image taken done =
+    (left : List ℕ) →
+    (let s = after done.steps (start image (taken ++ left)) in WantsBeyond s left × HasWritten s (line (codes "opc: read fault")) done)
+
+-- the image has come to this ending, and so has what is left of the input
+abbrev pub ComesTo : List ℕ → Ending → List ℕ → Effect → Type 0
+ComesTo image ending last done =
+    (first_failing image ≡ None) × (let s = state_in image done in (s.ending ≡ ending) × (done.left ≡ s.input) × HasWritten s last done)
+
+-- what each answer owes
+abbrev pub OwesImage : List ℕ → Finish → Effect → Type 0
+OwesImage image (Ended status) done = (done.steps ≤ step_limit) × ComesTo image (state.Ended status) [] done
+OwesImage image (Faulted kind pc) done = (done.steps ≤ step_limit) × ComesTo image (state.Faulted kind pc) (fault_line kind pc) done
+OwesImage image Spent done = (done.steps ≡ step_limit) × ComesTo image Running (line (codes "opc: step limit reached")) done
+OwesImage image ReadFault done =
+    (done.steps < step_limit) × (first_failing image ≡ None) × (taken : List ℕ) × (done.input ≡ taken ++ done.left) × FaultsReading image taken done
+OwesImage image (BadImage condition) done =
+    (first_failing image ≡ Some condition) × OnlyReports (line (codes "opc: bad image: Elf" ++ decimal condition)) done
+OwesImage image NoMemory done = OnlyReports (line (codes "opc: out of memory")) done
+OwesImage image Usage done = ⊥
+OwesImage image (Refused rule place) done = ⊥
+OwesImage image WriteFault done = ⊥
+OwesImage image Limit done = ⊥

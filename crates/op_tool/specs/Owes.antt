@@ -1,0 +1,112 @@
+-- What each answer of the tool owes, command by command: its cause, and what it writes.
+use Rattle.std.specs.Prelude.{◌≡◌, ℕ, ◌<◌, ◌⊎◌, Option, Some, List, [], ◌++◌, codes, decimal, length, IfSome, IsSomeAnd}
+use Rattle.op_base.specs.FileAnswer.{file_named}
+use Rattle.op_base.specs.Outside.{Rose}
+use Rattle.op_base.specs.Rule.{text_of_rule}
+use Rattle.op_base.specs.declared.files.NamedFile.{NamedFile}
+use Rattle.op_base.specs.declared.place.Place.{Place}
+use Rattle.op_base.specs.declared.rule.Refusal.{Refusal}
+use Rattle.op_base.specs.declared.rule.Rule.{Rule}
+use Rattle.op_tool.specs.Command.{IsExec, IsRun, IsNoCommand}
+use Rattle.op_tool.specs.Compiles.{Compiles, IsMissing, IsRefused, file_missing, main_start}
+use Rattle.op_tool.specs.Effects.{Effect, OnlyReports, ReportIs, line}
+use Rattle.op_tool.specs.ImageRun.{OwesImage}
+use Rattle.op_tool.specs.declared.finish.Finish.{Finish}
+use Rattle.op_tool.specs.declared.finish.Finish.TheVariants.{Ended, Usage, Refused, ReadFault, WriteFault, Spent, NoMemory, BadImage, Faulted, Limit}
+
+-- a call of the tool: its words, its files before and after it, and the image that it left
+pub record Call : Type 0 where
+  pub words : List (List ℕ)
+  pub stored : Option (List NamedFile)
+  pub file_faults_before : ℕ
+  pub file_faults_after : ℕ
+  pub image : List ℕ
+
+abbrev pub call : List (List ℕ) → Option (List NamedFile) → ℕ → ℕ → List ℕ → Call
+call words stored before after image =
+    record { words = words; stored = stored; file_faults_before = before; file_faults_after = after; image = image }
+
+-- opc: FILE:LINE:COL: Vn TEXT
+abbrev pub refusal_line : List ℕ → Place → Rule → List ℕ → List ℕ
+refusal_line file place rule text =
+    line (codes "opc: " ++ file ++ codes ":" ++ decimal place.line ++ codes ":" ++ decimal place.col ++ codes ": V" ++ decimal rule.number ++ codes " " ++ text)
+
+-- the line of a refusal of this file
+abbrev pub Reports : List ℕ → Place → Rule → List ℕ → Type 0
+Reports file place rule bytes =
+    (text : List ℕ) × (text_of_rule rule ≡ Some text) × (bytes ≡ refusal_line file place rule text)
+
+-- a refusal of this file was reported, and nothing else was done
+abbrev pub OnlyRefuses : List ℕ → Place → Rule → Effect → Type 0
+OnlyRefuses file place rule done = (bytes : List ℕ) × Reports file place rule bytes × OnlyReports bytes done
+
+-- the line of a refusal of this file, unless there is no room for it
+abbrev pub ReportsRefusal : List ℕ → Refusal → Finish → Option (List ℕ) → Option (List ℕ) → ℕ → ℕ → Type 0
+ReportsRefusal file refusal answer before after count count' =
+    ((bytes : List ℕ) × Reports file refusal.place refusal.rule bytes × ReportIs (Refused refusal.rule refusal.place) bytes answer before after count count')
+    ⊎ ReportIs NoMemory (line (codes "opc: out of memory")) answer before after count count'
+
+-- the line of the condition that an image fails first, unless there is no room for it
+abbrev pub ReportsBadImage : ℕ → Finish → Option (List ℕ) → Option (List ℕ) → ℕ → ℕ → Type 0
+ReportsBadImage condition answer before after count count' =
+    ReportIs (BadImage condition) (line (codes "opc: bad image: Elf" ++ decimal condition)) answer before after count count'
+    ⊎ ReportIs NoMemory (line (codes "opc: out of memory")) answer before after count count'
+
+-- a file could not be read, and nothing else was done
+abbrev pub OnlyFailsToRead : Call → Effect → Type 0
+OnlyFailsToRead now done =
+    Rose now.file_faults_before now.file_faults_after × OnlyReports (line (codes "opc: read fault")) done
+
+-- `exec` of the file of this name
+abbrev pub OwesExec : Call → List ℕ → Finish → Effect → Type 0
+OwesExec now name (Ended status) done =
+    (status ≡ 0) × Compiles now.stored name now.image done.out × (done.err ≡ []) × (done.left ≡ done.input)
+OwesExec now name (Refused rule place) done =
+    IsRefused now.stored name rule place × (now.image ≡ []) × OnlyRefuses name place rule done
+OwesExec now name ReadFault done = (now.image ≡ []) × OnlyFailsToRead now done
+OwesExec now name NoMemory done = OnlyReports (line (codes "opc: out of memory")) done
+OwesExec now name Usage done = ⊥
+OwesExec now name WriteFault done = ⊥
+OwesExec now name Spent done = ⊥
+OwesExec now name (BadImage condition) done = ⊥
+OwesExec now name (Faulted kind pc) done = ⊥
+OwesExec now name Limit done = ⊥
+
+-- these are the bytes of the file of this name
+abbrev pub IsFile : Option (List NamedFile) → List ℕ → List ℕ → Type 0
+IsFile stored name bytes = IfSome stored (λ files. file_named files name ≡ Some bytes)
+
+-- the file of this name has more bytes than an image may have
+abbrev pub IsTooLong : Option (List NamedFile) → List ℕ → Type 0
+IsTooLong stored name = IfSome stored (λ files. IsSomeAnd (file_named files name) (λ bytes. 100663296 < length bytes))
+
+-- the image is that file, and this is what its run owes
+abbrev pub RunsFile : Call → List ℕ → Finish → Effect → Type 0
+RunsFile now name finish done = IsFile now.stored name now.image × OwesImage now.image finish done
+
+-- `run` of the image of this name
+abbrev pub OwesRun : Call → List ℕ → Finish → Effect → Type 0
+OwesRun now name (Ended status) done = RunsFile now name (Ended status) done
+OwesRun now name (Faulted kind pc) done = RunsFile now name (Faulted kind pc) done
+OwesRun now name Spent done = RunsFile now name Spent done
+OwesRun now name ReadFault done = OnlyFailsToRead now done ⊎ RunsFile now name ReadFault done
+OwesRun now name (BadImage condition) done =
+    (IsTooLong now.stored name × (condition ≡ 1) × OnlyReports (line (codes "opc: bad image: Elf" ++ decimal condition)) done)
+    ⊎ RunsFile now name (BadImage condition) done
+OwesRun now name (Refused rule place) done =
+    (rule ≡ file_missing) × (place ≡ main_start) × IsMissing now.stored name × OnlyRefuses name place rule done
+OwesRun now name NoMemory done = OnlyReports (line (codes "opc: out of memory")) done
+OwesRun now name Usage done = ⊥
+OwesRun now name WriteFault done = ⊥
+OwesRun now name Limit done = ⊥
+
+-- words that are no command
+abbrev pub OwesUsage : Finish → Effect → Type 0
+OwesUsage Usage done = OnlyReports (line (codes "opc: bad command line")) done
+OwesUsage finish done = ⊥
+
+-- each answer with its cause, by the command that the words are
+pub data Owes (now : Call) (finish : Finish) (done : Effect) : Type 0 where
+  by_exec : (name : List ℕ) → IsExec now.words name → OwesExec now name finish done → Owes now finish done
+  by_run : (name : List ℕ) → IsRun now.words name → OwesRun now name finish done → Owes now finish done
+  by_none : IsNoCommand now.words → (now.image ≡ []) → OwesUsage finish done → Owes now finish done

@@ -1,0 +1,135 @@
+//! The line that the tool itself writes to the errors.
+ghost use Rattle.std.specs.Prelude.{◌≡◌, ◌<◌, ◌≤◌, ◌++◌, IfOk, IsSome, codes, decimal};
+ghost use Rattle.op_base.specs.Rule.{text_of_rule};
+ghost use Rattle.op_rv.specs.declared.fault.FaultKind.{FaultKind};
+ghost use Rattle.op_tool.specs.Effects.{line, ReportIs};
+ghost use Rattle.op_tool.specs.ImageRun.{eight_digits, fault_front, fault_line, hex_digit};
+ghost use Rattle.op_tool.specs.Owes.{Reports, ReportsBadImage, ReportsRefusal};
+
+use crate::Finish;
+use op_base::{NoMemory, Put, Refusal, Sink, rule_text};
+use op_emu::FaultKind;
+use std::alloc::Global;
+
+/// Writes a line to the errors, as the last act of a call that answers so.
+pub(crate) fn report<E: Sink>(err: &mut E, line: &[u8], finish: Finish) -> Finish
+    ensures says { ReportIs finish line.now result (E.written err.old) (E.written err.new) (E.faults err.old) (E.faults err.new) }
+    ensures counts { E.faults err.old ≤ E.faults err.new }
+{
+    match err.put(line) {
+        Put::Done => finish,
+        Put::Failed => Finish::WriteFault,
+    }
+}
+
+/// The line of a refusal in this file.
+fn refusal_line(alloc: Global, file: &[u8], refusal: Refusal) -> Result<Vec<u8>, NoMemory>
+    requires { IsSome (text_of_rule refusal.rule) }
+    ensures { IfOk result (λ line. Reports file.now refusal.place refusal.rule line.items) }
+{
+    let Refusal { rule, place } = refusal;
+    let text = rule_text(rule);
+    let rest = format!(in alloc;
+        ":{}:{}: V{} {}\n",
+        place.line, place.col, rule.number, text
+    )?;
+    let mut line = Vec::from_slice(alloc, b"opc: ")?;
+    line.extend_from_slice(file)?;
+    line.extend_from_slice(rest.as_bytes())?;
+    Ok(line)
+}
+
+/// Writes the line of a refusal in this file.
+pub(crate) fn report_refusal<E: Sink>(
+    alloc: Global,
+    file: &[u8],
+    refusal: Refusal,
+    err: &mut E,
+) -> Finish
+    requires { IsSome (text_of_rule refusal.rule) }
+    ensures says { ReportsRefusal file.now refusal result (E.written err.old) (E.written err.new) (E.faults err.old) (E.faults err.new) }
+    ensures counts { E.faults err.old ≤ E.faults err.new }
+{
+    match refusal_line(alloc, file, refusal) {
+        Ok(line) => report(
+            err,
+            line.as_slice(),
+            Finish::Refused(refusal.rule, refusal.place),
+        ),
+        Err(NoMemory) => report_no_memory(err),
+    }
+}
+
+/// Writes that the allocator had no room, as the last act of a call that answers so.
+pub fn report_no_memory<E: Sink>(err: &mut E) -> Finish
+    ensures says { ReportIs Finish.NoMemory (line (codes "opc: out of memory")) result (E.written err.old) (E.written err.new) (E.faults err.old) (E.faults err.new) }
+    ensures counts { E.faults err.old ≤ E.faults err.new }
+{
+    report(err, b"opc: out of memory\n", Finish::NoMemory)
+}
+
+/// Writes which condition an image fails first.
+pub(crate) fn report_bad_image<E: Sink>(alloc: Global, condition: u8, err: &mut E) -> Finish
+    ensures says { ReportsBadImage condition result (E.written err.old) (E.written err.new) (E.faults err.old) (E.faults err.new) }
+    ensures counts { E.faults err.old ≤ E.faults err.new }
+{
+    match format!(in alloc; "opc: bad image: Elf{}\n", condition) {
+        Ok(line) => report(err, line.as_bytes(), Finish::BadImage(condition)),
+        Err(_) => report_no_memory(err),
+    }
+}
+
+/// A hexadecimal digit.
+fn hex_digit(value: u32) -> u8
+    requires { value < 16 }
+    ensures { result ≡ hex_digit value }
+{
+    let digit = value as u8;
+    if digit < 10 {
+        b'0' + digit
+    } else {
+        b'a' + (digit - 10)
+    }
+}
+
+/// The end of the line of a fault at this address: eight hexadecimal digits.
+fn fault_end(pc: u32) -> [u8; 9]
+    ensures { result ≡ line (eight_digits pc) }
+{
+    [
+        hex_digit(pc >> 28),
+        hex_digit(pc >> 24 & 15),
+        hex_digit(pc >> 20 & 15),
+        hex_digit(pc >> 16 & 15),
+        hex_digit(pc >> 12 & 15),
+        hex_digit(pc >> 8 & 15),
+        hex_digit(pc >> 4 & 15),
+        hex_digit(pc & 15),
+        b'\n',
+    ]
+}
+
+/// The front of the line of a fault of this kind.
+fn fault_front(kind: FaultKind) -> &'static [u8]
+    ensures { result.now ≡ fault_front kind }
+{
+    match kind {
+        FaultKind::Fetch => b"opc: fault Fetch at ",
+        FaultKind::Illegal => b"opc: fault Illegal at ",
+        FaultKind::Load => b"opc: fault Load at ",
+        FaultKind::Store => b"opc: fault Store at ",
+        FaultKind::Call => b"opc: fault Call at ",
+        FaultKind::Break => b"opc: fault Break at ",
+    }
+}
+
+/// Writes which fault a run came to. It takes no memory.
+pub(crate) fn report_fault<E: Sink>(kind: FaultKind, pc: u32, err: &mut E) -> Finish
+    ensures says { ReportIs (Finish.Faulted kind pc) (fault_line kind pc) result (E.written err.old) (E.written err.new) (E.faults err.old) (E.faults err.new) }
+    ensures counts { E.faults err.old ≤ E.faults err.new }
+{
+    match err.put(fault_front(kind)) {
+        Put::Done => report(err, &fault_end(pc), Finish::Faulted(kind, pc)),
+        Put::Failed => Finish::WriteFault,
+    }
+}
