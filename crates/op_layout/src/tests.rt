@@ -1,18 +1,23 @@
 use super::*;
 use op_base::Text;
+use std::alloc::Global;
 use std::process::Abort;
 use std::test::Fail;
+
+fn copies(alloc: Global, texts: &[&[u8]]) -> Result<Vec<Text>, Fail> {
+    let mut copies = Vec::new(alloc);
+    for text in texts {
+        copies.push(Text::copy_of(alloc, text)?)?;
+    }
+    Ok(copies)
+}
 
 #[test]
 fn literals_stand_one_after_the_other(rt: HostRuntime) -> Result<(), Fail> {
     let alloc = rt.alloc();
     let texts: [&[u8]; 4] = [b"Hello", b"", b"a", b"\n\0"];
     let places = [(0, 5), (5, 0), (5, 1), (6, 2)];
-    let mut literals = Vec::new(alloc);
-    for text in texts {
-        literals.push(Text::copy_of(alloc, text)?)?;
-    }
-    let layout = Layout::of_literals(alloc, literals.as_slice())?;
+    let layout = Layout::of_literals(alloc, copies(alloc, &texts)?.as_slice())?;
     assert!(&rt; layout.bytes.as_slice() == b"Helloa\n\0".as_slice());
     assert!(&rt; layout.literals.as_slice().len() == 4);
     for (place, expected) in layout.literals.as_slice().iter().zip(&places) {

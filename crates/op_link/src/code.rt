@@ -4,7 +4,7 @@ ghost use Rattle.op_rv.specs.Encoding.{fits, is_even, is_imm, is_register, is_si
 ghost use Rattle.op_link.specs.Code.{branch_code, distance_within, go_by_register, high_of, jump_code, low_of, opposite_of, set_address};
 ghost use Rattle.op_link.specs.Writes.{Writes};
 
-use crate::reach::{Reach, reaches};
+use crate::reach::{BRANCH, JUMP, Reach, reaches};
 use byteorder::{ByteOrder, LittleEndian};
 use op_base::NoMemory;
 use op_rv::{BranchOp, ImmOp, Instr, encode};
@@ -32,13 +32,7 @@ impl From<AllocError> for CodeError {
 pub(crate) const ZERO: u8 = 0;
 
 /// The register by which code goes to what is far, and that has the address to return to.
-const RETURN: u8 = 1;
-
-/// How far a branch reaches, in bytes.
-const BRANCH: u64 = 4096;
-
-/// How far a jump reaches.
-const JUMP: u64 = 1_048_576;
+pub(crate) const RETURN: u8 = 1;
 
 /// The upper part of a word that lui and addi set.
 #[tactic(auto, unfolding(crate::specs::Code::high_of))]

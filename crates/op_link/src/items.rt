@@ -8,14 +8,11 @@ ghost use Rattle.op_link.specs.Reach.{block_in, head_in, reach_of};
 ghost use Rattle.op_link.specs.Writes.{Writes};
 
 use crate::addresses::{Addresses, symbol_address};
-use crate::code::{CodeError, ZERO, push, push_address, push_branch, push_jump};
+use crate::code::{CodeError, RETURN, ZERO, push, push_address, push_branch, push_jump};
 use crate::place::{Spot, behind, block_in, first_spot, head_in};
 use crate::reach::{Reach, reach_of};
 use op_layout::Layout;
 use op_rv::{BlockId, BranchOp, Instr, Item, ObjectBlock, ObjectRoutine, RoutineId, Symbol};
-
-/// The register that has the address to return to.
-const RETURN: u8 = 1;
 
 /// Puts the address of a symbol in a register.
 fn push_symbol(

@@ -2,6 +2,9 @@
 //!
 //! The reader takes the bytes of a file. It answers the first of nine conditions that the file does not meet, or what the
 //! file says of its entry and its segments. It takes no memory.
+//!
+//! `link` takes a program in objects and the layout of its constants, and gives the bytes of its image. They are exactly what
+//! a definition says, meet the nine conditions, and have the code of each item at its address.
 #![tactic(auto)]
 
 mod addresses;

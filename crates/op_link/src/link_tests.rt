@@ -24,6 +24,11 @@ const NOTHING: Item = Item::Plain(Instr::Imm {
     imm: 0,
 });
 
+const CALL: Item = Item::Call {
+    routine: RoutineId(1),
+    landing: None,
+};
+
 fn block(alloc: Global, items: &[Item], nothing: usize) -> Result<ObjectBlock, Fail> {
     let mut all = Vec::from_slice(alloc, items)?;
     for _turn in 0..nothing {
@@ -240,10 +245,6 @@ fn what_is_far_is_reached(rt: HostRuntime) -> Result<(), Fail> {
     let alloc = rt.alloc();
     let layout = constants(alloc, &[])?;
     let jump = Item::Jump { block: BlockId(1) };
-    let call = Item::Call {
-        routine: RoutineId(1),
-        landing: None,
-    };
     // By an assembler: an item, how many items it goes over, and its words.
     let rows: [(Item, usize, &[u32]); 9] = [
         (branch(BranchOp::Blt, 1), 1, &[0x00b5_4463]),
@@ -261,8 +262,8 @@ fn what_is_far_is_reached(rt: HostRuntime) -> Result<(), Fail> {
         ),
         (jump, 262_141, &[0x7f9f_f06f]),
         (jump, 262_142, &[0x0011_00b7, 0x0180_8067]),
-        (call, 262_140, &[0x7f9f_f0ef]),
-        (call, 262_141, &[0x0011_00b7, 0x0180_80e7]),
+        (CALL, 262_140, &[0x7f9f_f0ef]),
+        (CALL, 262_141, &[0x0011_00b7, 0x0180_80e7]),
     ];
     for (item, nothing, words) in rows {
         let image = linked(&rt, alloc, &forward(alloc, item, nothing)?, &layout)?;
@@ -303,25 +304,35 @@ fn what_is_far_behind_is_reached(rt: HostRuntime) -> Result<(), Fail> {
     Ok(())
 }
 
-#[test]
-fn the_limit_is_exact(rt: HostRuntime) -> Result<(), Fail> {
-    let alloc = rt.alloc();
+/// A program of 28 bytes of code and four of initial globals.
+fn small(alloc: Global) -> Result<Objects, Fail> {
     let main = routine(alloc, &[], vec![in alloc; block(alloc, &[ECALL], 0)?]?)?;
     let globals = vec![in alloc; global(alloc, &[], 4)?, global(alloc, &[1], 0)?]?;
-    let objects = Objects {
+    Ok(Objects {
         routines: Sequence::from(vec![in alloc; main]?),
         entry: RoutineId(0),
         globals: Sequence::from(globals),
-    };
-    // 28 bytes of code and 4 of initial globals.
+    })
+}
+
+/// Bytes, and behind them tables, with two literals of one byte each.
+fn constants_of(alloc: Global, bytes: Vec<u8>, entries: &[RoutineId]) -> Result<Layout, Fail> {
+    let start = bytes.len();
+    Ok(Layout {
+        bytes: Text::from(bytes),
+        entries: Sequence::from(Vec::from_slice(alloc, entries)?),
+        literals: Sequence::from(vec![in alloc; place(0), place(1)]?),
+        tables: Sequence::from(vec![in alloc; start]?),
+        descriptors: Sequence::from(Vec::new(alloc)),
+    })
+}
+
+#[test]
+fn the_limit_is_exact(rt: HostRuntime) -> Result<(), Fail> {
+    let alloc = rt.alloc();
+    let objects = small(alloc)?;
     for (size, fits) in [(67_108_832, true), (67_108_833, false)] {
-        let layout = Layout {
-            bytes: Text::from(vec![in alloc; 0; size]?),
-            entries: Sequence::from(Vec::new(alloc)),
-            literals: Sequence::from(Vec::new(alloc)),
-            tables: Sequence::from(Vec::new(alloc)),
-            descriptors: Sequence::from(Vec::new(alloc)),
-        };
+        let layout = constants_of(alloc, vec![in alloc; 0; size]?, &[])?;
         assert!(&rt; linkable(&objects, &layout));
         match link(alloc, &objects, &layout, &SMALL) {
             Ok(_) => assert!(&rt; fits, "{size}"),
@@ -336,13 +347,8 @@ fn the_limit_is_exact(rt: HostRuntime) -> Result<(), Fail> {
 fn tables_hold_addresses(rt: HostRuntime) -> Result<(), Fail> {
     let alloc = rt.alloc();
     let objects = every_kind(alloc)?;
-    let layout = Layout {
-        bytes: Text::copy_of(alloc, b"abcd")?,
-        entries: Sequence::from(vec![in alloc; RoutineId(1), RoutineId(0)]?),
-        literals: Sequence::from(vec![in alloc; place(0), place(1)]?),
-        tables: Sequence::from(vec![in alloc; 4]?),
-        descriptors: Sequence::from(Vec::new(alloc)),
-    };
+    let bytes = Vec::from_slice(alloc, b"abcd")?;
+    let layout = constants_of(alloc, bytes, &[RoutineId(1), RoutineId(0)])?;
     let image = linked(&rt, alloc, &objects, &layout)?;
     let words = [0x6463_6261, 0x0001_0050, 0x0001_0018, 0];
     assert!(&rt; stand_at(alloc, image.as_slice(), 8192, &words)?);

@@ -17,10 +17,10 @@ pub enum Reach {
 }
 
 /// How far a branch reaches, in bytes.
-const BRANCH: u64 = 4096;
+pub(crate) const BRANCH: u64 = 4096;
 
 /// How far a jump reaches.
-const JUMP: u64 = 1_048_576;
+pub(crate) const JUMP: u64 = 1_048_576;
 
 /// How far a jump reaches that stands behind a branch, from the branch.
 const OVER_BRANCH: u64 = 1_048_572;
