@@ -1,0 +1,4 @@
+pub mod Cuts
+pub mod ExpressionFronts
+pub mod Marks
+pub mod Refusing
