@@ -1,5 +1,5 @@
 -- The parts of expressions keep their derivations, whatever stands behind them.
-use Rattle.std.proofs.Common.{◌≡◌, ℕ, List, ◌∷◌, refl, ap, ◌∙◌}
+use Rattle.std.proofs.Common.{ℕ, List, ◌∷◌, refl, ap, ◌∙◌}
 use Rattle.op_parse_code.proofs.Cuts.{cut_none, cut_one, cut_join, Front}
 use Rattle.op_scan.specs.declared.token.TokenKind.TheVariants as kind
 use Rattle.op_tree.specs.Expression.{Expression, Operations, Elements, Element, Designator, Root, Selectors, Selector, Expressions, Arguments, Argument}

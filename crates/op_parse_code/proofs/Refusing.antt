@@ -2,15 +2,13 @@
 use Rattle.std.proofs.Common.{◌≡◌, ℕ, suc, List, [], ◌∷◌, ◌++◌, append_assoc, refl, sym, ap, ◌∙◌, subst, length, length-append, arith}
 use Rattle.op_tree.proofs.ExpressionUnique.{behind, same2}
 use Rattle.op_base.specs.declared.place.Place.{Place}
-use Rattle.op_parse_code.proofs.Cuts.{IsCut, cut_seen, same_refl, same_behind}
+use Rattle.op_parse_code.proofs.Cuts.{IsCut, cut_seen, same_behind}
 use Rattle.op_parse_code.specs.Form.{HasForm}
 use Rattle.op_parse_code.specs.Refusal.{Phrase, SameHead, Dead, Refuses, out_of_memory, syntax, nested, left_out, refused_at}
-use Rattle.op_parse_code.specs.Opening.{kind_of}
 use Rattle.op_parse_code.specs.Whole.{Marked, NoMark}
 use Rattle.op_parse_code.specs.declared.error.ParseError.{ParseError}
 use Rattle.op_parse_code.specs.declared.mark.Mark.{Mark}
-use Rattle.op_tree.specs.Terminal.{Terminal, ◌at◌}
-use Rattle.op_tree.specs.declared.position.Position.{Position}
+use Rattle.op_tree.specs.Terminal.{Terminal}
 
 -- some part stands there
 abbrev pub Some_ : {A : Type 0} → Phrase A → ℕ → List Terminal → Type 0
@@ -23,7 +21,7 @@ Seq P Q d x ks r = (m : List Terminal) × P d x.0 ks m × Q d x.1 m r
 head_same : {t u : Terminal} {ks ls : List Terminal} → t ∷ ks ≡ u ∷ ls → t ≡ u
 head_same h = cc
 
-suc_same : {n m : ℕ} → suc n ≡ suc m → n ≡ m
+pub suc_same : {n m : ℕ} → suc n ≡ suc m → n ≡ m
 suc_same h = cc
 
 -- two lists of tokens before the same ones, where the whole is the same
@@ -53,7 +51,7 @@ inside_seen P ks q front e (seen, e1, never) ls a r s x = never ls a r s (subst 
 pub dead_here : {A : Type 0} (P : A → List Terminal → List Terminal → Type 0) (ks : List Terminal) → ((a : A) (ls r : List Terminal) → SameHead ks ls → P a ls r → ⊥) → Dead P ks ks
 dead_here P ks h = ([], refl, λ ls a r s x. h a ls r s x)
 
-inside_any : {A B : Type 0} (P : Phrase A) (Q : Phrase B) (d' : ℕ) (t : Terminal) (ks q : List Terminal) → ((b : B) (ls r : List Terminal) → Q d' b (t ∷ ls) r → (i : ℕ) × (d' ≡ suc i) × Some_ P i ls) → ((i : ℕ) → Dead (P i) ks q) → Dead (Q d') (t ∷ ks) q
+pub inside_any : {A B : Type 0} (P : Phrase A) (Q : Phrase B) (d' : ℕ) (t : Terminal) (ks q : List Terminal) → ((b : B) (ls r : List Terminal) → Q d' b (t ∷ ls) r → (i : ℕ) × (d' ≡ suc i) × Some_ P i ls) → ((i : ℕ) → Dead (P i) ks q) → Dead (Q d') (t ∷ ks) q
 inside_any P Q d' t ks q h never =
     let first = never d' in
     (t ∷ first.0, ap (λ z. t ∷ z) first.1, λ ls b r s x. let w = h b (first.0 ++ ls) r x in inside_seen (P w.0) ks q first.0 first.1 (never w.0) ls w.2.0 w.2.1 s w.2.2)
@@ -94,13 +92,14 @@ pub record Known {A : Type 0} (P : Phrase A) : Type 0 where
 dead_after : {A B : Type 0} (P : Phrase A) (Q : Phrase B) (d d' : ℕ) (a : A) (ks m q : List Terminal) → Known P → P d a ks m → Dead (Q d') m q → Dead (Seq P Q d') ks q
 dead_after P Q d d' a ks m q known p (seen, e, never) =
     let w = known.front d a ks m p in
-    let s = cut_seen w.1 in
-    (s.0 ++ seen,
-    w.2 ∙ s.1 m ∙ ap (λ z. s.0 ++ z) e ∙ sym (append_assoc s.0 seen q),
-    λ ls b r h x.
-        let whole : P d a (s.0 ++ (seen ++ ls)) (seen ++ ls) = subst (λ z. P d a z (seen ++ ls)) (s.1 (seen ++ ls)) (w.3 (seen ++ ls) (subst (λ z. SameHead z (seen ++ ls)) (sym e) (same_behind seen q ls h))) in
-        let other : P d' b.0 (s.0 ++ (seen ++ ls)) x.0 = subst (λ z. P d' b.0 z x.0) (append_assoc s.0 seen ls) x.1 in
-        never ls b.1 r h (subst (λ z. Q d' b.1 z r) (sym (known.same d d' a b.0 _ _ _ whole other)) x.2))
+    let s = cut_seen w.1 in (
+      s.0 ++ seen,
+      w.2 ∙ s.1 m ∙ ap (λ z. s.0 ++ z) e ∙ sym (append_assoc s.0 seen q),
+      λ ls b r h x.
+          let whole : P d a (s.0 ++ (seen ++ ls)) (seen ++ ls) = subst (λ z. P d a z (seen ++ ls)) (s.1 (seen ++ ls)) (w.3 (seen ++ ls) (subst (λ z. SameHead z (seen ++ ls)) (sym e) (same_behind seen q ls h))) in
+          let other : P d' b.0 (s.0 ++ (seen ++ ls)) x.0 = subst (λ z. P d' b.0 z x.0) (append_assoc s.0 seen ls) x.1 in
+          never ls b.1 r h (subst (λ z. Q d' b.1 z r) (sym (known.same d d' a b.0 _ _ _ whole other)) x.2),
+    )
 
 pub refuses_after : {A B : Type 0} (P : Phrase A) (Q : Phrase B) (d : ℕ) (end : Place) (a : A) (ks m : List Terminal) (e : ParseError) → Known P → P d a ks m → Refuses Q d end m e → Refuses (Seq P Q) d end ks e
 refuses_after P Q d end a ks m e known p (out_of_memory x) = out_of_memory x
@@ -113,7 +112,7 @@ refuses_after P Q d end a ks m e known p (left_out feature q x f) =
 
 -- ---- marks
 
-no_mark_same : (m : Mark) (ks ls : List Terminal) → SameHead ks ls → NoMark m ks → NoMark m ls
+pub no_mark_same : (m : Mark) (ks ls : List Terminal) → SameHead ks ls → NoMark m ks → NoMark m ls
 no_mark_same m [] [] s never = never
 no_mark_same m [] (u ∷ ls) s never = absurd s
 no_mark_same m (t ∷ ks) [] s never = absurd s

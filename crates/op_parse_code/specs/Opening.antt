@@ -12,10 +12,11 @@ use Rattle.op_parse_code.specs.declared.opening.RootOpening.{RootOpening}
 use Rattle.op_parse_code.specs.declared.opening.RootOpening.TheVariants as root
 use Rattle.op_parse_code.specs.declared.opening.SelectorOpening.{SelectorOpening}
 use Rattle.op_parse_code.specs.declared.opening.SelectorOpening.TheVariants as selects
-use Rattle.op_tree.specs.Ends.{begins_selector, begins_designator, begins_expression}
+use Rattle.op_tree.specs.Ends.{IsNot, binds, begins_selector, begins_designator, begins_expression}
 use Rattle.op_tree.specs.Operator.{operator_of, prefix_operator_of, level_of}
 use Rattle.op_tree.specs.Terminal.{Terminal, ◌at◌}
 use Rattle.op_tree.specs.declared.operator.Level.{Level}
+use Rattle.op_tree.specs.declared.operator.Level.TheVariants.{Relational, Additive, Multiplicative}
 use Rattle.op_tree.specs.declared.operator.Operator.{Operator}
 use Rattle.op_tree.specs.declared.position.Position.{Position}
 
@@ -108,3 +109,9 @@ StandsOperator l o p ks r = (k : TokenKind) × (ks ≡ k at p ∷ r) × (operato
 
 abbrev pub NoOperator : Level → List Terminal → Type 0
 NoOperator l ks = (o : Operator) (p : Position) (r : List Terminal) → StandsOperator l o p ks r → ⊥
+
+-- no operator that binds more tightly than the level stands at the front
+abbrev pub NotTighter : Level → List Terminal → Type 0
+NotTighter Relational ks = IsNot (binds Additive) ks
+NotTighter Additive ks = IsNot (binds Multiplicative) ks
+NotTighter Multiplicative ks = Unit {0}

@@ -1,8 +1,6 @@
 -- What a refusal of a part says.
 use Rattle.std.specs.Prelude.{◌≡◌, ℕ, List, [], ◌∷◌, ◌++◌}
 use Rattle.op_base.specs.declared.place.Place.{Place}
-use Rattle.op_base.specs.declared.rule.Refusal.{Refusal}
-use Rattle.op_base.specs.declared.rule.Rule.{Rule}
 use Rattle.op_parse_code.specs.Form.{HasForm}
 use Rattle.op_parse_code.specs.declared.error.ParseError.{ParseError}
 use Rattle.op_parse_code.specs.declared.error.ParseError.TheVariants.{Refused, NoMemory}

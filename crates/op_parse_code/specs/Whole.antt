@@ -14,7 +14,7 @@ use Rattle.op_tree.specs.NameGrammar.{IsName}
 use Rattle.op_tree.proofs.ExpressionUnique.{EndsOperandAt}
 use Rattle.op_tree.specs.Terminal.{Terminal, ◌at◌}
 use Rattle.op_tree.specs.declared.operator.Level.{Level}
-use Rattle.op_tree.specs.declared.operator.Level.TheVariants.{Relational, Additive, Multiplicative}
+use Rattle.op_tree.specs.declared.operator.Level.TheVariants.{Relational}
 use Rattle.op_tree.specs.declared.position.Name.{Name}
 use Rattle.op_tree.specs.declared.position.Position.{Position}
 
@@ -67,6 +67,11 @@ ArgumentsBefore d args ks r = (p : Position) × AreArguments d args ks (kind.Clo
 -- indices, and the closing bracket behind them
 abbrev pub IndicesBefore : Phrase Expressions
 IndicesBefore d es ks r = (p : Position) × AreExpressions d es ks (kind.CloseBracket at p ∷ r)
+
+-- the marks that stand behind elements: of a set, and of the labels of a branch
+pub data ClosesElements : Mark → Type 0 where
+  closes_set : ClosesElements mark.CloseBracket
+  closes_labels : ClosesElements mark.Colon
 
 -- what stands behind the bracket that opens a set, and the closing one
 pub data InsideSet : ℕ → Elements → List Terminal → List Terminal → Type 0 where

@@ -1,11 +1,12 @@
 //! Operands with operators between them, level by level (Free Pascal Reference Guide, "Expressions").
-ghost use Rattle.std.specs.Prelude.{◌≤◌, ◌<◌, IfOk, IfErr, IfSome, MatchOption, length};
-ghost use Rattle.op_parse_code.specs.Opening.{NoOperator, StandsOperator};
+ghost use Rattle.std.specs.Prelude.{◌≡◌, ◌≤◌, ◌<◌, IfOk, IfErr, IfSome, IsTrue, MatchOption, length};
+ghost use Rattle.op_parse_code.specs.Opening.{NoOperator, NotTighter, StandsOperator};
 ghost use Rattle.op_parse_code.specs.Refusal.{Refuses};
 ghost use Rattle.op_parse_code.specs.Whole.{Chain, Operand, SomeOperations};
 ghost use Rattle.op_tree.specs.Expression.{expr_of};
 ghost use Rattle.op_tree.specs.Lists.{operations_of};
 ghost use Rattle.op_tree.specs.Terminal.{terminals};
+ghost use Rattle.op_tree.specs.declared.operator.Operator.TheVariants.{Slash};
 
 use crate::ParseError;
 use crate::error::{FLOATING_POINT, left_out};
@@ -28,7 +29,7 @@ pub fn chain<'a>(
 ) -> Result<(Expr, &'a [Token]), ParseError>
     ensures whole { IfOk result (λ f. Chain level left (expr_of f.0) (terminals tokens.now) (terminals f.1.now)) }
     ensures refused { IfErr result (Refuses (Chain level) left end (terminals tokens.now)) }
-    ensures shorter { IfOk result (λ f. length f.1.now ≤ length tokens.now) }
+    ensures shorter { IfOk result (λ f. length f.1.now < length tokens.now) }
 {
     let (first, rest) = operand(alloc, level, left, end, tokens)?;
     let (operations, rest) = operations(alloc, level, left, end, rest)?;
@@ -45,6 +46,7 @@ fn operations<'a>(
     end: Place,
     tokens: &'a [Token],
 ) -> Result<(Vec<Operation>, &'a [Token]), ParseError>
+    requires follows { NotTighter level (terminals tokens.now) }
     ensures whole { IfOk result (λ f. SomeOperations level left (operations_of f.0.items) (terminals tokens.now) (terminals f.1.now)) }
     ensures refused { IfErr result (Refuses (SomeOperations level) left end (terminals tokens.now)) }
     ensures shorter { IfOk result (λ f. length f.1.now ≤ length tokens.now) }
@@ -52,7 +54,7 @@ fn operations<'a>(
     let mut operations = Vec::new(alloc);
     let mut rest = tokens;
     while let Some((operator, position, after)) = operator_at(level, rest) {
-        if matches!(operator, Operator::Slash) {
+        if is_slash(operator) {
             return Err(left_out(FLOATING_POINT, end, rest));
         }
         let (operand, behind) = operand(alloc, level, left, end, after)?;
@@ -81,6 +83,12 @@ fn operator_at(level: Level, tokens: &[Token]) -> Option<(Operator, Position, &[
     }
 }
 
+fn is_slash(operator: Operator) -> bool
+    ensures { IsTrue result → operator ≡ Slash }
+{
+    matches!(operator, Operator::Slash)
+}
+
 /// An operand of a chain of a level.
 #[cycle(expression)]
 fn operand<'a>(
@@ -92,7 +100,7 @@ fn operand<'a>(
 ) -> Result<(Expr, &'a [Token]), ParseError>
     ensures whole { IfOk result (λ f. Operand level left (expr_of f.0) (terminals tokens.now) (terminals f.1.now)) }
     ensures refused { IfErr result (Refuses (Operand level) left end (terminals tokens.now)) }
-    ensures shorter { IfOk result (λ f. length f.1.now ≤ length tokens.now) }
+    ensures shorter { IfOk result (λ f. length f.1.now < length tokens.now) }
 {
     match level {
         Level::Relational => chain(alloc, Level::Additive, left, end, tokens),

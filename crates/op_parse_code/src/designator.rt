@@ -34,7 +34,7 @@ pub fn designator<'a>(
 ) -> Result<(Designator, &'a [Token]), ParseError>
     ensures whole { IfOk result (λ f. SomeDesignator left (designator_of f.0) (terminals tokens.now) (terminals f.1.now)) }
     ensures refused { IfErr result (Refuses SomeDesignator left end (terminals tokens.now)) }
-    ensures shorter { IfOk result (λ f. length f.1.now ≤ length tokens.now) }
+    ensures shorter { IfOk result (λ f. length f.1.now < length tokens.now) }
 {
     let (root, rest) = root(alloc, left, end, tokens)?;
     let (selectors, rest) = selectors(alloc, left, end, rest)?;
@@ -51,7 +51,7 @@ fn root<'a>(
 ) -> Result<(Root, &'a [Token]), ParseError>
     ensures whole { IfOk result (λ f. IsRoot left (root_of f.0) (terminals tokens.now) (terminals f.1.now)) }
     ensures refused { IfErr result (Refuses IsRoot left end (terminals tokens.now)) }
-    ensures shorter { IfOk result (λ f. length f.1.now ≤ length tokens.now) }
+    ensures shorter { IfOk result (λ f. length f.1.now < length tokens.now) }
 {
     let Some((first, rest)) = tokens.split_first() else {
         return Err(syntax(end, tokens));
@@ -120,7 +120,7 @@ fn selector<'a>(
     tokens: &'a [Token],
 ) -> Result<Option<(Selector, &'a [Token])>, ParseError>
     ensures whole { IfOk result (λ found. MatchOption found (IsNot begins_selector (terminals tokens.now)) (λ f. IsSelector left (selector_of f.0) (terminals tokens.now) (terminals f.1.now))) }
-    ensures refused { IfErr result (Refuses IsSelector left end (terminals tokens.now)) }
+    ensures refused { IfErr result (Refuses SomeSelectors left end (terminals tokens.now)) }
     ensures shorter { IfOk result (λ found. IfSome found (λ f. length f.1.now < length tokens.now)) }
 {
     let Some((first, rest)) = tokens.split_first() else {

@@ -54,11 +54,17 @@ impl<T: Drop> From<AllocFailed<T>> for ParseError {
 
 /// Features that the profile leaves out.
 pub const FLOATING_POINT: u8 = 1;
+
 pub const WITH: u8 = 15;
+
 pub const GOTO_OR_LABEL: u8 = 16;
+
 pub const ASSEMBLY: u8 = 17;
+
 pub const GENERIC: u8 = 29;
+
 pub const RAISE_AT: u8 = 34;
+
 pub const FRACTION_WIDTH: u8 = 35;
 
 fn refused_at(number: u8, feature: u8, end: Place, tokens: &[Token]) -> ParseError

@@ -1,5 +1,5 @@
 //! Factors: what stands between two operators.
-ghost use Rattle.std.specs.Prelude.{◌≡◌, ◌≤◌, suc, IfOk, IfErr, IsTrue, length};
+ghost use Rattle.std.specs.Prelude.{◌≡◌, ◌≤◌, ◌<◌, suc, IfOk, IfErr, IsTrue, length};
 ghost use Rattle.op_parse_code.specs.Form.{HasForm};
 ghost use Rattle.op_parse_code.specs.Refusal.{Refuses, refused_at};
 ghost use Rattle.op_parse_code.specs.Whole.{CannotEnter, Factor, InsideSet};
@@ -30,7 +30,7 @@ pub fn factor<'a>(
 ) -> Result<(Expr, &'a [Token]), ParseError>
     ensures whole { IfOk result (λ f. Factor left (expr_of f.0) (terminals tokens.now) (terminals f.1.now)) }
     ensures refused { IfErr result (Refuses Factor left end (terminals tokens.now)) }
-    ensures shorter { IfOk result (λ f. length f.1.now ≤ length tokens.now) }
+    ensures shorter { IfOk result (λ f. length f.1.now < length tokens.now) }
 {
     let Some((first, rest)) = tokens.split_first() else {
         return Err(syntax(end, tokens));
@@ -125,7 +125,7 @@ fn enter_operand(left: u32, end: Place, tokens: &[Token]) -> Result<u32, ParseEr
     if left > 0 {
         return Ok(left - 1);
     }
-    let Some(first) = tokens.first() else {
+    let Some((first, _)) = tokens.split_first() else {
         return Err(syntax(end, tokens));
     };
     match factor_opening(&first.kind) {

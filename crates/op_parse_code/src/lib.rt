@@ -19,6 +19,5 @@ mod token;
 pub use error::ParseError;
 pub use part::{expression, simple};
 
-
 #[cfg(test)]
 mod tests;

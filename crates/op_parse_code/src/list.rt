@@ -1,7 +1,7 @@
 //! Lists with commas between their parts, each up to the token behind it.
 ghost use Rattle.std.specs.Prelude.{◌≤◌, IfOk, IfErr, length};
 ghost use Rattle.op_parse_code.specs.Refusal.{Refuses};
-ghost use Rattle.op_parse_code.specs.Whole.{ArgumentsBefore, ElementsBefore, IndicesBefore, SomeArgument, SomeElement};
+ghost use Rattle.op_parse_code.specs.Whole.{ArgumentsBefore, ClosesElements, ElementsBefore, IndicesBefore, SomeArgument, SomeElement};
 ghost use Rattle.op_tree.specs.Expression.{argument_of, element_of};
 ghost use Rattle.op_tree.specs.Lists.{arguments_of, expressions_of};
 ghost use Rattle.op_tree.specs.Statement.{elements_of};
@@ -25,6 +25,7 @@ pub fn elements<'a>(
     end: Place,
     tokens: &'a [Token],
 ) -> Result<(Vec<Element>, &'a [Token]), ParseError>
+    requires { ClosesElements close }
     ensures whole { IfOk result (λ f. ElementsBefore close left (elements_of f.0.items) (terminals tokens.now) (terminals f.1.now)) }
     ensures refused { IfErr result (Refuses (ElementsBefore close) left end (terminals tokens.now)) }
     ensures shorter { IfOk result (λ f. length f.1.now ≤ length tokens.now) }

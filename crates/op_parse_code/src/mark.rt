@@ -65,11 +65,7 @@ pub fn behind_mark<'a>(mark: Mark, tokens: &'a [Token]) -> Option<&'a [Token]>
 {
     let (first, rest) = tokens.split_first()?;
     let found = mark_of(&first.kind)?;
-    if found == mark {
-        Some(rest)
-    } else {
-        None
-    }
+    if found == mark { Some(rest) } else { None }
 }
 
 /// The tokens behind a mark, with which they must begin.
