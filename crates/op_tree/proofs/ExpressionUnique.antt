@@ -32,7 +32,7 @@ mutual
   ends_operand (designated g) r h = h
   ends_operand (inherited p g) r h = h
 
-  end_operations : (os : Operations) (r : List Terminal) → IsNot begins_selector r → EndOperations os r
+  pub end_operations : (os : Operations) (r : List Terminal) → IsNot begins_selector r → EndOperations os r
   end_operations no_operations r h = tt
   end_operations (operation o p e no_operations) r h = ends_operand e r h
   end_operations (operation o p e (operation o1 p1 e1 os)) r h = end_operations (operation o1 p1 e1 os) r h
@@ -40,7 +40,7 @@ mutual
 -- ---- levels
 
 -- nothing that follows would belong to an operand at a level
-abbrev EndsOperandAt : Level → Expression → List Terminal → Type 0
+abbrev pub EndsOperandAt : Level → Expression → List Terminal → Type 0
 EndsOperandAt Relational e r = EndsChain Additive e r
 EndsOperandAt Additive e r = EndsChain Multiplicative e r
 EndsOperandAt Multiplicative e r = EndsOperand e r
@@ -66,19 +66,19 @@ not_weaker : (r : List Terminal) → IsNot (binds Relational) r → IsNot (binds
 not_weaker [] h = tt
 not_weaker (t ∷ r) h = weaker (operator_of t.kind) h Additive
 
-operand_at : (l : Level) (e : Expression) (r : List Terminal) → EndsChain l e r → EndsOperandAt l e r
+pub operand_at : (l : Level) (e : Expression) (r : List Terminal) → EndsChain l e r → EndsOperandAt l e r
 operand_at Relational e r h = (not_weaker r h.0, h.1)
 operand_at Additive e r h = (not_tighter r h.0, h.1)
 operand_at Multiplicative e r h = h.1
 
 -- an operator of the level ends an operand before it
-operand_before : (l : Level) (k : TokenKind) (o : Operator) (e : Expression) (p : Position) (r : List Terminal) → operator_of k ≡ Some o → level_of o ≡ l → EndsOperandAt l e (k at p ∷ r)
+pub operand_before : (l : Level) (k : TokenKind) (o : Operator) (e : Expression) (p : Position) (r : List Terminal) → operator_of k ≡ Some o → level_of o ≡ l → EndsOperandAt l e (k at p ∷ r)
 operand_before Relational k o e p r h q = (rw h (rw q refl), ends_operand e (k at p ∷ r) (operator_is_no_selector k o h))
 operand_before Additive k o e p r h q = (rw h (rw q refl), ends_operand e (k at p ∷ r) (operator_is_no_selector k o h))
 operand_before Multiplicative k o e p r h q = ends_operand e (k at p ∷ r) (operator_is_no_selector k o h)
 
 -- the first operand of a whole chain is whole
-operand_ends : {l : Level} {d : ℕ} {os : Operations} {m r : List Terminal} (e : Expression) → AreOperations l d os m r → IsNot (binds l) r → EndsOperand (chain_of e os) r → EndsOperandAt l e m
+pub operand_ends : {l : Level} {d : ℕ} {os : Operations} {m r : List Terminal} (e : Expression) → AreOperations l d os m r → IsNot (binds l) r → EndsOperand (chain_of e os) r → EndsOperandAt l e m
 operand_ends {l} e are_no_operations h t = operand_at l e _ (h, t)
 operand_ends {l} e (are_operations {k = k} {o = o} {p = p} {ks = ks} h q a os) n t = operand_before l k o e p ks h q
 
@@ -89,29 +89,29 @@ pub false_true : {A : Type 0} → false ≡ true → A
 false_true e = absurd cc
 
 -- an operator of the level is none that may follow a whole chain
-clash : {A : Type 0} (l : Level) (k : TokenKind) (o : Operator) (p : Position) (r : List Terminal) → operator_of k ≡ Some o → level_of o ≡ l → IsNot (binds l) (k at p ∷ r) → A
+pub clash : {A : Type 0} (l : Level) (k : TokenKind) (o : Operator) (p : Position) (r : List Terminal) → operator_of k ≡ Some o → level_of o ≡ l → IsNot (binds l) (k at p ∷ r) → A
 clash Relational k o p r h q n = true_false (sym (ap (operator_at_least Relational) h) ∙ n)
 clash Additive k o p r h q n = true_false (sym (ap (operator_at_least Additive) h ∙ ap (at_least Additive) q) ∙ n)
 clash Multiplicative k o p r h q n = true_false (sym (ap (operator_at_least Multiplicative) h ∙ ap (at_least Multiplicative) q) ∙ n)
 
 -- the last operand of what follows an operand is its own last one, if there is an operation
-last_operand : (e : Expression) (rest : Operations) (o : Operator) (p : Position) (r : List Terminal) → EndOperations (operation o p e rest) r → EndsOperand (chain_of e rest) r
+pub last_operand : (e : Expression) (rest : Operations) (o : Operator) (p : Position) (r : List Terminal) → EndOperations (operation o p e rest) r → EndsOperand (chain_of e rest) r
 last_operand e no_operations o p r h = h
 last_operand e (operation o1 p1 e1 os) o p r h = h
 
-last_operation : (e : Expression) (rest : Operations) (r : List Terminal) → EndsOperand (chain_of e rest) r → EndOperations rest r
+pub last_operation : (e : Expression) (rest : Operations) (r : List Terminal) → EndsOperand (chain_of e rest) r → EndOperations rest r
 last_operation e no_operations r h = tt
 last_operation e (operation o1 p1 e1 os) r h = h
 
 -- ---- with what an expression begins
 
-prefix_begins : (k : TokenKind) (o : PrefixOperator) → prefix_operator_of k ≡ Some o → begins_expression k ≡ true
+pub prefix_begins : (k : TokenKind) (o : PrefixOperator) → prefix_operator_of k ≡ Some o → begins_expression k ≡ true
 prefix_begins kind.Not o h = refl
 prefix_begins kind.Plus o h = refl
 prefix_begins kind.Minus o h = refl
 prefix_begins other o h = absurd cc
 
-prefix_is_no_designator : (k : TokenKind) (o : PrefixOperator) → prefix_operator_of k ≡ Some o → begins_designator k ≡ false
+pub prefix_is_no_designator : (k : TokenKind) (o : PrefixOperator) → prefix_operator_of k ≡ Some o → begins_designator k ≡ false
 prefix_is_no_designator kind.Not o h = refl
 prefix_is_no_designator kind.Plus o h = refl
 prefix_is_no_designator kind.Minus o h = refl
@@ -127,7 +127,7 @@ designator_begins (is_designator is_named ss) = refl
 designator_begins (is_designator is_string ss) = refl
 designator_begins (is_designator (is_bracketed e) ss) = refl
 
-factor_begins : {d : ℕ} {e : Expression} {ks r : List Terminal} → IsFactor d e ks r → Begins begins_expression ks
+pub factor_begins : {d : ℕ} {e : Expression} {ks r : List Terminal} → IsFactor d e ks r → Begins begins_expression ks
 factor_begins (is_prefixed {k = k} {o = o} h f) = prefix_begins k o h
 factor_begins is_number = refl
 factor_begins is_nil = refl
@@ -143,7 +143,7 @@ mutual
   pub chain_begins : {l : Level} {d : ℕ} {e : Expression} {ks r : List Terminal} → IsChain l d e ks r → Begins begins_expression ks
   chain_begins (is_chain a os q) = operand_begins a
 
-  operand_begins : {l : Level} {d : ℕ} {e : Expression} {ks r : List Terminal} → IsOperand l d e ks r → Begins begins_expression ks
+  pub operand_begins : {l : Level} {d : ℕ} {e : Expression} {ks r : List Terminal} → IsOperand l d e ks r → Begins begins_expression ks
   operand_begins (is_simple f) = chain_begins f
   operand_begins (is_term f) = chain_begins f
   operand_begins (is_factor f) = factor_begins f
@@ -156,12 +156,12 @@ pub elements_begin : {d : ℕ} {es : Elements} {ks r : List Terminal} → AreEle
 elements_begin (are_one_element e) = element_begins e
 elements_begin (are_elements e es) = element_begins e
 
-argument_begins : {d : ℕ} {a : Argument} {ks r : List Terminal} → IsArgument d a ks r → Begins begins_expression ks
+pub argument_begins : {d : ℕ} {a : Argument} {ks r : List Terminal} → IsArgument d a ks r → Begins begins_expression ks
 argument_begins (is_value f) = chain_begins f
 argument_begins (is_padded f g) = chain_begins f
 argument_begins (is_rounded f g h) = chain_begins f
 
-arguments_begin : {d : ℕ} {args : Arguments} {ks r : List Terminal} → AreArguments d args ks r → Begins begins_expression ks
+pub arguments_begin : {d : ℕ} {args : Arguments} {ks r : List Terminal} → AreArguments d args ks r → Begins begins_expression ks
 arguments_begin (are_one_argument a) = argument_begins a
 arguments_begin (are_arguments a args) = argument_begins a
 
@@ -206,7 +206,7 @@ mutual
       let u = unique_operations os (subst (λ x. AreOperations l d' rest' x r') (sym s.1) os') h.0 h'.0 (last_operation first rest r t) (last_operation first' rest' r' t') in
       (q ∙ same2 chain_of s.0 u.0 ∙ sym q', u.1)
 
-  unique_operand : {l : Level} {d d' : ℕ} {e e' : Expression} {ks r r' : List Terminal} → IsOperand l d e ks r → IsOperand l d' e' ks r' → EndsOperandAt l e r → EndsOperandAt l e' r' → (e ≡ e') × (r ≡ r')
+  pub unique_operand : {l : Level} {d d' : ℕ} {e e' : Expression} {ks r r' : List Terminal} → IsOperand l d e ks r → IsOperand l d' e' ks r' → EndsOperandAt l e r → EndsOperandAt l e' r' → (e ≡ e') × (r ≡ r')
   unique_operand (is_simple f) (is_simple f') h h' = unique_chain f f' h h'
   unique_operand (is_term f) (is_term f') h h' = unique_chain f f' h h'
   unique_operand (is_factor f) (is_factor f') h h' = unique_factor f f' h h'
@@ -222,7 +222,7 @@ mutual
       let u = unique_operations os (subst (λ x. AreOperations l d' rest' x r') (sym s.1) os') n n' (last_operation e rest r z) (last_operation e' rest' r' z') in
       (same3 (λ x y w. operation x p y w) (some_same (sym h ∙ h')) s.0 u.0, u.1)
 
-  unique_factor : {d d' : ℕ} {e e' : Expression} {ks r r' : List Terminal} → IsFactor d e ks r → IsFactor d' e' ks r' → EndsOperand e r → EndsOperand e' r' → (e ≡ e') × (r ≡ r')
+  pub unique_factor : {d d' : ℕ} {e e' : Expression} {ks r r' : List Terminal} → IsFactor d e ks r → IsFactor d' e' ks r' → EndsOperand e r → EndsOperand e' r' → (e ≡ e') × (r ≡ r')
   unique_factor (is_prefixed {p = p} h f) (is_prefixed h' f') t t' =
       let s = unique_factor f f' t t' in
       (same2 (λ x y. prefixed x p y) (some_same (sym h ∙ h')) s.0, s.1)
@@ -276,7 +276,7 @@ mutual
       let u = unique_selectors ss (subst (λ x. AreSelectors d' ss1 x r') (sym s.1) ss') t t' in
       (same2 designator s.0 u.0, u.1)
 
-  unique_root : {d d' : ℕ} {g g' : Root} {ks r r' : List Terminal} → IsRoot d g ks r → IsRoot d' g' ks r' → (g ≡ g') × (r ≡ r')
+  pub unique_root : {d d' : ℕ} {g g' : Root} {ks r r' : List Terminal} → IsRoot d g ks r → IsRoot d' g' ks r' → (g ≡ g') × (r ≡ r')
   unique_root is_named is_named = (refl, refl)
   unique_root is_string is_string = (refl, refl)
   unique_root (is_bracketed {p = p} {e = e} f) (is_bracketed {e = e'} f') =
@@ -292,7 +292,7 @@ mutual
       let u = unique_selectors ss (subst (λ x. AreSelectors d' ss1 x r') (sym a.1) ss') t t' in
       (same2 selectors a.0 u.0, u.1)
 
-  unique_selector : {d d' : ℕ} {s s' : Selector} {ks r r' : List Terminal} → IsSelector d s ks r → IsSelector d' s' ks r' → (s ≡ s') × (r ≡ r')
+  pub unique_selector : {d d' : ℕ} {s s' : Selector} {ks r r' : List Terminal} → IsSelector d s ks r → IsSelector d' s' ks r' → (s ≡ s') × (r ≡ r')
   unique_selector is_member is_member = (refl, refl)
   unique_selector (is_index {p = p} es) (is_index es') =
       let s = unique_expressions es es' (refl, refl) (refl, refl) refl refl in
