@@ -1,4 +1,0 @@
-pub mod Form
-pub mod Opening
-pub mod Refusal
-pub mod Whole
