@@ -1,1 +1,4 @@
+pub mod Expanding
 pub mod Linkable
+pub mod Places
+pub mod Standing
