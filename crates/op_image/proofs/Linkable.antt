@@ -345,11 +345,11 @@ module _ (low : Low) (layout : Layout) (buildable : is_buildable low layout ≡ 
         entries = right_of _ _ laid_out;
       }
 
-  globals_fit : nat_le (globals_size low.globals) 15728640 ≡ true
+  pub globals_fit : nat_le (globals_size low.globals) 15728640 ≡ true
   unfolding is_buildable
   globals_fit = right_of _ _ buildable
 
-  same_length : length (select_of low).routines ≡ length low.routines
+  pub same_length : length (select_of low).routines ≡ length low.routines
   unfolding select_of
   same_length = length-map low.routines object_routine_of
 
@@ -403,17 +403,17 @@ module _ (low : Low) (layout : Layout) (buildable : is_buildable low layout ≡ 
         (all_also passes (names_exist (select_of low) layout blocks) (object_routine_of routine).head (good_names (select_of low) layout blocks) head_passes)
         (all_also (λ block. list_all passes block.items) (λ block. list_all (names_exist (select_of low) layout blocks) block.items) (object_routine_of routine).blocks (λ block all. all_also passes (names_exist (select_of low) layout blocks) block.items (good_names (select_of low) layout blocks) all) blocks_pass)
 
-  routines_valid : list_all (is_valid_routine low) low.routines ≡ true
+  pub routines_valid : list_all (is_valid_routine low) low.routines ≡ true
   unfolding is_valid
   routines_valid = right_of _ _ valid_code
 
-  entry_there : nat_lt low.entry.0 (length (select_of low).routines) ≡ true
+  pub entry_there : nat_lt low.entry.0 (length (select_of low).routines) ≡ true
   unfolding is_valid
   entry_there =
       let there = taken_exists low.routines low.entry.0 0 (left_of _ _ valid_code) in
       lt-ltb _ _ (omega (arith, same_length))
 
-  all_fields : list_all routine_has_fields (select_of low).routines ≡ true
+  pub all_fields : list_all routine_has_fields (select_of low).routines ≡ true
   unfolding select_of
   all_fields =
       list_all-map routine_has_fields object_routine_of low.routines

@@ -31,9 +31,9 @@ some_same x y e = cc
 
 -- ---- code goes on by whole words
 
-record Rises (from to : ℕ) : Type 0 where
-  under : from ≤ to
-  whole : to % 4 ≡ from % 4
+pub record Rises (from to : ℕ) : Type 0 where
+  pub under : from ≤ to
+  pub whole : to % 4 ≡ from % 4
 
 rises_none : (a : ℕ) → Rises a a
 rises_none a = record { under = omega arith; whole = refl }
@@ -91,9 +91,9 @@ routines_rise known r spot (routine ∷ routines) =
 
 -- ---- what lies in between
 
-record Lies (from to at : ℕ) : Type 0 where
-  lower : Rises from at
-  upper : Rises at to
+pub record Lies (from to at : ℕ) : Type 0 where
+  pub lower : Rises from at
+  pub upper : Rises at to
 
 lies_further : (a b c d at : ℕ) → Rises a b → Rises c d → Lies b c at → Lies a d at
 lies_further a b c d at front rest lies =
@@ -109,9 +109,9 @@ block_lies known r spot (block ∷ blocks) (suc b) at is =
     lies_further spot.address next.address end end at (items_rise known r spot block.items) (rises_none end) (block_lies known r next blocks b at is)
 
 -- the head of a place lies there, and each of its blocks
-record PlaceLies (from to : ℕ) (place : RoutinePlace) : Type 0 where
-  head : Lies from to place.head
-  blocks : (b at : ℕ) → slice_get place.blocks b ≡ Some at → Lies from to at
+pub record PlaceLies (from to : ℕ) (place : RoutinePlace) : Type 0 where
+  pub head : Lies from to place.head
+  pub blocks : (b at : ℕ) → slice_get place.blocks b ≡ Some at → Lies from to at
 
 place_lies : (known : List RoutinePlace) (r : ℕ) (spot : Spot) (routine : ObjectRoutine) → PlaceLies spot.address (behind_routine known r spot routine).address (routine_place known r spot routine)
 unfolding routine_place
@@ -129,7 +129,7 @@ place_further a b c d place front rest lies =
       blocks = λ n at is. lies_further a b c d at front rest (lies.blocks n at is);
     }
 
-places_lie : (known : List RoutinePlace) (r : ℕ) (spot : Spot) (routines : List ObjectRoutine) (k : ℕ) (place : RoutinePlace) → slice_get (routine_places known r spot routines) k ≡ Some place → PlaceLies spot.address (behind_routines known r spot routines).address place
+pub places_lie : (known : List RoutinePlace) (r : ℕ) (spot : Spot) (routines : List ObjectRoutine) (k : ℕ) (place : RoutinePlace) → slice_get (routine_places known r spot routines) k ≡ Some place → PlaceLies spot.address (behind_routines known r spot routines).address place
 places_lie known r spot [] k place is = absurd cc
 places_lie known r spot (routine ∷ routines) zero place is =
     let next = behind_routine known r spot routine in
