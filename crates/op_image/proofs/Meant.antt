@@ -27,6 +27,7 @@ use Rattle.op_rv.specs.declared.instruction.ImmOp.TheVariants.{Addi}
 use Rattle.op_rv.specs.declared.instruction.Instr.{Instr}
 use Rattle.op_rv.specs.declared.instruction.Instr.TheVariants.{Imm, Jalr, Lui}
 use Rattle.op_rv.specs.declared.objects.ObjectRoutine.{ObjectRoutine}
+use Rattle.op_rv.specs.declared.objects.Objects.{Objects}
 use Rattle.op_rv.specs.declared.symbol.Symbol.{Symbol}
 use Rattle.op_rv.specs.declared.symbol.Symbol.TheVariants.{Routine as RoutineSymbol}
 use Rattle.op_select.proofs.Beginning.{begins}
@@ -280,3 +281,12 @@ module _ (low : Low) (layout : Layout) (settings : Settings) (image : List ℕ) 
         placement = is_placement;
         runs = λ room input input_bytes good. runs_here bytes input room input_bytes good;
       }
+
+-- the same of objects that are its selection
+pub means_of : (low : Low) (layout : Layout) (settings : Settings) (objects : Objects) (image : List ℕ) → objects ≡ select_of low → is_buildable low layout ≡ true → are_in_range settings ≡ true → linked_size objects layout settings ≤ 67108864 → IsLoaded image (segments_of (linked_sizes objects layout settings) settings) → HasCode image objects layout settings → AreBytes image → Means low layout settings image
+means_of low layout settings objects image is buildable ranged within loaded has bytes =
+    means low layout settings image buildable ranged
+    (subst (λ (objects : Objects). linked_size objects layout settings ≤ 67108864) is within)
+    (subst (λ (objects : Objects). IsLoaded image (segments_of (linked_sizes objects layout settings) settings)) is loaded)
+    (subst (λ (objects : Objects). HasCode image objects layout settings) is has)
+    bytes

@@ -1,7 +1,7 @@
 //! From low code to an image.
 ghost use Rattle.std.specs.Prelude.{◌≡◌, ◌<◌, ◌≤◌, IfOk, IfErr, IsTrue, OnOk};
 ghost use Rattle.op_image.specs.Building.{is_buildable};
-ghost use Rattle.op_image.specs.Means.{Means};
+ghost use Rattle.op_image.specs.Means.{AreBytes, Means};
 ghost use Rattle.op_link.specs.Linking.{image_of, linked_size};
 ghost use Rattle.op_link.specs.Memory.{are_in_range, most_linked};
 ghost use Rattle.op_link.specs.declared.linker.LinkError.{LinkError};
@@ -12,6 +12,12 @@ use op_link::{LinkError, Settings, link};
 use op_low::Low;
 use op_select::select;
 use std::alloc::Global;
+
+/// What is owned as bytes are bytes. It does nothing.
+fn are_bytes(image: &[u8])
+    ensures { AreBytes image.now }
+{
+}
 
 /// The image of a program in low code. `Limit` comes exactly where its code, constants and initial globals take more than
 /// 67,108,864 bytes, and `NoMemory` only where the allocator has no room. The image does what the low code does.
@@ -29,5 +35,7 @@ pub fn build(
     ensures limit { IfErr result (λ error. error ≡ LinkError.Limit → most_linked < linked_size (select_of low.now) layout.now settings.now) }
 {
     let objects = select(alloc, low)?;
-    link(alloc, &objects, layout, settings)
+    let image = link(alloc, &objects, layout, settings)?;
+    are_bytes(image.as_slice());
+    Ok(image)
 }
