@@ -1,5 +1,5 @@
 -- Blocks of valid code have items, so there are no more blocks than items.
-use Rattle.std.proofs.Common.{◌≡◌, ℕ, pos, ◌-ℤ◌, min, zero, suc, ◌+◌, ◌-◌, ◌<◌, ◌≤◌, Bool, true, false, cond, ◌&&◌, nat_lt, Option, Some, None, List, [], ◌∷◌, ◌++◌, length, map, slice_get, refl, ap, sym, subst, ◌∙◌, arith, length-append}
+use Rattle.std.proofs.Common.{◌≡◌, ℕ, pos, ◌-ℤ◌, min, zero, suc, ◌+◌, ◌-◌, ◌<◌, ◌≤◌, true, Some, List, [], ◌∷◌, ◌++◌, length, map, slice_get, subst, arith, length-append}
 use Rattle.std.proofs.lemmas.Bool.{and_parts}
 use Rattle.std.proofs.lemmas.List.Sums.{sum_by-append, sum_by-cons}
 use Rattle.std.specs.List.{list_all}
@@ -18,7 +18,7 @@ use Rattle.op_rv.specs.declared.objects.Item.{Item}
 use Rattle.op_rv.specs.declared.objects.Item.TheVariants.{Plain}
 use Rattle.op_rv.specs.declared.objects.ObjectBlock.{ObjectBlock}
 use Rattle.op_rv.specs.declared.objects.ObjectRoutine.{ObjectRoutine}
-use Rattle.op_select.specs.Frames.{cleared_locals, cleared_registers, epilogue, fetch, frame_of, head_of, home, keep, received, store_home}
+use Rattle.op_select.specs.Frames.{cleared_locals, cleared_registers, epilogue, frame_of, head_of, home, keep, received, store_home}
 use Rattle.op_select.specs.Selection.{answered, code_items, items_of, object_block_of, object_routine_of}
 use Rattle.op_select.specs.Sequences.{below, sum, word_store}
 

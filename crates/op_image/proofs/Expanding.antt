@@ -1,12 +1,10 @@
 -- The code of an item stands for the item.
-use Rattle.std.proofs.Common.{◌≡◌, ℕ, ℤ, pos, negsuc, zero, suc, ◌+◌, ◌-◌, ◌*◌, ◌/◌, ◌%◌, ◌^◌, ◌-ℤ◌, ◌<◌, ◌≤◌, Bool, true, false, ◌&&◌, cond, nat_eq, nat_le, nat_lt, Option, Some, None, List, [], ◌∷◌, ◌++◌, length, slice_get, refl, ap, ap₂, sym, subst, ◌∙◌, inl, inr, arith, append_assoc, length-append}
+use Rattle.std.proofs.Common.{◌≡◌, ℕ, ℤ, pos, negsuc, suc, ◌+◌, ◌-◌, ◌*◌, ◌/◌, ◌%◌, ◌^◌, ◌-ℤ◌, ◌<◌, ◌≤◌, Bool, true, false, ◌&&◌, cond, nat_eq, nat_lt, Option, Some, None, List, [], ◌∷◌, refl, ap, sym, subst, ◌∙◌, inl, inr, arith}
 use Rattle.std.specs.Option.{option_map}
 use Rattle.std.proofs.lemmas.Bool.{cases_Bool, cases_lt, ltb-false, ltb-true}
-use Rattle.std.proofs.lemmas.Bool.Decides.{nat_tests}
 use Rattle.std.proofs.lemmas.Int.{ints}
 use Rattle.op_layout.specs.declared.layout.Layout.{Layout}
 use Rattle.op_link.specs.Code.{high_of, low_of, distance_within, symbol_address, code_at, then_code, set_address, go_by_register, jump_code, branch_code, opposite_of, item_code}
-use Rattle.op_link.specs.Memory.{code_address}
 use Rattle.op_link.specs.Reach.{block_in, head_in, reach_of, reaches}
 use Rattle.op_link.specs.declared.addresses.Addresses.{Addresses}
 use Rattle.op_link.specs.declared.place.Spot.{Spot}
@@ -18,11 +16,11 @@ use Rattle.op_rv.specs.Step.{offset_from}
 use Rattle.op_rv.specs.declared.instruction.BranchOp.{BranchOp}
 use Rattle.op_rv.specs.declared.instruction.BranchOp.TheVariants.{Beq, Bne, Blt, Bge, Bltu, Bgeu}
 use Rattle.op_rv.specs.declared.instruction.Instr.{Instr}
-use Rattle.op_rv.specs.declared.instruction.Instr.TheVariants.{Lui, Jal, Jalr, Branch, Imm}
+use Rattle.op_rv.specs.declared.instruction.Instr.TheVariants.{Jal, Branch}
 use Rattle.op_rv.specs.declared.objects.Item.{Item}
 use Rattle.op_rv.specs.declared.objects.Item.TheVariants.{Plain, Address, Branch as BranchItem, Call as CallItem, CallAt as CallAtItem, Jump as JumpItem}
 use Rattle.op_rv.specs.declared.symbol.Symbol.{Symbol}
-use Rattle.op_select.specs.Placing.{Placing, StandsHere, past, opposite, joined, Transfer, Near, Far, Choice, Direct, Over, Loading, InTwo, Expands}
+use Rattle.op_select.specs.Placing.{past, opposite, joined, Transfer, Near, Far, Choice, Direct, Over, Loading, InTwo, Expands}
 use Rattle.op_image.specs.Meaning.{or_zero, placing_by}
 
 -- ---- addresses in two parts, and distances

@@ -1,5 +1,5 @@
 -- The image of low code does what the low code does.
-use Rattle.std.proofs.Common.{◌≡◌, ℕ, zero, suc, ◌+◌, ◌-◌, ◌*◌, ◌%◌, ◌^◌, ◌<◌, ◌≤◌, true, false, nat_eq, Option, Some, None, List, [], ◌∷◌, ◌++◌, length, map, slice_get, refl, ap, sym, subst, ◌∙◌, inl, inr, arith}
+use Rattle.std.proofs.Common.{◌≡◌, ℕ, zero, suc, ◌+◌, ◌-◌, ◌*◌, ◌^◌, ◌<◌, ◌≤◌, true, nat_eq, Option, Some, None, List, [], ◌∷◌, ◌++◌, length, slice_get, refl, ap, sym, subst, ◌∙◌, inl, inr, arith}
 use Rattle.std.proofs.lemmas.Bool.{cases_lt}
 use Rattle.std.proofs.lemmas.Bool.Decides.{nat_tests}
 use Rattle.std.specs.List.{list_all}
@@ -12,13 +12,13 @@ use Rattle.op_link.specs.Image.{regions_in, start as start_image}
 use Rattle.op_link.specs.Linking.{addresses_of, linked_size, settled, start_code}
 use Rattle.op_link.specs.Loaded.{HasCode, IsLoaded, addresses_by, linked_sizes}
 use Rattle.op_link.specs.Memory.{are_in_range, segments_of, stack_address}
-use Rattle.op_link.specs.Placing.{behind_routine, behind_routines, first_spot, items_in_routine, placement_by, routine_place, routine_places}
+use Rattle.op_link.specs.Placing.{behind_routine, first_spot, placement_by, routine_place, routine_places}
 use Rattle.op_link.specs.Reach.{head_in}
 use Rattle.op_link.specs.Region.{byte_in}
 use Rattle.op_link.specs.declared.memory_map.Settings.{Settings}
 use Rattle.op_link.specs.declared.place.RoutinePlace.{RoutinePlace}
 use Rattle.op_link.specs.declared.place.Spot.{Spot}
-use Rattle.op_low.specs.Machine.{IsPlacement, NeverBad, low_machine}
+use Rattle.op_low.specs.Machine.{IsPlacement, NeverBad}
 use Rattle.op_low.specs.State.{Ended, State as LowState}
 use Rattle.op_low.specs.declared.code.Low.{Low}
 use Rattle.op_rv.specs.Encoding.{fits}
@@ -29,7 +29,6 @@ use Rattle.op_rv.specs.declared.instruction.Instr.TheVariants.{Imm, Jalr, Lui}
 use Rattle.op_rv.specs.declared.objects.ObjectRoutine.{ObjectRoutine}
 use Rattle.op_rv.specs.declared.objects.Objects.{Objects}
 use Rattle.op_rv.specs.declared.symbol.Symbol.{Symbol}
-use Rattle.op_rv.specs.declared.symbol.Symbol.TheVariants.{Routine as RoutineSymbol}
 use Rattle.op_select.proofs.Beginning.{begins}
 use Rattle.op_select.proofs.Following.{selected_follows}
 use Rattle.op_select.proofs.Walks.{placed, sound_placed}
@@ -38,7 +37,7 @@ use Rattle.op_select.specs.Going.{IsSafe, IsSetting, Setting, Sound, placement_o
 use Rattle.op_select.specs.RiscvMachine.{riscv_machine}
 use Rattle.op_select.specs.Selected.{Finished, Matches, MatchesBy, selected}
 use Rattle.op_select.specs.Selection.{select_of}
-use Rattle.op_select.specs.Starting.{Begins, Starts, start_in}
+use Rattle.op_select.specs.Starting.{Starts}
 use Rattle.op_simulation.proofs.Composition.{joins_equal}
 use Rattle.op_simulation.proofs.Paths.{path_join}
 use Rattle.op_simulation.proofs.Points.{agreement, always_below}
@@ -50,12 +49,12 @@ use Rattle.op_image.proofs.Expanding.{Reachable}
 use Rattle.op_image.proofs.Linkable.{all_fields, same_length}
 use Rattle.op_image.proofs.Mapped.{code_decodes, stack_lies}
 use Rattle.op_image.proofs.Placed.{Known, few_zeros, is_setting, knows, size_within, targets, with_items}
-use Rattle.op_image.proofs.Places.{Lies, places_lie}
+use Rattle.op_image.proofs.Places.{places_lie}
 use Rattle.op_image.proofs.Standing.{instruction_here}
 use Rattle.op_image.proofs.Started.{BeginsWith, SixDone, SixStand, bytes_small, program_begins, six_done}
 use Rattle.op_image.specs.Building.{is_buildable}
 use Rattle.op_image.specs.Meaning.{linked_code, or_zero, routine_from, setting_of}
-use Rattle.op_image.specs.Means.{AreBytes, EndsWithin, GoesAlong, HasRoom, Means, Runs, image_run, low_run, low_start, most_first}
+use Rattle.op_image.specs.Means.{AreBytes, GoesAlong, HasRoom, Means, Runs, image_run, low_run, low_start}
 
 -- ---- routines are found where they begin
 

@@ -1,46 +1,38 @@
 -- A linked image is a setting of its low code.
-use Rattle.std.proofs.Common.{◌≡◌, ℕ, zero, suc, ◌+◌, ◌-◌, ◌*◌, ◌/◌, ◌%◌, ◌^◌, ◌<◌, ◌≤◌, Bool, true, false, cond, ◌&&◌, nat_eq, nat_le, Option, Some, None, List, [], ◌∷◌, length, take, drop, map, slice_get, refl, ap, sym, subst, ◌∙◌, inl, inr, arith}
+use Rattle.std.proofs.Common.{◌≡◌, ℕ, suc, ◌+◌, ◌-◌, ◌*◌, ◌^◌, ◌<◌, ◌≤◌, Bool, true, false, cond, nat_eq, Option, Some, None, List, [], ◌∷◌, length, take, drop, slice_get, refl, ap, sym, subst, ◌∙◌, arith}
 use Rattle.std.proofs.lemmas.Bool.{eqb-true, leb-true}
-use Rattle.std.proofs.lemmas.Bool.Decides.{nat_tests}
-use Rattle.std.specs.List.{list_all}
 use Rattle.std.specs.Option.{option_map, option_map_or}
 use Rattle.op_layout.specs.declared.layout.Layout.{Layout}
-use Rattle.op_link.proofs.Growth.{code_end, routine_grows}
+use Rattle.op_link.proofs.Growth.{code_end}
 use Rattle.op_link.proofs.Lengths.{code_end_is}
 use Rattle.op_link.proofs.Loading.{zeros_at_most}
-use Rattle.op_link.specs.Code.{routine_has_fields, symbol_address, words_of}
-use Rattle.op_link.specs.Image.{regions_in}
+use Rattle.op_link.specs.Code.{symbol_address, words_of}
 use Rattle.op_link.specs.Linking.{addresses_of, linked_size, linked_size_by, linked_size_of, program_code, settled, sizes_of}
 use Rattle.op_link.specs.Loaded.{Decodes, HasCode, HasCodeBy, IsLoaded, addresses_by, linked_sizes, sizes_by}
-use Rattle.op_link.specs.Memory.{are_in_range, code_address, globals_size, segments_of, stack_address, zero_size}
-use Rattle.op_link.specs.Placing.{behind_routine, behind_routines, first_spot, items_in_routine, items_in_routines, placement_by, routine_place, routine_places}
+use Rattle.op_link.specs.Memory.{are_in_range, globals_size, segments_of, zero_size}
+use Rattle.op_link.specs.Placing.{items_in_routines, placement_by}
 use Rattle.op_link.specs.Reach.{head_in}
-use Rattle.op_link.specs.Region.{rights_in}
 use Rattle.op_link.specs.Standing.{AllStand}
 use Rattle.op_link.specs.declared.addresses.Addresses.{Addresses}
 use Rattle.op_link.specs.declared.memory_map.Settings.{Settings}
 use Rattle.op_link.specs.declared.place.RoutinePlace.{RoutinePlace}
-use Rattle.op_link.specs.declared.place.Spot.{Spot}
-use Rattle.op_low.specs.State.{no_routine, routine_or}
-use Rattle.op_low.specs.Valid.{is_valid, is_valid_routine}
+use Rattle.op_low.specs.State.{routine_or}
 use Rattle.op_low.specs.declared.code.Low.{Low}
 use Rattle.op_low.specs.declared.code.Routine.{Routine}
 use Rattle.op_rv.specs.declared.instruction.Instr.{Instr}
 use Rattle.op_rv.specs.declared.objects.ObjectRoutine.{ObjectRoutine}
 use Rattle.op_rv.specs.declared.objects.Objects.{Objects}
-use Rattle.op_rv.specs.declared.symbol.RoutineId.{RoutineId}
-use Rattle.op_rv.specs.declared.symbol.Symbol.TheVariants.{Routine as RoutineSymbol}
 use Rattle.op_select.specs.Going.{IsSetting}
-use Rattle.op_select.specs.Placing.{StandsObjects, StandsRoutine}
-use Rattle.op_select.specs.Selection.{object_routine_of, select_of}
+use Rattle.op_select.specs.Placing.{StandsObjects}
+use Rattle.op_select.specs.Selection.{select_of}
 use Rattle.op_image.proofs.Counting.{HasItems, have_items, routines_counted}
 use Rattle.op_image.proofs.Expanding.{Targets}
 use Rattle.op_image.proofs.Linkable.{globals_fit, routines_valid, valid_code}
-use Rattle.op_image.proofs.Mapped.{StackLies, code_executable, code_fixed, located, stack_lies, stack_readable, stack_writable}
+use Rattle.op_image.proofs.Mapped.{code_executable, code_fixed, located, stack_lies, stack_readable, stack_writable}
 use Rattle.op_image.proofs.Places.{targets_reached}
 use Rattle.op_image.proofs.Standing.{routine_stands}
 use Rattle.op_image.specs.Building.{is_buildable}
-use Rattle.op_image.specs.Meaning.{instruction_at, linked_addresses, linked_code, or_zero, placing_by, routine_from, setting_by, setting_of}
+use Rattle.op_image.specs.Meaning.{linked_addresses, linked_code, or_zero, placing_by, routine_from, setting_of}
 
 some_same : {X : Type 0} (x y : X) → Some x ≡ Some y → x ≡ y
 some_same x y e = cc

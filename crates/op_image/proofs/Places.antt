@@ -1,17 +1,15 @@
 -- The addresses of routines and blocks lie within the code, and those of symbols are words.
-use Rattle.std.proofs.Common.{◌≡◌, ℕ, zero, suc, ◌+◌, ◌-◌, ◌*◌, ◌/◌, ◌%◌, ◌^◌, ◌<◌, ◌≤◌, Bool, true, false, cond, nat_lt, Option, Some, None, List, [], ◌∷◌, length, slice_get, refl, ap, sym, subst, ◌∙◌, inl, inr, arith}
-use Rattle.std.proofs.lemmas.Bool.{cases_Bool, ltb-true}
+use Rattle.std.proofs.Common.{◌≡◌, ℕ, zero, suc, ◌+◌, ◌%◌, ◌^◌, ◌<◌, ◌≤◌, Bool, true, false, cond, nat_lt, Option, Some, None, List, [], ◌∷◌, slice_get, refl, ap, sym, subst, ◌∙◌, arith}
+use Rattle.std.proofs.lemmas.Bool.{ltb-true}
 use Rattle.std.proofs.lemmas.List.Sums.{sum_by-cons}
 use Rattle.std.specs.Option.{option_map, option_map_or}
 use Rattle.op_layout.specs.declared.layout.Layout.{Layout}
 use Rattle.op_link.specs.Code.{address_at, address_of_place, symbol_address}
-use Rattle.op_link.specs.Linking.{addresses_of, linked_size_by, linked_size_of, sizes_of}
+use Rattle.op_link.specs.Linking.{addresses_of, linked_size_by, sizes_of}
 use Rattle.op_link.specs.Loaded.{addresses_by, sizes_by}
 use Rattle.op_link.specs.Memory.{begins_as_zero, constants_address, global_addresses, globals_address, initial_part, initial_size, zero_part, zero_size}
 use Rattle.op_link.specs.Placing.{behind, behind_items, behind_blocks, behind_routine, behind_routines, block_addresses, first_spot, placement_by, routine_place, routine_places}
 use Rattle.op_link.specs.Reach.{block_in, branch_size, head_in, jump_size, reach_of, size_of}
-use Rattle.op_link.specs.declared.addresses.Addresses.{Addresses}
-use Rattle.op_link.specs.declared.memory_map.Sizes.{Sizes}
 use Rattle.op_link.specs.declared.place.RoutinePlace.{RoutinePlace}
 use Rattle.op_link.specs.declared.place.Spot.{Spot}
 use Rattle.op_link.specs.declared.reach.Reach.{Reach}

@@ -1,11 +1,11 @@
 -- A linked routine stands as selection wants it.
-use Rattle.std.proofs.Common.{◌≡◌, ℕ, zero, suc, ◌+◌, ◌-◌, ◌*◌, ◌/◌, ◌%◌, ◌^◌, ◌<◌, ◌≤◌, true, ◌&&◌, nat_eq, nat_le, Option, Some, None, List, [], ◌∷◌, ◌++◌, length, slice_get, refl, ap, sym, subst, ◌∙◌, arith, append_assoc, length-append}
+use Rattle.std.proofs.Common.{◌≡◌, ℕ, ◌+◌, ◌-◌, ◌*◌, ◌/◌, ◌%◌, ◌^◌, ◌<◌, ◌≤◌, ◌&&◌, nat_eq, nat_le, Some, None, List, [], ◌∷◌, ◌++◌, length, slice_get, refl, ap, sym, subst, ◌∙◌, arith, append_assoc, length-append}
 use Rattle.std.proofs.lemmas.Bool.Decides.{nat_tests}
 use Rattle.op_layout.specs.declared.layout.Layout.{Layout}
 use Rattle.op_link.proofs.Lengths.{item_ends_at}
 use Rattle.op_link.specs.Memory.{code_address}
 use Rattle.op_link.specs.Placing.{behind, behind_items}
-use Rattle.op_link.specs.Reach.{block_in, head_in}
+use Rattle.op_link.specs.Reach.{block_in}
 use Rattle.op_link.specs.Standing.{StandsAt, ItemsStand, RoutineStands}
 use Rattle.op_link.specs.declared.addresses.Addresses.{Addresses}
 use Rattle.op_link.specs.declared.place.Spot.{Spot}
@@ -13,7 +13,7 @@ use Rattle.op_rv.specs.declared.instruction.Instr.{Instr}
 use Rattle.op_rv.specs.declared.objects.Item.{Item}
 use Rattle.op_rv.specs.declared.objects.ObjectRoutine.{ObjectRoutine}
 use Rattle.op_select.proofs.WordLemmas.{cond_true}
-use Rattle.op_select.specs.Placing.{Placing, Nothing, First, Stands, StandsHere, StandsRoutine, past}
+use Rattle.op_select.specs.Placing.{Nothing, First, Stands, StandsHere, StandsRoutine, past}
 use Rattle.op_image.proofs.Expanding.{Targets, expands}
 use Rattle.op_image.specs.Meaning.{instruction_at, or_zero, placing_by}
 

@@ -1,11 +1,10 @@
 -- The first six instructions of an image lead to the head of its entry routine, with an empty stack.
-use Rattle.std.proofs.Common.{◌≡◌, ◌≢◌, ℕ, zero, suc, ◌+◌, ◌-◌, ◌*◌, ◌/◌, ◌%◌, ◌^◌, ◌<◌, ◌≤◌, Bool, true, false, cond, Option, Some, None, List, [], ◌∷◌, ◌++◌, length, get_or, take, drop, map, replicate, slice_get, refl, ap, sym, subst, ◌∙◌, arith}
+use Rattle.std.proofs.Common.{◌≡◌, ◌≢◌, ℕ, zero, suc, ◌+◌, ◌-◌, ◌*◌, ◌/◌, ◌%◌, ◌^◌, ◌<◌, Bool, true, false, cond, Option, Some, None, List, [], ◌∷◌, ◌++◌, length, get_or, take, drop, map, replicate, refl, ap, sym, subst, ◌∙◌, arith}
 use Rattle.std.specs.Option.{option_map_or}
 use Rattle.op_layout.specs.declared.layout.Layout.{Layout}
-use Rattle.op_link.specs.Code.{code_at, go_by_register, high_of, low_of, routines_code, set_address, then_code}
-use Rattle.op_link.specs.Image.{region_in, regions_in, segments, start as start_image}
+use Rattle.op_link.specs.Code.{code_at, high_of, low_of, routines_code, then_code}
+use Rattle.op_link.specs.Image.{region_in, regions_in, segments}
 use Rattle.op_link.specs.Linking.{program_code, start_code}
-use Rattle.op_link.specs.Memory.{stack_address, stack_top}
 use Rattle.op_link.specs.Placing.{first_spot}
 use Rattle.op_link.specs.Reach.{head_in}
 use Rattle.op_link.specs.Region.{Region, byte_in, covers, range_of, region_at}

@@ -13,11 +13,10 @@ use op_low::Low;
 use op_select::select;
 use std::alloc::Global;
 
-/// What is owned as bytes are bytes. It does nothing.
+/// Bytes are below 256. It does nothing, and tells the proofs what the type says.
 fn are_bytes(image: &[u8])
     ensures { AreBytes image.now }
-{
-}
+{}
 
 /// The image of a program in low code. `Limit` comes exactly where its code, constants and initial globals take more than
 /// 67,108,864 bytes, and `NoMemory` only where the allocator has no room. The image does what the low code does.

@@ -8,6 +8,7 @@ use op_rv::{
     AluOp, BlockId, BranchOp, ImmOp, LiteralId, LoadOp, RoutineId, StoreOp, Symbol, TableId,
 };
 use std::alloc::{AllocError, Global};
+use std::process::Abort;
 use std::test::Fail;
 
 const SETTINGS: Settings = Settings {
@@ -149,9 +150,11 @@ fn layout(alloc: Global) -> Result<Layout, Fail> {
 }
 
 /// How the image of a program ends over the input `abcdef`, and what it writes.
-fn run(alloc: Global, routines: Vec<Routine>) -> Result<(Stop, MemSink), Fail> {
+fn run(rt: &impl Abort, alloc: Global, routines: Vec<Routine>) -> Result<(Stop, MemSink), Fail> {
     let low = program(alloc, routines);
-    let image = build(alloc, &low, &layout(alloc)?, &SETTINGS)?;
+    let layout = layout(alloc)?;
+    assert!(rt; buildable(&low, &layout));
+    let image = build(alloc, &low, &layout, &SETTINGS)?;
     let mut machine = load(alloc, image.as_slice())?;
     let mut input = MemSource::new(b"abcdef".to_vec(alloc)?, Vec::new(alloc));
     let mut out = MemSink::new(alloc, 64, Vec::new(alloc))?;
@@ -324,7 +327,7 @@ fn low_code_runs_on_the_machine(rt: HostRuntime) -> Result<(), Fail> {
         ("far", far(alloc, 2000)?, 6, ""),
         ("further", far(alloc, 140_000)?, 6, ""),
     ] {
-        let (stop, out) = run(alloc, routines)?;
+        let (stop, out) = run(&rt, alloc, routines)?;
         assert_eq!(rt; stop, Stop::Ended(status), "{name}");
         assert_eq!(rt; out.bytes(), written.as_bytes());
     }

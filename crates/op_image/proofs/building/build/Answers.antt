@@ -1,4 +1,4 @@
-use Rattle.std.proofs.Common.{◌≡◌, ℕ, List, ap, subst, ◌∙◌, true}
+use Rattle.std.proofs.Common.{ℕ, List, ap, subst, ◌∙◌}
 use Rattle.op_link.specs.Linking.{is_linkable}
 use Rattle.op_image.specs.Means.{AreBytes}
 use Rattle.op_image.proofs.Linkable.{linkable, valid_code}
