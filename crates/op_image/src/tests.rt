@@ -140,19 +140,20 @@ fn program(alloc: Global, routines: Vec<Routine>) -> Low {
     }
 }
 
-/// One literal, `Hi`, and a table of routine 1.
-fn layout(alloc: Global) -> Result<Layout, Fail> {
+/// One literal, `Hi`, and a table of a routine.
+fn layout(alloc: Global, routine: RoutineId) -> Result<Layout, Fail> {
     let literals = vec![in alloc; Text::copy_of(alloc, b"Hi\n\0")?]?;
     let mut layout = Layout::of_literals(alloc, literals.as_slice())?;
-    layout.entries = Sequence::from(vec![in alloc; RoutineId(1)]?);
+    layout.entries = Sequence::from(vec![in alloc; routine]?);
     layout.tables = Sequence::from(vec![in alloc; 4]?);
     Ok(layout)
 }
 
-/// How the image of a program ends over the input `abcdef`, and what it writes.
+/// How the image of a program ends over the input `abcdef`, and what it writes. The table holds its second routine, if it has one.
 fn run(rt: &impl Abort, alloc: Global, routines: Vec<Routine>) -> Result<(Stop, MemSink), Fail> {
+    let second = if routines.as_slice().len() > 1 { 1 } else { 0 };
     let low = program(alloc, routines);
-    let layout = layout(alloc)?;
+    let layout = layout(alloc, RoutineId(second))?;
     assert!(rt; buildable(&low, &layout));
     let image = build(alloc, &low, &layout, &SETTINGS)?;
     let mut machine = load(alloc, image.as_slice())?;
