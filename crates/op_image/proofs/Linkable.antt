@@ -1,24 +1,19 @@
 -- The objects of valid code may be linked.
-use Rattle.std.proofs.Common.{◌≡◌, ℕ, ℤ, pos, zero, suc, ◌+◌, ◌-◌, ◌*◌, ◌/◌, ◌%◌, ◌^◌, ◌-ℤ◌, ◌<◌, ◌≤◌, Bool, true, false, ◌&&◌, cond, nat_eq, nat_le, nat_lt, if◌then◌else◌, Option, Some, None, List, [], ◌∷◌, ◌++◌, length, map, min, slice_get, refl, ap, ap₂, sym, subst, ◌∙◌, arith, length-append}
-use Rattle.std.specs.List.{flat_map, list_all}
+use Rattle.std.proofs.Common.{◌≡◌, ℕ, pos, zero, suc, ◌+◌, ◌*◌, ◌%◌, ◌^◌, ◌-ℤ◌, ◌<◌, ◌≤◌, Bool, true, false, ◌&&◌, nat_le, nat_lt, if◌then◌else◌, Option, Some, None, List, [], ◌∷◌, ◌++◌, length, map, min, slice_get, refl, ap, ap₂, subst, ◌∙◌, arith, length-append}
+use Rattle.std.specs.List.{list_all}
 use Rattle.std.specs.Option.{option_map}
-use Rattle.std.proofs.lemmas.Bool.{lt-ltb, ltb-true, le-leb, leb-true}
+use Rattle.std.proofs.lemmas.Bool.{lt-ltb, ltb-true, leb-true}
 use Rattle.std.proofs.lemmas.Int.{ints}
 use Rattle.std.proofs.lemmas.List.{length-map}
 use Rattle.std.proofs.lemmas.List.Folds.{list_all-append, list_all-map}
 use Rattle.op_rv.specs.Encoding.{fits, is_imm, is_register}
-use Rattle.op_rv.specs.declared.instruction.AluOp.{AluOp}
-use Rattle.op_rv.specs.declared.instruction.BranchOp.{BranchOp}
 use Rattle.op_rv.specs.declared.instruction.ImmOp.TheVariants.{Addi}
 use Rattle.op_rv.specs.declared.instruction.Instr.{Instr}
-use Rattle.op_rv.specs.declared.instruction.Instr.TheVariants.{Ecall, Lui, Alu as AluInstr, Imm as ImmInstr, Load as LoadInstr, Shift as ShiftInstr, Store as StoreInstr}
+use Rattle.op_rv.specs.declared.instruction.Instr.TheVariants.{Ecall, Imm as ImmInstr, Load as LoadInstr, Shift as ShiftInstr}
 use Rattle.op_rv.specs.declared.objects.Item.{Item}
 use Rattle.op_rv.specs.declared.objects.Item.TheVariants.{Plain, Address as AddressItem, Branch as BranchItem, Call as CallItem, CallAt as CallAtItem, Jump as JumpItem}
-use Rattle.op_rv.specs.declared.objects.ObjectBlock.{ObjectBlock}
-use Rattle.op_rv.specs.declared.objects.ObjectRoutine.{ObjectRoutine}
 use Rattle.op_rv.specs.declared.objects.Objects.{Objects}
 use Rattle.op_rv.specs.declared.symbol.BlockId.{BlockId}
-use Rattle.op_rv.specs.declared.symbol.RoutineId.{RoutineId}
 use Rattle.op_rv.specs.declared.symbol.Symbol.{Symbol}
 use Rattle.op_rv.specs.declared.symbol.Symbol.TheVariants.{Literal, Table, Descriptor, Global, Routine as RoutineSymbol}
 use Rattle.op_layout.specs.declared.layout.Layout.{Layout}
@@ -26,14 +21,13 @@ use Rattle.op_layout.specs.declared.layout.LiteralPlace.{LiteralPlace}
 use Rattle.op_link.specs.Code.{has_fields, have_fields, blocks_have_fields, routine_has_fields}
 use Rattle.op_link.specs.Linking.{all_names_exist, has_symbol as symbol_exists, is_linkable, lies_within, names_exist}
 use Rattle.op_link.specs.Memory.{constants_size, globals_size}
-use Rattle.op_low.specs.Valid.{address_fits, branch_fits, call_at_fits, call_fits, has_block, has_landing, has_symbol, imm_fits, is_sized, is_valid, is_valid_block, is_valid_instruction, is_valid_routine, operands_fit, shift_fits, takes}
+use Rattle.op_low.specs.Valid.{address_fits, branch_fits, call_at_fits, call_fits, has_landing, has_symbol, imm_fits, is_valid, is_valid_block, is_valid_instruction, is_valid_routine, operands_fit, shift_fits, takes}
 use Rattle.op_low.specs.declared.code.Block.{Block}
 use Rattle.op_low.specs.declared.code.Low.{Low}
 use Rattle.op_low.specs.declared.code.Routine.{Routine}
 use Rattle.op_low.specs.declared.ids.VirtualRegister.{VirtualRegister}
 use Rattle.op_low.specs.declared.instruction.Instruction.{Instruction}
 use Rattle.op_low.specs.declared.instruction.Instruction.TheVariants.{Const, Address, Local, Move, Alu, AluImm, Shift, Load, Store, Call, CallAt, Branch, Jump, Return, Raise, Read, Write, Exit}
-use Rattle.op_low.specs.declared.instruction.Output.{Output}
 use Rattle.op_low.specs.declared.instruction.Output.TheVariants.{Console, Errors}
 use Rattle.op_select.specs.Frames.{cleared_locals, cleared_registers, epilogue, fetch, head_of, home, keep, load_home, lowered, passed, passed_in_memory, passed_one, received, store_home}
 use Rattle.op_select.specs.Selection.{answered, code_items, items_of, landing_of, object_block_of, object_routine_of, raise_block, select_of}
@@ -345,11 +339,11 @@ module _ (low : Low) (layout : Layout) (buildable : is_buildable low layout ≡ 
         entries = right_of _ _ laid_out;
       }
 
-  globals_fit : nat_le (globals_size low.globals) 15728640 ≡ true
+  pub globals_fit : nat_le (globals_size low.globals) 15728640 ≡ true
   unfolding is_buildable
   globals_fit = right_of _ _ buildable
 
-  same_length : length (select_of low).routines ≡ length low.routines
+  pub same_length : length (select_of low).routines ≡ length low.routines
   unfolding select_of
   same_length = length-map low.routines object_routine_of
 
@@ -403,17 +397,17 @@ module _ (low : Low) (layout : Layout) (buildable : is_buildable low layout ≡ 
         (all_also passes (names_exist (select_of low) layout blocks) (object_routine_of routine).head (good_names (select_of low) layout blocks) head_passes)
         (all_also (λ block. list_all passes block.items) (λ block. list_all (names_exist (select_of low) layout blocks) block.items) (object_routine_of routine).blocks (λ block all. all_also passes (names_exist (select_of low) layout blocks) block.items (good_names (select_of low) layout blocks) all) blocks_pass)
 
-  routines_valid : list_all (is_valid_routine low) low.routines ≡ true
+  pub routines_valid : list_all (is_valid_routine low) low.routines ≡ true
   unfolding is_valid
   routines_valid = right_of _ _ valid_code
 
-  entry_there : nat_lt low.entry.0 (length (select_of low).routines) ≡ true
+  pub entry_there : nat_lt low.entry.0 (length (select_of low).routines) ≡ true
   unfolding is_valid
   entry_there =
       let there = taken_exists low.routines low.entry.0 0 (left_of _ _ valid_code) in
       lt-ltb _ _ (omega (arith, same_length))
 
-  all_fields : list_all routine_has_fields (select_of low).routines ≡ true
+  pub all_fields : list_all routine_has_fields (select_of low).routines ≡ true
   unfolding select_of
   all_fields =
       list_all-map routine_has_fields object_routine_of low.routines

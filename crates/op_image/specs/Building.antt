@@ -1,5 +1,5 @@
 -- What may be built.
-use Rattle.std.specs.Prelude.{ℕ, Bool, ◌&&◌, List, length, nat_le, nat_lt}
+use Rattle.std.specs.Prelude.{Bool, ◌&&◌, length, nat_le, nat_lt}
 use Rattle.std.specs.List.{list_all}
 use Rattle.op_layout.specs.declared.layout.Layout.{Layout}
 use Rattle.op_link.specs.Memory.{constants_size, globals_size}

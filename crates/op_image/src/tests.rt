@@ -8,6 +8,7 @@ use op_rv::{
     AluOp, BlockId, BranchOp, ImmOp, LiteralId, LoadOp, RoutineId, StoreOp, Symbol, TableId,
 };
 use std::alloc::{AllocError, Global};
+use std::process::Abort;
 use std::test::Fail;
 
 const SETTINGS: Settings = Settings {
@@ -139,19 +140,22 @@ fn program(alloc: Global, routines: Vec<Routine>) -> Low {
     }
 }
 
-/// One literal, `Hi`, and a table of routine 1.
-fn layout(alloc: Global) -> Result<Layout, Fail> {
+/// One literal, `Hi`, and a table of a routine.
+fn layout(alloc: Global, routine: RoutineId) -> Result<Layout, Fail> {
     let literals = vec![in alloc; Text::copy_of(alloc, b"Hi\n\0")?]?;
     let mut layout = Layout::of_literals(alloc, literals.as_slice())?;
-    layout.entries = Sequence::from(vec![in alloc; RoutineId(1)]?);
+    layout.entries = Sequence::from(vec![in alloc; routine]?);
     layout.tables = Sequence::from(vec![in alloc; 4]?);
     Ok(layout)
 }
 
-/// How the image of a program ends over the input `abcdef`, and what it writes.
-fn run(alloc: Global, routines: Vec<Routine>) -> Result<(Stop, MemSink), Fail> {
+/// How the image of a program ends over the input `abcdef`, and what it writes. The table holds its second routine, if it has one.
+fn run(rt: &impl Abort, alloc: Global, routines: Vec<Routine>) -> Result<(Stop, MemSink), Fail> {
+    let second = if routines.as_slice().len() > 1 { 1 } else { 0 };
     let low = program(alloc, routines);
-    let image = build(alloc, &low, &layout(alloc)?, &SETTINGS)?;
+    let layout = layout(alloc, RoutineId(second))?;
+    assert!(rt; buildable(&low, &layout));
+    let image = build(alloc, &low, &layout, &SETTINGS)?;
     let mut machine = load(alloc, image.as_slice())?;
     let mut input = MemSource::new(b"abcdef".to_vec(alloc)?, Vec::new(alloc));
     let mut out = MemSink::new(alloc, 64, Vec::new(alloc))?;
@@ -324,7 +328,7 @@ fn low_code_runs_on_the_machine(rt: HostRuntime) -> Result<(), Fail> {
         ("far", far(alloc, 2000)?, 6, ""),
         ("further", far(alloc, 140_000)?, 6, ""),
     ] {
-        let (stop, out) = run(alloc, routines)?;
+        let (stop, out) = run(&rt, alloc, routines)?;
         assert_eq!(rt; stop, Stop::Ended(status), "{name}");
         assert_eq!(rt; out.bytes(), written.as_bytes());
     }
