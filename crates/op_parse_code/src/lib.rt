@@ -5,19 +5,25 @@
 //! other part stands there, and for each refusal why none does.
 #![tactic(auto)]
 
+mod branch;
+mod call;
 mod chain;
+mod compound;
 mod designator;
 mod error;
 mod factor;
+mod handler;
 mod list;
 mod mark;
 mod nodes;
 mod opening;
 mod part;
+mod repetition;
+mod statement_nodes;
 mod token;
 
 pub use error::ParseError;
-pub use part::{expression, simple};
+pub use part::{expression, simple, statement};
 
 #[cfg(test)]
 mod tests;
