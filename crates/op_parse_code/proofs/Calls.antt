@@ -161,3 +161,12 @@ inherited_call_whole p d g ks r f = (is_inherited_call f.0, f.1)
 
 pub inherited_alone : (p : Position) (d : ℕ) (ks : List Terminal) → IsNot begins_designator ks → Behind kind.Inherited p d (inherited p) ks ks
 inherited_alone p d ks h = (is_inherited, h)
+
+-- ---- where an assignment stands
+
+abbrev first_position : Position → List Terminal → Position
+first_position p [] = p
+first_position p (t ∷ ts) = t.position
+
+pub assignment_here : (k : TokenKind) (p q : Position) (ks m r : List Terminal) → ks ≡ kind.Assign at p ∷ r → ks ≡ k at q ∷ m → ks ≡ kind.Assign at q ∷ r
+assignment_here k p q ks m r e e1 = e ∙ ap (λ z. kind.Assign at z ∷ r) (ap (first_position p) (sym e ∙ e1))

@@ -8,7 +8,9 @@ use Rattle.op_parse_code.proofs.Lists.{Open, SplitsOpen, open_item, open_more, k
 use Rattle.op_parse_code.proofs.Refusing.{Some_, Seq, Known, refuses_map, refuses_first, refuses_after, refuses_behind, refuses_inside, refuses_deeper, dead_here, no_mark_same, suc_same}
 use Rattle.op_parse_code.proofs.StatementKnown.{known_name, known_direction, known_statement, known_statements, ends_behind}
 use Rattle.op_parse_code.specs.Form.{Form}
-use Rattle.op_parse_code.specs.Opening.{kind_of}
+use Rattle.op_parse_code.specs.Opening.{kind_of, kind_of_word}
+use Rattle.op_parse_code.specs.declared.opening.Word.{Word}
+use Rattle.op_parse_code.specs.declared.opening.Word.TheVariants as word
 use Rattle.op_parse_code.specs.Refusal.{Phrase, SameHead, Refuses, syntax, nested, decides_there, left_out, refused_at}
 use Rattle.op_parse_code.specs.Whole.{Chain, Marked, NoMark, SomeName}
 use Rattle.op_parse_code.specs.WholeStatement.{SomeStatement, SomeStatements, SomeDirection, SomeCall, Behind, EndsStatements, is_semicolon}
@@ -365,3 +367,33 @@ for_to_whole p q u d n a b way s ks m after m1 m2 m3 m4 r f g i j l o h = (is_fo
 
 pub for_in_whole : (p q u : Position) (d : ℕ) (n : Name) (a : Expression) (s : Statement) (ks m after m1 m2 r : List Terminal) → IsName n ks m → Marked mark.In_ d q m after → Chain Relational d a after m1 → Marked mark.Do_ d u m1 m2 → SomeStatement d s m2 r → Behind kind.For_ p d (for_in n a s) ks r
 for_in_whole p q u d n a s ks m after m1 m2 r f g i o h = (is_for_in (subst (λ z. IsName n ks z) g f) (subst (λ z. IsChain Relational d a after z) o i.0) h.0, h.1)
+
+-- a word begins a statement
+pub word_begins : (w : Word) → begins_statement (kind_of_word w) ≡ true
+word_begins word.Begin = refl
+word_begins word.If_ = refl
+word_begins word.Case = refl
+word_begins word.While_ = refl
+word_begins word.Repeat = refl
+word_begins word.For_ = refl
+word_begins word.Try_ = refl
+word_begins word.Inherited = refl
+
+-- ---- directions
+
+some_none : {A : Type 0} {x : A} → Some x ≡ None → ⊥
+some_none h = absurd cc
+
+no_way_at : (d : ℕ) (way : Direction) (ls r : List Terminal) → SameHead [] ls → SomeDirection d way ls r → ⊥
+no_way_at d way [] r s (k, p, e, h) = absurd cc
+no_way_at d way (t ∷ ls) r s f = s
+
+pub direction_none : (d : ℕ) (end : Place) (e : ParseError) → e ≡ refused_at 9 0 end [] → Refuses SomeDirection d end [] e
+direction_none d end e x = syntax [] x (λ d'. dead_here (SomeDirection d') [] (no_way_at d'))
+
+no_way : (k : TokenKind) (p : Position) (ks : List Terminal) → direction_of k ≡ None → (d : ℕ) (way : Direction) (ls r : List Terminal) → SameHead (k at p ∷ ks) ls → SomeDirection d way ls r → ⊥
+no_way k p ks h d way [] r s f = s
+no_way k p ks h d way (t ∷ ls) r s (k1, p1, e, h1) = some_none (sym h1 ∙ (ap direction_of (sym (kind_same (ap (λ z. z ∷ ls) s ∙ e))) ∙ h))
+
+pub direction_missing : (d : ℕ) (end : Place) (k : TokenKind) (p : Position) (ks : List Terminal) (e : ParseError) → direction_of k ≡ None → e ≡ refused_at 9 0 end (k at p ∷ ks) → Refuses SomeDirection d end (k at p ∷ ks) e
+direction_missing d end k p ks e h x = syntax (k at p ∷ ks) x (λ d'. dead_here (SomeDirection d') (k at p ∷ ks) (no_way k p ks h d'))
