@@ -100,8 +100,23 @@ pub fn statement(
     ensures refused { IfErr result (Refuses SomeStatement (200 - depth) tokens.now.end (drop at (terminals tokens.now.list))) }
     ensures only { (s : Statement) (r : List Terminal) → IsStatement (200 - depth) s (drop at (terminals tokens.now.list)) r → EndsStatement s r → MatchResult result (λ f. (stmt_of f.0 ≡ s) × (drop f.1 (terminals tokens.now.list) ≡ r)) IsFree }
 {
+    statement_part(alloc, tokens, at, DEEPEST - depth)
+}
+
+/// The statement at a place, and the place behind it.
+fn statement_part(
+    alloc: Global,
+    tokens: &Tokens,
+    at: usize,
+    left: u32,
+) -> Result<(Stmt, usize), ParseError>
+    requires within { at ≤ length tokens.now.list }
+    ensures range { IfOk result (λ f. (at ≤ f.1) × (f.1 ≤ length tokens.now.list)) }
+    ensures whole { IfOk result (λ f. SomeStatement left (stmt_of f.0) (drop at (terminals tokens.now.list)) (drop f.1 (terminals tokens.now.list))) }
+    ensures refused { IfErr result (Refuses SomeStatement left tokens.now.end (drop at (terminals tokens.now.list))) }
+{
     let list = tokens.list.as_slice();
     let (_, rest) = list.split_at(at);
-    let (tree, behind) = statement_at(alloc, DEEPEST - depth, tokens.end, rest)?;
+    let (tree, behind) = statement_at(alloc, left, tokens.end, rest)?;
     Ok((tree, list.len() - behind.len()))
 }

@@ -1,18 +1,8 @@
-use Rattle.std.proofs.Common.{◌≡◌, ◌-◌, Ok, Err, drop, length, sym, ap, ◌∙◌, arith, subst}
-use Rattle.std.proofs.lemmas.List.{drop-map, length-map}
-use Rattle.op_parse_code.proofs.Errors.{passed}
-use Rattle.op_parse_code.proofs.Parts.{behind_place, refuses_free}
-use Rattle.op_parse_code.proofs.StatementKnown.{known_statement}
+use Rattle.op_parse_code.proofs.Errors.{ok_weaker, err_weaker}
+use Rattle.op_parse_code.proofs.Parts.{match_of, refuses_free}
 use Rattle.op_parse_code.specs.WholeStatement.{SomeStatement}
 use Rattle.op_tree.proofs.StatementUnique.{unique_statement}
-use Rattle.op_tree.specs.Statement.{stmt_of}
-use Rattle.op_tree.specs.Terminal.{terminals, terminal_of}
 use Rattle.op_parse_code.proofs.part.statement.Goals as goal
 
-pub returns-clause-range : goal.returns-clause-range
-returns-clause-range c =
-    let size : length c.as_slice-list.result.now ≡ length c.args.tokens.now.list = ap length c.as_slice-list.ensures in
-    (omega (arith, size, c.split_at.ensures.back_len, c.in_ok-tree.ensures.shorter), omega (arith, size))
-
-pub returns-clause-spells : goal.returns-clause-spells
-returns-clause-spells c = ?
+pub returns-clause-only : goal.returns-clause-only
+returns-clause-only c = λ e r f h. match_of _ _ c.statement_part.result (ok_weaker c.statement_part.result c.statement_part.ensures.whole (λ x w. unique_statement w.0 f w.1 h)) (err_weaker c.statement_part.result c.statement_part.ensures.refused (λ y w. refuses_free SomeStatement _ _ _ y e r (f, h) w))
