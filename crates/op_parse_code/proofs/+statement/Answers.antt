@@ -319,59 +319,59 @@ branch::case_statement-returns-in-Some-clause-whole t c = rw c.case_else_node.en
 
 pub branch::branches-returns-then-ends_list-clause-whole :
     goal.branch::branches-returns-then-ends_list-clause-whole
-branch::branches-returns-then-ends_list-clause-whole t c = branching_ends c.args.left c.args.end _ _ _ c.loop-branches.invariant.0 (sym c.ends_list.ensures ∙ c.if-ends_list.true)
+branch::branches-returns-then-ends_list-clause-whole t c = branching_ends c.args.left c.args.end _ _ _ c.loop-alloc.invariant.0 (sym c.ends_list.ensures ∙ c.if-ends_list.true)
 
 pub branch::branches-returns-in_err-labels-clause-refused :
     goal.branch::branches-returns-in_err-labels-clause-refused
-branch::branches-returns-in_err-labels-clause-refused t c = passed c.from_residual.result c.from_residual.ensures.1 (λ y e. rw e (branching_labels c.args.left c.args.end _ _ _ _ c.loop-branches.invariant.0 (sym c.ends_list.ensures ∙ c.if-ends_list.false) c.in_err-labels.ensures.refused))
+branch::branches-returns-in_err-labels-clause-refused t c = passed c.from_residual.result c.from_residual.ensures.1 (λ y e. rw e (branching_labels c.args.left c.args.end _ _ _ _ c.loop-alloc.invariant.0 (sym c.ends_list.ensures ∙ c.if-ends_list.false) c.in_err-labels.ensures.refused))
 
 pub branch::branches-returns-in_err-body-clause-refused :
     goal.branch::branches-returns-in_err-body-clause-refused
-branch::branches-returns-in_err-body-clause-refused t c = passed c.from_residual-in_err-body.result c.from_residual-in_err-body.ensures.1 (λ y e. rw e (branching_body c.args.left c.args.end _ _ _ _ _ _ c.loop-branches.invariant.0 (sym c.ends_list.ensures ∙ c.if-ends_list.false) c.in_ok-labels.ensures.whole c.in_err-body.ensures.refused))
+branch::branches-returns-in_err-body-clause-refused t c = passed c.from_residual-in_err-body.result c.from_residual-in_err-body.ensures.1 (λ y e. rw e (branching_body c.args.left c.args.end _ _ _ _ _ _ c.loop-alloc.invariant.0 (sym c.ends_list.ensures ∙ c.if-ends_list.false) c.in_ok-labels.ensures.whole c.in_err-body.ensures.refused))
 
 pub branch::branches-returns-in_err-push-clause-refused :
     goal.branch::branches-returns-in_err-push-clause-refused
 branch::branches-returns-in_err-push-clause-refused t c = passed c.from_residual-in_err-push.result c.from_residual-in_err-push.ensures.1 (λ y e. out_of_memory e)
 
-pub branch::branches-loop-branches-preserved :
-    goal.branch::branches-loop-branches-preserved
-branch::branches-loop-branches-preserved t c = (rw c.in_ok-push.ensures.items (branching_more c.args.left c.args.end _ _ _ _ _ _ _ _ c.loop-branches.invariant.0 (sym c.ends_list.ensures ∙ c.if-ends_list.false) c.in_ok-labels.ensures.whole c.in_ok-body.ensures.whole c.in-Some.ensures.mark.1), omega (arith, c.loop-branches.invariant.1, c.in-Some.ensures.shorter, c.in_ok-body.ensures.shorter, c.in_ok-labels.ensures.shorter))
+pub branch::branches-loop-alloc-preserved :
+    goal.branch::branches-loop-alloc-preserved
+branch::branches-loop-alloc-preserved t c = (rw c.in_ok-push.ensures.items (branching_more c.args.left c.args.end _ _ _ _ _ _ _ _ c.loop-alloc.invariant.0 (sym c.ends_list.ensures ∙ c.if-ends_list.false) c.in_ok-labels.ensures.whole c.in_ok-body.ensures.whole c.in-Some.ensures.mark.1), omega (arith, c.loop-alloc.invariant.1, c.in-Some.ensures.shorter, c.in_ok-body.ensures.shorter, c.in_ok-labels.ensures.shorter))
 
 pub branch::branches-returns-then-ends_list-in-None-clause-whole :
     goal.branch::branches-returns-then-ends_list-in-None-clause-whole
-branch::branches-returns-then-ends_list-in-None-clause-whole t c = rw c.in_ok-push.ensures.items (branching_last c.args.left c.args.end _ _ _ _ _ _ c.loop-branches.invariant.0 c.in_ok-labels.ensures.whole c.in_ok-body.ensures.whole (sym c.ends_list-in-None.ensures ∙ c.if-ends_list-in-None.true))
+branch::branches-returns-then-ends_list-in-None-clause-whole t c = rw c.in_ok-push.ensures.items (branching_last c.args.left c.args.end _ _ _ _ _ _ c.loop-alloc.invariant.0 c.in_ok-labels.ensures.whole c.in_ok-body.ensures.whole (sym c.ends_list-in-None.ensures ∙ c.if-ends_list-in-None.true))
 
 pub branch::branches-returns-else-ends_list-in-None-clause-refused :
     goal.branch::branches-returns-else-ends_list-in-None-clause-refused
-branch::branches-returns-else-ends_list-in-None-clause-refused t c = branching_stops c.args.left c.args.end _ _ _ _ _ _ _ _ c.loop-branches.invariant.0 (sym c.ends_list.ensures ∙ c.if-ends_list.false) c.in_ok-labels.ensures.whole c.in_ok-body.ensures.whole c.in-None.ensures.mark (sym c.ends_list-in-None.ensures ∙ c.if-ends_list-in-None.false) c.syntax.ensures
+branch::branches-returns-else-ends_list-in-None-clause-refused t c = branching_stops c.args.left c.args.end _ _ _ _ _ _ _ _ c.loop-alloc.invariant.0 (sym c.ends_list.ensures ∙ c.if-ends_list.false) c.in_ok-labels.ensures.whole c.in_ok-body.ensures.whole c.in-None.ensures.mark (sym c.ends_list-in-None.ensures ∙ c.if-ends_list-in-None.false) c.syntax.ensures
 
 pub handler::handlers-returns-then-ends_list-clause-whole :
     goal.handler::handlers-returns-then-ends_list-clause-whole
-handler::handlers-returns-then-ends_list-clause-whole t c = handling_ends c.args.left c.args.end _ _ _ c.loop-handlers.invariant.0 (sym c.ends_list.ensures ∙ c.if-ends_list.true)
+handler::handlers-returns-then-ends_list-clause-whole t c = handling_ends c.args.left c.args.end _ _ _ c.loop-alloc.invariant.0 (sym c.ends_list.ensures ∙ c.if-ends_list.true)
 
 pub handler::handlers-returns-in_err-variable-clause-refused :
     goal.handler::handlers-returns-in_err-variable-clause-refused
-handler::handlers-returns-in_err-variable-clause-refused t c = passed c.from_residual.result c.from_residual.ensures.1 (λ y e. rw e (handling_on c.args.left c.args.end _ _ _ _ c.loop-handlers.invariant.0 (sym c.ends_list.ensures ∙ c.if-ends_list.false) (c.in_err-variable.ensures.refused _)))
+handler::handlers-returns-in_err-variable-clause-refused t c = passed c.from_residual.result c.from_residual.ensures.1 (λ y e. rw e (handling_on c.args.left c.args.end _ _ _ _ c.loop-alloc.invariant.0 (sym c.ends_list.ensures ∙ c.if-ends_list.false) (c.in_err-variable.ensures.refused _)))
 
 pub handler::handlers-returns-in_err-body-clause-refused :
     goal.handler::handlers-returns-in_err-body-clause-refused
-handler::handlers-returns-in_err-body-clause-refused t c = passed c.from_residual-in_err-body.result c.from_residual-in_err-body.ensures.1 (λ y e. rw e (handling_body c.args.left c.args.end _ _ _ _ _ _ _ c.loop-handlers.invariant.0 (sym c.ends_list.ensures ∙ c.if-ends_list.false) c.in_ok-variable.ensures.whole c.in_err-body.ensures.refused))
+handler::handlers-returns-in_err-body-clause-refused t c = passed c.from_residual-in_err-body.result c.from_residual-in_err-body.ensures.1 (λ y e. rw e (handling_body c.args.left c.args.end _ _ _ _ _ _ _ c.loop-alloc.invariant.0 (sym c.ends_list.ensures ∙ c.if-ends_list.false) c.in_ok-variable.ensures.whole c.in_err-body.ensures.refused))
 
 pub handler::handlers-returns-in_err-push-clause-refused :
     goal.handler::handlers-returns-in_err-push-clause-refused
 handler::handlers-returns-in_err-push-clause-refused t c = passed c.from_residual-in_err-push.result c.from_residual-in_err-push.ensures.1 (λ y e. out_of_memory e)
 
-pub handler::handlers-loop-handlers-preserved :
-    goal.handler::handlers-loop-handlers-preserved
-handler::handlers-loop-handlers-preserved t c = (rw c.in_ok-push.ensures.items (handling_more c.args.left c.args.end _ _ _ _ _ _ _ _ c.loop-handlers.invariant.0 (sym c.ends_list.ensures ∙ c.if-ends_list.false) c.in_ok-variable.ensures.whole c.in_ok-body.ensures.whole c.in-Some.ensures.mark.1), omega (arith, c.loop-handlers.invariant.1, c.in-Some.ensures.shorter, c.in_ok-body.ensures.shorter, c.in_ok-variable.ensures.shorter))
+pub handler::handlers-loop-alloc-preserved :
+    goal.handler::handlers-loop-alloc-preserved
+handler::handlers-loop-alloc-preserved t c = (rw c.in_ok-push.ensures.items (handling_more c.args.left c.args.end _ _ _ _ _ _ _ _ c.loop-alloc.invariant.0 (sym c.ends_list.ensures ∙ c.if-ends_list.false) c.in_ok-variable.ensures.whole c.in_ok-body.ensures.whole c.in-Some.ensures.mark.1), omega (arith, c.loop-alloc.invariant.1, c.in-Some.ensures.shorter, c.in_ok-body.ensures.shorter, c.in_ok-variable.ensures.shorter))
 
 pub handler::handlers-returns-then-ends_list-in-None-clause-whole :
     goal.handler::handlers-returns-then-ends_list-in-None-clause-whole
-handler::handlers-returns-then-ends_list-in-None-clause-whole t c = rw c.in_ok-push.ensures.items (handling_last c.args.left c.args.end _ _ _ _ _ _ c.loop-handlers.invariant.0 c.in_ok-variable.ensures.whole c.in_ok-body.ensures.whole (sym c.ends_list-in-None.ensures ∙ c.if-ends_list-in-None.true))
+handler::handlers-returns-then-ends_list-in-None-clause-whole t c = rw c.in_ok-push.ensures.items (handling_last c.args.left c.args.end _ _ _ _ _ _ c.loop-alloc.invariant.0 c.in_ok-variable.ensures.whole c.in_ok-body.ensures.whole (sym c.ends_list-in-None.ensures ∙ c.if-ends_list-in-None.true))
 
 pub handler::handlers-returns-else-ends_list-in-None-clause-refused :
     goal.handler::handlers-returns-else-ends_list-in-None-clause-refused
-handler::handlers-returns-else-ends_list-in-None-clause-refused t c = handling_stops c.args.left c.args.end _ _ _ _ _ _ _ _ _ c.loop-handlers.invariant.0 (sym c.ends_list.ensures ∙ c.if-ends_list.false) c.in_ok-variable.ensures.whole c.in_ok-body.ensures.whole c.in-None.ensures.mark (sym c.ends_list-in-None.ensures ∙ c.if-ends_list-in-None.false) c.syntax.ensures
+handler::handlers-returns-else-ends_list-in-None-clause-refused t c = handling_stops c.args.left c.args.end _ _ _ _ _ _ _ _ _ c.loop-alloc.invariant.0 (sym c.ends_list.ensures ∙ c.if-ends_list.false) c.in_ok-variable.ensures.whole c.in_ok-body.ensures.whole c.in-None.ensures.mark (sym c.ends_list-in-None.ensures ∙ c.if-ends_list-in-None.false) c.syntax.ensures
 
 pub branch::branches-elements-requires :
     goal.branch::branches-elements-requires

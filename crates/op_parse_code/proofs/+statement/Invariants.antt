@@ -50,14 +50,14 @@ invariant-compound::statements-loop-statements l = Sequencing l.fn.left l.fn.end
 abbrev pub decreases-compound::statements-loop-statements : goal.decreases-compound::statements-loop-statements
 decreases-compound::statements-loop-statements l = length l.rest
 
-abbrev pub invariant-branch::branches-loop-branches : goal.invariant-branch::branches-loop-branches
-invariant-branch::branches-loop-branches l = Branching l.fn.left l.fn.end (terminals l.fn.tokens) l.branches.items (terminals l.rest) × (length l.rest ≤ length l.fn.tokens)
+abbrev pub invariant-branch::branches-loop-alloc : goal.invariant-branch::branches-loop-alloc
+invariant-branch::branches-loop-alloc l = Branching l.fn.left l.fn.end (terminals l.fn.tokens) l.branches.items (terminals l.rest) × (length l.rest ≤ length l.fn.tokens)
 
-abbrev pub decreases-branch::branches-loop-branches : goal.decreases-branch::branches-loop-branches
-decreases-branch::branches-loop-branches l = length l.rest
+abbrev pub decreases-branch::branches-loop-alloc : goal.decreases-branch::branches-loop-alloc
+decreases-branch::branches-loop-alloc l = length l.rest
 
-abbrev pub invariant-handler::handlers-loop-handlers : goal.invariant-handler::handlers-loop-handlers
-invariant-handler::handlers-loop-handlers l = Handling l.fn.left l.fn.end (terminals l.fn.tokens) l.handlers.items (terminals l.rest) × (length l.rest ≤ length l.fn.tokens)
+abbrev pub invariant-handler::handlers-loop-alloc : goal.invariant-handler::handlers-loop-alloc
+invariant-handler::handlers-loop-alloc l = Handling l.fn.left l.fn.end (terminals l.fn.tokens) l.handlers.items (terminals l.rest) × (length l.rest ≤ length l.fn.tokens)
 
-abbrev pub decreases-handler::handlers-loop-handlers : goal.decreases-handler::handlers-loop-handlers
-decreases-handler::handlers-loop-handlers l = length l.rest
+abbrev pub decreases-handler::handlers-loop-alloc : goal.decreases-handler::handlers-loop-alloc
+decreases-handler::handlers-loop-alloc l = length l.rest

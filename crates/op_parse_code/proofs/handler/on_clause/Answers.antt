@@ -13,14 +13,14 @@ returns-then-not-is_word-clause-refused c = λ d. on_missing d c.args.end _ _ (r
 pub returns-in_err-first-clause-refused : goal.returns-in_err-first-clause-refused
 returns-in_err-first-clause-refused c = passed c.from_residual.result c.from_residual.ensures.1 (λ y e. λ d. rw (e, c.in-Some.ensures.cases.0) (on_name_missing d c.args.end _ _ _ _ (sym c.is_word.ensures ∙ c.if-not-is_word.false) (c.in_err-first.ensures.refused d)))
 
-pub returns-in_err-class-in-Some-clause-refused : goal.returns-in_err-class-in-Some-clause-refused
-returns-in_err-class-in-Some-clause-refused c = passed c.from_residual-in_err-class-in-Some.result c.from_residual-in_err-class-in-Some.ensures.1 (λ y e. λ d. rw (e, c.in-Some.ensures.cases.0) (on_class_missing d c.args.end _ _ _ _ _ _ _ _ (sym c.is_word.ensures ∙ c.if-not-is_word.false) c.in_ok-first.ensures.name c.in-Some-behind_mark.ensures.mark.1 (c.in_err-class-in-Some.ensures.refused d)))
+pub returns-in_err-class-in-Some-behind_mark-clause-refused : goal.returns-in_err-class-in-Some-behind_mark-clause-refused
+returns-in_err-class-in-Some-behind_mark-clause-refused c = passed c.from_residual-in_err-class-in-Some-behind_mark.result c.from_residual-in_err-class-in-Some-behind_mark.ensures.1 (λ y e. λ d. rw (e, c.in-Some.ensures.cases.0) (on_class_missing d c.args.end _ _ _ _ _ _ _ _ (sym c.is_word.ensures ∙ c.if-not-is_word.false) c.in_ok-first.ensures.name c.in-Some-behind_mark.ensures.mark.1 (c.in_err-class-in-Some-behind_mark.ensures.refused d)))
 
-pub returns-in_err-second-in-Some-clause-refused : goal.returns-in_err-second-in-Some-clause-refused
-returns-in_err-second-in-Some-clause-refused c = passed c.from_residual-in_err-second-in-Some.result c.from_residual-in_err-second-in-Some.ensures.1 (λ y e. λ d. rw (e, c.in-Some.ensures.cases.0) (on_variable_refuses d c.args.end _ _ _ _ _ _ _ _ _ _ (sym c.is_word.ensures ∙ c.if-not-is_word.false) c.in_ok-first.ensures.name c.in-Some-behind_mark.ensures.mark.1 c.in_ok-class-in-Some.ensures.name (c.in_err-second-in-Some.ensures.refused d)))
+pub returns-in_err-second-in-Some-behind_mark-clause-refused : goal.returns-in_err-second-in-Some-behind_mark-clause-refused
+returns-in_err-second-in-Some-behind_mark-clause-refused c = passed c.from_residual-in_err-second-in-Some-behind_mark.result c.from_residual-in_err-second-in-Some-behind_mark.ensures.1 (λ y e. λ d. rw (e, c.in-Some.ensures.cases.0) (on_variable_refuses d c.args.end _ _ _ _ _ _ _ _ _ _ (sym c.is_word.ensures ∙ c.if-not-is_word.false) c.in_ok-first.ensures.name c.in-Some-behind_mark.ensures.mark.1 c.in_ok-class-in-Some-behind_mark.ensures.name (c.in_err-second-in-Some-behind_mark.ensures.refused d)))
 
-pub returns-in_ok-second-in-Some-clause-whole : goal.returns-in_ok-second-in-Some-clause-whole
-returns-in_ok-second-in-Some-clause-whole c = rw (c.class_of.ensures, c.in-Some.ensures.cases.0) (on_variable_whole _ _ _ _ _ _ _ _ _ _ _ (sym c.is_word.ensures ∙ c.if-not-is_word.false) c.in_ok-first.ensures.name c.in-Some-behind_mark.ensures.mark.1 c.in_ok-class-in-Some.ensures.name c.in_ok-second-in-Some.ensures.whole)
+pub returns-in_ok-second-in-Some-behind_mark-clause-whole : goal.returns-in_ok-second-in-Some-behind_mark-clause-whole
+returns-in_ok-second-in-Some-behind_mark-clause-whole c = rw (c.class_of.ensures, c.in-Some.ensures.cases.0) (on_variable_whole _ _ _ _ _ _ _ _ _ _ _ (sym c.is_word.ensures ∙ c.if-not-is_word.false) c.in_ok-first.ensures.name c.in-Some-behind_mark.ensures.mark.1 c.in_ok-class-in-Some-behind_mark.ensures.name c.in_ok-second-in-Some-behind_mark.ensures.whole)
 
 pub returns-in_err-second-in-None-clause-refused : goal.returns-in_err-second-in-None-clause-refused
 returns-in_err-second-in-None-clause-refused c = passed c.from_residual-in_err-second-in-None.result c.from_residual-in_err-second-in-None.ensures.1 (λ y e. λ d. rw (e, c.in-Some.ensures.cases.0) (on_class_refuses d c.args.end _ _ _ _ _ _ (sym c.is_word.ensures ∙ c.if-not-is_word.false) c.in_ok-first.ensures.name c.in-None.ensures.mark (c.in_err-second-in-None.ensures.refused d)))
