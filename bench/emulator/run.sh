@@ -10,8 +10,8 @@ work=$(mktemp -d)
 trap 'rm -rf "$work"' EXIT
 ${CC:-cc} -O2 -o "$work/interpreter" "$here/interpreter.c"
 
-# a text of some 12 MB
-awk 'BEGIN { for (k = 0; k < 300000; k++) printf "%d bottles of beer stand on wall %d %x\n", k, k % 97, k * 7919 }' >"$work/text.in"
+# a text of some 22 MB
+awk 'BEGIN { for (k = 0; k < 450000; k++) printf "%d bottles of beer stand on wall %d %x\n", k, k % 97, k * 7919 }' >"$work/text.in"
 for item in sort:40 hash:100 matrix:100 text:1; do
     name=${item%:*}
     tests/images/build "$name" "${item#*:}" "$work/$name"
@@ -23,7 +23,7 @@ seconds() {
     input=$1
     shift
     for turn in 1 2 3; do
-        sh -c '"$@" >/dev/null 2>&1; times' sh "$@" <"$input" | awk 'NR == 2 { split($1, user, /[ms]/); split($2, system, /[ms]/); print (user[1] + system[1]) * 60 + user[2] + system[2] }'
+        sh -c '"$@" >/dev/null 2>&1; times' sh "$@" <"$input" | awk 'NR == 2 { split($1, user, /[ms]/); split($2, kernel, /[ms]/); print (user[1] + kernel[1]) * 60 + user[2] + kernel[2] }'
     done | sort -n | head -n 1
 }
 
