@@ -17,7 +17,7 @@ use Rattle.op_emu.specs.declared.stop.Stepped.TheVariants.{Went, Fault, ReadFaul
 use Rattle.op_emu.specs.declared.stop.Stepped.TheVariants as stepped
 use Rattle.op_emu.specs.Registers.{value_of, with_value}
 use Rattle.op_emu.specs.Acts.{Moment, moment, state_of, sets, Streams, Faults, MayFollow, Takes, Acts, ActsInPart, ReadsInPart, StepIs, Leads, RowIs, WriteIs, handed_bytes, streams}
-use Rattle.op_emu.proofs.FillingLemmas.{nothing_preceded, preceded-append}
+use Rattle.op_emu.proofs.FillingLemmas.{bytes_append, no_bytes, nothing_preceded, preceded-append}
 use Rattle.op_emu.proofs.Stretches.{appended-nil, appended-append, AppendsFront-after}
 
 -- an output to which nothing was written
@@ -32,6 +32,7 @@ pub Takes-none : (old new : Hart) (i : Option (List ℕ)) → new.input_ended �
 Takes-none old new i same =
     record {
       parts = nothing_preceded i;
+      bounded = no_bytes;
       stays_ended = λ ended. (refl, same ∙ ended);
       exhausted = λ before ended. before (sym same ∙ ended);
     }
@@ -83,6 +84,7 @@ ReadsInPart-same f g old told same acts =
       taken = acts.taken;
       reads = λ x o e. same x o e ∙ acts.reads x o e;
       wants = acts.wants;
+      bounded = acts.bounded;
       input = acts.input;
       output = acts.output;
       errors = acts.errors;
@@ -290,6 +292,7 @@ module _ (a b : Hart) (i i' i'' : Option (List ℕ)) (taken taken' : List ℕ) (
   Takes-then c next =
       record {
         parts = first.parts ∙ ap (preceded taken) next.parts ∙ sym (preceded-append taken taken' i'');
+        bounded = bytes_append taken taken' first.bounded next.bounded;
         stays_ended = λ ended.
             let now = first.stays_ended ended in
             let later = next.stays_ended now.1 in

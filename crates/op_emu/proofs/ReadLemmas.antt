@@ -8,7 +8,7 @@ use Rattle.op_rv.specs.State.{State, Rights, Running, register}
 use Rattle.op_rv.specs.Environment.{read_call, is_writable, filled}
 use Rattle.op_emu.specs.declared.hart.Hart.{Hart}
 use Rattle.op_emu.specs.declared.memory.Memory.{Memory}
-use Rattle.op_emu.specs.Filling.{Fills}
+use Rattle.op_emu.specs.Filling.{AreBytes, Fills}
 use Rattle.op_emu.specs.Registers.{value_of, with_value}
 use Rattle.op_emu.specs.Segments.{regions_of, IsWritten}
 use Rattle.op_emu.specs.Acts.{moment, state_of, MayFollow, Takes, Acts, may_fill, streams}
@@ -71,10 +71,11 @@ module _ (old new : Hart) (bytes : List ℕ) (i i' o e : Option (List ℕ)) (fro
         errors = sym (appended-nil e);
       }
 
-Takes-some : (old new : Hart) (bytes : List ℕ) (i i' : Option (List ℕ)) → i ≡ preceded bytes i' → old.input_ended ≡ false → (IsTrue new.input_ended → IsExhausted i') → Takes bytes old new i i'
-Takes-some old new bytes i i' parts asks ends =
+Takes-some : (old new : Hart) (bytes : List ℕ) (i i' : Option (List ℕ)) → AreBytes bytes → i ≡ preceded bytes i' → old.input_ended ≡ false → (IsTrue new.input_ended → IsExhausted i') → Takes bytes old new i i'
+Takes-some old new bytes i i' bounded parts asks ends =
     record {
       parts = parts;
+      bounded = bounded;
       stays_ended = λ ended. absurd (false≢true (sym asks ∙ ended));
       exhausted = λ _ ended. ends ended;
     }
@@ -84,4 +85,4 @@ pub Acts-fills : (old new : Hart) (memory : Memory) (k at : ℕ) (i i' o e : Opt
 Acts-fills old new memory k at i i' o e from may asks fills is_at within whole ends same words pc =
     let many = fills.many in
     let written = subst (λ at. IsWritten (regions_of old.memory.segments.items) (regions_of memory.segments.items) at fills.bytes) is_at fills.written in
-    Acts-read old new fills.bytes i i' o e from may (omega arith) (⊎_elim (λ all. inl (many ∙ all)) (λ ended. inr ended) whole) (Takes-some old new fills.bytes i i' fills.parts asks ends) (words ∙ ap (with_value old.registers.words 10) (sym many)) pc (subst (λ memory. IsWritten (regions_of old.memory.segments.items) (regions_of memory.segments.items) (value_of old.registers.words 11) fills.bytes) (sym same) written)
+    Acts-read old new fills.bytes i i' o e from may (omega arith) (⊎_elim (λ all. inl (many ∙ all)) (λ ended. inr ended) whole) (Takes-some old new fills.bytes i i' fills.bounded fills.parts asks ends) (words ∙ ap (with_value old.registers.words 10) (sym many)) pc (subst (λ memory. IsWritten (regions_of old.memory.segments.items) (regions_of memory.segments.items) (value_of old.registers.words 11) fills.bytes) (sym same) written)

@@ -82,6 +82,7 @@ module _ (m : ℕ) (old mid new : Machine) (i i' i'' o o' o'' e e' e'' : Option 
         taken = is.0.taken;
         reads = is.0.reads;
         wants = is.0.wants;
+        bounded = is.0.bounded;
         input = is.0.input;
         output = refl;
         errors = refl;

@@ -7,6 +7,7 @@ use Rattle.op_rv.specs.Environment.{read_call}
 use Rattle.op_emu.specs.Region.{byte_in, readable_in, writable_in, rights_in}
 use Rattle.op_rv.specs.declared.fault.FaultKind.TheVariants.{Load}
 use Rattle.op_link.specs.Image.{start}
+use Rattle.op_emu.specs.Filling.{AreBytes}
 use Rattle.op_emu.specs.Registers.{value_of}
 use Rattle.op_emu.specs.Segments.{regions_of}
 use Rattle.op_emu.specs.declared.hart.Hart.{Hart}
@@ -71,6 +72,7 @@ MayFollow hart input = IsTrue hart.input_ended → input ≡ []
 -- these bytes were taken from the input, and none once the source had answered that it is at its end
 pub record Takes (taken : List ℕ) (old new : Hart) (before after : Option (List ℕ)) : Type 0 where
   pub parts : before ≡ preceded taken after
+  pub bounded : AreBytes taken
   pub stays_ended : IsTrue old.input_ended → (taken ≡ []) × IsTrue new.input_ended
   pub exhausted : (IsTrue old.input_ended → IsExhausted before) → IsTrue new.input_ended → IsExhausted after
 
@@ -120,6 +122,7 @@ pub record ReadsInPart (f : State → State) (old : Hart) (told : Streams) : Typ
   pub taken : List ℕ
   pub reads : (x o e : List ℕ) → f (state_of (moment old Running) x o e) ≡ read_call (state_of (moment old Running) x o e)
   pub wants : WantsMore (length taken) old
+  pub bounded : AreBytes taken
   pub input : told.input_before ≡ preceded taken told.input_after
   pub output : told.output_after ≡ told.output_before
   pub errors : told.errors_after ≡ told.errors_before

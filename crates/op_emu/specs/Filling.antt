@@ -1,5 +1,5 @@
 -- Filling a range of memory from a source.
-use Rattle.std.specs.Prelude.{◌≡◌, ℕ, ◌<◌, ◌≤◌, Option, List, length}
+use Rattle.std.specs.Prelude.{◌≡◌, ℕ, ◌<◌, ◌≤◌, ◌^◌, Option, List, length, slice_index}
 use Rattle.op_base.specs.Outside.{preceded, IsExhausted, Rose}
 use Rattle.op_base.specs.declared.source.Got.{Got}
 use Rattle.op_base.specs.declared.source.Got.TheVariants.{Gave, End, Failed}
@@ -8,10 +8,15 @@ use Rattle.op_emu.specs.Segments.{IsWritten}
 use Rattle.op_emu.specs.declared.fill.Filled.{Filled}
 use Rattle.op_emu.specs.declared.fill.Filled.TheVariants as filled
 
+-- numbers of bytes
+abbrev pub AreBytes : List ℕ → Type 0
+AreBytes bytes = (k : ℕ) → slice_index bytes k < 2 ^ 8
+
 -- so many bytes were taken from the source and written from an address on
 pub record Fills (count : ℕ) (old new : List Region) (at : ℕ) (before after : Option (List ℕ)) : Type 0 where
   pub bytes : List ℕ
   pub many : length bytes ≡ count
+  pub bounded : AreBytes bytes
   pub parts : before ≡ preceded bytes after
   pub written : IsWritten old new at bytes
 

@@ -3,7 +3,7 @@ ghost use Rattle.std.specs.Prelude.{◌≡◌, ◌^◌, ◌<◌, ◌≤◌, leng
 ghost use Rattle.op_rv.specs.State.{all_from};
 ghost use Rattle.op_emu.specs.Region.{writable_in};
 ghost use Rattle.op_emu.specs.Segments.{regions_of};
-ghost use Rattle.op_emu.specs.Filling.{FrontIs, FillIs};
+ghost use Rattle.op_emu.specs.Filling.{AreBytes, FrontIs, FillIs};
 
 use crate::Memory;
 use op_base::{Got, Source};
@@ -22,6 +22,11 @@ pub(crate) enum Filled {
     Failed,
 }
 
+/// Bytes are below 256. It does nothing, and tells the proofs what the type says.
+fn are_bytes(bytes: &[u8])
+    ensures { AreBytes bytes.now }
+{}
+
 impl Memory {
     /// Takes at least one byte and at most as many as the buffer has room for from a source to an address on.
     fn fill_through<R: Source>(&mut self, at: u64, buffer: &mut [u8], from: &mut R) -> Got
@@ -35,7 +40,9 @@ impl Memory {
     {
         match from.take(buffer) {
             Got::Gave(count) => {
-                self.write(at, &buffer[..count]);
+                let bytes = &buffer[..count];
+                are_bytes(bytes);
+                self.write(at, bytes);
                 Got::Gave(count)
             }
             Got::End => Got::End,

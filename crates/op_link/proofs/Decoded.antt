@@ -161,3 +161,9 @@ pub program_decodes : (layout : Layout) (addresses : Addresses) (settings : Sett
 unfolding Fits
 program_decodes layout addresses settings objects code have is =
     all_decode code (program_fits layout addresses settings objects have code is)
+
+-- the fields of each instruction fit
+pub program_has_words : (layout : Layout) (addresses : Addresses) (settings : Settings) (objects : Objects) (code : List Instr) → list_all routine_has_fields objects.routines ≡ true → program_code layout addresses settings objects ≡ Some code → list_all fits code ≡ true
+unfolding Fits
+program_has_words layout addresses settings objects code have is =
+    program_fits layout addresses settings objects have code is

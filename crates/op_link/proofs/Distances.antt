@@ -7,7 +7,7 @@ use Rattle.op_rv.specs.Encoding.{is_signed, is_even}
 use Rattle.op_link.specs.Reach.{reaches}
 use Rattle.op_link.specs.Code.{distance_within}
 
-forward : (from to : ℕ) → from ≤ to → pos to -ℤ pos from ≡ pos (to - from)
+pub forward : (from to : ℕ) → from ≤ to → pos to -ℤ pos from ≡ pos (to - from)
 forward from to h = omega (arith, ints)
 
 pub backward : (from to : ℕ) → to < from → pos to -ℤ pos from ≡ negsuc (from - suc to)

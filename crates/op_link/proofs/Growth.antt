@@ -48,7 +48,7 @@ blocks_grow known r spot (block ∷ blocks) =
     let count : items_in_blocks (block ∷ blocks) ≡ length block.items + items_in_blocks blocks = sum_by-cons (λ (block : ObjectBlock). length block.items) block blocks in
     omega (arith, count, items_grow known r spot block.items, blocks_grow known r (behind_items known r spot block.items) blocks)
 
-routine_grows : (known : List RoutinePlace) (r : ℕ) (spot : Spot) (routine : ObjectRoutine) → spot.address + 4 * items_in_routine routine ≤ (behind_routine known r spot routine).address
+pub routine_grows : (known : List RoutinePlace) (r : ℕ) (spot : Spot) (routine : ObjectRoutine) → spot.address + 4 * items_in_routine routine ≤ (behind_routine known r spot routine).address
 routine_grows known r spot routine =
     omega (arith, items_grow known r spot routine.head, blocks_grow known r (behind_items known r spot routine.head) routine.blocks)
 

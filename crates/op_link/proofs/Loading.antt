@@ -45,7 +45,7 @@ unfolding zero_part
 zero_at_most global =
     elim (cases_Bool (begins_as_zero global)) [ inl zero ↦ simp zero (omega arith) | inr own ↦ simp own (omega arith) ]
 
-zeros_at_most : (globals : List GlobalVariable) → zero_size globals ≤ globals_size globals
+pub zeros_at_most : (globals : List GlobalVariable) → zero_size globals ≤ globals_size globals
 zeros_at_most [] = omega arith
 zeros_at_most (global ∷ globals) =
     omega (arith, zero_at_most global, zeros_at_most globals, sum_by-cons zero_part global globals, sum_by-cons global_size global globals)

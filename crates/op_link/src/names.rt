@@ -52,9 +52,9 @@ fn left_by_global(room: u32, global: &GlobalVariable) -> Option<u32>
     room.checked_sub((initial as u32 + global.zeros + 3) / 4 * 4)
 }
 
-/// Whether all global variables take no more than they may.
+/// Whether all global variables take no more than they may: 15,728,640 bytes.
 #[tactic(auto, unfolding(crate::specs::Placing::left_of))]
-fn are_small(globals: &[GlobalVariable]) -> bool
+pub fn are_small(globals: &[GlobalVariable]) -> bool
     ensures { result ≡ nat_le (globals_size globals.now) 15728640 }
 {
     let mut room = MOST_GLOBALS;

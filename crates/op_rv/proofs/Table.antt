@@ -282,4 +282,76 @@ instr_at-word_of (Fence rd rs1 bits) h =
 instr_at-word_of Ecall h = refl
 instr_at-word_of Ebreak h = refl
 
+-- the word of an instruction whose fields fit is a word
+pub word_of-lt : (i : Instr) → fits i ≡ true → word_of i < 2 ^ 32
+word_of-lt (Lui rd upper) h =
+    let p = and_parts (is_register rd) (nat_lt upper (2 ^ 20)) h in
+    let a = ltb-true upper (2 ^ 20) p.1 in
+    let b = ltb-true rd (2 ^ 5) p.0 in
+    omega arith
+word_of-lt (Auipc rd upper) h =
+    let p = and_parts (is_register rd) (nat_lt upper (2 ^ 20)) h in
+    let a = ltb-true upper (2 ^ 20) p.1 in
+    let b = ltb-true rd (2 ^ 5) p.0 in
+    omega arith
+word_of-lt (Jal rd offset) h =
+    let p = and_parts (is_register rd && is_signed 20 offset) (is_even offset) h in
+    let q = and_parts (is_register rd) (is_signed 20 offset) p.0 in
+    let a = ltb-true rd (2 ^ 5) q.0 in
+    omega arith
+word_of-lt (Jalr rd rs1 offset) h =
+    let p = fits_2 rd rs1 (is_imm offset) h in
+    let a = p.0 in
+    let b = p.1 in
+    omega arith
+word_of-lt (Branch op rs1 rs2 offset) h =
+    let p = and_parts (is_register rs1 && is_register rs2 && is_signed 12 offset) (is_even offset) h in
+    let q = fits_2 rs1 rs2 (is_signed 12 offset) p.0 in
+    let a = q.0 in
+    let b = q.1 in
+    let f = branch_funct3_of-lt op in
+    omega arith
+word_of-lt (Load op rd rs1 offset) h =
+    let p = fits_2 rd rs1 (is_imm offset) h in
+    let a = p.0 in
+    let b = p.1 in
+    let f = load_funct3_of-lt op in
+    omega arith
+word_of-lt (Store op rs1 rs2 offset) h =
+    let p = fits_2 rs1 rs2 (is_imm offset) h in
+    let a = p.0 in
+    let b = p.1 in
+    let f = store_funct3_of-lt op in
+    omega arith
+word_of-lt (Imm op rd rs1 imm) h =
+    let p = fits_2 rd rs1 (is_imm imm) h in
+    let a = p.0 in
+    let b = p.1 in
+    let f = imm_funct3_of-lt op in
+    omega arith
+word_of-lt (Shift op rd rs1 amount) h =
+    let p = fits_2 rd rs1 (nat_lt amount 32) h in
+    let a = p.0 in
+    let b = p.1 in
+    let c = ltb-true amount 32 p.2 in
+    let f = shift_funct3_of-lt op in
+    let g = shift_funct7_of-lt op in
+    omega arith
+word_of-lt (Alu op rd rs1 rs2) h =
+    let p = fits_2 rd rs1 (is_register rs2) h in
+    let a = p.0 in
+    let b = p.1 in
+    let c = ltb-true rs2 32 p.2 in
+    let f = alu_funct3_of-lt op in
+    let g = alu_funct7_of-lt op in
+    omega arith
+word_of-lt (Fence rd rs1 bits) h =
+    let p = fits_2 rd rs1 (nat_lt bits (2 ^ 12)) h in
+    let a = p.0 in
+    let b = p.1 in
+    let c = ltb-true bits (2 ^ 12) p.2 in
+    omega arith
+word_of-lt Ecall h = omega arith
+word_of-lt Ebreak h = omega arith
+
 pub ruleset round_trip = (instr_at-word_of)

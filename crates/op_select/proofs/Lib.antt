@@ -1,10 +1,10 @@
 mod ArrivalLemmas
-mod Beginning
+pub mod Beginning
 mod CallSteps
 mod ClearLemmas
 mod ControlSteps
 mod EnterLemmas
-mod Following
+pub mod Following
 mod ExamplePlaced
 mod FrameLemmas
 mod HeadLemmas
@@ -13,7 +13,7 @@ mod OperationLemmas
 mod OutsideSteps
 mod ReturnSteps
 mod SequenceLemmas
-mod TransferLemmas
+pub mod TransferLemmas
 mod ValueSteps
-mod Walks
-mod WordLemmas
+pub mod Walks
+pub mod WordLemmas

@@ -5,6 +5,8 @@ use Rattle.std.proofs.lemmas.List.{append-nil}
 use Rattle.op_rv.specs.Environment.{read_call, filled, is_writable}
 use Rattle.op_rv.specs.State.{State, Running, Ended, register}
 use Rattle.op_rv.specs.Step.{step, after}
+use Rattle.op_emu.specs.Filling.{AreBytes}
+use Rattle.op_emu.proofs.FillingLemmas.{bytes_append}
 use Rattle.op_link.specs.Image.{start}
 use Rattle.op_tool.specs.Compiles.{Compiles}
 use Rattle.op_tool.specs.Effects.{Effect}
@@ -75,18 +77,28 @@ start_input image input = refl
 passes_none : (condition : ℕ) → None ≡ Some condition → ⊥
 passes_none condition e = cc
 
+zero_byte : AreBytes (0 ∷ [])
+zero_byte zero = omega arith
+zero_byte (suc k) = omega arith
+
+-- a front of bytes
+bytes_front : (a b : List ℕ) → AreBytes (a ++ b) → AreBytes a
+bytes_front [] b all k = omega arith
+bytes_front (x ∷ xs) b all zero = all zero
+bytes_front (x ∷ xs) b all (suc k) = bytes_front xs b (λ j. all (suc j)) k
+
 module _ (image text : List ℕ) (prints : Prints image text) where
   -- the end of the run over an input
-  end : (input : List ℕ) → EndsAfter image input text
-  end input = prints.ends input
+  end : (input : List ℕ) → AreBytes input → EndsAfter image input text
+  end input bytes = prints.ends input bytes
 
-  runs_never_fault_reading : (taken : List ℕ) (done : Effect) → FaultsReading image taken done → ⊥
-  runs_never_fault_reading taken done faults =
+  runs_never_fault_reading : (taken : List ℕ) (done : Effect) → AreBytes taken → FaultsReading image taken done → ⊥
+  runs_never_fault_reading taken done bytes faults =
       let input = taken ++ 0 ∷ [] in
       let s = start image input in
-      let e = end input in
+      let e = end input (bytes_append taken (0 ∷ []) bytes zero_byte) in
       let t = after done.steps s in
-      let wants = (faults (0 ∷ [])).0 in
+      let wants = (faults (0 ∷ []) zero_byte).0 in
       let most = wants.more in
       let some : 0 < register t 12 = omega arith in
       let rest : length t.input ≡ length wants.taken + 1 = omega (arith, ap length wants.parts, length-append wants.taken (0 ∷ [])) in
@@ -97,27 +109,27 @@ module _ (image text : List ℕ) (prints : Prints image text) where
       let within = shrinks.input in
       reads_or_ended done.steps e.steps s t {n = length s.input} refl (omega arith) (ap length (e.unread ∙ sym (start_input image input))) e.ended (cases_lt done.steps e.steps) wants.runs
 
-  pub exec_owes : (words : List (List ℕ)) (stored : Option (List NamedFile)) (before now : ℕ) (made name : List ℕ) → Compiles stored name made text → (answer : Finish) (done : Effect) → OwesImage image answer done → OwesExec (call words stored before now made) name answer done
-  exec_owes words stored before now made name compiles (finish.Ended status) done (le, (meets, (ended, left, (out, err)))) =
-      let e = end done.input in
+  pub exec_owes : (words : List (List ℕ)) (stored : Option (List NamedFile)) (before now : ℕ) (made name : List ℕ) → Compiles stored name made text → (answer : Finish) (done : Effect) → AreBytes done.input → OwesImage image answer done → OwesExec (call words stored before now made) name answer done
+  exec_owes words stored before now made name compiles (finish.Ended status) done bytes (le, (meets, (ended, left, (out, err)))) =
+      let e = end done.input bytes in
       let same = same_end done.steps e.steps (start image done.input) status 0 ended e.ended in (
         same_status status 0 (sym ended ∙ ap (λ t. t.ending) same ∙ e.ended),
         subst (Compiles stored name made) (sym (out ∙ ap (λ t. t.output) same ∙ e.written)) compiles,
         err ∙ append-nil _ ∙ ap (λ t. t.errors) same ∙ e.reported,
         left ∙ ap (λ t. t.input) same ∙ e.unread,
       )
-  exec_owes words stored before now made name compiles (finish.Faulted kind pc) done (le, (meets, (faulted, left, written))) =
-      absurd (prints.never_faults done.input done.steps kind pc faulted)
-  exec_owes words stored before now made name compiles finish.Spent done (limit, (meets, (running, left, written))) =
-      let e = end done.input in
+  exec_owes words stored before now made name compiles (finish.Faulted kind pc) done bytes (le, (meets, (faulted, left, written))) =
+      absurd (prints.never_faults done.input bytes done.steps kind pc faulted)
+  exec_owes words stored before now made name compiles finish.Spent done bytes (limit, (meets, (running, left, written))) =
+      let e = end done.input bytes in
       let within = e.within in
       let long : e.steps ≤ done.steps = omega arith in
       absurd (running_not_ended 0 (sym running ∙ ap (λ t. t.ending) (after-from_end e.steps done.steps (start image done.input) 0 e.ended long) ∙ e.ended))
-  exec_owes words stored before now made name compiles finish.ReadFault done (lt, meets, taken, parts, faults) =
-      absurd (runs_never_fault_reading taken done faults)
-  exec_owes words stored before now made name compiles (finish.BadImage condition) done (fails, reports) = absurd (passes_none condition (sym prints.loads ∙ fails))
-  exec_owes words stored before now made name compiles finish.NoMemory done reports = reports
-  exec_owes words stored before now made name compiles finish.Usage done owes = absurd owes
-  exec_owes words stored before now made name compiles (finish.Refused rule place) done owes = absurd owes
-  exec_owes words stored before now made name compiles finish.WriteFault done owes = absurd owes
-  exec_owes words stored before now made name compiles finish.Limit done owes = absurd owes
+  exec_owes words stored before now made name compiles finish.ReadFault done bytes (lt, meets, taken, parts, faults) =
+      absurd (runs_never_fault_reading taken done (bytes_front taken done.left (subst AreBytes parts bytes)) faults)
+  exec_owes words stored before now made name compiles (finish.BadImage condition) done bytes (fails, reports) = absurd (passes_none condition (sym prints.loads ∙ fails))
+  exec_owes words stored before now made name compiles finish.NoMemory done bytes reports = reports
+  exec_owes words stored before now made name compiles finish.Usage done bytes owes = absurd owes
+  exec_owes words stored before now made name compiles (finish.Refused rule place) done bytes owes = absurd owes
+  exec_owes words stored before now made name compiles finish.WriteFault done bytes owes = absurd owes
+  exec_owes words stored before now made name compiles finish.Limit done bytes owes = absurd owes

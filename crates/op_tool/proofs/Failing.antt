@@ -45,8 +45,8 @@ build_error now name Limit done owes = owes
 
 pub says_exec_error : (now : Call) (name : List ℕ) (error : CompileError) (answer : Finish) (i o e e' : Option (List ℕ)) (r r' n c c' : ℕ) → FailsAs now.stored name now.file_faults_before now.file_faults_after error → now.image ≡ [] → ReportsError error answer e e' c c' → Says (OwesExec now name) answer (streams i i o o e e') (faults r r' n n c c')
 says_exec_error now name error answer i o e e' r r' n c c' failed empty is =
-    says_also (OwesError now name) (OwesExec now name) answer (streams i i o o e e') (faults r r' n n c c') (exec_error now name) (says_error now name error answer i o e e' r r' n c c' failed empty is)
+    says_also (OwesError now name) (OwesExec now name) answer (streams i i o o e e') (faults r r' n n c c') (λ answer done bytes. exec_error now name answer done) (says_error now name error answer i o e e' r r' n c c' failed empty is)
 
 pub says_build_error : (now : Call) (name : List ℕ) (error : CompileError) (answer : Finish) (i o e e' : Option (List ℕ)) (r r' n c c' : ℕ) → FailsAs now.stored name now.file_faults_before now.file_faults_after error → now.image ≡ [] → ReportsError error answer e e' c c' → Says (OwesBuild now name) answer (streams i i o o e e') (faults r r' n n c c')
 says_build_error now name error answer i o e e' r r' n c c' failed empty is =
-    says_also (OwesError now name) (OwesBuild now name) answer (streams i i o o e e') (faults r r' n n c c') (build_error now name) (says_error now name error answer i o e e' r r' n c c' failed empty is)
+    says_also (OwesError now name) (OwesBuild now name) answer (streams i i o o e e') (faults r r' n n c c') (λ answer done bytes. build_error now name answer done) (says_error now name error answer i o e e' r r' n c c' failed empty is)

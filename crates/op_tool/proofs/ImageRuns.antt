@@ -224,6 +224,6 @@ pub prints : (text : List ℕ) → length text ≤ 65536 → Prints (image_of te
 prints text short =
     record {
       loads = no_failing text short;
-      ends = λ input. ends text input short;
-      never_faults = λ input m kind pc fault. never_faults_by (ends text input short).steps m (start (image_of text) input) 0 kind pc (ends text input short).ended fault;
+      ends = λ input bytes. ends text input short;
+      never_faults = λ input bytes m kind pc fault. never_faults_by (ends text input short).steps m (start (image_of text) input) 0 kind pc (ends text input short).ended fault;
     }

@@ -9,6 +9,7 @@ use Rattle.op_rv.specs.Step.{step, after}
 use Rattle.op_rv.specs.declared.fault.FaultKind.{FaultKind}
 use Rattle.op_emu.specs.Acts.{Acts, MayFollow, Streams, Faults, Takes, streams, faults, state_of, moment, ending_of}
 use Rattle.op_link.specs.Image.{first_failing, start}
+use Rattle.op_emu.proofs.FillingLemmas.{bytes_append}
 use Rattle.op_emu.specs.Runs.{moment_of, stop_of, DoesSteps, RunIs, IsLoaded}
 use Rattle.op_emu.specs.declared.hart.Hart.{Hart}
 use Rattle.op_emu.specs.declared.machine.Machine.{Machine}
@@ -79,6 +80,7 @@ module _ (image : List ℕ) (old : Machine) (loaded : IsLoaded image old) where
       record {
         taken = taken;
         ended = hart.input_ended;
+        bounded = takes.bounded;
         parts = takes.parts;
         exhausted = takes.exhausted (λ ended. absurd (true_not_false old.hart.input_ended ended loaded.begins.asks));
       }
@@ -103,7 +105,7 @@ module _ (image : List ℕ) (old : Machine) (loaded : IsLoaded image old) where
         steps = m;
         out = acts.written;
         err = acts.reported;
-        is_owed = owes;
+        is_owed = λ left may. owes left may.1;
         output = acts.output;
         errors = acts.errors;
       }
@@ -152,6 +154,7 @@ module _ (image : List ℕ) (old : Machine) (loaded : IsLoaded image old) where
         intake = record {
           taken = all;
           ended = false;
+          bounded = bytes_append acts.taken reads.taken acts.input.bounded reads.bounded;
           parts = acts.input.parts ∙ ap (preceded acts.taken) reads.input ∙ preceded_twice acts.taken reads.taken i';
           exhausted = λ ended. cc;
         };
@@ -163,7 +166,7 @@ module _ (image : List ℕ) (old : Machine) (loaded : IsLoaded image old) where
           loaded.meets,
           all,
           refl,
-          λ rest. (
+          λ rest bytes. (
             record {
               runs = ap (λ s. s.ending) (at rest);
               reads = ap step (at rest) ∙ reads.reads (reads.taken ++ rest) acts.written acts.reported ∙ sym (ap read_call (at rest));
@@ -199,10 +202,10 @@ module _ (image : List ℕ) (old : Machine) (loaded : IsLoaded image old) where
             let grows = grows_to_end m s lt in
             let begun = ap (after (suc m)) (sym (begins input)) in
             let out : last.output ≡ acts.written ++ grows.written =
-            grows.output ∙ ap (λ xs. xs ++ grows.written) (ap (λ t. t.output) begun ∙ acts.writes left [] [] may)
+            grows.output ∙ ap (λ xs. xs ++ grows.written) (ap (λ t. t.output) begun ∙ acts.writes left [] [] may.1)
             in
             let err : last.errors ++ last_line last.ending ≡ acts.reported ++ (grows.reported ++ last_line last.ending) =
-            ap (λ xs. xs ++ last_line last.ending) (grows.errors ∙ ap (λ xs. xs ++ grows.reported) (ap (λ t. t.errors) begun ∙ acts.reports left [] [] may)) ∙ append_assoc acts.reported grows.reported (last_line last.ending)
+            ap (λ xs. xs ++ last_line last.ending) (grows.errors ∙ ap (λ xs. xs ++ grows.reported) (ap (λ t. t.errors) begun ∙ acts.reports left [] [] may.1)) ∙ append_assoc acts.reported grows.reported (last_line last.ending)
             in
             record {
               finish = answer_at last.ending;

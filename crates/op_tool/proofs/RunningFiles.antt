@@ -1,6 +1,7 @@
 -- The run of an image that was found in a file.
 use Rattle.std.proofs.Common.{◌≡◌, ℕ, Option, List, inr, subst}
 use Rattle.op_base.specs.declared.files.NamedFile.{NamedFile}
+use Rattle.op_emu.specs.Filling.{AreBytes}
 use Rattle.op_tool.specs.Effects.{Effect}
 use Rattle.op_tool.specs.ImageRun.{OwesImage}
 use Rattle.op_tool.specs.Owes.{call, IsFile, OwesRun}
@@ -20,6 +21,6 @@ run_owes_of words stored before now image name is (finish.Refused rule place) do
 run_owes_of words stored before now image name is finish.WriteFault done owes = absurd owes
 run_owes_of words stored before now image name is finish.Limit done owes = absurd owes
 
-pub run_owes : (words : List (List ℕ)) (stored : Option (List NamedFile)) (before now : ℕ) (image found name : List ℕ) → image ≡ found → IsFile stored name found → (answer : Finish) (done : Effect) → OwesImage image answer done → OwesRun (call words stored before now found) name answer done
-run_owes words stored before now image found name same is answer done owes =
+pub run_owes : (words : List (List ℕ)) (stored : Option (List NamedFile)) (before now : ℕ) (image found name : List ℕ) → image ≡ found → IsFile stored name found → (answer : Finish) (done : Effect) → AreBytes done.input → OwesImage image answer done → OwesRun (call words stored before now found) name answer done
+run_owes words stored before now image found name same is answer done bytes owes =
     run_owes_of words stored before now found name is answer done (subst (λ bytes. OwesImage bytes answer done) same owes)

@@ -5,6 +5,8 @@ use Rattle.op_base.specs.Outside.{appended, preceded, AppendsFront, Rose}
 use Rattle.op_emu.specs.Acts.{OutputFailed, Streams, Faults, streams, faults}
 use Rattle.op_base.specs.declared.rule.Refusal.{Refusal}
 use Rattle.op_tool.specs.Effects.{Effect, effect, OnlyReports, ReportIs, Says, WouldWrite, WritesAll, line}
+use Rattle.op_emu.specs.Filling.{AreBytes}
+use Rattle.op_emu.proofs.FillingLemmas.{bytes_append, no_bytes}
 use Rattle.op_tool.specs.Owes.{OnlyRefuses, Reports, ReportsBadImage, ReportsRefusal}
 use Rattle.op_tool.specs.declared.finish.Finish.{Finish}
 use Rattle.op_tool.specs.declared.finish.Finish.TheVariants.{Ended, Usage, Refused, ReadFault, WriteFault, Spent, NoMemory, BadImage, Faulted, Limit}
@@ -82,7 +84,7 @@ pub says_behind : (owed : Finish → Effect → Type 0) (finish answer : Finish)
 unfolding Says
 says_behind owed finish answer bytes i i' o o' e e' e'' r r' n n' c c' c'' other le all (inl (is, rest)) =
     subst (λ f. Says owed f (streams i i' o o' e e'') (faults r r' n n' c c'')) (sym is) (says_all owed finish (streams i i' o o' e e'') (faults r r' n n' c c'') other (record {
-      intake = record { taken = all.intake.taken; ended = all.intake.ended; parts = all.intake.parts; exhausted = all.intake.exhausted };
+      intake = record { taken = all.intake.taken; ended = all.intake.ended; bounded = all.intake.bounded; parts = all.intake.parts; exhausted = all.intake.exhausted };
       steps = all.steps;
       out = all.out;
       err = all.err ++ bytes;
@@ -92,7 +94,7 @@ says_behind owed finish answer bytes i i' o o' e e' e'' r r' n n' c c' c'' other
     }))
 says_behind owed finish answer bytes i i' o o' e e' e'' r r' n n' c c' c'' other le all (inr (is, front, rose)) =
     subst (λ f. Says owed f (streams i i' o o' e e'') (faults r r' n n' c c'')) (sym is) (record {
-      intake = record { taken = all.intake.taken; ended = all.intake.ended; parts = all.intake.parts; exhausted = all.intake.exhausted };
+      intake = record { taken = all.intake.taken; ended = all.intake.ended; bounded = all.intake.bounded; parts = all.intake.parts; exhausted = all.intake.exhausted };
       would = λ left may. record {
         finish = finish;
         done = effect all.steps (all.intake.taken ++ left) left all.out (all.err ++ bytes);
@@ -108,7 +110,7 @@ says_behind owed finish answer bytes i i' o o' e e' e'' r r' n n' c c' c'' other
 untouched : (owed : Effect → Type 0) (i o e : Option (List ℕ)) → ((input : List ℕ) → owed (effect 0 input input [] [])) → WritesAll owed (streams i i o o e e)
 untouched owed i o e owes =
     record {
-      intake = record { taken = []; ended = false; parts = sym (none_preceded i); exhausted = λ ended. cc };
+      intake = record { taken = []; ended = false; bounded = no_bytes; parts = sym (none_preceded i); exhausted = λ ended. cc };
       steps = 0;
       out = [];
       err = [];
@@ -123,35 +125,35 @@ says_report owed finish answer bytes i o e e' r r' n c c' other owes is =
     says_behind owed finish answer bytes i i o o e e e' r r' n n c c c' other (omega arith) (untouched (λ done. owed finish (reporting bytes done)) i o e owes) is
 
 -- what each answer owes, for what it owes too
-map_all : (f g : Effect → Type 0) (told : Streams) → ((done : Effect) → f done → g done) → WritesAll f told → WritesAll g told
+map_all : (f g : Effect → Type 0) (told : Streams) → ((done : Effect) → AreBytes done.input → f done → g done) → WritesAll f told → WritesAll g told
 map_all f g told leads all =
     record {
       intake = all.intake;
       steps = all.steps;
       out = all.out;
       err = all.err;
-      is_owed = λ left may. leads (effect all.steps (all.intake.taken ++ left) left all.out all.err) (all.is_owed left may);
+      is_owed = λ left may. leads (effect all.steps (all.intake.taken ++ left) left all.out all.err) (bytes_append all.intake.taken left all.intake.bounded may.0) (all.is_owed left may);
       output = all.output;
       errors = all.errors;
     }
 
-map_would : (f g : Finish → Effect → Type 0) (told : Streams) (input : List ℕ) → ((finish : Finish) (done : Effect) → f finish done → g finish done) → WouldWrite f told input → WouldWrite g told input
-map_would f g told input leads would =
+map_would : (f g : Finish → Effect → Type 0) (told : Streams) (input : List ℕ) → AreBytes input → ((finish : Finish) (done : Effect) → AreBytes done.input → f finish done → g finish done) → WouldWrite f told input → WouldWrite g told input
+map_would f g told input bytes leads would =
     record {
       finish = would.finish;
       done = would.done;
-      is_owed = leads would.finish would.done would.is_owed;
+      is_owed = leads would.finish would.done (subst AreBytes (sym would.over) bytes) would.is_owed;
       over = would.over;
       output = would.output;
       errors = would.errors;
     }
 
-pub says_also : (f g : Finish → Effect → Type 0) (finish : Finish) (told : Streams) (counts : Faults) → ((finish : Finish) (done : Effect) → f finish done → g finish done) → Says f finish told counts → Says g finish told counts
+pub says_also : (f g : Finish → Effect → Type 0) (finish : Finish) (told : Streams) (counts : Faults) → ((finish : Finish) (done : Effect) → AreBytes done.input → f finish done → g finish done) → Says f finish told counts → Says g finish told counts
 unfolding Says
 says_also f g WriteFault told counts leads part =
     record {
       intake = part.intake;
-      would = λ left may. map_would f g told (part.intake.taken ++ left) leads (part.would left may);
+      would = λ left may. map_would f g told (part.intake.taken ++ left) (bytes_append part.intake.taken left part.intake.bounded may.0) leads (part.would left may);
       failed = part.failed;
     }
 says_also f g (Ended status) told counts leads all = map_all (f (Ended status)) (g (Ended status)) told (leads (Ended status)) all
@@ -186,7 +188,7 @@ says_refused owed name file refusal answer i o e e' r r' n c c' is_file owes owe
 pub says_written : (owed : Finish → Effect → Type 0) (finish : Finish) (bytes : List ℕ) (i o o' e : Option (List ℕ)) (counts : Faults) → finish ≢ WriteFault → ((input : List ℕ) → owed finish (effect 0 input input bytes [])) → o' ≡ appended o bytes → Says owed finish (streams i i o o' e e) counts
 says_written owed finish bytes i o o' e counts other owes all =
     says_all owed finish (streams i i o o' e e) counts other (record {
-      intake = record { taken = []; ended = false; parts = sym (none_preceded i); exhausted = λ ended. cc };
+      intake = record { taken = []; ended = false; bounded = no_bytes; parts = sym (none_preceded i); exhausted = λ ended. cc };
       steps = 0;
       out = bytes;
       err = [];
@@ -199,7 +201,7 @@ pub says_written_in_part : (owed : Finish → Effect → Type 0) (finish : Finis
 unfolding Says
 says_written_in_part owed finish bytes i o o' e counts owes front failed =
     record {
-      intake = record { taken = []; ended = false; parts = sym (none_preceded i); exhausted = λ ended. cc };
+      intake = record { taken = []; ended = false; bounded = no_bytes; parts = sym (none_preceded i); exhausted = λ ended. cc };
       would = λ left may. record {
         finish = finish;
         done = effect 0 left left bytes [];

@@ -2,6 +2,7 @@
 use Rattle.std.specs.Prelude.{◌≡◌, ℕ, ◌⊎◌, Option, List, [], ◌∷◌, ◌++◌, Bool, IsTrue}
 use Rattle.op_base.specs.Outside.{Rose, appended, preceded, AppendsFront, IsExhausted}
 use Rattle.op_emu.specs.Acts.{Streams, Faults, OutputFailed}
+use Rattle.op_emu.specs.Filling.{AreBytes}
 use Rattle.op_tool.specs.declared.finish.Finish.{Finish}
 use Rattle.op_tool.specs.declared.finish.Finish.TheVariants.{WriteFault}
 
@@ -27,12 +28,13 @@ OnlyReports bytes done = (done.left ≡ done.input) × (done.out ≡ []) × (don
 pub record Intake (told : Streams) : Type 0 where
   pub taken : List ℕ
   pub ended : Bool
+  pub bounded : AreBytes taken
   pub parts : told.input_before ≡ preceded taken told.input_after
   pub exhausted : IsTrue ended → IsExhausted told.input_after
 
--- an input may have this left behind what was taken
+-- an input may have these bytes left behind what was taken
 abbrev pub MayBeLeft : {told : Streams} → Intake told → List ℕ → Type 0
-MayBeLeft intake left = IsTrue intake.ended → left ≡ []
+MayBeLeft intake left = AreBytes left × (IsTrue intake.ended → left ≡ [])
 
 -- both outputs have got all that is owed, whatever is left of the input
 pub record WritesAll (owed : Effect → Type 0) (told : Streams) : Type 0 where

@@ -6,6 +6,7 @@ use Rattle.op_rv.specs.State as state
 use Rattle.op_rv.specs.Step.{step, after}
 use Rattle.op_rv.specs.declared.fault.FaultKind.{FaultKind}
 use Rattle.op_rv.specs.declared.fault.FaultKind.TheVariants.{Fetch, Illegal, Load, Store, Call, Break}
+use Rattle.op_emu.specs.Filling.{AreBytes}
 use Rattle.op_link.specs.Image.{first_failing, start}
 use Rattle.op_tool.specs.Effects.{Effect, OnlyReports, line}
 use Rattle.op_tool.specs.declared.finish.Finish.{Finish}
@@ -70,6 +71,7 @@ pub record WantsBeyond (s : State) (left : List ℕ) : Type 0 where
 abbrev pub FaultsReading : List ℕ → List ℕ → Effect → Type 0
 FaultsReading image taken done =
     (left : List ℕ) →
+    AreBytes left →
     (let s = after done.steps (start image (taken ++ left)) in WantsBeyond s left × HasWritten s (line (codes "opc: read fault")) done)
 
 -- the image has come to this ending, and so has what is left of the input

@@ -11,21 +11,21 @@ returns-in-Some-Exec-clause-says g c =
     let words = map string_bytes c.args.words.now in
     let is = subst (IsCommand words) c.in-Some-Exec.field-0-is c.in-Some-Exec.ensures in
     let now = call words (g.F.Files.stored c.args.files.now) (g.F.Files.faults c.args.files.now) (g.F.Files.faults c.exec.new.files) c.exec.new.image.items in
-    says_also (OwesExec now c.in-Some-Exec.file.now) (Owes now) c.exec.result _ _ (λ answer done owes. Owes.by_exec c.in-Some-Exec.file.now is owes) (c.exec.ensures.says words)
+    says_also (OwesExec now c.in-Some-Exec.file.now) (Owes now) c.exec.result _ _ (λ answer done bytes owes. Owes.by_exec c.in-Some-Exec.file.now is owes) (c.exec.ensures.says words)
 
 pub returns-in-Some-Build-clause-says : goal.returns-in-Some-Build-clause-says
 returns-in-Some-Build-clause-says g c =
     let words = map string_bytes c.args.words.now in
     let is = subst (IsCommand words) c.in-Some-Build.field-0-is c.in-Some-Build.ensures in
     let now = call words (g.F.Files.stored c.args.files.now) (g.F.Files.faults c.args.files.now) (g.F.Files.faults c.build.new.files) c.build.new.image.items in
-    says_also (OwesBuild now c.in-Some-Build.file.now) (Owes now) c.build.result _ _ (λ answer done owes. Owes.by_build c.in-Some-Build.file.now is owes) (c.build.ensures.says words (g.R.Source.left c.args.input.now) (g.R.Source.faults c.args.input.now))
+    says_also (OwesBuild now c.in-Some-Build.file.now) (Owes now) c.build.result _ _ (λ answer done bytes owes. Owes.by_build c.in-Some-Build.file.now is owes) (c.build.ensures.says words (g.R.Source.left c.args.input.now) (g.R.Source.faults c.args.input.now))
 
 pub returns-in-Some-Run-clause-says : goal.returns-in-Some-Run-clause-says
 returns-in-Some-Run-clause-says g c =
     let words = map string_bytes c.args.words.now in
     let is = subst (IsCommand words) c.in-Some-Run.field-0-is c.in-Some-Run.ensures in
     let now = call words (g.F.Files.stored c.args.files.now) (g.F.Files.faults c.args.files.now) (g.F.Files.faults c.run.new.files) c.run.new.image.items in
-    says_also (OwesRun now c.in-Some-Run.name.now) (Owes now) c.run.result _ _ (λ answer done owes. Owes.by_run c.in-Some-Run.name.now is owes) (c.run.ensures.says words)
+    says_also (OwesRun now c.in-Some-Run.name.now) (Owes now) c.run.result _ _ (λ answer done bytes owes. Owes.by_run c.in-Some-Run.name.now is owes) (c.run.ensures.says words)
 
 pub returns-in-None-clause-says : goal.returns-in-None-clause-says
 returns-in-None-clause-says g c =

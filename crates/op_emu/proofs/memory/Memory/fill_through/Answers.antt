@@ -26,6 +26,7 @@ returns-in-Gave g c =
         record {
           bytes = take c.in-Gave.count c.take.new.into;
           many = length-take-le c.in-Gave.count c.take.new.into gave.1;
+          bounded = c.are_bytes.ensures;
           parts = gave.2;
           written = c.write.ensures;
         },

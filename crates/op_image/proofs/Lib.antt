@@ -1,0 +1,9 @@
+pub mod Counting
+pub mod Expanding
+pub mod Linkable
+pub mod Mapped
+pub mod Meant
+pub mod Placed
+pub mod Places
+pub mod Standing
+pub mod Started

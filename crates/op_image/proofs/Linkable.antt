@@ -1,0 +1,438 @@
+-- The objects of valid code may be linked.
+use Rattle.std.proofs.Common.{◌≡◌, ℕ, pos, zero, suc, ◌+◌, ◌*◌, ◌%◌, ◌^◌, ◌-ℤ◌, ◌<◌, ◌≤◌, Bool, true, false, ◌&&◌, nat_le, nat_lt, if◌then◌else◌, Option, Some, None, List, [], ◌∷◌, ◌++◌, length, map, min, slice_get, refl, ap, ap₂, subst, ◌∙◌, arith, length-append}
+use Rattle.std.specs.List.{list_all}
+use Rattle.std.specs.Option.{option_map}
+use Rattle.std.proofs.lemmas.Bool.{lt-ltb, ltb-true, leb-true}
+use Rattle.std.proofs.lemmas.Int.{ints}
+use Rattle.std.proofs.lemmas.List.{length-map}
+use Rattle.std.proofs.lemmas.List.Folds.{list_all-append, list_all-map}
+use Rattle.op_rv.specs.Encoding.{fits, is_imm, is_register}
+use Rattle.op_rv.specs.declared.instruction.ImmOp.TheVariants.{Addi}
+use Rattle.op_rv.specs.declared.instruction.Instr.{Instr}
+use Rattle.op_rv.specs.declared.instruction.Instr.TheVariants.{Ecall, Imm as ImmInstr, Load as LoadInstr, Shift as ShiftInstr}
+use Rattle.op_rv.specs.declared.objects.Item.{Item}
+use Rattle.op_rv.specs.declared.objects.Item.TheVariants.{Plain, Address as AddressItem, Branch as BranchItem, Call as CallItem, CallAt as CallAtItem, Jump as JumpItem}
+use Rattle.op_rv.specs.declared.objects.Objects.{Objects}
+use Rattle.op_rv.specs.declared.symbol.BlockId.{BlockId}
+use Rattle.op_rv.specs.declared.symbol.Symbol.{Symbol}
+use Rattle.op_rv.specs.declared.symbol.Symbol.TheVariants.{Literal, Table, Descriptor, Global, Routine as RoutineSymbol}
+use Rattle.op_layout.specs.declared.layout.Layout.{Layout}
+use Rattle.op_layout.specs.declared.layout.LiteralPlace.{LiteralPlace}
+use Rattle.op_link.specs.Code.{has_fields, have_fields, blocks_have_fields, routine_has_fields}
+use Rattle.op_link.specs.Linking.{all_names_exist, has_symbol as symbol_exists, is_linkable, lies_within, names_exist}
+use Rattle.op_link.specs.Memory.{constants_size, globals_size}
+use Rattle.op_low.specs.Valid.{address_fits, branch_fits, call_at_fits, call_fits, has_landing, has_symbol, imm_fits, is_valid, is_valid_block, is_valid_instruction, is_valid_routine, operands_fit, shift_fits, takes}
+use Rattle.op_low.specs.declared.code.Block.{Block}
+use Rattle.op_low.specs.declared.code.Low.{Low}
+use Rattle.op_low.specs.declared.code.Routine.{Routine}
+use Rattle.op_low.specs.declared.ids.VirtualRegister.{VirtualRegister}
+use Rattle.op_low.specs.declared.instruction.Instruction.{Instruction}
+use Rattle.op_low.specs.declared.instruction.Instruction.TheVariants.{Const, Address, Local, Move, Alu, AluImm, Shift, Load, Store, Call, CallAt, Branch, Jump, Return, Raise, Read, Write, Exit}
+use Rattle.op_low.specs.declared.instruction.Output.TheVariants.{Console, Errors}
+use Rattle.op_select.specs.Frames.{cleared_locals, cleared_registers, epilogue, fetch, head_of, home, keep, load_home, lowered, passed, passed_in_memory, passed_one, received, store_home}
+use Rattle.op_select.specs.Selection.{answered, code_items, items_of, landing_of, object_block_of, object_routine_of, raise_block, select_of}
+use Rattle.op_select.specs.Sequences.{below, constant, is_near, lower_of, reach, reached, sum, upper_of, word_load, word_store}
+use Rattle.op_image.specs.Building.{is_buildable, is_laid_out}
+
+-- ---- tests that hold together
+
+both : (a b : Bool) → a ≡ true → b ≡ true → (a && b) ≡ true
+both a b first second = ap₂ (λ x y. x && y) first second
+
+left_of : (a b : Bool) → (a && b) ≡ true → a ≡ true
+left_of true b is = refl
+left_of false b is = absurd cc
+
+right_of : (a b : Bool) → (a && b) ≡ true → b ≡ true
+right_of true b is = is
+right_of false b is = absurd cc
+
+-- an element of a list of which each passes
+passes_at : {X : Type 0} (p : X → Bool) (xs : List X) (k : ℕ) (x : X) → list_all p xs ≡ true → slice_get xs k ≡ Some x → p x ≡ true
+passes_at p [] k x all is = absurd cc
+passes_at p (y ∷ ys) zero x all is = (let e : y ≡ x = cc in subst (λ z. p z ≡ true) e (left_of _ _ all))
+passes_at p (y ∷ ys) (suc k) x all is = passes_at p ys k x (right_of _ _ all) is
+
+-- a routine that takes arguments is there
+taken_exists : (rs : List Routine) (k arguments : ℕ) → takes (slice_get rs k) arguments ≡ true → k < length rs
+taken_exists [] k arguments is = absurd cc
+taken_exists (r ∷ rs) zero arguments is = omega arith
+taken_exists (r ∷ rs) (suc k) arguments is = (let there = taken_exists rs k arguments is in omega arith)
+
+-- ---- the parts of a word fit
+
+lower_fits : (w : ℕ) → is_imm (lower_of w) ≡ true
+unfolding lower_of
+lower_fits w = fits_both ((w + 2 ^ 11) % 2 ^ 12) (omega arith)
+  where
+    fits_both : (n : ℕ) → n < 4096 → is_imm (pos n -ℤ pos (2 ^ 11)) ≡ true
+    fits_both n small = search (arith, ints)
+
+upper_fits : (w : ℕ) → nat_lt (upper_of w) (2 ^ 20) ≡ true
+unfolding upper_of
+upper_fits w = lt-ltb _ _ (omega arith)
+
+-- ---- items
+
+-- an item has words, and what it names is there
+abbrev good : (Symbol → Bool) → (blocks routines : ℕ) → Item → Bool
+good known blocks routines (Plain i) = fits i
+good known blocks routines (AddressItem rd symbol) = is_register rd && known symbol
+good known blocks routines (BranchItem op left right block) = is_register left && is_register right && nat_lt block.0 blocks
+good known blocks routines (JumpItem block) = nat_lt block.0 blocks
+good known blocks routines (CallItem id landing) = nat_lt id.0 routines
+good known blocks routines (CallAtItem landing) = true
+
+module _ (known : Symbol → Bool) (blocks routines : ℕ) where
+  record Good (items : List Item) : Type 0 where
+    holds : list_all (good known blocks routines) items ≡ true
+
+  none : Good []
+  none = record { holds = refl }
+
+  good_both : (xs ys : List Item) → Good xs → Good ys → Good (xs ++ ys)
+  good_both xs ys first second =
+      record { holds = list_all-append (good known blocks routines) xs ys ∙ both _ _ first.holds second.holds }
+
+  good_one : (i : Item) (is : List Item) → good known blocks routines i ≡ true → Good is → Good (i ∷ is)
+  good_one i is first rest = record { holds = both _ _ first rest.holds }
+
+  good_if : (b : Bool) (xs ys : List Item) → Good xs → Good ys → Good (if b then xs else ys)
+  good_if true xs ys first second = first
+  good_if false xs ys first second = second
+
+  -- ---- sequences
+
+  good_reach : (base via w : ℕ) → is_register base ≡ true → is_register via ≡ true → Good (reach base via w)
+  unfolding reach
+  good_reach base via w b v =
+      good_if (is_near w) [] _ none (good_one _ _ (both _ _ v (upper_fits w)) (good_one _ _ (both _ _ (both _ _ v v) b) none))
+
+  reached_fits : (base via w : ℕ) → is_register base ≡ true → is_register via ≡ true → is_register (reached base via w) ≡ true
+  unfolding reached
+  reached_fits base via w b v = if_fits (is_near w)
+    where
+      if_fits : (near : Bool) → is_register (if near then base else via) ≡ true
+      if_fits true = b
+      if_fits false = v
+
+  good_sum : (to base via w : ℕ) → is_register to ≡ true → is_register base ≡ true → is_register via ≡ true → Good (sum to base via w)
+  unfolding sum
+  good_sum to base via w t b v =
+      good_both (reach base via w) _ (good_reach base via w b v) (good_one _ _ (both _ _ (both _ _ t (reached_fits base via w b v)) (lower_fits w)) none)
+
+  good_load : (to base via w : ℕ) → is_register to ≡ true → is_register base ≡ true → is_register via ≡ true → Good (word_load to base via w)
+  unfolding word_load
+  good_load to base via w t b v =
+      good_both (reach base via w) _ (good_reach base via w b v) (good_one _ _ (both _ _ (both _ _ t (reached_fits base via w b v)) (lower_fits w)) none)
+
+  good_store : (value base via w : ℕ) → is_register value ≡ true → is_register base ≡ true → is_register via ≡ true → Good (word_store value base via w)
+  unfolding word_store
+  good_store value base via w t b v =
+      good_both (reach base via w) _ (good_reach base via w b v) (good_one _ _ (both _ _ (both _ _ (reached_fits base via w b v) t) (lower_fits w)) none)
+
+  good_constant : (to w : ℕ) → is_register to ≡ true → Good (constant to w)
+  unfolding constant
+  good_constant to w t =
+      good_if
+      (is_near w)
+      _
+      _
+      (good_one _ _ (both _ _ (both _ _ t refl) (lower_fits w)) none)
+      (good_one _ _ (both _ _ t (upper_fits w)) (good_one _ _ (both _ _ (both _ _ t t) (lower_fits w)) none))
+
+  -- ---- registers and frames
+
+  good_fetch : (routine : Routine) (to : ℕ) (r : VirtualRegister) → is_register to ≡ true → Good (fetch routine to r)
+  unfolding fetch load_home home
+  good_fetch routine to r t = good_load to 2 to _ t refl t
+
+  good_keep : (routine : Routine) (r : VirtualRegister) (value : ℕ) → is_register value ≡ true → Good (keep routine r value)
+  unfolding keep store_home home
+  good_keep routine r value t = good_store value 2 1 _ t refl refl
+
+  good_passed_one : (routine : Routine) (k : ℕ) (r : VirtualRegister) → Good (passed_one routine k r)
+  unfolding passed_one passed_in_memory
+  good_passed_one routine k r = if_good (nat_lt k 8) refl
+    where
+      if_good : (b : Bool) → nat_lt k 8 ≡ b → Good (if b then fetch routine (10 + k) r else fetch routine 10 r ++ word_store 10 2 1 (below ((4 * k + 8) % 2 ^ 32)))
+      if_good true is = good_fetch routine (10 + k) r (let small = ltb-true k 8 is in lt-ltb _ _ (omega arith))
+      if_good false is = good_both (fetch routine 10 r) _ (good_fetch routine 10 r refl) (good_store 10 2 1 _ refl refl refl)
+
+  good_passed : (routine : Routine) (k : ℕ) (rs : List VirtualRegister) → Good (passed routine k rs)
+  unfolding passed
+  good_passed routine k [] = none
+  good_passed routine k (r ∷ rs) = good_both (passed routine (k + 1) rs) _ (good_passed routine (k + 1) rs) (good_passed_one routine k r)
+
+  good_received : (routine : Routine) (n : ℕ) → n ≤ 8 → Good (received routine n)
+  unfolding received
+  good_received routine zero small = none
+  good_received routine (suc n) small =
+      good_both (received routine n) _ (good_received routine n (omega arith)) (good_keep routine _ (10 + n) (lt-ltb _ _ (omega arith)))
+
+  good_cleared_registers : (routine : Routine) → Good (cleared_registers routine)
+  unfolding cleared_registers
+  good_cleared_registers routine =
+      good_if _ [] _ none (good_one _ _ refl (good_both (sum 11 2 11 _) _ (good_sum 11 2 11 _ refl refl refl) (record { holds = refl })))
+
+  good_cleared_locals : (routine : Routine) → Good (cleared_locals routine)
+  unfolding cleared_locals
+  good_cleared_locals routine =
+      good_if _ [] _ none (good_one _ _ refl (good_both (sum 8 8 11 _) _ (good_sum 8 8 11 _ refl refl refl) (record { holds = refl })))
+
+  good_head : (routine : Routine) → Good (head_of routine)
+  unfolding head_of
+  good_head routine =
+      good_one _ _ refl (
+      good_both (sum 2 2 1 _ ++ received routine (min routine.parameters 8) ++ cleared_registers routine) _
+      (good_both (sum 2 2 1 _ ++ received routine (min routine.parameters 8)) _
+      (good_both (sum 2 2 1 _) _ (good_sum 2 2 1 _ refl refl refl) (good_received routine (min routine.parameters 8) (omega arith)))
+      (good_cleared_registers routine))
+      (good_cleared_locals routine))
+
+  good_epilogue : (routine : Routine) → Good (epilogue routine)
+  unfolding epilogue lowered
+  good_epilogue routine =
+      good_both (lowered routine ++ sum 2 2 1 _) _
+      (good_both (lowered routine) _ (good_if _ [] _ none (good_sum 8 8 1 _ refl refl refl)) (good_sum 2 2 1 _ refl refl refl))
+      (record { holds = refl })
+
+  -- ---- instructions
+
+  landing_fits : (routine : Routine) (landing : Option BlockId) → length routine.blocks < blocks → has_landing routine landing ≡ true → nat_lt (landing_of routine landing).0 blocks ≡ true
+  unfolding landing_of raise_block
+  landing_fits routine None more is = lt-ltb _ _ (omega arith)
+  landing_fits routine (Some block) more is = (let small = ltb-true _ _ is in lt-ltb _ _ (omega arith))
+
+  good_answered : (routine : Routine) (to : VirtualRegister) (landing : Option BlockId) → length routine.blocks < blocks → has_landing routine landing ≡ true → Good (answered routine to landing)
+  unfolding answered
+  good_answered routine to landing more is = good_one _ _ (landing_fits routine landing more is) (good_keep routine to 10 refl)
+
+  good_two : (routine : Routine) (to other : ℕ) (r q : VirtualRegister) → is_register to ≡ true → is_register other ≡ true → Good (fetch routine to r ++ fetch routine other q)
+  good_two routine to other r q t o = good_both (fetch routine to r) _ (good_fetch routine to r t) (good_fetch routine other q o)
+
+  good_computed : (routine : Routine) (from to : VirtualRegister) (i : Instr) → fits i ≡ true → Good (fetch routine 10 from ++ Plain i ∷ keep routine to 10)
+  good_computed routine from to i is = good_both (fetch routine 10 from) _ (good_fetch routine 10 from refl) (good_one _ _ is (good_keep routine to 10 refl))
+
+  good_transfer : (routine : Routine) (buffer size : VirtualRegister) (d n : ℕ) → nat_lt d (2 ^ 11) ≡ true → nat_lt n (2 ^ 11) ≡ true → Good (fetch routine 11 buffer ++ fetch routine 12 size ++ Plain (ImmInstr Addi 10 0 (pos d)) ∷ [] ++ Plain (ImmInstr Addi 17 0 (pos n)) ∷ [] ++ Plain Ecall ∷ [])
+  good_transfer routine buffer size d n small few =
+      good_both (fetch routine 11 buffer ++ fetch routine 12 size ++ Plain (ImmInstr Addi 10 0 (pos d)) ∷ [] ++ Plain (ImmInstr Addi 17 0 (pos n)) ∷ []) _
+      (good_both (fetch routine 11 buffer ++ fetch routine 12 size ++ Plain (ImmInstr Addi 10 0 (pos d)) ∷ []) _
+      (good_both (fetch routine 11 buffer ++ fetch routine 12 size) _ (good_two routine 11 12 buffer size refl refl) (good_one _ [] small none))
+      (good_one _ [] few none))
+      (record { holds = refl })
+
+  good_items : (low : Low) (routine : Routine) → length routine.blocks < blocks → length low.routines ≤ routines → ((symbol : Symbol) → has_symbol low symbol ≡ true → known symbol ≡ true) → (i : Instruction) → is_valid_instruction low routine i ≡ true → Good (items_of routine i)
+  unfolding items_of is_valid_instruction address_fits imm_fits shift_fits call_fits call_at_fits operands_fit branch_fits
+  good_items low routine more few knows (Const to n) valid = good_both (constant 10 n) _ (good_constant 10 n refl) (good_keep routine to 10 refl)
+  good_items low routine more few knows (Address to symbol) valid = good_one _ _ (knows symbol (right_of _ _ valid)) (good_keep routine to 10 refl)
+  good_items low routine more few knows (Local to offset) valid = good_both (sum 10 8 10 _) _ (good_sum 10 8 10 _ refl refl refl) (good_keep routine to 10 refl)
+  good_items low routine more few knows (Move to from) valid = good_both (fetch routine 10 from) _ (good_fetch routine 10 from refl) (good_keep routine to 10 refl)
+  good_items low routine more few knows (Alu op to left right) valid =
+      good_both (fetch routine 10 left ++ fetch routine 11 right) _ (good_two routine 10 11 left right refl refl) (good_one _ _ refl (good_keep routine to 10 refl))
+  good_items low routine more few knows (AluImm op to left imm) valid = good_computed routine left to (ImmInstr op 10 10 imm) (right_of _ _ valid)
+  good_items low routine more few knows (Shift op to left amount) valid = good_computed routine left to (ShiftInstr op 10 10 amount) (right_of _ _ valid)
+  good_items low routine more few knows (Load op to base offset) valid = good_computed routine base to (LoadInstr op 10 10 offset) (right_of _ _ valid)
+  good_items low routine more few knows (Store op v base offset) valid =
+      good_both (fetch routine 10 base ++ fetch routine 11 v) _ (good_two routine 10 11 base v refl refl) (good_one _ _ (right_of _ _ valid) none)
+  good_items low routine more few knows (Call id operands) valid =
+      let there = taken_exists low.routines id.0 (length operands.arguments) (left_of _ _ valid) in
+      good_both (passed routine 0 operands.arguments) _ (good_passed routine 0 operands.arguments) (
+      good_one _ _ (lt-ltb _ _ (omega arith)) (good_answered routine operands.to operands.landing more (right_of _ _ (right_of _ _ valid))))
+  good_items low routine more few knows (CallAt address operands) valid =
+      good_both (passed routine 0 operands.arguments ++ fetch routine 1 address) _
+      (good_both (passed routine 0 operands.arguments) _ (good_passed routine 0 operands.arguments) (good_fetch routine 1 address refl))
+      (good_one _ _ refl (good_answered routine operands.to operands.landing more (right_of _ _ (right_of _ _ valid))))
+  good_items low routine more few knows (Branch op left right block) valid =
+      let small = ltb-true block.0 (length routine.blocks) (right_of _ _ valid) in
+      good_both (fetch routine 10 left ++ fetch routine 11 right) _ (good_two routine 10 11 left right refl refl) (good_one _ _ (lt-ltb _ _ (omega arith)) none)
+  good_items low routine more few knows (Jump block) valid = (let small = ltb-true block.0 (length routine.blocks) valid in good_one _ _ (lt-ltb _ _ (omega arith)) none)
+  good_items low routine more few knows (Return v) valid =
+      good_both (fetch routine 10 v ++ Plain (ImmInstr Addi 11 0 (pos 0)) ∷ []) _ (good_both (fetch routine 10 v) _ (good_fetch routine 10 v refl) (record { holds = refl })) (good_epilogue routine)
+  good_items low routine more few knows Raise valid = good_one _ _ refl (good_epilogue routine)
+  good_items low routine more few knows (Read to buffer size) valid =
+      good_both (fetch routine 11 buffer ++ fetch routine 12 size ++ Plain (ImmInstr Addi 10 0 (pos 0)) ∷ [] ++ Plain (ImmInstr Addi 17 0 (pos 63)) ∷ [] ++ Plain Ecall ∷ []) _
+      (good_transfer routine buffer size 0 63 refl refl)
+      (good_keep routine to 10 refl)
+  good_items low routine more few knows (Write Console buffer size) valid = good_transfer routine buffer size 1 64 refl refl
+  good_items low routine more few knows (Write Errors buffer size) valid = good_transfer routine buffer size 2 64 refl refl
+  good_items low routine more few knows (Exit status) valid = good_both (fetch routine 10 status ++ Plain (ImmInstr Addi 17 0 (pos 93)) ∷ []) _ (good_both (fetch routine 10 status) _ (good_fetch routine 10 status refl) (record { holds = refl })) (record { holds = refl })
+
+  good_code : (low : Low) (routine : Routine) → length routine.blocks < blocks → length low.routines ≤ routines → ((symbol : Symbol) → has_symbol low symbol ≡ true → known symbol ≡ true) → (code : List Instruction) → list_all (is_valid_instruction low routine) code ≡ true → Good (code_items routine code)
+  unfolding code_items
+  good_code low routine more few knows [] valid = none
+  good_code low routine more few knows (i ∷ is) valid =
+      good_both (items_of routine i) _ (good_items low routine more few knows i (left_of _ _ valid)) (good_code low routine more few knows is (right_of _ _ valid))
+
+  good_blocks : (low : Low) (routine : Routine) → length routine.blocks < blocks → length low.routines ≤ routines → ((symbol : Symbol) → has_symbol low symbol ≡ true → known symbol ≡ true) → (bs : List Block) → list_all (is_valid_block low routine) bs ≡ true → list_all (λ block. list_all (good known blocks routines) block.items) (map (object_block_of routine) bs) ≡ true
+  unfolding object_block_of is_valid_block
+  good_blocks low routine more few knows [] valid = refl
+  good_blocks low routine more few knows (b ∷ bs) valid =
+      both _ _ (good_code low routine more few knows b.code (right_of _ _ (left_of _ _ valid))).holds (good_blocks low routine more few knows bs (right_of _ _ valid))
+
+-- ---- what the linker asks
+
+-- the offset of each place lies within the constants
+within_offsets : (layout : Layout) (offsets : List ℕ) (k : ℕ) → k < length offsets → list_all (λ offset. nat_le offset (constants_size layout)) offsets ≡ true → lies_within layout (slice_get offsets k) ≡ true
+within_offsets layout [] k there all = absurd (omega arith)
+within_offsets layout (o ∷ os) zero there all = left_of _ _ all
+within_offsets layout (o ∷ os) (suc k) there all = within_offsets layout os k (omega arith) (right_of _ _ all)
+
+within_literals : (layout : Layout) (places : List LiteralPlace) (k : ℕ) → k < length places → list_all (λ place. nat_le place.offset (constants_size layout)) places ≡ true → lies_within layout (option_map (λ place. place.offset) (slice_get places k)) ≡ true
+within_literals layout [] k there all = absurd (omega arith)
+within_literals layout (o ∷ os) zero there all = left_of _ _ all
+within_literals layout (o ∷ os) (suc k) there all = within_literals layout os k (omega arith) (right_of _ _ all)
+
+-- the parts of what is laid out
+record Enough (low : Low) (layout : Layout) : Type 0 where
+  literals : nat_le low.counts.literals (length layout.literals) ≡ true
+  tables : nat_le low.counts.tables (length layout.tables) ≡ true
+  descriptors : nat_le low.counts.descriptors (length layout.descriptors) ≡ true
+  literal_offsets : list_all (λ place. nat_le place.offset (constants_size layout)) layout.literals ≡ true
+  table_offsets : list_all (λ offset. nat_le offset (constants_size layout)) layout.tables ≡ true
+  descriptor_offsets : list_all (λ offset. nat_le offset (constants_size layout)) layout.descriptors ≡ true
+  entries : list_all (λ routine. nat_lt routine.0 (length low.routines)) layout.entries ≡ true
+
+-- an item that is good has words, and names what is there
+good_fields : (objects : Objects) (layout : Layout) (blocks : ℕ) (i : Item) → good (symbol_exists objects layout) blocks (length objects.routines) i ≡ true → has_fields i ≡ true
+unfolding has_fields
+good_fields objects layout blocks (Plain i) is = is
+good_fields objects layout blocks (AddressItem rd symbol) is = left_of _ _ is
+good_fields objects layout blocks (BranchItem op left right block) is = left_of _ _ is
+good_fields objects layout blocks (JumpItem block) is = refl
+good_fields objects layout blocks (CallItem id landing) is = refl
+good_fields objects layout blocks (CallAtItem landing) is = refl
+
+good_names : (objects : Objects) (layout : Layout) (blocks : ℕ) (i : Item) → good (symbol_exists objects layout) blocks (length objects.routines) i ≡ true → names_exist objects layout blocks i ≡ true
+unfolding names_exist
+good_names objects layout blocks (Plain i) is = refl
+good_names objects layout blocks (AddressItem rd symbol) is = right_of _ _ is
+good_names objects layout blocks (BranchItem op left right block) is = right_of _ _ is
+good_names objects layout blocks (JumpItem block) is = is
+good_names objects layout blocks (CallItem id landing) is = is
+good_names objects layout blocks (CallAtItem landing) is = refl
+
+-- what is asked of each element follows from what holds of each
+all_also : {X : Type 0} (p q : X → Bool) (xs : List X) → ((x : X) → p x ≡ true → q x ≡ true) → list_all p xs ≡ true → list_all q xs ≡ true
+all_also p q [] leads all = refl
+all_also p q (x ∷ xs) leads all = both _ _ (leads x (left_of _ _ all)) (all_also p q xs leads (right_of _ _ all))
+
+module _ (low : Low) (layout : Layout) (buildable : is_buildable low layout ≡ true) where
+  pub valid_code : is_valid low ≡ true
+  unfolding is_buildable
+  valid_code = left_of _ _ (left_of _ _ buildable)
+
+  laid_out : is_laid_out low layout ≡ true
+  unfolding is_buildable
+  laid_out = right_of _ _ (left_of _ _ buildable)
+
+  enough : Enough low layout
+  unfolding is_laid_out
+  enough =
+      record {
+        literals = left_of _ _ (left_of _ _ (left_of _ _ (left_of _ _ (left_of _ _ (left_of _ _ laid_out)))));
+        tables = right_of _ _ (left_of _ _ (left_of _ _ (left_of _ _ (left_of _ _ (left_of _ _ laid_out)))));
+        descriptors = right_of _ _ (left_of _ _ (left_of _ _ (left_of _ _ (left_of _ _ laid_out))));
+        literal_offsets = right_of _ _ (left_of _ _ (left_of _ _ (left_of _ _ laid_out)));
+        table_offsets = right_of _ _ (left_of _ _ (left_of _ _ laid_out));
+        descriptor_offsets = right_of _ _ (left_of _ _ laid_out);
+        entries = right_of _ _ laid_out;
+      }
+
+  pub globals_fit : nat_le (globals_size low.globals) 15728640 ≡ true
+  unfolding is_buildable
+  globals_fit = right_of _ _ buildable
+
+  pub same_length : length (select_of low).routines ≡ length low.routines
+  unfolding select_of
+  same_length = length-map low.routines object_routine_of
+
+  symbols_exist : (symbol : Symbol) → has_symbol low symbol ≡ true → symbol_exists (select_of low) layout symbol ≡ true
+  unfolding has_symbol symbol_exists select_of
+  symbols_exist (Literal id) is = within_literals layout layout.literals id.0 (omega (arith, leb-true _ _ enough.literals, ltb-true _ _ is)) enough.literal_offsets
+  symbols_exist (Table id) is = within_offsets layout layout.tables id.0 (omega (arith, leb-true _ _ enough.tables, ltb-true _ _ is)) enough.table_offsets
+  symbols_exist (Descriptor id) is = within_offsets layout layout.descriptors id.0 (omega (arith, leb-true _ _ enough.descriptors, ltb-true _ _ is)) enough.descriptor_offsets
+  symbols_exist (Global id) is = is
+  symbols_exist (RoutineSymbol id) is = ap (λ n. nat_lt id.0 n) (length-map low.routines object_routine_of) ∙ is
+
+  -- every routine has words, and names what is there
+  module _ (routine : Routine) (valid : is_valid_routine low routine ≡ true) where
+    blocks : ℕ
+    blocks = length (object_routine_of routine).blocks
+
+    passes : Item → Bool
+    passes i = good (symbol_exists (select_of low) layout) blocks (length (select_of low).routines) i
+
+    more : length routine.blocks < blocks
+    unfolding object_routine_of blocks
+    more =
+        omega (arith, length-append (map (object_block_of routine) routine.blocks) (record { items = items_of routine Raise } ∷ []), length-map routine.blocks (object_block_of routine))
+
+    few : length low.routines ≤ length (select_of low).routines
+    few = omega (arith, same_length)
+
+    head_passes : list_all passes (object_routine_of routine).head ≡ true
+    unfolding object_routine_of passes
+    head_passes = (good_head (symbol_exists (select_of low) layout) blocks (length (select_of low).routines) routine).holds
+
+    blocks_pass : list_all (λ block. list_all passes block.items) (object_routine_of routine).blocks ≡ true
+    unfolding object_routine_of passes is_valid_routine is_valid_instruction
+    blocks_pass =
+        list_all-append (λ block. list_all passes block.items) (map (object_block_of routine) routine.blocks) (record { items = items_of routine Raise } ∷ [])
+        ∙ both _ _
+        (good_blocks (symbol_exists (select_of low) layout) blocks (length (select_of low).routines) low routine more few symbols_exist routine.blocks (right_of _ _ valid))
+        (both _ _ (good_items (symbol_exists (select_of low) layout) blocks (length (select_of low).routines) low routine more few symbols_exist Raise refl).holds refl)
+
+    fields_there : routine_has_fields (object_routine_of routine) ≡ true
+    unfolding routine_has_fields blocks_have_fields passes
+    fields_there =
+        both _ _
+        (all_also passes has_fields (object_routine_of routine).head (good_fields (select_of low) layout blocks) head_passes)
+        (all_also (λ block. list_all passes block.items) (λ block. have_fields block.items) (object_routine_of routine).blocks (λ block all. all_also passes has_fields block.items (good_fields (select_of low) layout blocks) all) blocks_pass)
+
+    names_there : all_names_exist (select_of low) layout (object_routine_of routine) ≡ true
+    unfolding passes blocks
+    names_there =
+        both _ _
+        (all_also passes (names_exist (select_of low) layout blocks) (object_routine_of routine).head (good_names (select_of low) layout blocks) head_passes)
+        (all_also (λ block. list_all passes block.items) (λ block. list_all (names_exist (select_of low) layout blocks) block.items) (object_routine_of routine).blocks (λ block all. all_also passes (names_exist (select_of low) layout blocks) block.items (good_names (select_of low) layout blocks) all) blocks_pass)
+
+  pub routines_valid : list_all (is_valid_routine low) low.routines ≡ true
+  unfolding is_valid
+  routines_valid = right_of _ _ valid_code
+
+  pub entry_there : nat_lt low.entry.0 (length (select_of low).routines) ≡ true
+  unfolding is_valid
+  entry_there =
+      let there = taken_exists low.routines low.entry.0 0 (left_of _ _ valid_code) in
+      lt-ltb _ _ (omega (arith, same_length))
+
+  pub all_fields : list_all routine_has_fields (select_of low).routines ≡ true
+  unfolding select_of
+  all_fields =
+      list_all-map routine_has_fields object_routine_of low.routines
+      ∙ all_also (is_valid_routine low) (λ routine. routine_has_fields (object_routine_of routine)) low.routines fields_there routines_valid
+
+  all_names : list_all (all_names_exist (select_of low) layout) (select_of low).routines ≡ true
+  unfolding select_of
+  all_names =
+      list_all-map (all_names_exist (select_of low) layout) object_routine_of low.routines
+      ∙ all_also (is_valid_routine low) (λ routine. all_names_exist (select_of low) layout (object_routine_of routine)) low.routines names_there routines_valid
+
+  all_entries : list_all (λ routine. nat_lt routine.0 (length (select_of low).routines)) layout.entries ≡ true
+  all_entries = ap (λ n. list_all (λ routine. nat_lt routine.0 n) layout.entries) same_length ∙ enough.entries
+
+  globals_there : nat_le (globals_size (select_of low).globals) 15728640 ≡ true
+  unfolding select_of
+  globals_there = globals_fit
+
+  entry_kept : (select_of low).entry ≡ low.entry
+  unfolding select_of
+  entry_kept = refl
+
+  pub linkable : is_linkable (select_of low) layout ≡ true
+  unfolding is_linkable
+  linkable =
+      both _ _
+      (both _ _ (both _ _ (both _ _ (ap (λ e. nat_lt e.0 (length (select_of low).routines)) entry_kept ∙ entry_there) globals_there) all_fields) all_names)
+      all_entries

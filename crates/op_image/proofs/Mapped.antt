@@ -1,0 +1,232 @@
+-- What a loaded image has in memory, and what may be done with it: its code stands at its address, and the stack may be used.
+use Rattle.std.proofs.Common.{◌≡◌, ℕ, zero, suc, ◌+◌, ◌-◌, ◌*◌, ◌/◌, ◌%◌, ◌^◌, ◌<◌, ◌≤◌, Bool, true, false, ◌&&◌, cond, nat_eq, nat_le, min, Some, None, List, [], ◌∷◌, ◌++◌, length, get_or, take, drop, map, replicate, slice_get, refl, ap, sym, subst, ◌∙◌, arith, length-append}
+use Rattle.std.proofs.lemmas.Bool.Decides.{nat_tests}
+use Rattle.std.proofs.lemmas.Bool.{and_parts, leb-true, eqb-true}
+use Rattle.std.proofs.lemmas.List.{length-replicate, length-take}
+use Rattle.std.proofs.lemmas.Option.{slice_get_within}
+use Rattle.std.specs.List.{list_all}
+use Rattle.std.specs.Option.{option_map_or}
+use Rattle.op_link.proofs.Lengths.{length-words_of}
+use Rattle.op_link.specs.Code.{words_of}
+use Rattle.op_link.specs.Image.{region_in, regions_in}
+use Rattle.op_link.specs.Linking.{linked_size_of}
+use Rattle.op_link.specs.Loaded.{Decodes, IsLoaded}
+use Rattle.op_link.specs.Memory.{are_in_range, code_address, constants_address, empty, filled, globals_address, segments_of, stack_address, stack_size}
+use Rattle.op_link.specs.Region.{Region, byte_in, covers, executable_in, range_of, readable_in, region_at, writable_in}
+use Rattle.op_link.specs.declared.memory_map.Settings.{Settings}
+use Rattle.op_link.specs.declared.memory_map.Sizes.{Sizes}
+use Rattle.op_link.specs.declared.table.Segment.{Segment}
+use Rattle.op_rv.proofs.Table.{word_of-lt}
+use Rattle.op_rv.specs.Decoding.{instr_at}
+use Rattle.op_rv.specs.Encoding.{fits, word_of}
+use Rattle.op_rv.specs.State.{word_at}
+use Rattle.op_rv.specs.declared.instruction.Instr.{Instr}
+use Rattle.op_select.proofs.WordLemmas.{bytes_of-word, cond_false, cond_true}
+use Rattle.op_image.specs.Meaning.{instruction_at}
+
+-- ---- regions
+
+here_at : (r : Region) (rs : List Region) (a : ℕ) → r.base ≤ a → a < r.base + length r.bytes → region_at (r ∷ rs) a ≡ Some r
+here_at r rs a lower upper = cond_true (covers (range_of r) a) (Some r) (region_at rs a) (grind (arith, nat_tests))
+
+past_it : (r : Region) (rs : List Region) (a : ℕ) → r.base + length r.bytes ≤ a → region_at (r ∷ rs) a ≡ region_at rs a
+past_it r rs a upper = cond_false (covers (range_of r) a) (Some r) (region_at rs a) (grind (arith, nat_tests))
+
+min_below : (a b c : ℕ) → a ≤ c → min a b + (c - a) ≤ c
+min_below a b c under = omega arith
+
+region_size : (image : List ℕ) (s : Segment) → s.file_size ≤ s.memory_size → length (region_in image s).bytes ≤ s.memory_size
+region_size image s under =
+    let bytes = take s.file_size (drop s.offset image) in
+    let zeros : List ℕ = replicate (s.memory_size - s.file_size) 0 in
+    let whole = length-append bytes zeros in
+    let first = length-take s.file_size (drop s.offset image) in
+    let second : length zeros ≡ s.memory_size - s.file_size = length-replicate {A = ℕ} (s.memory_size - s.file_size) 0 in
+    let most = min_below s.file_size (length (drop s.offset image)) s.memory_size under in
+    omega arith
+
+past_segment : (image : List ℕ) (s : Segment) (rs : List Region) (a : ℕ) → s.file_size ≤ s.memory_size → s.address + s.memory_size ≤ a → region_at (region_in image s ∷ rs) a ≡ region_at rs a
+past_segment image s rs a under upper =
+    let size = region_size image s under in
+    past_it (region_in image s) rs a (omega arith)
+
+in_empty : (image : List ℕ) (address size a : ℕ) (rs : List Region) → address ≤ a → a < address + size → region_at (region_in image (empty address size) ∷ rs) a ≡ Some (region_in image (empty address size))
+in_empty image address size a rs lower upper =
+    let long : length (region_in image (empty address size)).bytes ≡ size - 0 = length-replicate {A = ℕ} (size - 0) 0 in
+    here_at (region_in image (empty address size)) rs a lower (omega arith)
+
+-- ---- words of code
+
+skips : (a b c d n m : ℕ) (ys : List ℕ) → n ≡ suc (suc (suc (suc m))) → get_or (a ∷ b ∷ c ∷ d ∷ ys) n 0 ≡ get_or ys m 0
+skips a b c d n m ys is = ap (λ n. get_or (a ∷ b ∷ c ∷ d ∷ ys) n 0) is
+
+abbrev word_in_bytes : List ℕ → ℕ → ℕ
+word_in_bytes bytes n =
+    get_or bytes n 0 + 2 ^ 8 * get_or bytes (n + 1) 0 + 2 ^ 16 * get_or bytes (n + 2) 0 + 2 ^ 24 * get_or bytes (n + 3) 0
+
+skips_word : (a b c d n m : ℕ) (ys : List ℕ) → n ≡ m + 4 → word_in_bytes (a ∷ b ∷ c ∷ d ∷ ys) n ≡ word_in_bytes ys m
+skips_word a b c d n m ys is =
+    let xs = a ∷ b ∷ c ∷ d ∷ ys in
+    let e0 : get_or xs n 0 ≡ get_or ys m 0 = skips a b c d n m ys (omega arith) in
+    let e1 : get_or xs (n + 1) 0 ≡ get_or ys (m + 1) 0 = skips a b c d (n + 1) (m + 1) ys (omega arith) in
+    let e2 : get_or xs (n + 2) 0 ≡ get_or ys (m + 2) 0 = skips a b c d (n + 2) (m + 2) ys (omega arith) in
+    let e3 : get_or xs (n + 3) 0 ≡ get_or ys (m + 3) 0 = skips a b c d (n + 3) (m + 3) ys (omega arith) in
+    omega arith
+
+some_same : {X : Type 0} (x y : X) → Some x ≡ Some y → x ≡ y
+some_same x y e = cc
+
+first_word : (w : ℕ) (ys : List ℕ) → w < 2 ^ 32 → word_in_bytes (w % 256 ∷ w / 256 % 256 ∷ w / 65536 % 256 ∷ w / 16777216 % 256 ∷ ys) 0 ≡ w
+first_word w ys fits = bytes_of-word w fits
+
+word_there : (code : List Instr) (rest : List ℕ) (k : ℕ) (i : Instr) → list_all fits code ≡ true → slice_get code k ≡ Some i → word_in_bytes (words_of code ++ rest) (4 * k) ≡ word_of i
+word_there [] rest k i fit is = absurd cc
+word_there (first ∷ code) rest zero i fit is =
+    let parts = and_parts (fits first) (list_all fits code) fit in
+    subst (λ i. word_in_bytes (words_of (first ∷ code) ++ rest) 0 ≡ word_of i) (some_same first i is) (first_word (word_of first) (words_of code ++ rest) (word_of-lt first parts.0))
+word_there (first ∷ code) rest (suc k) i fit is =
+    let parts = and_parts (fits first) (list_all fits code) fit in
+    let w = word_of first in
+    skips_word (w % 256) (w / 256 % 256) (w / 65536 % 256) (w / 16777216 % 256) (4 * suc k) (4 * k) (words_of code ++ rest) (omega arith) ∙ word_there code rest k i parts.1 is
+
+decodes_there : (code : List Instr) (k : ℕ) (i : Instr) → Decodes code → slice_get code k ≡ Some i → instr_at (word_of i) ≡ Some i
+decodes_there [] k i decodes is = absurd cc
+decodes_there (first ∷ code) zero i decodes is = subst (λ i. instr_at (word_of i) ≡ Some i) (some_same first i is) decodes.0
+decodes_there (first ∷ code) (suc k) i decodes is = decodes_there code k i decodes.1 is
+
+-- ---- where an instruction stands
+
+pub record Located (code : List Instr) (at : ℕ) (i : Instr) : Type 0 where
+  pub index : ℕ
+  pub is : slice_get code index ≡ Some i
+  pub before : index < length code
+  pub place : code_address + 4 * index ≡ at
+
+located_by : (code : List Instr) (at : ℕ) (i : Instr) (test : Bool) → (nat_le code_address at && nat_eq (at % 4) 0) ≡ test → cond test (slice_get code ((at - code_address) / 4)) None ≡ Some i → Located code at i
+located_by code at i true test is =
+    let parts = and_parts (nat_le 65536 at) (nat_eq (at % 4) 0) test in
+    let from : 65536 ≤ at = leb-true 65536 at parts.0 in
+    let fourth : at % 4 ≡ 0 = eqb-true (at % 4) 0 parts.1 in
+    record { index = (at - 65536) / 4; is = is; before = slice_get_within code ((at - 65536) / 4) i is; place = omega arith }
+located_by code at i false test is = absurd cc
+
+pub located : (code : List Instr) (at : ℕ) (i : Instr) → instruction_at code at ≡ Some i → Located code at i
+unfolding instruction_at
+located code at i is = located_by code at i (nat_le code_address at && nat_eq (at % 4) 0) refl is
+
+-- ---- a loaded image
+
+record InRange (settings : Settings) : Type 0 where
+  heap : settings.heap ≤ 262144
+  stack_least : 16 ≤ settings.stack
+  stack : settings.stack ≤ 65536
+
+in_range : (settings : Settings) → are_in_range settings ≡ true → InRange settings
+in_range settings is =
+    let three = and_parts _ (nat_le settings.stack 65536) is in
+    let two = and_parts _ (nat_le 16 settings.stack) three.0 in
+    let one = and_parts (nat_le 64 settings.heap) (nat_le settings.heap 262144) two.0 in
+    record {
+      heap = leb-true settings.heap 262144 one.1;
+      stack_least = leb-true 16 settings.stack two.1;
+      stack = leb-true settings.stack 65536 three.1;
+    }
+
+-- where the stack lies
+pub record StackLies (settings : Settings) : Type 0 where
+  pub from : 0x60000000 ≤ stack_address settings
+  pub sum : stack_address settings + stack_size settings ≡ 0x70000000
+  pub whole : stack_address settings % 4 ≡ 0
+
+pub stack_lies : (settings : Settings) → are_in_range settings ≡ true → StackLies settings
+unfolding stack_address
+stack_lies settings is =
+    let range = in_range settings is in
+    let least = range.stack_least in
+    let most = range.stack in
+    record { from = omega arith; sum = omega arith; whole = omega arith }
+
+module _ (image : List ℕ) (sizes : Sizes) (settings : Settings) (code : List Instr) (loaded : IsLoaded image (segments_of sizes settings)) (words : take sizes.code (drop 4096 image) ≡ words_of code) (ranged : are_in_range settings ≡ true) (within : linked_size_of sizes ≤ 67108864) (few : sizes.zeros ≤ 15728640) where
+  regions_are : regions_in image ≡ map (region_in image) (segments_of sizes settings)
+  regions_are = ap (map (region_in image)) loaded.segments
+
+  code_region : Region
+  code_region = region_in image (filled code_address sizes.code sizes.code 5)
+
+  code_bytes : code_region.bytes ≡ words_of code ++ replicate (sizes.code - sizes.code) 0
+  unfolding code_region
+  code_bytes = ap (λ bytes. bytes ++ replicate (sizes.code - sizes.code) 0) words
+
+  in_code : (a : ℕ) → code_address ≤ a → a < code_address + 4 * length code → region_at (regions_in image) a ≡ Some code_region
+  unfolding segments_of code_region
+  in_code a lower upper =
+      let zeros : List ℕ = replicate (sizes.code - sizes.code) 0 in
+      let long : length code_region.bytes ≡ length (words_of code) + length zeros = ap length code_bytes ∙ length-append (words_of code) zeros in
+      let four = length-words_of code in
+      ap (λ rs. region_at rs a) regions_are ∙ here_at code_region (map (region_in image) (drop 1 (segments_of sizes settings))) a lower (omega arith)
+
+  stack_region : Region
+  stack_region = region_in image (empty (stack_address settings) (stack_size settings))
+
+  in_stack : (a : ℕ) → stack_address settings ≤ a → a < 0x70000000 → region_at (regions_in image) a ≡ Some stack_region
+  unfolding segments_of stack_region constants_address globals_address
+  in_stack a lower upper =
+      let range = in_range settings ranged in
+      let heap = range.heap in
+      let stack = stack_lies settings ranged in
+      let from = stack.from in
+      let sum = stack.sum in
+      ap (λ rs. region_at rs a) regions_are
+      ∙ past_segment image (filled code_address sizes.code sizes.code 5) (map (region_in image) (drop 1 (segments_of sizes settings))) a (omega arith) (omega arith)
+      ∙ past_segment image (filled (constants_address sizes) sizes.constants sizes.constants 4) (map (region_in image) (drop 2 (segments_of sizes settings))) a (omega arith) (omega arith)
+      ∙ past_segment image (filled (globals_address sizes) sizes.initial (sizes.initial + sizes.zeros) 6) (map (region_in image) (drop 3 (segments_of sizes settings))) a (omega arith) (omega arith)
+      ∙ past_segment image (empty 0x08000000 524312) (map (region_in image) (drop 4 (segments_of sizes settings))) a (omega arith) (omega arith)
+      ∙ past_segment image (empty 0x10000000 (1024 * settings.heap)) (map (region_in image) (drop 5 (segments_of sizes settings))) a (omega arith) (omega arith)
+      ∙ in_empty image (stack_address settings) (stack_size settings) a [] lower (omega arith)
+
+  pub stack_readable : (a : ℕ) → stack_address settings ≤ a → a < 0x70000000 → readable_in (regions_in image) a ≡ true
+  unfolding readable_in stack_region
+  stack_readable a lower upper = ap (λ found. option_map_or (λ (region : Region). region.readable) found false) (in_stack a lower upper)
+
+  pub stack_writable : (a : ℕ) → stack_address settings ≤ a → a < 0x70000000 → writable_in (regions_in image) a ≡ true
+  unfolding writable_in stack_region
+  stack_writable a lower upper = ap (λ found. option_map_or (λ (region : Region). region.writable) found false) (in_stack a lower upper)
+
+  pub code_executable : (a : ℕ) → code_address ≤ a → a < code_address + 4 * length code → executable_in (regions_in image) a ≡ true
+  unfolding executable_in code_region
+  code_executable a lower upper = ap (λ found. option_map_or (λ (region : Region). region.executable) found false) (in_code a lower upper)
+
+  pub code_fixed : (a : ℕ) → code_address ≤ a → a < code_address + 4 * length code → writable_in (regions_in image) a ≡ false
+  unfolding writable_in code_region
+  code_fixed a lower upper = ap (λ found. option_map_or (λ (region : Region). region.writable) found false) (in_code a lower upper)
+
+  byte_of_code : (k : ℕ) → k < 4 * length code → byte_in (regions_in image) (code_address + k) ≡ get_or (words_of code ++ replicate (sizes.code - sizes.code) 0) k 0
+  unfolding byte_in code_region
+  byte_of_code k before =
+      let a = code_address + k in
+      let offset : 65536 + k - 65536 ≡ k = omega arith in
+      ap (λ found. option_map_or (λ (region : Region). get_or region.bytes (a - region.base) 0) found 0) (in_code a (omega arith) (omega arith))
+      ∙ ap (λ bytes. get_or bytes (65536 + k - 65536) 0) code_bytes
+      ∙ ap (λ n. get_or (words_of code ++ replicate (sizes.code - sizes.code) 0) n 0) offset
+
+  pub code_decodes : list_all fits code ≡ true → Decodes code → (at : ℕ) (i : Instr) → instruction_at code at ≡ Some i → instr_at (word_at (byte_in (regions_in image)) at) ≡ Some i
+  code_decodes fit decodes at i is =
+      let there = located code at i is in
+      let k = there.index in
+      let before = there.before in
+      let memory = byte_in (regions_in image) in
+      let bytes : List ℕ = words_of code ++ replicate (sizes.code - sizes.code) 0 in
+      let b0 : memory (65536 + 4 * k) ≡ get_or bytes (4 * k) 0 = byte_of_code (4 * k) (omega arith) in
+      let b1 : memory (65536 + (4 * k + 1)) ≡ get_or bytes (4 * k + 1) 0 = byte_of_code (4 * k + 1) (omega arith) in
+      let b2 : memory (65536 + (4 * k + 2)) ≡ get_or bytes (4 * k + 2) 0 = byte_of_code (4 * k + 2) (omega arith) in
+      let b3 : memory (65536 + (4 * k + 3)) ≡ get_or bytes (4 * k + 3) 0 = byte_of_code (4 * k + 3) (omega arith) in
+      let e1 : 65536 + (4 * k + 1) ≡ 65536 + 4 * k + 1 = omega arith in
+      let e2 : 65536 + (4 * k + 2) ≡ 65536 + 4 * k + 2 = omega arith in
+      let e3 : 65536 + (4 * k + 3) ≡ 65536 + 4 * k + 3 = omega arith in
+      let c1 = ap memory (sym e1) ∙ b1 in
+      let c2 = ap memory (sym e2) ∙ b2 in
+      let c3 = ap memory (sym e3) ∙ b3 in
+      let same : word_at memory (65536 + 4 * k) ≡ word_in_bytes bytes (4 * k) = omega arith in
+      ap (λ at. instr_at (word_at memory at)) (sym there.place)
+      ∙ ap instr_at (same ∙ word_there code (replicate (sizes.code - sizes.code) 0) k i fit there.is)
+      ∙ decodes_there code k i decodes there.is

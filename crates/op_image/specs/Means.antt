@@ -1,0 +1,79 @@
+-- What the image of low code does.
+use Rattle.std.specs.Prelude.{◌≡◌, ◌<◌, ◌≤◌, ℕ, ◌+◌, ◌*◌, ◌^◌, List, [], slice_index}
+use Rattle.op_layout.specs.declared.layout.Layout.{Layout}
+use Rattle.op_link.specs.Image.{regions_in, start}
+use Rattle.op_link.specs.Region.{byte_in}
+use Rattle.op_link.specs.declared.memory_map.Settings.{Settings}
+use Rattle.op_low.specs.Machine.{IsPlacement, NeverBad, low_machine}
+use Rattle.op_low.specs.State.{Ended, State as LowState, space}
+use Rattle.op_low.specs.declared.code.Low.{Low}
+use Rattle.op_rv.specs.State.{State}
+use Rattle.op_select.specs.Going.{IsSafe, IsSetting, Setting, locals_in, placement_of, routine_in}
+use Rattle.op_select.specs.RiscvMachine.{riscv_machine}
+use Rattle.op_select.specs.Selected.{Finished, selected}
+use Rattle.op_select.specs.Starting.{start_in}
+use Rattle.op_simulation.specs.Matching.{Agreement}
+use Rattle.op_simulation.specs.Path.{Path}
+use Rattle.op_simulation.specs.System.{run, spent}
+use Rattle.op_image.specs.Meaning.{setting_of}
+
+-- ---- the two beginnings
+
+-- low code over the memory that loading makes
+abbrev pub low_start : Setting → (image input : List ℕ) → LowState
+low_start w image input = start_in w (byte_in (regions_in image)) input
+
+-- the state of low code after n steps, and what they cost
+abbrev pub low_run : Setting → (image input : List ℕ) → ℕ → LowState
+low_run w image input n = run (low_machine w.low (placement_of w)) n (low_start w image input)
+
+abbrev pub low_spent : Setting → (image input : List ℕ) → ℕ → ℕ
+low_spent w image input n = spent (low_machine w.low (placement_of w)) n (low_start w image input)
+
+-- the state of the image after n steps
+abbrev pub image_run : (image input : List ℕ) → ℕ → State
+image_run image input n = run riscv_machine n (start image input)
+
+-- ---- how they go along
+
+-- the steps with which an image comes to where low code begins
+abbrev pub most_first : Setting → ℕ
+most_first w = 42 + 3 * (routine_in w w.low.entry.0).registers + locals_in w w.low.entry.0
+
+-- after these first steps, which show nothing, both go along for ever: the same events, at most 18 steps for a cost of one, and
+-- states that stand for one another again and again
+pub record GoesAlong (w : Setting) (image input : List ℕ) : Type 0 where
+  pub first : State
+  pub steps : ℕ
+  pub within : steps ≤ most_first w
+  pub path : Path riscv_machine (λ s. IsSafe s.ending) (start image input) first steps [] steps
+  pub agreement : Agreement (selected w) (low_start w image input) first
+
+-- the image has ended as low code has after n steps: the same status, output and errors, and the same input left
+pub record EndsWithin (w : Setting) (image input : List ℕ) (n status : ℕ) : Type 0 where
+  pub steps : ℕ
+  pub within : steps ≤ most_first w + 18 * low_spent w image input n
+  pub finished : Finished status (low_run w image input n) (image_run image input steps)
+
+pub record Runs (w : Setting) (image input : List ℕ) : Type 0 where
+  -- the image never faults
+  pub safe : (n : ℕ) → IsSafe (image_run image input n).ending
+  -- where low code ends, it ends
+  pub ends : (n status : ℕ) → (low_run w image input n).ending ≡ Ended status → EndsWithin w image input n status
+  pub along : GoesAlong w image input
+
+-- ---- the image of a program
+
+-- the stack has room for the entry routine
+abbrev pub HasRoom : Setting → Type 0
+HasRoom w = w.bottom + space w.low (placement_of w) w.low.entry.0 ≤ w.top
+
+abbrev pub AreBytes : List ℕ → Type 0
+AreBytes bytes = (k : ℕ) → slice_index bytes k < 2 ^ 8
+
+-- The code stands in the image, routines are found where they begin, and over every input the image does what low code does, if
+-- that never does what it must not do.
+pub record Means (low : Low) (layout : Layout) (settings : Settings) (image : List ℕ) : Type 0 where
+  pub setting : IsSetting (setting_of low layout settings image)
+  pub placement : IsPlacement low (placement_of (setting_of low layout settings image))
+  pub runs : HasRoom (setting_of low layout settings image) → (input : List ℕ) → AreBytes input → NeverBad low (placement_of (setting_of low layout settings image)) (low_start (setting_of low layout settings image) image input) → Runs (setting_of low layout settings image) image input

@@ -1,0 +1,93 @@
+use Rattle.std.proofs.Common.{ℕ, ◌+◌, ◌*◌, ◌≤◌, length}
+use Rattle.op_parse_code.proofs.Chains.{Operating}
+use Rattle.op_parse_code.proofs.Designators.{Selecting}
+use Rattle.op_parse_code.proofs.ExpressionLists.{Arguing, Enumerating, Indexing}
+use Rattle.op_tree.specs.Terminal.{terminals}
+use Rattle.op_tree.specs.declared.operator.Level.{Level}
+use Rattle.op_tree.specs.declared.operator.Level.TheVariants.{Relational, Additive, Multiplicative}
+use Rattle.op_parse_code.proofs.+expression.Given as goal
+
+-- how many calls a chain of the level is above a factor
+abbrev pub height : Level → ℕ
+height Relational = 9
+height Additive = 6
+height Multiplicative = 3
+
+abbrev pub decreases-chain::chain : goal.decreases-chain::chain
+decreases-chain::chain l = 32 * l.left + 10 + height l.level
+
+abbrev pub decreases-chain::operand : goal.decreases-chain::operand
+decreases-chain::operand l = 32 * l.left + 8 + height l.level
+
+abbrev pub decreases-chain::operations : goal.decreases-chain::operations
+decreases-chain::operations l = 32 * l.left + 9 + height l.level
+
+abbrev pub decreases-factor::factor : goal.decreases-factor::factor
+decreases-factor::factor l = 32 * l.left + 9
+
+abbrev pub decreases-designator::designator : goal.decreases-designator::designator
+decreases-designator::designator l = 32 * l.left + 8
+
+abbrev pub decreases-designator::root : goal.decreases-designator::root
+decreases-designator::root l = 32 * l.left + 4
+
+abbrev pub decreases-designator::selectors : goal.decreases-designator::selectors
+decreases-designator::selectors l = 32 * l.left + 5
+
+abbrev pub decreases-designator::selector : goal.decreases-designator::selector
+decreases-designator::selector l = 32 * l.left + 4
+
+abbrev pub decreases-designator::call_arguments : goal.decreases-designator::call_arguments
+decreases-designator::call_arguments l = 32 * l.left + 26
+
+abbrev pub decreases-factor::set_elements : goal.decreases-factor::set_elements
+decreases-factor::set_elements l = 32 * l.left + 26
+
+abbrev pub decreases-list::arguments : goal.decreases-list::arguments
+decreases-list::arguments l = 32 * l.left + 25
+
+abbrev pub decreases-list::argument : goal.decreases-list::argument
+decreases-list::argument l = 32 * l.left + 24
+
+abbrev pub decreases-list::elements : goal.decreases-list::elements
+decreases-list::elements l = 32 * l.left + 25
+
+abbrev pub decreases-list::element : goal.decreases-list::element
+decreases-list::element l = 32 * l.left + 24
+
+abbrev pub decreases-list::indices : goal.decreases-list::indices
+decreases-list::indices l = 32 * l.left + 25
+
+abbrev pub invariant-chain::operations-loop-operator :
+    goal.invariant-chain::operations-loop-operator
+invariant-chain::operations-loop-operator l = Operating l.fn.level l.fn.left l.fn.end (terminals l.fn.tokens) l.operations.items (terminals l.rest) × (length l.rest ≤ length l.fn.tokens)
+
+abbrev pub decreases-chain::operations-loop-operator :
+    goal.decreases-chain::operations-loop-operator
+decreases-chain::operations-loop-operator l = length l.rest
+
+abbrev pub invariant-designator::selectors-loop-selectors :
+    goal.invariant-designator::selectors-loop-selectors
+invariant-designator::selectors-loop-selectors l = Selecting l.fn.left l.fn.end (terminals l.fn.tokens) l.selectors.items (terminals l.rest) × (length l.rest ≤ length l.fn.tokens)
+
+abbrev pub decreases-designator::selectors-loop-selectors :
+    goal.decreases-designator::selectors-loop-selectors
+decreases-designator::selectors-loop-selectors l = length l.rest
+
+abbrev pub invariant-list::arguments-loop-arguments : goal.invariant-list::arguments-loop-arguments
+invariant-list::arguments-loop-arguments l = Arguing l.fn.left l.fn.end (terminals l.fn.tokens) l.arguments.items (terminals l.rest) × (length l.rest ≤ length l.fn.tokens)
+
+abbrev pub decreases-list::arguments-loop-arguments : goal.decreases-list::arguments-loop-arguments
+decreases-list::arguments-loop-arguments l = length l.rest
+
+abbrev pub invariant-list::elements-loop-elements : goal.invariant-list::elements-loop-elements
+invariant-list::elements-loop-elements l = Enumerating l.fn.close l.fn.left l.fn.end (terminals l.fn.tokens) l.elements.items (terminals l.rest) × (length l.rest ≤ length l.fn.tokens)
+
+abbrev pub decreases-list::elements-loop-elements : goal.decreases-list::elements-loop-elements
+decreases-list::elements-loop-elements l = length l.rest
+
+abbrev pub invariant-list::indices-loop-indices : goal.invariant-list::indices-loop-indices
+invariant-list::indices-loop-indices l = Indexing l.fn.left l.fn.end (terminals l.fn.tokens) l.indices.items (terminals l.rest) × (length l.rest ≤ length l.fn.tokens)
+
+abbrev pub decreases-list::indices-loop-indices : goal.decreases-list::indices-loop-indices
+decreases-list::indices-loop-indices l = length l.rest

@@ -1,0 +1,305 @@
+-- Lists of elements, of arguments and of indices.
+use Rattle.std.proofs.Common.{◌≡◌, ℕ, List, [], ◌∷◌, ◌++◌, Option, Some, None, refl, sym, ap, ◌∙◌, subst}
+use Rattle.op_base.specs.declared.place.Place.{Place}
+use Rattle.op_parse_code.proofs.ExpressionKnown.{known_chain, known_element, known_argument}
+use Rattle.op_parse_code.proofs.Lists.{Splits, kind_same, list_item, list_close, list_more}
+use Rattle.op_parse_code.proofs.Refusing.{Some_, Seq, refuses_map, refuses_first, refuses_after, refuses_behind, no_mark_same}
+use Rattle.op_parse_code.proofs.Cuts.{cut_seen}
+use Rattle.op_parse_code.specs.Form.{Form, is_fraction_width}
+use Rattle.op_parse_code.specs.Opening.{kind_of}
+use Rattle.op_parse_code.specs.Refusal.{SameHead, Refuses, left_out, refused_at}
+use Rattle.op_parse_code.specs.Whole.{Chain, Marked, NoMark, SomeElement, SomeArgument, ElementsBefore, ArgumentsBefore, IndicesBefore, ClosesElements, closes_set, closes_labels, InsideSet, no_inside, some_inside, InsideCall, no_arguments_inside, arguments_inside}
+use Rattle.op_parse_code.specs.declared.error.ParseError.{ParseError}
+use Rattle.op_parse_code.specs.declared.mark.Mark.{Mark}
+use Rattle.op_parse_code.specs.declared.mark.Mark.TheVariants as mark
+use Rattle.op_scan.specs.declared.token.TokenKind.TheVariants as kind
+use Rattle.op_tree.proofs.ExpressionUnique.{stop, behind}
+use Rattle.op_tree.specs.Ends.{Stops}
+use Rattle.op_tree.specs.Expression.{Expression, Elements, no_elements, elements, Element, one, range, Expressions, no_expressions, expressions, Arguments, no_arguments, arguments, Argument, value, padded, rounded, expr_of, element_of, argument_of}
+use Rattle.op_tree.specs.ExpressionGrammar.{IsChain, are_one_expression, are_expressions, are_one_element, are_elements, IsElement, is_one, is_range, are_one_argument, are_arguments, IsArgument, is_value, is_padded, is_rounded}
+use Rattle.op_tree.specs.Lists.{expressions_of, arguments_of}
+use Rattle.op_tree.specs.Statement.{elements_of}
+use Rattle.op_tree.specs.Terminal.{Terminal, ◌at◌}
+use Rattle.op_tree.specs.declared.expression.Argument.{Argument as RustArgument}
+use Rattle.op_tree.specs.declared.expression.Element.{Element as RustElement}
+use Rattle.op_tree.specs.declared.expression.Expr.{Expr}
+use Rattle.op_tree.specs.declared.operator.Level.TheVariants.{Relational}
+use Rattle.op_tree.specs.declared.position.Position.{Position}
+
+-- ---- marks are apart
+
+bracket_no_range : kind.CloseBracket ≡ kind.DotDot → ⊥
+bracket_no_range h = absurd cc
+
+colon_no_range : kind.Colon ≡ kind.DotDot → ⊥
+colon_no_range h = absurd cc
+
+comma_is_no_range : kind.Comma ≡ kind.DotDot → ⊥
+comma_is_no_range h = absurd cc
+
+close_is_no_colon : kind.CloseParenthesis ≡ kind.Colon → ⊥
+close_is_no_colon h = absurd cc
+
+comma_is_no_colon : kind.Comma ≡ kind.Colon → ⊥
+comma_is_no_colon h = absurd cc
+
+-- ---- one element
+
+element_is : (d : ℕ) (x : Element) (ks r : List Terminal) → SomeElement d x ks r → IsElement d x ks r
+element_is d (one e) ks r f = is_one f.0.0
+element_is d (range a b) ks r (p, m, f, g) = is_range f.0 g.0
+
+element_before : (d : ℕ) (x : Element) (ks : List Terminal) (m : Mark) (p : Position) (r : List Terminal) → Stops (kind_of m at p ∷ r) → NoMark mark.DotDot (kind_of m at p ∷ r) → IsElement d x ks (kind_of m at p ∷ r) → SomeElement d x ks (kind_of m at p ∷ r)
+element_before d (one e) ks m p r s n (is_one f) = ((f, stop e _ s), n)
+element_before d (range a b) ks m p r s n (is_range {p = q} {m = k} f g) = (q, k, (f, stop a _ (refl, refl)), (g, stop b _ s))
+
+into_element : (d : ℕ) (x : Element) (ks r : List Terminal) → SomeElement d x ks r → Some_ (Chain Relational) d ks
+into_element d (one e) ks r f = (e, r, f.0)
+into_element d (range a b) ks r (p, m, f, g) = (a, kind.DotDot at p ∷ m, f)
+
+pub element_first : (d : ℕ) (end : Place) (ks : List Terminal) (e : ParseError) → Refuses (Chain Relational) d end ks e → Refuses SomeElement d end ks e
+element_first d end ks e h = refuses_map (Chain Relational) SomeElement d end ks e (λ d' b ls r s x. into_element d' b ls r x) h
+
+-- what stands behind the first expression of an element
+abbrev Rest : ℕ → Option Expression → List Terminal → List Terminal → Type 0
+Rest d None ks r = NoMark mark.DotDot ks
+Rest d (Some b) ks r = (p : Position) × (m : List Terminal) × (ks ≡ kind.DotDot at p ∷ m) × Chain Relational d b m r
+
+into_rest : (d : ℕ) (x : Element) (ks r : List Terminal) → SomeElement d x ks r → Some_ (Seq (Chain Relational) Rest) d ks
+into_rest d (one e) ks r f = ((e, None), r, (r, f.0, f.1))
+into_rest d (range a b) ks r (p, m, f, g) = ((a, Some b), r, (kind.DotDot at p ∷ m, f, (p, m, refl, g)))
+
+rest_last : (p : Position) (d : ℕ) (x : Option Expression) (ls r : List Terminal) → Rest d x (kind.DotDot at p ∷ ls) r → Some_ (Chain Relational) d ls
+rest_last p d None ls r none = absurd (none p ls refl)
+rest_last p d (Some b) ls r (q, m, e, f) = (b, r, subst (λ z. Chain Relational d b z r) (sym (ap behind e)) f)
+
+pub element_last : (d : ℕ) (end : Place) (a : Expression) (ks m : List Terminal) (p : Position) (after : List Terminal) (e : ParseError) → Chain Relational d a ks m → m ≡ kind.DotDot at p ∷ after → Refuses (Chain Relational) d end after e → Refuses SomeElement d end ks e
+element_last d end a ks m p after e f is h = refuses_map (Seq (Chain Relational) Rest) SomeElement d end ks e (λ d' b ls r s x. into_rest d' b ls r x) (refuses_after (Chain Relational) Rest d end a ks m e (known_chain Relational) f (subst (λ z. Refuses Rest d end z e) (sym is) (refuses_behind (Chain Relational) Rest d end (kind.DotDot at p) after e (rest_last p) h)))
+
+pub element_range : (d : ℕ) (a b : Expression) (ks m : List Terminal) (p : Position) (after r : List Terminal) → Chain Relational d a ks m → m ≡ kind.DotDot at p ∷ after → Chain Relational d b after r → SomeElement d (range a b) ks r
+element_range d a b ks m p after r f is g = (p, after, subst (λ z. Chain Relational d a ks z) is f, g)
+
+-- ---- elements
+
+abbrev pub elements_before : List RustElement → Elements → Elements
+elements_before [] more = more
+elements_before (x ∷ xs) more = elements (element_of x) (elements_before xs more)
+
+elements_none : (xs : List RustElement) → elements_before xs no_elements ≡ elements_of xs
+elements_none [] = refl
+elements_none (x ∷ xs) = ap (elements (element_of x)) (elements_none xs)
+
+elements_push : (xs : List RustElement) (x : RustElement) (more : Elements) → elements_before (xs ++ (x ∷ [])) more ≡ elements_before xs (elements (element_of x) more)
+elements_push [] x more = refl
+elements_push (y ∷ xs) x more = ap (elements (element_of y)) (elements_push xs x more)
+
+closes_stops : (close : Mark) → ClosesElements close → (p : Position) (r : List Terminal) → Stops (kind_of close at p ∷ r)
+closes_stops close closes_set p r = (refl, refl)
+closes_stops close closes_labels p r = (refl, refl)
+
+closes_no_range : (close : Mark) → ClosesElements close → (p : Position) (r : List Terminal) → NoMark mark.DotDot (kind_of close at p ∷ r)
+closes_no_range close closes_set p r = λ q s h. bracket_no_range (kind_same h)
+closes_no_range close closes_labels p r = λ q s h. colon_no_range (kind_same h)
+
+closes_no_comma : (close : Mark) → ClosesElements close → kind.Comma ≡ kind_of close → ⊥
+closes_no_comma close closes_set h = absurd cc
+closes_no_comma close closes_labels h = absurd cc
+
+comma_no_range : (p : Position) (r : List Terminal) → NoMark mark.DotDot (kind.Comma at p ∷ r)
+comma_no_range p r = λ q s h. comma_is_no_range (kind_same h)
+
+elements_split : (close : Mark) → ClosesElements close → Splits SomeElement (ElementsBefore close) mark.Comma close
+elements_split close c d x ls r (p, are_one_element {e = e} f) = ((e, None), r, (kind_of close at p ∷ r, element_before d e ls close p r (closes_stops close c p r) (closes_no_range close c p r) f, (p, refl)))
+elements_split close c d x ls r (p, are_elements {e = e} {es = es} {p = q} {m = m} f g) = ((e, Some es), r, (kind.Comma at q ∷ m, element_before d e ls mark.Comma q m (refl, refl) (comma_no_range q m) f, (q, m, refl, (p, g))))
+
+-- the elements that are read so far, and what is left
+pub record Enumerating (close : Mark) (d : ℕ) (end : Place) (all : List Terminal) (xs : List RustElement) (rest : List Terminal) : Type 0 where
+  pub completes : (more : Elements) (r : List Terminal) → ElementsBefore close d more rest r → ElementsBefore close d (elements_before xs more) all r
+  pub dies : (e : ParseError) → Refuses (ElementsBefore close) d end rest e → Refuses (ElementsBefore close) d end all e
+
+pub enumerating_none : (close : Mark) (d : ℕ) (end : Place) (all : List Terminal) → Enumerating close d end all [] all
+enumerating_none close d end all = record { completes = λ more r x. x; dies = λ e x. x }
+
+pub enumerating_item : (close : Mark) (d : ℕ) (end : Place) (all rest : List Terminal) (xs : List RustElement) (e : ParseError) → ClosesElements close → Enumerating close d end all xs rest → Refuses SomeElement d end rest e → Refuses (ElementsBefore close) d end all e
+enumerating_item close d end all rest xs e c so_far h = so_far.dies e (list_item SomeElement (ElementsBefore close) mark.Comma close d end rest e (elements_split close c) h)
+
+pub enumerating_close : (close : Mark) (d : ℕ) (end : Place) (all rest m : List Terminal) (xs : List RustElement) (x : Element) (e : ParseError) → ClosesElements close → Enumerating close d end all xs rest → SomeElement d x rest m → NoMark mark.Comma m → Refuses (Marked close) d end m e → Refuses (ElementsBefore close) d end all e
+enumerating_close close d end all rest m xs x e c so_far f none h = so_far.dies e (list_close SomeElement (ElementsBefore close) mark.Comma close d end x rest m e (elements_split close c) known_element f none h)
+
+pub enumerating_more : (close : Mark) (d : ℕ) (end : Place) (all rest m : List Terminal) (xs : List RustElement) (x : RustElement) (p : Position) (after : List Terminal) → ClosesElements close → Enumerating close d end all xs rest → SomeElement d (element_of x) rest m → m ≡ kind.Comma at p ∷ after → Enumerating close d end all (xs ++ (x ∷ [])) after
+enumerating_more close d end all rest m xs x p after c so_far f is =
+    let g : SomeElement d (element_of x) rest (kind.Comma at p ∷ after) = subst (λ z. SomeElement d (element_of x) rest z) is f in
+    record {
+      completes = λ more r h. subst (λ z. ElementsBefore close d z all r) (sym (elements_push xs x more)) (so_far.completes _ r (h.0, are_elements (element_is d (element_of x) rest _ g) h.1));
+      dies = λ e h. so_far.dies e (list_more SomeElement (ElementsBefore close) mark.Comma close d end (element_of x) rest after p e (elements_split close c) known_element (closes_no_comma close c) g h);
+    }
+
+pub enumerating_ends : (close : Mark) (d : ℕ) (end : Place) (all rest m : List Terminal) (xs : List RustElement) (x : RustElement) (p : Position) (after : List Terminal) → Enumerating close d end all xs rest → SomeElement d (element_of x) rest m → m ≡ kind_of close at p ∷ after → ElementsBefore close d (elements_of (xs ++ (x ∷ []))) all after
+enumerating_ends close d end all rest m xs x p after so_far f is =
+    let g : SomeElement d (element_of x) rest (kind_of close at p ∷ after) = subst (λ z. SomeElement d (element_of x) rest z) is f in
+    subst (λ z. ElementsBefore close d z all after) (sym (elements_push xs x no_elements) ∙ elements_none (xs ++ (x ∷ []))) (so_far.completes _ after (p, are_one_element (element_is d (element_of x) rest _ g)))
+
+-- ---- indices
+
+abbrev pub indices_before : List Expr → Expressions → Expressions
+indices_before [] more = more
+indices_before (x ∷ xs) more = expressions (expr_of x) (indices_before xs more)
+
+indices_none : (xs : List Expr) → indices_before xs no_expressions ≡ expressions_of xs
+indices_none [] = refl
+indices_none (x ∷ xs) = ap (expressions (expr_of x)) (indices_none xs)
+
+indices_push : (xs : List Expr) (x : Expr) (more : Expressions) → indices_before (xs ++ (x ∷ [])) more ≡ indices_before xs (expressions (expr_of x) more)
+indices_push [] x more = refl
+indices_push (y ∷ xs) x more = ap (expressions (expr_of y)) (indices_push xs x more)
+
+no_comma_closes : kind.Comma ≡ kind.CloseBracket → ⊥
+no_comma_closes h = absurd cc
+
+indices_split : Splits (Chain Relational) IndicesBefore mark.Comma mark.CloseBracket
+indices_split d x ls r (p, are_one_expression {e = e} f) = ((e, None), r, (kind.CloseBracket at p ∷ r, (f, stop e _ (refl, refl)), (p, refl)))
+indices_split d x ls r (p, are_expressions {e = e} {es = es} {p = q} {m = m} f g) = ((e, Some es), r, (kind.Comma at q ∷ m, (f, stop e _ (refl, refl)), (q, m, refl, (p, g))))
+
+-- the indices that are read so far, and what is left
+pub record Indexing (d : ℕ) (end : Place) (all : List Terminal) (xs : List Expr) (rest : List Terminal) : Type 0 where
+  pub completes : (more : Expressions) (r : List Terminal) → IndicesBefore d more rest r → IndicesBefore d (indices_before xs more) all r
+  pub dies : (e : ParseError) → Refuses IndicesBefore d end rest e → Refuses IndicesBefore d end all e
+
+pub indexing_none : (d : ℕ) (end : Place) (all : List Terminal) → Indexing d end all [] all
+indexing_none d end all = record { completes = λ more r x. x; dies = λ e x. x }
+
+pub indexing_item : (d : ℕ) (end : Place) (all rest : List Terminal) (xs : List Expr) (e : ParseError) → Indexing d end all xs rest → Refuses (Chain Relational) d end rest e → Refuses IndicesBefore d end all e
+indexing_item d end all rest xs e so_far h = so_far.dies e (list_item (Chain Relational) IndicesBefore mark.Comma mark.CloseBracket d end rest e indices_split h)
+
+pub indexing_close : (d : ℕ) (end : Place) (all rest m : List Terminal) (xs : List Expr) (x : Expression) (e : ParseError) → Indexing d end all xs rest → Chain Relational d x rest m → NoMark mark.Comma m → Refuses (Marked mark.CloseBracket) d end m e → Refuses IndicesBefore d end all e
+indexing_close d end all rest m xs x e so_far f none h = so_far.dies e (list_close (Chain Relational) IndicesBefore mark.Comma mark.CloseBracket d end x rest m e indices_split (known_chain Relational) f none h)
+
+pub indexing_more : (d : ℕ) (end : Place) (all rest m : List Terminal) (xs : List Expr) (x : Expr) (p : Position) (after : List Terminal) → Indexing d end all xs rest → Chain Relational d (expr_of x) rest m → m ≡ kind.Comma at p ∷ after → Indexing d end all (xs ++ (x ∷ [])) after
+indexing_more d end all rest m xs x p after so_far f is =
+    let g : Chain Relational d (expr_of x) rest (kind.Comma at p ∷ after) = subst (λ z. Chain Relational d (expr_of x) rest z) is f in
+    record {
+      completes = λ more r h. subst (λ z. IndicesBefore d z all r) (sym (indices_push xs x more)) (so_far.completes _ r (h.0, are_expressions g.0 h.1));
+      dies = λ e h. so_far.dies e (list_more (Chain Relational) IndicesBefore mark.Comma mark.CloseBracket d end (expr_of x) rest after p e indices_split (known_chain Relational) no_comma_closes g h);
+    }
+
+pub indexing_ends : (d : ℕ) (end : Place) (all rest m : List Terminal) (xs : List Expr) (x : Expr) (p : Position) (after : List Terminal) → Indexing d end all xs rest → Chain Relational d (expr_of x) rest m → m ≡ kind.CloseBracket at p ∷ after → IndicesBefore d (expressions_of (xs ++ (x ∷ []))) all after
+indexing_ends d end all rest m xs x p after so_far f is =
+    let g : Chain Relational d (expr_of x) rest (kind.CloseBracket at p ∷ after) = subst (λ z. Chain Relational d (expr_of x) rest z) is f in
+    subst (λ z. IndicesBefore d z all after) (sym (indices_push xs x no_expressions) ∙ indices_none (xs ++ (x ∷ []))) (so_far.completes _ after (p, are_one_expression g.0))
+
+-- ---- one argument
+
+argument_is : (d : ℕ) (x : Argument) (ks r : List Terminal) → SomeArgument d x ks r → IsArgument d x ks r
+argument_is d (value e) ks r f = is_value f.0.0
+argument_is d (padded a b) ks r (p, m, f, g, none) = is_padded f.0 g.0
+argument_is d (rounded a b c) ks r (p, q, m, n, f, g, h) = is_rounded f.0 g.0 h.0
+
+argument_before : (d : ℕ) (x : Argument) (ks : List Terminal) (m : Mark) (p : Position) (r : List Terminal) → Stops (kind_of m at p ∷ r) → NoMark mark.Colon (kind_of m at p ∷ r) → IsArgument d x ks (kind_of m at p ∷ r) → SomeArgument d x ks (kind_of m at p ∷ r)
+argument_before d (value e) ks m p r s n (is_value f) = ((f, stop e _ s), n)
+argument_before d (padded a b) ks m p r s n (is_padded {p = q} {m = k} f g) = (q, k, (f, stop a _ (refl, refl)), (g, stop b _ s), n)
+argument_before d (rounded a b c) ks m p r s n (is_rounded {p = q} {q = q1} {m = k} {n = k1} f g h) = (q, q1, k, k1, (f, stop a _ (refl, refl)), (g, stop b _ (refl, refl)), (h, stop c _ s))
+
+-- what stands behind the value of an argument
+abbrev Widths : ℕ → Option Expression → List Terminal → List Terminal → Type 0
+Widths d None ks r = NoMark mark.Colon ks
+Widths d (Some b) ks r = (p : Position) × (m : List Terminal) × (ks ≡ kind.Colon at p ∷ m) × Chain Relational d b m r
+
+into_widths : (d : ℕ) (x : Argument) (ks r : List Terminal) → SomeArgument d x ks r → Some_ (Seq (Chain Relational) Widths) d ks
+into_widths d (value e) ks r f = ((e, None), r, (r, f.0, f.1))
+into_widths d (padded a b) ks r (p, m, f, g, none) = ((a, Some b), r, (kind.Colon at p ∷ m, f, (p, m, refl, g)))
+into_widths d (rounded a b c) ks r (p, q, m, n, f, g, h) = ((a, Some b), kind.Colon at q ∷ n, (kind.Colon at p ∷ m, f, (p, m, refl, g)))
+
+width_behind : (p : Position) (d : ℕ) (x : Option Expression) (ls r : List Terminal) → Widths d x (kind.Colon at p ∷ ls) r → Some_ (Chain Relational) d ls
+width_behind p d None ls r none = absurd (none p ls refl)
+width_behind p d (Some b) ls r (q, m, e, f) = (b, r, subst (λ z. Chain Relational d b z r) (sym (ap behind e)) f)
+
+pub argument_value : (d : ℕ) (end : Place) (ks : List Terminal) (e : ParseError) → Refuses (Chain Relational) d end ks e → Refuses SomeArgument d end ks e
+argument_value d end ks e h = refuses_map (Seq (Chain Relational) Widths) SomeArgument d end ks e (λ d' b ls r s x. into_widths d' b ls r x) (refuses_first (Chain Relational) Widths d end ks e h)
+
+pub argument_width : (d : ℕ) (end : Place) (a : Expression) (ks m : List Terminal) (p : Position) (after : List Terminal) (e : ParseError) → Chain Relational d a ks m → m ≡ kind.Colon at p ∷ after → Refuses (Chain Relational) d end after e → Refuses SomeArgument d end ks e
+argument_width d end a ks m p after e f is h = refuses_map (Seq (Chain Relational) Widths) SomeArgument d end ks e (λ d' b ls r s x. into_widths d' b ls r x) (refuses_after (Chain Relational) Widths d end a ks m e (known_chain Relational) f (subst (λ z. Refuses Widths d end z e) (sym is) (refuses_behind (Chain Relational) Widths d end (kind.Colon at p) after e (width_behind p) h)))
+
+pub argument_padded : (d : ℕ) (a b : Expression) (ks m : List Terminal) (p : Position) (after r : List Terminal) → Chain Relational d a ks m → m ≡ kind.Colon at p ∷ after → Chain Relational d b after r → NoMark mark.Colon r → SomeArgument d (padded a b) ks r
+argument_padded d a b ks m p after r f is g none = (p, after, subst (λ z. Chain Relational d a ks z) is f, g, none)
+
+pub argument_digits : (d : ℕ) (end : Place) (a b : Expression) (ks m : List Terminal) (p q : Position) (after r s : List Terminal) (e : ParseError) → Chain Relational d a ks m → m ≡ kind.Colon at p ∷ after → Chain Relational d b after r → r ≡ kind.Colon at q ∷ s → e ≡ refused_at 13 35 end r → Refuses SomeArgument d end ks e
+argument_digits d end a b ks m p q after r s e f is g is1 x =
+    let front = (known_chain Relational).front d a ks m f in
+    let seen = cut_seen front.1 in
+    left_out 35 r x (seen.0, kind.Colon at p ∷ after, front.2 ∙ seen.1 m ∙ ap (λ z. seen.0 ++ z) is, subst (λ z. Form 35 (kind.Colon at p ∷ after) z) (sym is1) (is_fraction_width {d = d} {e = b} (subst (λ z. IsChain Relational d b after z) is1 g.0)))
+
+-- ---- arguments
+
+abbrev pub arguments_before : List RustArgument → Arguments → Arguments
+arguments_before [] more = more
+arguments_before (x ∷ xs) more = arguments (argument_of x) (arguments_before xs more)
+
+arguments_none : (xs : List RustArgument) → arguments_before xs no_arguments ≡ arguments_of xs
+arguments_none [] = refl
+arguments_none (x ∷ xs) = ap (arguments (argument_of x)) (arguments_none xs)
+
+arguments_push : (xs : List RustArgument) (x : RustArgument) (more : Arguments) → arguments_before (xs ++ (x ∷ [])) more ≡ arguments_before xs (arguments (argument_of x) more)
+arguments_push [] x more = refl
+arguments_push (y ∷ xs) x more = ap (arguments (argument_of y)) (arguments_push xs x more)
+
+comma_no_close : kind.Comma ≡ kind.CloseParenthesis → ⊥
+comma_no_close h = absurd cc
+
+close_no_colon : (p : Position) (r : List Terminal) → NoMark mark.Colon (kind.CloseParenthesis at p ∷ r)
+close_no_colon p r = λ q s h. close_is_no_colon (kind_same h)
+
+comma_no_colon : (p : Position) (r : List Terminal) → NoMark mark.Colon (kind.Comma at p ∷ r)
+comma_no_colon p r = λ q s h. comma_is_no_colon (kind_same h)
+
+arguments_split : Splits SomeArgument ArgumentsBefore mark.Comma mark.CloseParenthesis
+arguments_split d x ls r (p, are_one_argument {a = a} f) = ((a, None), r, (kind.CloseParenthesis at p ∷ r, argument_before d a ls mark.CloseParenthesis p r (refl, refl) (close_no_colon p r) f, (p, refl)))
+arguments_split d x ls r (p, are_arguments {a = a} {args = args} {p = q} {m = m} f g) = ((a, Some args), r, (kind.Comma at q ∷ m, argument_before d a ls mark.Comma q m (refl, refl) (comma_no_colon q m) f, (q, m, refl, (p, g))))
+
+-- the arguments that are read so far, and what is left
+pub record Arguing (d : ℕ) (end : Place) (all : List Terminal) (xs : List RustArgument) (rest : List Terminal) : Type 0 where
+  pub completes : (more : Arguments) (r : List Terminal) → ArgumentsBefore d more rest r → ArgumentsBefore d (arguments_before xs more) all r
+  pub dies : (e : ParseError) → Refuses ArgumentsBefore d end rest e → Refuses ArgumentsBefore d end all e
+
+pub arguing_none : (d : ℕ) (end : Place) (all : List Terminal) → Arguing d end all [] all
+arguing_none d end all = record { completes = λ more r x. x; dies = λ e x. x }
+
+pub arguing_item : (d : ℕ) (end : Place) (all rest : List Terminal) (xs : List RustArgument) (e : ParseError) → Arguing d end all xs rest → Refuses SomeArgument d end rest e → Refuses ArgumentsBefore d end all e
+arguing_item d end all rest xs e so_far h = so_far.dies e (list_item SomeArgument ArgumentsBefore mark.Comma mark.CloseParenthesis d end rest e arguments_split h)
+
+pub arguing_close : (d : ℕ) (end : Place) (all rest m : List Terminal) (xs : List RustArgument) (x : Argument) (e : ParseError) → Arguing d end all xs rest → SomeArgument d x rest m → NoMark mark.Comma m → Refuses (Marked mark.CloseParenthesis) d end m e → Refuses ArgumentsBefore d end all e
+arguing_close d end all rest m xs x e so_far f none h = so_far.dies e (list_close SomeArgument ArgumentsBefore mark.Comma mark.CloseParenthesis d end x rest m e arguments_split known_argument f none h)
+
+pub arguing_more : (d : ℕ) (end : Place) (all rest m : List Terminal) (xs : List RustArgument) (x : RustArgument) (p : Position) (after : List Terminal) → Arguing d end all xs rest → SomeArgument d (argument_of x) rest m → m ≡ kind.Comma at p ∷ after → Arguing d end all (xs ++ (x ∷ [])) after
+arguing_more d end all rest m xs x p after so_far f is =
+    let g : SomeArgument d (argument_of x) rest (kind.Comma at p ∷ after) = subst (λ z. SomeArgument d (argument_of x) rest z) is f in
+    record {
+      completes = λ more r h. subst (λ z. ArgumentsBefore d z all r) (sym (arguments_push xs x more)) (so_far.completes _ r (h.0, are_arguments (argument_is d (argument_of x) rest _ g) h.1));
+      dies = λ e h. so_far.dies e (list_more SomeArgument ArgumentsBefore mark.Comma mark.CloseParenthesis d end (argument_of x) rest after p e arguments_split known_argument comma_no_close g h);
+    }
+
+pub arguing_ends : (d : ℕ) (end : Place) (all rest m : List Terminal) (xs : List RustArgument) (x : RustArgument) (p : Position) (after : List Terminal) → Arguing d end all xs rest → SomeArgument d (argument_of x) rest m → m ≡ kind.CloseParenthesis at p ∷ after → ArgumentsBefore d (arguments_of (xs ++ (x ∷ []))) all after
+arguing_ends d end all rest m xs x p after so_far f is =
+    let g : SomeArgument d (argument_of x) rest (kind.CloseParenthesis at p ∷ after) = subst (λ z. SomeArgument d (argument_of x) rest z) is f in
+    subst (λ z. ArgumentsBefore d z all after) (sym (arguments_push xs x no_arguments) ∙ arguments_none (xs ++ (x ∷ []))) (so_far.completes _ after (p, are_one_argument (argument_is d (argument_of x) rest _ g)))
+
+-- ---- inside brackets
+
+into_set : (ks : List Terminal) → NoMark mark.CloseBracket ks → (d : ℕ) (b : Elements) (ls r : List Terminal) → SameHead ks ls → InsideSet d b ls r → Some_ (ElementsBefore mark.CloseBracket) d ls
+into_set ks none d b ls r s (no_inside {p = p}) = absurd (no_mark_same mark.CloseBracket ks ls s none p r refl)
+into_set ks none d b ls r s (some_inside f) = (b, r, f)
+
+pub set_inside : (d : ℕ) (end : Place) (ks : List Terminal) (e : ParseError) → NoMark mark.CloseBracket ks → Refuses (ElementsBefore mark.CloseBracket) d end ks e → Refuses InsideSet d end ks e
+set_inside d end ks e none h = refuses_map (ElementsBefore mark.CloseBracket) InsideSet d end ks e (into_set ks none) h
+
+pub set_empty : (d : ℕ) (p : Position) (ks r : List Terminal) → ks ≡ kind.CloseBracket at p ∷ r → InsideSet d no_elements ks r
+set_empty d p ks r is = subst (λ z. InsideSet d no_elements z r) (sym is) no_inside
+
+into_call : (ks : List Terminal) → NoMark mark.CloseParenthesis ks → (d : ℕ) (b : Arguments) (ls r : List Terminal) → SameHead ks ls → InsideCall d b ls r → Some_ ArgumentsBefore d ls
+into_call ks none d b ls r s (no_arguments_inside {p = p}) = absurd (no_mark_same mark.CloseParenthesis ks ls s none p r refl)
+into_call ks none d b ls r s (arguments_inside f) = (b, r, f)
+
+pub call_inside : (d : ℕ) (end : Place) (ks : List Terminal) (e : ParseError) → NoMark mark.CloseParenthesis ks → Refuses ArgumentsBefore d end ks e → Refuses InsideCall d end ks e
+call_inside d end ks e none h = refuses_map ArgumentsBefore InsideCall d end ks e (into_call ks none) h
+
+pub call_empty : (d : ℕ) (p : Position) (ks r : List Terminal) → ks ≡ kind.CloseParenthesis at p ∷ r → InsideCall d no_arguments ks r
+call_empty d p ks r is = subst (λ z. InsideCall d no_arguments z r) (sym is) no_arguments_inside

@@ -1,0 +1,13 @@
+pub mod Chains
+pub mod Cuts
+pub mod Designators
+pub mod Errors
+pub mod ExpressionFronts
+pub mod ExpressionKnown
+pub mod ExpressionLists
+pub mod Factors
+pub mod Lists
+pub mod Marks
+pub mod Names
+pub mod Parts
+pub mod Refusing

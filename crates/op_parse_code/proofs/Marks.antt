@@ -1,0 +1,47 @@
+-- Marks and other single tokens.
+use Rattle.std.proofs.Common.{◌≡◌, Some, refl, ap}
+use Rattle.op_parse_code.specs.Opening.{mark_of, kind_of}
+use Rattle.op_parse_code.specs.declared.mark.Mark.{Mark}
+use Rattle.op_parse_code.specs.declared.mark.Mark.TheVariants as mark
+use Rattle.op_scan.specs.declared.token.TokenKind.{TokenKind}
+use Rattle.op_scan.specs.declared.token.TokenKind.TheVariants as kind
+use Rattle.op_tree.proofs.ExpressionUnique.{some_same}
+
+pub mark_kind : (k : TokenKind) (m : Mark) → mark_of k ≡ Some m → k ≡ kind_of m
+mark_kind kind.Comma m h = ap kind_of (some_same h)
+mark_kind kind.Colon m h = ap kind_of (some_same h)
+mark_kind kind.Semicolon m h = ap kind_of (some_same h)
+mark_kind kind.DotDot m h = ap kind_of (some_same h)
+mark_kind kind.Dot m h = ap kind_of (some_same h)
+mark_kind kind.Assign m h = ap kind_of (some_same h)
+mark_kind kind.CloseParenthesis m h = ap kind_of (some_same h)
+mark_kind kind.CloseBracket m h = ap kind_of (some_same h)
+mark_kind kind.Then m h = ap kind_of (some_same h)
+mark_kind kind.Else_ m h = ap kind_of (some_same h)
+mark_kind kind.Of m h = ap kind_of (some_same h)
+mark_kind kind.Do_ m h = ap kind_of (some_same h)
+mark_kind kind.Until m h = ap kind_of (some_same h)
+mark_kind kind.In_ m h = ap kind_of (some_same h)
+mark_kind kind.Except m h = ap kind_of (some_same h)
+mark_kind kind.Finally m h = ap kind_of (some_same h)
+mark_kind kind.End m h = ap kind_of (some_same h)
+mark_kind other m h = absurd cc
+
+pub mark_at : (m : Mark) → mark_of (kind_of m) ≡ Some m
+mark_at mark.Comma = refl
+mark_at mark.Colon = refl
+mark_at mark.Semicolon = refl
+mark_at mark.DotDot = refl
+mark_at mark.Dot = refl
+mark_at mark.Assign = refl
+mark_at mark.CloseParenthesis = refl
+mark_at mark.CloseBracket = refl
+mark_at mark.Then = refl
+mark_at mark.Else_ = refl
+mark_at mark.Of = refl
+mark_at mark.Do_ = refl
+mark_at mark.Until = refl
+mark_at mark.In_ = refl
+mark_at mark.Except = refl
+mark_at mark.Finally = refl
+mark_at mark.End = refl

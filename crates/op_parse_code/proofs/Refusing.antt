@@ -1,0 +1,122 @@
+-- Refusals of parts are refusals of what they are parts of.
+use Rattle.std.proofs.Common.{◌≡◌, ℕ, suc, List, [], ◌∷◌, ◌++◌, append_assoc, refl, sym, ap, ◌∙◌, subst, length, length-append, arith}
+use Rattle.op_tree.proofs.ExpressionUnique.{behind, same2}
+use Rattle.op_base.specs.declared.place.Place.{Place}
+use Rattle.op_parse_code.proofs.Cuts.{IsCut, cut_seen, same_behind}
+use Rattle.op_parse_code.specs.Form.{HasForm}
+use Rattle.op_parse_code.specs.Refusal.{Phrase, SameHead, Dead, Refuses, out_of_memory, syntax, nested, left_out, refused_at}
+use Rattle.op_parse_code.specs.Whole.{Marked, NoMark}
+use Rattle.op_parse_code.specs.declared.error.ParseError.{ParseError}
+use Rattle.op_parse_code.specs.declared.mark.Mark.{Mark}
+use Rattle.op_tree.specs.Terminal.{Terminal}
+
+-- some part stands there
+abbrev pub Some_ : {A : Type 0} → Phrase A → ℕ → List Terminal → Type 0
+Some_ {A} P d ks = (a : A) × (r : List Terminal) × P d a ks r
+
+-- one part, and behind it another
+abbrev pub Seq : {A B : Type 0} → Phrase A → Phrase B → Phrase (A × B)
+Seq P Q d x ks r = (m : List Terminal) × P d x.0 ks m × Q d x.1 m r
+
+head_same : {t u : Terminal} {ks ls : List Terminal} → t ∷ ks ≡ u ∷ ls → t ≡ u
+head_same h = cc
+
+pub suc_same : {n m : ℕ} → suc n ≡ suc m → n ≡ m
+suc_same h = cc
+
+-- two lists of tokens before the same ones, where the whole is the same
+append_same_front : (f g q : List Terminal) → f ++ q ≡ g ++ q → f ≡ g
+append_same_front [] [] q h = refl
+append_same_front [] (u ∷ g) q h = absurd (omega (arith, ap length h, length-append g q))
+append_same_front (t ∷ f) [] q h = absurd (omega (arith, ap length h, length-append f q))
+append_same_front (t ∷ f) (u ∷ g) q h = same2 (λ x y. x ∷ y) (head_same h) (append_same_front f g q (ap behind h))
+
+-- ---- tokens in front
+
+pub with_token : (t : Terminal) {feature : ℕ} {ks q : List Terminal} → HasForm feature ks q → HasForm feature (t ∷ ks) q
+with_token t (seen, form, e, f) = (t ∷ seen, form, ap (λ z. t ∷ z) e, f)
+
+pub with_front : (front : List Terminal) {feature : ℕ} {ks m q : List Terminal} → ks ≡ front ++ m → HasForm feature m q → HasForm feature ks q
+with_front front e (seen, form, e1, f) = (front ++ seen, form, e ∙ ap (λ z. front ++ z) e1 ∙ sym (append_assoc front seen form), f)
+
+dead_token : {A B : Type 0} (P : A → List Terminal → List Terminal → Type 0) (Q : B → List Terminal → List Terminal → Type 0) (t : Terminal) (ks q : List Terminal) → ((b : B) (ls r : List Terminal) → Q b (t ∷ ls) r → (a : A) × (r' : List Terminal) × P a ls r') → Dead P ks q → Dead Q (t ∷ ks) q
+dead_token P Q t ks q h (seen, e, never) = (t ∷ seen, ap (λ z. t ∷ z) e, λ ls b r s x. let w = h b (seen ++ ls) r x in never ls w.0 w.1 s w.2)
+
+dead_map : {A B : Type 0} (P : A → List Terminal → List Terminal → Type 0) (Q : B → List Terminal → List Terminal → Type 0) (ks q : List Terminal) → ((b : B) (ls r : List Terminal) → SameHead ks ls → Q b ls r → (a : A) × (r' : List Terminal) × P a ls r') → Dead P ks q → Dead Q ks q
+dead_map P Q ks q h (seen, e, never) = (seen, e, λ ls b r s x. let w = h b (seen ++ ls) r (subst (λ z. SameHead z (seen ++ ls)) (sym e) (same_behind seen q ls s)) x in never ls w.0 w.1 s w.2)
+
+inside_seen : {A : Type 0} (P : A → List Terminal → List Terminal → Type 0) (ks q front : List Terminal) → ks ≡ front ++ q → Dead P ks q → (ls : List Terminal) (a : A) (r : List Terminal) → SameHead q ls → P a (front ++ ls) r → ⊥
+inside_seen P ks q front e (seen, e1, never) ls a r s x = never ls a r s (subst (λ z. P a (z ++ ls) r) (append_same_front front seen q (sym e ∙ e1)) x)
+
+pub dead_here : {A : Type 0} (P : A → List Terminal → List Terminal → Type 0) (ks : List Terminal) → ((a : A) (ls r : List Terminal) → SameHead ks ls → P a ls r → ⊥) → Dead P ks ks
+dead_here P ks h = ([], refl, λ ls a r s x. h a ls r s x)
+
+pub inside_any : {A B : Type 0} (P : Phrase A) (Q : Phrase B) (d' : ℕ) (t : Terminal) (ks q : List Terminal) → ((b : B) (ls r : List Terminal) → Q d' b (t ∷ ls) r → (i : ℕ) × (d' ≡ suc i) × Some_ P i ls) → ((i : ℕ) → Dead (P i) ks q) → Dead (Q d') (t ∷ ks) q
+inside_any P Q d' t ks q h never =
+    let first = never d' in
+    (t ∷ first.0, ap (λ z. t ∷ z) first.1, λ ls b r s x. let w = h b (first.0 ++ ls) r x in inside_seen (P w.0) ks q first.0 first.1 (never w.0) ls w.2.0 w.2.1 s w.2.2)
+
+-- ---- refusals
+
+-- at the same depth, what stands behind a token
+pub refuses_behind : {A B : Type 0} (P : Phrase A) (Q : Phrase B) (d : ℕ) (end : Place) (t : Terminal) (ks : List Terminal) (e : ParseError) → ((d' : ℕ) (b : B) (ls r : List Terminal) → Q d' b (t ∷ ls) r → Some_ P d' ls) → Refuses P d end ks e → Refuses Q d end (t ∷ ks) e
+refuses_behind P Q d end t ks e h (out_of_memory x) = out_of_memory x
+refuses_behind P Q d end t ks e h (syntax q x never) = syntax q x (λ d'. dead_token (P d') (Q d') t ks q (h d') (never d'))
+refuses_behind P Q d end t ks e h (nested q x never) = nested q x (dead_token (P d) (Q d) t ks q (h d) never)
+refuses_behind P Q d end t ks e h (left_out feature q x f) = left_out feature q x (with_token t f)
+
+-- one deeper, what stands behind a token
+pub refuses_inside : {A B : Type 0} (P : Phrase A) (Q : Phrase B) (d : ℕ) (end : Place) (t : Terminal) (ks : List Terminal) (e : ParseError) → ((d' : ℕ) (b : B) (ls r : List Terminal) → Q d' b (t ∷ ls) r → (i : ℕ) × (d' ≡ suc i) × Some_ P i ls) → Refuses P d end ks e → Refuses Q (suc d) end (t ∷ ks) e
+refuses_inside P Q d end t ks e h (out_of_memory x) = out_of_memory x
+refuses_inside P Q d end t ks e h (syntax q x (never)) = syntax q x (λ d'. inside_any P Q d' t ks q (h d') never)
+refuses_inside P Q d end t ks e h (nested q x never) = nested q x (dead_token (P d) (Q (suc d)) t ks q (λ b ls r f. let w = h (suc d) b ls r f in subst (λ (i : ℕ). Some_ P i ls) (sym (suc_same w.1)) w.2) never)
+refuses_inside P Q d end t ks e h (left_out feature q x f) = left_out feature q x (with_token t f)
+
+-- the same place and depth
+pub refuses_map : {A B : Type 0} (P : Phrase A) (Q : Phrase B) (d : ℕ) (end : Place) (ks : List Terminal) (e : ParseError) → ((d' : ℕ) (b : B) (ls r : List Terminal) → SameHead ks ls → Q d' b ls r → Some_ P d' ls) → Refuses P d end ks e → Refuses Q d end ks e
+refuses_map P Q d end ks e h (out_of_memory x) = out_of_memory x
+refuses_map P Q d end ks e h (syntax q x never) = syntax q x (λ d'. dead_map (P d') (Q d') ks q (h d') (never d'))
+refuses_map P Q d end ks e h (nested q x never) = nested q x (dead_map (P d) (Q d) ks q (h d) never)
+refuses_map P Q d end ks e h (left_out feature q x f) = left_out feature q x f
+
+pub refuses_first : {A B : Type 0} (P : Phrase A) (Q : Phrase B) (d : ℕ) (end : Place) (ks : List Terminal) (e : ParseError) → Refuses P d end ks e → Refuses (Seq P Q) d end ks e
+refuses_first P Q d end ks e h = refuses_map P (Seq P Q) d end ks e (λ d' b ls r s x. (b.0, x.0, x.1)) h
+
+-- ---- what is known of a sort of parts
+
+-- A part stands whatever follows that begins so, and never other one ends elsewhere.
+pub record Known {A : Type 0} (P : Phrase A) : Type 0 where
+  pub front : (d : ℕ) (a : A) (ks m : List Terminal) → P d a ks m → (f : List Terminal → List Terminal) × IsCut f × (ks ≡ f m) × ((x : List Terminal) → SameHead m x → P d a (f x) x)
+  pub same : (d d' : ℕ) (a a' : A) (ks m m' : List Terminal) → P d a ks m → P d' a' ks m' → m ≡ m'
+
+dead_after : {A B : Type 0} (P : Phrase A) (Q : Phrase B) (d d' : ℕ) (a : A) (ks m q : List Terminal) → Known P → P d a ks m → Dead (Q d') m q → Dead (Seq P Q d') ks q
+dead_after P Q d d' a ks m q known p (seen, e, never) =
+    let w = known.front d a ks m p in
+    let s = cut_seen w.1 in (
+      s.0 ++ seen,
+      w.2 ∙ s.1 m ∙ ap (λ z. s.0 ++ z) e ∙ sym (append_assoc s.0 seen q),
+      λ ls b r h x.
+          let whole : P d a (s.0 ++ (seen ++ ls)) (seen ++ ls) = subst (λ z. P d a z (seen ++ ls)) (s.1 (seen ++ ls)) (w.3 (seen ++ ls) (subst (λ z. SameHead z (seen ++ ls)) (sym e) (same_behind seen q ls h))) in
+          let other : P d' b.0 (s.0 ++ (seen ++ ls)) x.0 = subst (λ z. P d' b.0 z x.0) (append_assoc s.0 seen ls) x.1 in
+          never ls b.1 r h (subst (λ z. Q d' b.1 z r) (sym (known.same d d' a b.0 _ _ _ whole other)) x.2),
+    )
+
+pub refuses_after : {A B : Type 0} (P : Phrase A) (Q : Phrase B) (d : ℕ) (end : Place) (a : A) (ks m : List Terminal) (e : ParseError) → Known P → P d a ks m → Refuses Q d end m e → Refuses (Seq P Q) d end ks e
+refuses_after P Q d end a ks m e known p (out_of_memory x) = out_of_memory x
+refuses_after P Q d end a ks m e known p (syntax q x never) = syntax q x (λ d'. dead_after P Q d d' a ks m q known p (never d'))
+refuses_after P Q d end a ks m e known p (nested q x never) = nested q x (dead_after P Q d d a ks m q known p never)
+refuses_after P Q d end a ks m e known p (left_out feature q x f) =
+    let w = known.front d a ks m p in
+    let s = cut_seen w.1 in
+    left_out feature q x (with_front s.0 (w.2 ∙ s.1 m) f)
+
+-- ---- marks
+
+pub no_mark_same : (m : Mark) (ks ls : List Terminal) → SameHead ks ls → NoMark m ks → NoMark m ls
+no_mark_same m [] [] s never = never
+no_mark_same m [] (u ∷ ls) s never = absurd s
+no_mark_same m (t ∷ ks) [] s never = absurd s
+no_mark_same m (t ∷ ks) (u ∷ ls) s never = λ p r h. never p ks (ap (λ z. z ∷ ks) (s ∙ head_same h))
+
+pub no_mark_refuses : (m : Mark) (d : ℕ) (end : Place) (ks : List Terminal) (e : ParseError) → NoMark m ks → e ≡ refused_at 9 0 end ks → Refuses (Marked m) d end ks e
+no_mark_refuses m d end ks e never x = syntax ks x (λ d'. dead_here (Marked m d') ks (λ p ls r s h. no_mark_same m ks ls s never p r h))

@@ -1,0 +1,4 @@
+pub mod Form
+pub mod Opening
+pub mod Refusal
+pub mod Whole

@@ -1,0 +1,117 @@
+-- What the first token of a part tells.
+use Rattle.std.specs.Prelude.{◌≡◌, ℕ, Bool, true, false, List, [], ◌∷◌, Option, Some, None, map}
+use Rattle.std.specs.Char.{to_ascii_lowercase}
+use Rattle.std.specs.Str.{bytes_eq}
+use Rattle.op_scan.specs.declared.token.TokenKind.{TokenKind}
+use Rattle.op_scan.specs.declared.token.TokenKind.TheVariants as kind
+use Rattle.op_parse_code.specs.declared.mark.Mark.{Mark}
+use Rattle.op_parse_code.specs.declared.mark.Mark.TheVariants as mark
+use Rattle.op_parse_code.specs.declared.opening.FactorOpening.{FactorOpening}
+use Rattle.op_parse_code.specs.declared.opening.FactorOpening.TheVariants as opens
+use Rattle.op_parse_code.specs.declared.opening.RootOpening.{RootOpening}
+use Rattle.op_parse_code.specs.declared.opening.RootOpening.TheVariants as root
+use Rattle.op_parse_code.specs.declared.opening.SelectorOpening.{SelectorOpening}
+use Rattle.op_parse_code.specs.declared.opening.SelectorOpening.TheVariants as selects
+use Rattle.op_tree.specs.Ends.{IsNot, binds, begins_selector, begins_designator, begins_expression}
+use Rattle.op_tree.specs.Operator.{operator_of, prefix_operator_of, level_of}
+use Rattle.op_tree.specs.Terminal.{Terminal, ◌at◌}
+use Rattle.op_tree.specs.declared.operator.Level.{Level}
+use Rattle.op_tree.specs.declared.operator.Level.TheVariants.{Relational, Additive, Multiplicative}
+use Rattle.op_tree.specs.declared.operator.Operator.{Operator}
+use Rattle.op_tree.specs.declared.position.Position.{Position}
+
+-- the letters of an identifier or a string
+abbrev pub spelled : TokenKind → List ℕ
+spelled (kind.Identifier text) = text
+spelled (kind.CharacterString text) = text
+spelled other = []
+
+-- a factor that begins with a token of this kind begins so
+abbrev pub OpensFactor : FactorOpening → TokenKind → Type 0
+OpensFactor (opens.Number n) k = k ≡ kind.Number n
+OpensFactor opens.Nil k = k ≡ kind.Nil
+OpensFactor opens.Set k = k ≡ kind.OpenBracket
+OpensFactor opens.Literal k = k ≡ kind.CharacterString (spelled k)
+OpensFactor opens.Inherited k = k ≡ kind.Inherited
+OpensFactor (opens.Prefix o) k = prefix_operator_of k ≡ Some o
+OpensFactor opens.Designator k = begins_designator k ≡ true
+OpensFactor opens.Nothing k = begins_expression k ≡ false
+
+abbrev pub OpensRoot : RootOpening → TokenKind → Type 0
+OpensRoot root.Name k = k ≡ kind.Identifier (spelled k)
+OpensRoot root.String k = k ≡ kind.String
+OpensRoot root.Bracket k = k ≡ kind.OpenParenthesis
+OpensRoot root.Nothing k = begins_designator k ≡ false
+
+abbrev pub OpensSelector : SelectorOpening → TokenKind → Type 0
+OpensSelector selects.Member k = k ≡ kind.Dot
+OpensSelector selects.Index k = k ≡ kind.OpenBracket
+OpensSelector selects.Call k = k ≡ kind.OpenParenthesis
+OpensSelector selects.Nothing k = begins_selector k ≡ false
+
+-- the mark that a token is
+abbrev pub mark_of : TokenKind → Option Mark
+mark_of kind.Comma = Some mark.Comma
+mark_of kind.Colon = Some mark.Colon
+mark_of kind.Semicolon = Some mark.Semicolon
+mark_of kind.DotDot = Some mark.DotDot
+mark_of kind.Dot = Some mark.Dot
+mark_of kind.Assign = Some mark.Assign
+mark_of kind.CloseParenthesis = Some mark.CloseParenthesis
+mark_of kind.CloseBracket = Some mark.CloseBracket
+mark_of kind.Then = Some mark.Then
+mark_of kind.Else_ = Some mark.Else_
+mark_of kind.Of = Some mark.Of
+mark_of kind.Do_ = Some mark.Do_
+mark_of kind.Until = Some mark.Until
+mark_of kind.In_ = Some mark.In_
+mark_of kind.Except = Some mark.Except
+mark_of kind.Finally = Some mark.Finally
+mark_of kind.End = Some mark.End
+mark_of other = None
+
+-- the token that a mark is
+abbrev pub kind_of : Mark → TokenKind
+kind_of mark.Comma = kind.Comma
+kind_of mark.Colon = kind.Colon
+kind_of mark.Semicolon = kind.Semicolon
+kind_of mark.DotDot = kind.DotDot
+kind_of mark.Dot = kind.Dot
+kind_of mark.Assign = kind.Assign
+kind_of mark.CloseParenthesis = kind.CloseParenthesis
+kind_of mark.CloseBracket = kind.CloseBracket
+kind_of mark.Then = kind.Then
+kind_of mark.Else_ = kind.Else_
+kind_of mark.Of = kind.Of
+kind_of mark.Do_ = kind.Do_
+kind_of mark.Until = kind.Until
+kind_of mark.In_ = kind.In_
+kind_of mark.Except = kind.Except
+kind_of mark.Finally = kind.Finally
+kind_of mark.End = kind.End
+
+abbrev pub is_identifier : TokenKind → Bool
+is_identifier (kind.Identifier text) = true
+is_identifier other = false
+
+abbrev pub is_number : TokenKind → Bool
+is_number (kind.Number n) = true
+is_number other = false
+
+-- the kind is an identifier that is spelled like this word, in any case of letters
+abbrev pub is_word : List ℕ → TokenKind → Bool
+is_word word (kind.Identifier text) = bytes_eq (map to_ascii_lowercase text) (map to_ascii_lowercase word)
+is_word word other = false
+
+-- an operator of the level stands at the front
+abbrev pub StandsOperator : Level → Operator → Position → List Terminal → List Terminal → Type 0
+StandsOperator l o p ks r = (k : TokenKind) × (ks ≡ k at p ∷ r) × (operator_of k ≡ Some o) × (level_of o ≡ l)
+
+abbrev pub NoOperator : Level → List Terminal → Type 0
+NoOperator l ks = (o : Operator) (p : Position) (r : List Terminal) → StandsOperator l o p ks r → ⊥
+
+-- no operator that binds more tightly than the level stands at the front
+abbrev pub NotTighter : Level → List Terminal → Type 0
+NotTighter Relational ks = IsNot (binds Additive) ks
+NotTighter Additive ks = IsNot (binds Multiplicative) ks
+NotTighter Multiplicative ks = Unit {0}

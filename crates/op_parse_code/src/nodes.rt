@@ -1,0 +1,89 @@
+//! The nodes of expressions, from their parts.
+ghost use Rattle.std.specs.Prelude.{◌≡◌, IfOk};
+ghost use Rattle.op_tree.specs.Expression.{bracketed, call, designated, index, inherited, literal, prefixed, set, expr_of, root_of, selector_of};
+ghost use Rattle.op_tree.specs.ExpressionGrammar.{chain_of};
+ghost use Rattle.op_tree.specs.Lists.{arguments_of, expressions_of, operations_of};
+ghost use Rattle.op_tree.specs.Statement.{designator_of, elements_of, selectors_of};
+
+use op_base::{NoMemory, Text};
+use op_tree::{
+    Argument, Designator, Element, Expr, Operation, Position, PrefixOperator, Root, Selector,
+};
+use std::alloc::Global;
+
+/// An operand and the operations that follow it; where none does, the operand itself.
+pub fn chain_node(alloc: Global, first: Expr, rest: Vec<Operation>) -> Result<Expr, NoMemory>
+    ensures { IfOk result (λ e. expr_of e ≡ chain_of (expr_of first) (operations_of rest.items)) }
+{
+    if rest.is_empty() {
+        return Ok(first);
+    }
+    let first = Box::new(alloc, first)?;
+    Ok(Expr::Chain { first, rest })
+}
+
+pub fn prefix_node(
+    alloc: Global,
+    operator: PrefixOperator,
+    position: Position,
+    operand: Expr,
+) -> Result<Expr, NoMemory>
+    ensures { IfOk result (λ e. expr_of e ≡ prefixed operator position (expr_of operand)) }
+{
+    let operand = Box::new(alloc, operand)?;
+    Ok(Expr::Prefix {
+        operator,
+        position,
+        operand,
+    })
+}
+
+pub fn set_node(position: Position, elements: Vec<Element>) -> Expr
+    ensures { expr_of result ≡ set position (elements_of elements.items) }
+{
+    Expr::Set { position, elements }
+}
+
+pub fn literal_node(text: Text, position: Position, selectors: Vec<Selector>) -> Expr
+    ensures { expr_of result ≡ literal text position (selectors_of selectors.items) }
+{
+    Expr::Literal {
+        text,
+        position,
+        selectors,
+    }
+}
+
+pub fn designator_node(designator: Designator) -> Expr
+    ensures { expr_of result ≡ designated (designator_of designator) }
+{
+    Expr::Designator(designator)
+}
+
+pub fn inherited_node(position: Position, designator: Designator) -> Expr
+    ensures { expr_of result ≡ inherited position (designator_of designator) }
+{
+    Expr::Inherited {
+        position,
+        designator,
+    }
+}
+
+pub fn bracketed_node(alloc: Global, position: Position, inside: Expr) -> Result<Root, NoMemory>
+    ensures { IfOk result (λ root. root_of root ≡ bracketed position (expr_of inside)) }
+{
+    let inside = Box::new(alloc, inside)?;
+    Ok(Root::Bracketed { position, inside })
+}
+
+pub fn index_node(position: Position, indices: Vec<Expr>) -> Selector
+    ensures { selector_of result ≡ index position (expressions_of indices.items) }
+{
+    Selector::Index { position, indices }
+}
+
+pub fn call_node(arguments: Vec<Argument>) -> Selector
+    ensures { selector_of result ≡ call (arguments_of arguments.items) }
+{
+    Selector::Call { arguments }
+}

@@ -1,0 +1,167 @@
+use crate::*;
+use op_scan::scan;
+use op_tree::Expr;
+use std::alloc::AllocError;
+use std::process::Abort;
+use std::test::Fail;
+
+/// Of the outermost node what sets it apart: the operators of a chain, or the sort of the node.
+fn push_shape(all: &mut String, tree: &Expr) -> Result<(), AllocError> {
+    match tree {
+        Expr::Chain { rest, .. } => {
+            for operation in rest {
+                let operator = operation.operator;
+                write!(all, "{operator:?} ")?;
+            }
+            Ok(())
+        }
+        Expr::Prefix { operator, .. } => write!(all, "{operator:?} "),
+        Expr::Number { value, .. } => write!(all, "{value} "),
+        Expr::Nil { .. } => all.push_str("nil "),
+        Expr::Set { elements, .. } => {
+            let count = elements.len();
+            write!(all, "set of {count} ")
+        }
+        Expr::Literal { selectors, .. } => {
+            let count = selectors.len();
+            write!(all, "text with {count} ")
+        }
+        Expr::Designator(designator) => {
+            let count = designator.selectors.len();
+            write!(all, "name with {count} ")
+        }
+        Expr::Inherited { .. } => all.push_str("inherited "),
+    }
+}
+
+fn push_error(all: &mut String, error: ParseError) -> Result<(), AllocError> {
+    match error {
+        ParseError::Refused(refusal) => {
+            let number = refusal.rule.number;
+            let feature = refusal.rule.feature;
+            let line = refusal.place.line;
+            let col = refusal.place.col;
+            write!(all, "V{number}/{feature} {line}:{col}")
+        }
+        ParseError::NoMemory => all.push_str("no memory"),
+    }
+}
+
+/// The shape of the expression at the front of a text at a depth, and the number of its tokens, or its refusal.
+fn shape(
+    rt: &(impl Abort + AllocGlobal),
+    text: &[u8],
+    depth: u32,
+    bound: bool,
+) -> Result<String, AllocError> {
+    assert!(rt; text.len() < 100_000);
+    assert!(rt; depth <= 200);
+    let mut all = String::new(rt.alloc());
+    match scan(rt.alloc(), text, 0) {
+        Ok(tokens) => {
+            let found = if bound {
+                simple(rt.alloc(), &tokens, 0, depth)
+            } else {
+                expression(rt.alloc(), &tokens, 0, depth)
+            };
+            match found {
+                Ok((tree, past)) => {
+                    push_shape(&mut all, &tree)?;
+                    write!(all, "{past}")?;
+                }
+                Err(error) => push_error(&mut all, error)?,
+            }
+        }
+        Err(_) => all.push_str("no tokens")?,
+    }
+    Ok(all)
+}
+
+// Operators and their levels are those of the Reference Guide's chapter "Expressions".
+#[test]
+fn reads_expressions(rt: HostRuntime) -> Result<(), Fail> {
+    let rows = [
+        ("1", "1 1"),
+        ("nil then", "nil 1"),
+        ("a - b + c * d", "Subtract Add 7"),
+        ("a < b + c", "Less 5"),
+        ("a = b < c", "Equal Less 5"),
+        ("a * b / c", "V13/1 1:7"),
+        ("1.5 + x", "V13/1 1:1"),
+        ("1.x", "1 1"),
+        ("-a * b", "Multiply 4"),
+        ("-(a * b)", "Minus 6"),
+        ("not a and b", "And 4"),
+        ("a in [1, 3..5]", "In_ 9"),
+        ("[]", "set of 0 2"),
+        ("[1..2, 4, x..y]", "set of 3 11"),
+        ("f(a, b:3)(c)[d, e].g then", "name with 4 18"),
+        ("f()", "name with 1 3"),
+        ("'abc'[1]", "text with 1 4"),
+        ("string(x)", "name with 1 4"),
+        ("inherited Create(x)", "inherited 5"),
+        ("(a + b) * c", "Multiply 7"),
+        ("x as T", "As_ 3"),
+        ("f(x:1:2)", "V13/35 1:6"),
+        ("specialize T<x>", "V13/29 1:1"),
+        ("specialize + 1", "Add 3"),
+        ("", "V9/0 1:1"),
+        ("a +", "V9/0 1:4"),
+        ("a + ;", "V9/0 1:5"),
+        ("f(a b)", "V9/0 1:5"),
+        ("(a", "V9/0 1:3"),
+        ("[1, ]", "V9/0 1:5"),
+        ("[1 .. 2 .. 3]", "V9/0 1:9"),
+        ("f.1", "V9/0 1:3"),
+        ("f(,)", "V9/0 1:3"),
+        ("a[]", "V9/0 1:3"),
+        ("inherited", "V9/0 1:10"),
+        ("begin", "V9/0 1:1"),
+    ];
+    for (text, wanted) in rows {
+        let found = shape(&rt, text.as_bytes(), 0, false)?;
+        assert!(rt; found.as_str() == wanted);
+    }
+    Ok(())
+}
+
+// A bound has no comparison.
+#[test]
+fn reads_bounds(rt: HostRuntime) -> Result<(), Fail> {
+    let rows = [
+        ("a + b = c", "Add 3"),
+        ("a * 2 .. b", "Multiply 3"),
+        ("(a = b)", "name with 0 5"),
+        ("=", "V9/0 1:1"),
+    ];
+    for (text, wanted) in rows {
+        let found = shape(&rt, text.as_bytes(), 0, true)?;
+        assert!(rt; found.as_str() == wanted);
+    }
+    Ok(())
+}
+
+// Brackets and operands of a sign or `not` are counted. At one place the least number counts.
+#[test]
+fn counts_depth(rt: HostRuntime) -> Result<(), Fail> {
+    let rows = [
+        (199, "(a)", "name with 0 3"),
+        (200, "a + b", "Add 3"),
+        (200, "(a)", "V61/0 1:1"),
+        (200, "f(a)", "V61/0 1:2"),
+        (200, "f[a]", "V61/0 1:2"),
+        (200, "[]", "V61/0 1:1"),
+        (200, "not a", "V61/0 1:5"),
+        (200, "- ;", "V9/0 1:3"),
+        (200, "-", "V9/0 1:2"),
+        (199, "not not a", "V61/0 1:9"),
+        (199, "((a))", "V61/0 1:2"),
+        (199, "- (a)", "V61/0 1:3"),
+        (200, ")", "V9/0 1:1"),
+    ];
+    for (depth, text, wanted) in rows {
+        let found = shape(&rt, text.as_bytes(), depth, false)?;
+        assert!(rt; found.as_str() == wanted);
+    }
+    Ok(())
+}

@@ -1,0 +1,10 @@
+use Rattle.std.proofs.Common.{◌≡◌, map, drop}
+use Rattle.std.specs.List.{flat_map}
+use Rattle.op_print.specs.Page.{after}
+use Rattle.op_print.specs.HeadingFragments.{member_fragments}
+use Rattle.op_tree.specs.Declaration.{member_of}
+use Rattle.op_print.proofs.class.members.Given as goal
+
+-- What is left gives the whole.
+abbrev pub invariant-loop-each : goal.invariant-loop-each
+invariant-loop-each l = after l.page (flat_map member_fragments (map member_of (drop l.each-index l.list))) ≡ after l.fn.page (flat_map member_fragments (map member_of l.list))

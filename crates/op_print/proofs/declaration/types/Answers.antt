@@ -1,0 +1,10 @@
+use Rattle.std.proofs.Common.{arith}
+use Rattle.op_print.proofs.After.{next_mapped}
+use Rattle.op_print.specs.DeclarationFragments.{type_declaration_fragments}
+use Rattle.op_tree.specs.Declaration.{type_of}
+use Rattle.op_print.proofs.declaration.types.Goals as goal
+
+pub loop-each-preserved : goal.loop-each-preserved
+loop-each-preserved c =
+    let e = next_mapped type_declaration_fragments type_of c.loop-each.page c.args.list.now c.loop-each.each-index c.each-item.result in
+    grind (arith, e)

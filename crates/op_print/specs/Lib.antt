@@ -1,0 +1,11 @@
+pub mod DeclarationFragments
+pub mod DenoterFragments
+pub mod ExpressionFragments
+pub mod HeadingFragments
+pub mod NameFragments
+pub mod Page
+pub mod Print
+pub mod Scanned
+pub mod Spelling
+pub mod StatementFragments
+pub mod Unplaced

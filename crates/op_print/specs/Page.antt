@@ -1,0 +1,82 @@
+-- What a print is made of, and how it is laid out.
+use Rattle.std.specs.Prelude.{ℕ, ◌-◌, Bool, true, false, List, [], ◌∷◌, ◌++◌, ◌&&◌, ◌||◌, not, length, take, slice_index_or, nat_eq, if◌then◌else◌}
+use Rattle.op_scan.specs.Byte.{is_name_byte}
+use Rattle.op_scan.specs.declared.token.TokenKind.{TokenKind}
+use Rattle.op_print.specs.Spelling.{spelling}
+
+pub data Fragment : Type 0 where
+  -- with a blank before it
+  word : (kind : TokenKind) → Fragment
+  -- with a blank before it only where it would run into what stands there
+  tight : (kind : TokenKind) → Fragment
+  -- what follows begins a line
+  line : Fragment
+  -- from now on lines begin two columns further in, or two less
+  indent : Fragment
+  outdent : Fragment
+
+-- What was printed so far, the blanks with which a line begins, and how many bytes more fit on this one.
+pub record Page : Type 0 where
+  pub text : List ℕ
+  pub margin : List ℕ
+  pub room : ℕ
+
+-- how many bytes may stand on a line before it is broken
+abbrev pub line_length : ℕ
+line_length = 100
+
+-- a page with nothing on it
+abbrev pub empty_page : Page
+empty_page = record { text = []; margin = []; room = line_length }
+
+-- words that begin and end with these bytes would be one word, or another symbol, or a comment
+unfoldable pub runs_together : ℕ → ℕ → Bool
+runs_together last first =
+    (is_name_byte last && is_name_byte first) ||
+    ((nat_eq last 39 && (nat_eq first 39 || nat_eq first 35)) ||
+    ((nat_eq last 40 && nat_eq first 42) ||
+    ((nat_eq last 47 && nat_eq first 47) ||
+    ((nat_eq last 46 && nat_eq first 46) ||
+    ((nat_eq last 58 && nat_eq first 61) ||
+    ((nat_eq last 60 && (nat_eq first 61 || nat_eq first 62)) ||
+    (nat_eq last 62 && nat_eq first 61)))))))
+
+-- a blank, a line feed and an opening bracket have no blank behind them
+abbrev pub hugs : ℕ → Bool
+hugs last = nat_eq last 32 || (nat_eq last 10 || (nat_eq last 40 || nat_eq last 91))
+
+-- the last byte that was printed, where at the beginning a line begins
+abbrev pub last_byte : List ℕ → ℕ
+last_byte text = slice_index_or text (length text - 1) 10
+
+abbrev pub first_byte : List ℕ → ℕ
+first_byte bytes = slice_index_or bytes 0 32
+
+unfoldable pub wants_gap : Bool → List ℕ → List ℕ → Bool
+wants_gap is_tight text bytes = runs_together (last_byte text) (first_byte bytes) || not (is_tight || hugs (last_byte text))
+
+abbrev pub start_line : Page → Page
+start_line page = record { text = page.text ++ 10 ∷ page.margin; margin = page.margin; room = line_length }
+
+-- a blank, or a line's end where nothing more fits
+unfoldable pub parted : Page → Page
+parted page = if nat_eq page.room 0 then start_line page else record { text = page.text ++ 32 ∷ []; margin = page.margin; room = page.room }
+
+abbrev pub written : List ℕ → Page → Page
+written bytes page = record { text = page.text ++ bytes; margin = page.margin; room = page.room - length bytes }
+
+-- a word, where it is tight or not
+unfoldable pub put : Bool → List ℕ → Page → Page
+put is_tight bytes page = written bytes (if wants_gap is_tight page.text bytes then parted page else page)
+
+abbrev pub step : Page → Fragment → Page
+step page (word kind) = put false (spelling kind) page
+step page (tight kind) = put true (spelling kind) page
+step page line = start_line page
+step page indent = record { text = page.text; margin = page.margin ++ 32 ∷ 32 ∷ []; room = page.room }
+step page outdent = record { text = page.text; margin = take (length page.margin - 2) page.margin; room = page.room }
+
+-- the page behind these fragments
+abbrev pub after : Page → List Fragment → Page
+after page [] = page
+after page (fragment ∷ fragments) = after (step page fragment) fragments

@@ -1,0 +1,21 @@
+//! The print of trees: from the tree of a file to a text that spells it.
+//!
+//! `print` is the one call. Its contract says which text it is.
+#![tactic(auto)]
+
+mod class;
+mod declaration;
+mod denoter;
+mod expression;
+mod file;
+mod heading;
+mod initializer;
+mod name;
+mod printer;
+mod statement;
+mod string;
+
+pub use file::print;
+
+#[cfg(test)]
+mod tests;
