@@ -276,6 +276,8 @@ module _ (low : Low) (layout : Layout) (settings : Settings) (image : List ℕ) 
   pub means : AreBytes image → Means low layout settings image
   means bytes =
       record {
+        loads = loaded.meets;
+        literals = λ id place is. ?;
         setting = law_here;
         placement = is_placement;
         runs = λ room input input_bytes good. runs_here bytes input room input_bytes good;

@@ -1,13 +1,16 @@
 -- What the image of low code does.
-use Rattle.std.specs.Prelude.{◌≡◌, ◌<◌, ◌≤◌, ℕ, ◌+◌, ◌*◌, ◌^◌, List, [], slice_index}
+use Rattle.std.specs.Prelude.{◌≡◌, ◌<◌, ◌≤◌, ℕ, ◌+◌, ◌*◌, ◌^◌, true, Some, None, List, [], length, take, drop, slice_get, slice_index}
 use Rattle.op_layout.specs.declared.layout.Layout.{Layout}
-use Rattle.op_link.specs.Image.{regions_in, start}
+use Rattle.op_layout.specs.declared.layout.LiteralPlace.{LiteralPlace}
+use Rattle.op_link.specs.Image.{first_failing, regions_in, start}
 use Rattle.op_link.specs.Region.{byte_in}
 use Rattle.op_link.specs.declared.memory_map.Settings.{Settings}
 use Rattle.op_low.specs.Machine.{IsPlacement, NeverBad, low_machine}
 use Rattle.op_low.specs.State.{Ended, State as LowState, space}
 use Rattle.op_low.specs.declared.code.Low.{Low}
-use Rattle.op_rv.specs.State.{State}
+use Rattle.op_rv.specs.State.{State, bytes_from}
+use Rattle.op_rv.specs.declared.symbol.LiteralId.{LiteralId}
+use Rattle.op_rv.specs.declared.symbol.Symbol.TheVariants.{Literal}
 use Rattle.op_select.specs.Going.{IsSafe, IsSetting, Setting, locals_in, placement_of, routine_in}
 use Rattle.op_select.specs.RiscvMachine.{riscv_machine}
 use Rattle.op_select.specs.Selected.{Finished, selected}
@@ -71,9 +74,21 @@ HasRoom w = w.bottom + space w.low (placement_of w) w.low.entry.0 ≤ w.top
 abbrev pub AreBytes : List ℕ → Type 0
 AreBytes bytes = (k : ℕ) → slice_index bytes k < 2 ^ 8
 
--- The code stands in the image, routines are found where they begin, and over every input the image does what low code does, if
--- that never does what it must not do.
+-- these bytes stand at an address of the loaded image, below the stack, and may be read
+pub record StandsText (w : Setting) (image : List ℕ) (at : ℕ) (bytes : List ℕ) : Type 0 where
+  pub readable : (x : ℕ) → at ≤ x → x < at + length bytes → w.rights.readable x ≡ true
+  pub below : at + length bytes ≤ w.bottom
+  pub stands : bytes_from (byte_in (regions_in image)) at (length bytes) ≡ bytes
+
+-- the bytes of a literal, cut at the end of the layout's
+abbrev pub literal_bytes : Layout → LiteralPlace → List ℕ
+literal_bytes layout place = take place.length (drop place.offset layout.bytes)
+
+-- The image meets all conditions, the code and the literals stand in it, routines are found where they begin, and over every input
+-- the image does what low code does, if that never does what it must not do.
 pub record Means (low : Low) (layout : Layout) (settings : Settings) (image : List ℕ) : Type 0 where
+  pub loads : first_failing image ≡ None
+  pub literals : (id : LiteralId) (place : LiteralPlace) → slice_get layout.literals id.0 ≡ Some place → StandsText (setting_of low layout settings image) image ((setting_of low layout settings image).placing.address (Literal id)) (literal_bytes layout place)
   pub setting : IsSetting (setting_of low layout settings image)
   pub placement : IsPlacement low (placement_of (setting_of low layout settings image))
   pub runs : HasRoom (setting_of low layout settings image) → (input : List ℕ) → AreBytes input → NeverBad low (placement_of (setting_of low layout settings image)) (low_start (setting_of low layout settings image) image input) → Runs (setting_of low layout settings image) image input
