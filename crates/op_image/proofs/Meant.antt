@@ -83,7 +83,7 @@ found_at known r spot (routine ∷ routines) (suc k) n place items count is =
     let next = behind_routine known r spot routine in
     let lies = (places_lie known (suc r) next routines k place is).head in
     let lower = lies.lower.under in
-    let grows = routine_grows known r spot routine in
+    let grows = (routine_grows known r spot routine).least in
     let some = (items 0 routine refl).items in
     let first = head_is_first known r spot routine in
     later_found r (routine_place known r spot routine) (routine_places known (suc r) next routines) place.head (omega arith)

@@ -147,7 +147,7 @@ module _ (low : Low) (layout : Layout) (settings : Settings) (image : List ℕ) 
 
   few_items : items_in_routines (select_of low).routines ≤ 16777216
   few_items =
-      let end = code_end (settled layout (select_of low) settings) (select_of low).routines in
+      let end = (code_end (settled layout (select_of low) settings) (select_of low).routines).least in
       let low_end = end_low in
       omega arith
 

@@ -1,66 +1,87 @@
 -- How far the code goes: by at least four bytes an item, and furthest if every item has its longest form.
-use Rattle.std.proofs.Common.{◌≡◌, ℕ, suc, ◌+◌, ◌*◌, ◌≤◌, length, List, [], ◌∷◌, arith}
+use Rattle.std.proofs.Common.{◌≡◌, ℕ, suc, ◌+◌, ◌*◌, ◌≤◌, length, List, [], ◌∷◌, refl, arith}
 use Rattle.std.proofs.lemmas.List.Sums.{sum_by-cons}
+use Rattle.op_layout.specs.declared.layout.Layout.{Layout}
 use Rattle.op_rv.specs.declared.objects.Item.{Item}
 use Rattle.op_rv.specs.declared.objects.Item.TheVariants.{Plain, Address, Branch, Jump, Call, CallAt}
 use Rattle.op_rv.specs.declared.objects.ObjectBlock.{ObjectBlock}
 use Rattle.op_rv.specs.declared.objects.ObjectRoutine.{ObjectRoutine}
+use Rattle.op_rv.specs.declared.objects.Objects.{Objects}
+use Rattle.op_link.specs.declared.memory_map.Settings.{Settings}
 use Rattle.op_link.specs.declared.place.RoutinePlace.{RoutinePlace}
 use Rattle.op_link.specs.declared.place.Spot.{Spot}
 use Rattle.op_link.specs.declared.reach.Reach.{Reach}
 use Rattle.op_link.specs.declared.reach.Reach.TheVariants.{Direct, OverJump, ByRegister}
+use Rattle.op_link.specs.Linking.{linked_size, linked_size_by, settled, sizes_of}
+use Rattle.op_link.specs.Memory.{constants_size, initial_size}
 use Rattle.op_link.specs.Reach.{size_of, branch_size, jump_size, reach_of, branch_reach, jump_reach, block_in, head_in}
 use Rattle.op_link.specs.Placing.{behind, behind_items, behind_blocks, behind_routine, behind_routines, first_spot, placement_by, items_in_blocks, items_in_routine, items_in_routines}
 
--- ---- at least four bytes an item
+-- ---- four to twelve bytes an item
 
-branch_has_four : (reach : Reach) → 4 ≤ branch_size reach
-branch_has_four Direct = omega arith
-branch_has_four OverJump = omega arith
-branch_has_four ByRegister = omega arith
+pub record Grows (from to items : ℕ) : Type 0 where
+  pub least : from + 4 * items ≤ to
+  pub most : to ≤ from + 12 * items
 
-jump_has_four : (reach : Reach) → 4 ≤ jump_size reach
-jump_has_four Direct = omega arith
-jump_has_four OverJump = omega arith
-jump_has_four ByRegister = omega arith
+grows_join : (a b c n m k : ℕ) → k ≡ n + m → Grows a b n → Grows b c m → Grows a c k
+grows_join a b c n m k count first second =
+    record {
+      least = omega (arith, count, first.least, second.least);
+      most = omega (arith, count, first.most, second.most);
+    }
 
-size_has_four : (reach : Reach) (item : Item) → 4 ≤ size_of reach item
+branch_grows : (from : ℕ) (reach : Reach) → Grows from (from + branch_size reach) 1
+branch_grows from Direct = record { least = omega arith; most = omega arith }
+branch_grows from OverJump = record { least = omega arith; most = omega arith }
+branch_grows from ByRegister = record { least = omega arith; most = omega arith }
+
+jump_grows : (from : ℕ) (reach : Reach) → Grows from (from + jump_size reach) 1
+jump_grows from Direct = record { least = omega arith; most = omega arith }
+jump_grows from OverJump = record { least = omega arith; most = omega arith }
+jump_grows from ByRegister = record { least = omega arith; most = omega arith }
+
+size_grows : (from : ℕ) (reach : Reach) (item : Item) → Grows from (from + size_of reach item) 1
 unfolding size_of
-size_has_four reach (Plain i) = omega arith
-size_has_four reach (Address rd symbol) = omega arith
-size_has_four reach (Branch op left right block) = branch_has_four reach
-size_has_four reach (Jump block) = jump_has_four reach
-size_has_four reach (Call routine landing) = jump_has_four reach
-size_has_four reach (CallAt landing) = omega arith
+size_grows from reach (Plain i) = record { least = omega arith; most = omega arith }
+size_grows from reach (Address rd symbol) = record { least = omega arith; most = omega arith }
+size_grows from reach (Branch op left right block) = branch_grows from reach
+size_grows from reach (Jump block) = jump_grows from reach
+size_grows from reach (Call routine landing) = jump_grows from reach
+size_grows from reach (CallAt landing) = record { least = omega arith; most = omega arith }
 
-item_grows : (known : List RoutinePlace) (r : ℕ) (spot : Spot) (item : Item) → spot.address + 4 ≤ (behind known r spot item).address
+items_grow : (known : List RoutinePlace) (r : ℕ) (spot : Spot) (items : List Item) → Grows spot.address (behind_items known r spot items).address (length items)
 unfolding behind
-item_grows known r spot item = let four = size_has_four (reach_of known r spot.longest item) item in omega (arith, four)
-
-items_grow : (known : List RoutinePlace) (r : ℕ) (spot : Spot) (items : List Item) → spot.address + 4 * length items ≤ (behind_items known r spot items).address
-items_grow known r spot [] = omega arith
+items_grow known r spot [] = record { least = omega arith; most = omega arith }
 items_grow known r spot (item ∷ items) =
-    omega (arith, item_grows known r spot item, items_grow known r (behind known r spot item) items)
+    let next = behind known r spot item in
+    grows_join spot.address next.address (behind_items known r next items).address 1 (length items) (suc (length items)) (omega arith) (size_grows spot.address (reach_of known r spot.longest item) item) (items_grow known r next items)
 
-blocks_grow : (known : List RoutinePlace) (r : ℕ) (spot : Spot) (blocks : List ObjectBlock) → spot.address + 4 * items_in_blocks blocks ≤ (behind_blocks known r spot blocks).address
-blocks_grow known r spot [] = omega arith
+blocks_grow : (known : List RoutinePlace) (r : ℕ) (spot : Spot) (blocks : List ObjectBlock) → Grows spot.address (behind_blocks known r spot blocks).address (items_in_blocks blocks)
+blocks_grow known r spot [] = record { least = omega arith; most = omega arith }
 blocks_grow known r spot (block ∷ blocks) =
-    let count : items_in_blocks (block ∷ blocks) ≡ length block.items + items_in_blocks blocks = sum_by-cons (λ (block : ObjectBlock). length block.items) block blocks in
-    omega (arith, count, items_grow known r spot block.items, blocks_grow known r (behind_items known r spot block.items) blocks)
+    let next = behind_items known r spot block.items in
+    grows_join spot.address next.address (behind_blocks known r next blocks).address (length block.items) (items_in_blocks blocks) (items_in_blocks (block ∷ blocks)) (sum_by-cons (λ (block : ObjectBlock). length block.items) block blocks) (items_grow known r spot block.items) (blocks_grow known r next blocks)
 
-pub routine_grows : (known : List RoutinePlace) (r : ℕ) (spot : Spot) (routine : ObjectRoutine) → spot.address + 4 * items_in_routine routine ≤ (behind_routine known r spot routine).address
+pub routine_grows : (known : List RoutinePlace) (r : ℕ) (spot : Spot) (routine : ObjectRoutine) → Grows spot.address (behind_routine known r spot routine).address (items_in_routine routine)
 routine_grows known r spot routine =
-    omega (arith, items_grow known r spot routine.head, blocks_grow known r (behind_items known r spot routine.head) routine.blocks)
+    let next = behind_items known r spot routine.head in
+    grows_join spot.address next.address (behind_routine known r spot routine).address (length routine.head) (items_in_blocks routine.blocks) (items_in_routine routine) refl (items_grow known r spot routine.head) (blocks_grow known r next routine.blocks)
 
-routines_grow : (known : List RoutinePlace) (r : ℕ) (spot : Spot) (routines : List ObjectRoutine) → spot.address + 4 * items_in_routines routines ≤ (behind_routines known r spot routines).address
-routines_grow known r spot [] = omega arith
+routines_grow : (known : List RoutinePlace) (r : ℕ) (spot : Spot) (routines : List ObjectRoutine) → Grows spot.address (behind_routines known r spot routines).address (items_in_routines routines)
+routines_grow known r spot [] = record { least = omega arith; most = omega arith }
 routines_grow known r spot (routine ∷ routines) =
-    let count : items_in_routines (routine ∷ routines) ≡ items_in_routine routine + items_in_routines routines = sum_by-cons items_in_routine routine routines in
-    omega (arith, count, routine_grows known r spot routine, routines_grow known (suc r) (behind_routine known r spot routine) routines)
+    let next = behind_routine known r spot routine in
+    grows_join spot.address next.address (behind_routines known (suc r) next routines).address (items_in_routine routine) (items_in_routines routines) (items_in_routines (routine ∷ routines)) (sum_by-cons items_in_routine routine routines) (routine_grows known r spot routine) (routines_grow known (suc r) next routines)
 
-pub code_end : (known : List RoutinePlace) (routines : List ObjectRoutine) → 0x00010018 + 4 * items_in_routines routines ≤ (placement_by known routines).end
+pub code_end : (known : List RoutinePlace) (routines : List ObjectRoutine) → Grows 0x00010018 (placement_by known routines).end (items_in_routines routines)
 unfolding placement_by
 code_end known routines = routines_grow known 0 first_spot routines
+
+-- so the limit does not come for little code
+pub linked_size_at_most : (objects : Objects) (layout : Layout) (settings : Settings) → linked_size objects layout settings ≤ 24 + 12 * items_in_routines objects.routines + constants_size layout + initial_size objects.globals
+unfolding linked_size linked_size_by sizes_of
+linked_size_at_most objects layout settings =
+    let end = (code_end (settled layout objects settings) objects.routines).most in omega (arith, end)
 
 -- ---- at most the longest form
 

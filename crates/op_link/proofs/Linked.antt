@@ -15,7 +15,7 @@ use Rattle.op_link.proofs.Growth.{code_end}
 
 pub placement_end : (known : List RoutinePlace) (routines : List ObjectRoutine) (placement : Placement) → placement ≡ placement_by known routines → 0x00010000 ≤ placement.end
 placement_end known routines placement is =
-    subst (λ (placement : Placement). 0x00010000 ≤ placement.end) (sym is) (let end = code_end known routines in omega (arith, end))
+    subst (λ (placement : Placement). 0x00010000 ≤ placement.end) (sym is) (let end = (code_end known routines).least in omega (arith, end))
 
 pub image_found : (known : List RoutinePlace) (layout : Layout) (objects : Objects) (settings : Settings) (placement : Placement) (sizes : Sizes) (addresses : Addresses) (image : List ℕ) → placement ≡ placement_by known objects.routines → sizes ≡ sizes_of placement.end layout objects → addresses ≡ addresses_of known placement.routines sizes objects → option_map (image_bytes layout objects settings sizes addresses.routines) (program_code layout addresses settings objects) ≡ Some image → Some image ≡ image_by known layout objects settings
 unfolding image_by addresses_of

@@ -1,7 +1,7 @@
 -- A linked image is loaded as it was meant.
 use Rattle.std.proofs.Common.{◌≡◌, ℕ, ◌+◌, ◌-◌, ◌*◌, ◌≤◌, inl, inr, true, IsTrue, nat_lt, nat_le, Option, Some, None, List, [], ◌∷◌, ◌++◌, length, take, drop, replicate, refl, ap, sym, ◌∙◌, subst, arith, append_assoc, length-append}
 use Rattle.std.proofs.lemmas.Bool.{and_parts, cases_Bool, leb-true}
-use Rattle.std.proofs.lemmas.List.{drop_at, take_at}
+use Rattle.std.proofs.lemmas.List.{drop_at, length-replicate, take_at}
 use Rattle.std.proofs.lemmas.List.Sums.{sum_by-cons}
 use Rattle.std.specs.List.{list_all}
 use Rattle.std.specs.Option.{option_map}
@@ -13,15 +13,15 @@ use Rattle.op_link.specs.declared.memory_map.Settings.{Settings}
 use Rattle.op_link.specs.declared.memory_map.Sizes.{Sizes}
 use Rattle.op_link.specs.declared.place.RoutinePlace.{RoutinePlace}
 use Rattle.op_link.specs.Code.{routine_has_fields, words_of}
-use Rattle.op_link.specs.Memory.{are_in_range, begins_as_zero, constants_size, global_size, globals_address, globals_size, initial_size, most_linked, segments_of, zero_part, zero_size}
+use Rattle.op_link.specs.Memory.{are_in_range, begins_as_zero, constants_address, constants_size, global_size, globals_address, globals_size, initial_bytes, initial_size, most_linked, segments_of, zero_part, zero_size}
 use Rattle.op_link.specs.Placing.{first_spot, placement_by, routine_places}
-use Rattle.op_link.specs.Linking.{addresses_of, all_names_exist, data_bytes, file_header, front_bytes, image_by, image_bytes, is_linkable, linked_size_by, longest, program_code, program_headers, settled, sizes_of}
+use Rattle.op_link.specs.Linking.{addresses_of, all_names_exist, code_padding, constants_bytes, constants_padding, data_bytes, file_header, front_bytes, image_by, image_bytes, is_linkable, linked_size_by, longest, program_code, program_headers, settled, sizes_of}
 use Rattle.op_link.specs.Loaded.{HasCode, HasCodeBy, IsLoaded, addresses_by, linked_sizes, sizes_by}
 use Rattle.op_link.proofs.Decoded.{program_decodes}
 use Rattle.op_link.proofs.Growth.{code_end}
 use Rattle.op_link.proofs.Lengths.{code_end_is, length-words_of}
 use Rattle.op_link.proofs.Loads.{fitting_loads}
-use Rattle.op_link.proofs.Mapped.{constants_from, fits, globals_from, length-data, length-front}
+use Rattle.op_link.proofs.Mapped.{constants_from, fits, globals_from, length-constants, length-data, length-front}
 use Rattle.op_link.proofs.Standing.{all_stand}
 use Rattle.op_link.proofs.Settled.{settled_first, settled_second}
 
@@ -99,7 +99,7 @@ loaded_bytes known layout objects settings code objects_are range within is =
     let routines = (placement_by known objects.routines).routines in
     let sizes = sizes_of (placement_by known objects.routines).end layout objects in
     let size = code_size known layout objects settings code is in
-    let end = code_end known objects.routines in
+    let end = (code_end known objects.routines).least in
     let long = length-image layout objects settings sizes routines code refl refl size in
     fitting_loads (segments_of sizes settings) (replicate 3852 0 ++ (words_of code ++ data_bytes layout objects sizes routines)) (image_bytes layout objects settings sizes routines code)
     (begins_with_headers layout objects settings sizes routines code)
@@ -120,12 +120,29 @@ code_stands layout objects settings sizes routines code is_code =
     ∙ ap (take sizes.code) (drop_at front (words_of code ++ behind) 4096 (length-front sizes settings))
     ∙ take_at (words_of code) behind sizes.code long
 
+regroup_constants : (a b p c q d : List ℕ) → (a ++ b) ++ (((p ++ c) ++ q) ++ d) ≡ ((a ++ b) ++ p) ++ (c ++ (q ++ d))
+regroup_constants a b p c q d = simp append_assoc refl
+
+constants_stand : (layout : Layout) (objects : Objects) (settings : Settings) (sizes : Sizes) (routines : List RoutinePlace) (code : List Instr) → 4 * length code ≡ sizes.code → sizes.constants ≡ constants_size layout → take sizes.constants (drop (constants_address sizes - 0xF000) (image_bytes layout objects settings sizes routines code)) ≡ constants_bytes layout routines
+unfolding image_bytes data_bytes code_padding
+constants_stand layout objects settings sizes routines code is_code is_constants =
+    let front = front_bytes sizes settings in
+    let padding : List ℕ = replicate (constants_address sizes - (0x00010000 + sizes.code)) 0 in
+    let constants = constants_bytes layout routines in
+    let behind : List ℕ = replicate (constants_padding sizes) 0 in
+    let own = initial_bytes objects.globals in
+    let before : length ((front ++ words_of code) ++ padding) ≡ constants_address sizes - 0xF000 =
+    omega (arith, is_code, length-append (front ++ words_of code) padding, length-append front (words_of code), length-front sizes settings, length-words_of code, length-replicate {A = ℕ} (constants_address sizes - (0x00010000 + sizes.code)) 0, constants_from sizes) in
+    ap (λ (image : List ℕ). take sizes.constants (drop (constants_address sizes - 0xF000) image)) (regroup_constants front (words_of code) padding constants behind own)
+    ∙ ap (take sizes.constants) (drop_at ((front ++ words_of code) ++ padding) (constants ++ (behind ++ own)) (constants_address sizes - 0xF000) before)
+    ∙ take_at constants (behind ++ own) sizes.constants (length-constants layout routines ∙ sym is_constants)
+
 places_by : (known : List RoutinePlace) (layout : Layout) (objects : Objects) → (addresses_by known layout objects).routines ≡ routine_places (addresses_by known layout objects).known 0 first_spot objects.routines
 unfolding addresses_by addresses_of placement_by
 places_by known layout objects = refl
 
 code_by : (known : List RoutinePlace) (layout : Layout) (objects : Objects) (settings : Settings) (image : List ℕ) → IsTrue (is_linkable objects layout) → Some image ≡ image_by known layout objects settings → HasCodeBy known image objects layout settings
-unfolding bytes_by sizes_by
+unfolding bytes_by sizes_by addresses_by addresses_of sizes_of
 code_by known layout objects settings image is_linkable_too is =
     let found = found_by known layout objects settings image is in
     let sizes = sizes_of (placement_by known objects.routines).end layout objects in
@@ -134,6 +151,7 @@ code_by known layout objects settings image is_linkable_too is =
       is = found.is;
       stands = ap (λ (image : List ℕ). take sizes.code (drop 4096 image)) found.gives ∙ code_stands layout objects settings sizes (placement_by known objects.routines).routines found.code (code_size known layout objects settings found.code found.is);
       decodes = program_decodes layout (addresses_by known layout objects) settings objects found.code (linkable objects layout is_linkable_too).fields found.is;
+      constants = ap (λ (image : List ℕ). take sizes.constants (drop (constants_address sizes - 0xF000) image)) found.gives ∙ constants_stand layout objects settings sizes (placement_by known objects.routines).routines found.code (code_size known layout objects settings found.code found.is) refl;
       items = all_stand found.code layout (addresses_by known layout objects) settings objects (places_by known layout objects) found.is;
     }
 

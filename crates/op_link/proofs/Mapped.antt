@@ -114,7 +114,7 @@ length-words (n ∷ ns) =
     let four : length (words (n ∷ ns)) ≡ suc (suc (suc (suc (length (words ns))))) = refl in
     omega (arith, rest, four)
 
-length-constants : (layout : Layout) (routines : List RoutinePlace) → length (constants_bytes layout routines) ≡ constants_size layout
+pub length-constants : (layout : Layout) (routines : List RoutinePlace) → length (constants_bytes layout routines) ≡ constants_size layout
 unfolding constants_bytes
 length-constants layout routines =
     omega (arith, length-append layout.bytes (words (map (entry_word routines) layout.entries)), length-words (map (entry_word routines) layout.entries), length-map layout.entries (entry_word routines))

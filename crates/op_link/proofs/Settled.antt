@@ -62,7 +62,7 @@ past_limit objects layout settings past =
 
 size_of_many : (known : List RoutinePlace) (layout : Layout) (objects : Objects) → 16777216 < items_in_routines objects.routines → most_linked < linked_size_by known layout objects
 unfolding linked_size_by sizes_of
-size_of_many known layout objects many = let end = code_end known objects.routines in omega (arith, end, many)
+size_of_many known layout objects many = let end = (code_end known objects.routines).least in omega (arith, end, many)
 
 pub too_many : (objects : Objects) (layout : Layout) (settings : Settings) → 16777216 < items_in_routines objects.routines → most_linked < linked_size objects layout settings
 unfolding linked_size

@@ -1,5 +1,5 @@
 -- What a linked image is, once it is loaded.
-use Rattle.std.specs.Prelude.{◌≡◌, ℕ, Some, None, List, [], ◌∷◌, take, drop, ⊤}
+use Rattle.std.specs.Prelude.{◌≡◌, ℕ, ◌-◌, Some, None, List, [], ◌∷◌, take, drop, ⊤}
 use Rattle.op_layout.specs.declared.layout.Layout.{Layout}
 use Rattle.op_rv.specs.Decoding.{instr_at}
 use Rattle.op_rv.specs.Encoding.{word_of}
@@ -11,10 +11,10 @@ use Rattle.op_link.specs.declared.memory_map.Sizes.{Sizes}
 use Rattle.op_link.specs.declared.place.RoutinePlace.{RoutinePlace}
 use Rattle.op_link.specs.declared.table.Segment.{Segment}
 use Rattle.op_link.specs.Image.{entry_in, first_failing, segments}
-use Rattle.op_link.specs.Memory.{code_address}
+use Rattle.op_link.specs.Memory.{code_address, constants_address}
 use Rattle.op_link.specs.Code.{words_of}
 use Rattle.op_link.specs.Placing.{placement_by}
-use Rattle.op_link.specs.Linking.{addresses_of, program_code, settled, sizes_of}
+use Rattle.op_link.specs.Linking.{addresses_of, constants_bytes, program_code, settled, sizes_of}
 use Rattle.op_link.specs.Standing.{AllStand}
 
 -- how large the parts are and where everything stands, if these addresses are known
@@ -40,14 +40,15 @@ abbrev pub Decodes : List Instr → Type 0
 Decodes [] = ⊤
 Decodes (i ∷ code) = (instr_at (word_of i) ≡ Some i) × Decodes code
 
--- an image with the code of a program: its words are the code segment, each decodes to its instruction, and each routine,
--- block and item stands where its address says
+-- an image with the code of a program: its words are the code segment, each decodes to its instruction, each routine, block
+-- and item stands where its address says, and the constants are their segment
 pub record HasCodeBy (known : List RoutinePlace) (image : List ℕ) (objects : Objects) (layout : Layout) (settings : Settings) : Type 0 where
   pub code : List Instr
   pub is : program_code layout (addresses_by known layout objects) settings objects ≡ Some code
   pub stands : take (sizes_by known layout objects).code (drop 4096 image) ≡ words_of code
   pub decodes : Decodes code
   pub items : AllStand code layout (addresses_by known layout objects) objects.routines
+  pub constants : take (sizes_by known layout objects).constants (drop (constants_address (sizes_by known layout objects) - 0xF000) image) ≡ constants_bytes layout (addresses_by known layout objects).routines
 
 abbrev pub HasCode : List ℕ → Objects → Layout → Settings → Type 0
 HasCode image objects layout settings = HasCodeBy (settled layout objects settings) image objects layout settings
