@@ -339,6 +339,9 @@ module _ (low : Low) (layout : Layout) (buildable : is_buildable low layout ≡ 
         entries = right_of _ _ laid_out;
       }
 
+  pub literal_offset : (k : ℕ) (place : LiteralPlace) → slice_get layout.literals k ≡ Some place → nat_le place.offset (constants_size layout) ≡ true
+  literal_offset k place is = passes_at (λ (place : LiteralPlace). nat_le place.offset (constants_size layout)) layout.literals k place enough.literal_offsets is
+
   pub globals_fit : nat_le (globals_size low.globals) 15728640 ≡ true
   unfolding is_buildable
   globals_fit = right_of _ _ buildable

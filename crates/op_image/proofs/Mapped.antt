@@ -1,12 +1,14 @@
--- What a loaded image has in memory, and what may be done with it: its code stands at its address, and the stack may be used.
+-- What a loaded image has in memory, and what may be done with it: its code and its constants stand at their addresses, and the
+-- stack may be used.
 use Rattle.std.proofs.Common.{◌≡◌, ℕ, zero, suc, ◌+◌, ◌-◌, ◌*◌, ◌/◌, ◌%◌, ◌^◌, ◌<◌, ◌≤◌, Bool, true, false, ◌&&◌, cond, nat_eq, nat_le, min, Some, None, List, [], ◌∷◌, ◌++◌, length, get_or, take, drop, map, replicate, slice_get, refl, ap, sym, subst, ◌∙◌, arith, length-append}
 use Rattle.std.proofs.lemmas.Bool.Decides.{nat_tests}
 use Rattle.std.proofs.lemmas.Bool.{and_parts, leb-true, eqb-true}
-use Rattle.std.proofs.lemmas.List.{length-replicate, length-take}
+use Rattle.std.proofs.lemmas.List.{get_or_append_left, length-replicate, length-take}
 use Rattle.std.proofs.lemmas.Option.{slice_get_within}
 use Rattle.std.specs.List.{list_all}
 use Rattle.std.specs.Option.{option_map_or}
 use Rattle.op_link.proofs.Lengths.{length-words_of}
+use Rattle.op_link.proofs.Mapped.{constants_from}
 use Rattle.op_link.specs.Code.{words_of}
 use Rattle.op_link.specs.Image.{region_in, regions_in}
 use Rattle.op_link.specs.Linking.{linked_size_of}
@@ -19,7 +21,7 @@ use Rattle.op_link.specs.declared.table.Segment.{Segment}
 use Rattle.op_rv.proofs.Table.{word_of-lt}
 use Rattle.op_rv.specs.Decoding.{instr_at}
 use Rattle.op_rv.specs.Encoding.{fits, word_of}
-use Rattle.op_rv.specs.State.{word_at}
+use Rattle.op_rv.specs.State.{bytes_from, word_at}
 use Rattle.op_rv.specs.declared.instruction.Instr.{Instr}
 use Rattle.op_select.proofs.WordLemmas.{bytes_of-word, cond_false, cond_true}
 use Rattle.op_image.specs.Meaning.{instruction_at}
@@ -55,6 +57,33 @@ in_empty image address size a rs lower upper =
     let long : length (region_in image (empty address size)).bytes ≡ size - 0 = length-replicate {A = ℕ} (size - 0) 0 in
     here_at (region_in image (empty address size)) rs a lower (omega arith)
 
+-- a segment whose bytes stand in the file
+in_filled : (image : List ℕ) (address size flags : ℕ) (bytes : List ℕ) (rs : List Region) (a : ℕ) → take size (drop (address - 0xF000) image) ≡ bytes → address ≤ a → a < address + length bytes → region_at (region_in image (filled address size size flags) ∷ rs) a ≡ Some (region_in image (filled address size size flags))
+in_filled image address size flags bytes rs a is lower upper =
+    let zeros : List ℕ = replicate (size - size) 0 in
+    let long = ap (λ bytes. length (bytes ++ zeros)) is ∙ length-append bytes zeros in
+    here_at (region_in image (filled address size size flags)) rs a lower (omega arith)
+
+byte_filled : (image : List ℕ) (address size flags : ℕ) (bytes : List ℕ) (rs : List Region) (k : ℕ) → take size (drop (address - 0xF000) image) ≡ bytes → k < length bytes → region_at rs (address + k) ≡ Some (region_in image (filled address size size flags)) → byte_in rs (address + k) ≡ get_or bytes k 0
+unfolding byte_in
+byte_filled image address size flags bytes rs k is before found =
+    let a = address + k in
+    let zeros : List ℕ = replicate (size - size) 0 in
+    let offset : address + k - address ≡ k = omega arith in
+    ap (λ found. option_map_or (λ (region : Region). get_or region.bytes (a - region.base) 0) found 0) found
+    ∙ ap (λ bytes. get_or (bytes ++ zeros) (address + k - address) 0) is
+    ∙ ap (λ n. get_or (bytes ++ zeros) n 0) offset
+    ∙ get_or_append_left bytes zeros 0 k before
+
+-- these bytes stand in memory
+pub bytes_there : (memory : ℕ → ℕ) (at : ℕ) (bytes : List ℕ) → ((k : ℕ) → k < length bytes → memory (at + k) ≡ get_or bytes k 0) → bytes_from memory at (length bytes) ≡ bytes
+unfolding bytes_from
+bytes_there memory at [] each = refl
+bytes_there memory at (byte ∷ bytes) each =
+    let here : at ≡ at + 0 = omega arith in
+    let rest = bytes_there memory (at + 1) bytes (λ k before. let next : at + 1 + k ≡ at + suc k = omega arith in ap memory next ∙ each (suc k) (omega arith)) in
+    ap (λ byte. byte ∷ bytes_from memory (at + 1) (length bytes)) (ap memory here ∙ each 0 (omega arith)) ∙ ap (λ bytes. byte ∷ bytes) rest
+
 -- ---- words of code
 
 skips : (a b c d n m : ℕ) (ys : List ℕ) → n ≡ suc (suc (suc (suc m))) → get_or (a ∷ b ∷ c ∷ d ∷ ys) n 0 ≡ get_or ys m 0
@@ -79,15 +108,15 @@ some_same x y e = cc
 first_word : (w : ℕ) (ys : List ℕ) → w < 2 ^ 32 → word_in_bytes (w % 256 ∷ w / 256 % 256 ∷ w / 65536 % 256 ∷ w / 16777216 % 256 ∷ ys) 0 ≡ w
 first_word w ys fits = bytes_of-word w fits
 
-word_there : (code : List Instr) (rest : List ℕ) (k : ℕ) (i : Instr) → list_all fits code ≡ true → slice_get code k ≡ Some i → word_in_bytes (words_of code ++ rest) (4 * k) ≡ word_of i
-word_there [] rest k i fit is = absurd cc
-word_there (first ∷ code) rest zero i fit is =
+word_there : (code : List Instr) (k : ℕ) (i : Instr) → list_all fits code ≡ true → slice_get code k ≡ Some i → word_in_bytes (words_of code) (4 * k) ≡ word_of i
+word_there [] k i fit is = absurd cc
+word_there (first ∷ code) zero i fit is =
     let parts = and_parts (fits first) (list_all fits code) fit in
-    subst (λ i. word_in_bytes (words_of (first ∷ code) ++ rest) 0 ≡ word_of i) (some_same first i is) (first_word (word_of first) (words_of code ++ rest) (word_of-lt first parts.0))
-word_there (first ∷ code) rest (suc k) i fit is =
+    subst (λ i. word_in_bytes (words_of (first ∷ code)) 0 ≡ word_of i) (some_same first i is) (first_word (word_of first) (words_of code) (word_of-lt first parts.0))
+word_there (first ∷ code) (suc k) i fit is =
     let parts = and_parts (fits first) (list_all fits code) fit in
     let w = word_of first in
-    skips_word (w % 256) (w / 256 % 256) (w / 65536 % 256) (w / 16777216 % 256) (4 * suc k) (4 * k) (words_of code ++ rest) (omega arith) ∙ word_there code rest k i parts.1 is
+    skips_word (w % 256) (w / 256 % 256) (w / 65536 % 256) (w / 16777216 % 256) (4 * suc k) (4 * k) (words_of code) (omega arith) ∙ word_there code k i parts.1 is
 
 decodes_there : (code : List Instr) (k : ℕ) (i : Instr) → Decodes code → slice_get code k ≡ Some i → instr_at (word_of i) ≡ Some i
 decodes_there [] k i decodes is = absurd cc
@@ -153,17 +182,11 @@ module _ (image : List ℕ) (sizes : Sizes) (settings : Settings) (code : List I
   code_region : Region
   code_region = region_in image (filled code_address sizes.code sizes.code 5)
 
-  code_bytes : code_region.bytes ≡ words_of code ++ replicate (sizes.code - sizes.code) 0
-  unfolding code_region
-  code_bytes = ap (λ bytes. bytes ++ replicate (sizes.code - sizes.code) 0) words
-
   in_code : (a : ℕ) → code_address ≤ a → a < code_address + 4 * length code → region_at (regions_in image) a ≡ Some code_region
   unfolding segments_of code_region
   in_code a lower upper =
-      let zeros : List ℕ = replicate (sizes.code - sizes.code) 0 in
-      let long : length code_region.bytes ≡ length (words_of code) + length zeros = ap length code_bytes ∙ length-append (words_of code) zeros in
       let four = length-words_of code in
-      ap (λ rs. region_at rs a) regions_are ∙ here_at code_region (map (region_in image) (drop 1 (segments_of sizes settings))) a lower (omega arith)
+      ap (λ rs. region_at rs a) regions_are ∙ in_filled image code_address sizes.code 5 (words_of code) (map (region_in image) (drop 1 (segments_of sizes settings))) a words lower (omega arith)
 
   stack_region : Region
   stack_region = region_in image (empty (stack_address settings) (stack_size settings))
@@ -200,14 +223,11 @@ module _ (image : List ℕ) (sizes : Sizes) (settings : Settings) (code : List I
   unfolding writable_in code_region
   code_fixed a lower upper = ap (λ found. option_map_or (λ (region : Region). region.writable) found false) (in_code a lower upper)
 
-  byte_of_code : (k : ℕ) → k < 4 * length code → byte_in (regions_in image) (code_address + k) ≡ get_or (words_of code ++ replicate (sizes.code - sizes.code) 0) k 0
-  unfolding byte_in code_region
+  byte_of_code : (k : ℕ) → k < 4 * length code → byte_in (regions_in image) (code_address + k) ≡ get_or (words_of code) k 0
+  unfolding code_region
   byte_of_code k before =
-      let a = code_address + k in
-      let offset : 65536 + k - 65536 ≡ k = omega arith in
-      ap (λ found. option_map_or (λ (region : Region). get_or region.bytes (a - region.base) 0) found 0) (in_code a (omega arith) (omega arith))
-      ∙ ap (λ bytes. get_or bytes (65536 + k - 65536) 0) code_bytes
-      ∙ ap (λ n. get_or (words_of code ++ replicate (sizes.code - sizes.code) 0) n 0) offset
+      let four = length-words_of code in
+      byte_filled image code_address sizes.code 5 (words_of code) (regions_in image) k words (omega arith) (in_code (code_address + k) (omega arith) (omega arith))
 
   pub code_decodes : list_all fits code ≡ true → Decodes code → (at : ℕ) (i : Instr) → instruction_at code at ≡ Some i → instr_at (word_at (byte_in (regions_in image)) at) ≡ Some i
   code_decodes fit decodes at i is =
@@ -215,7 +235,7 @@ module _ (image : List ℕ) (sizes : Sizes) (settings : Settings) (code : List I
       let k = there.index in
       let before = there.before in
       let memory = byte_in (regions_in image) in
-      let bytes : List ℕ = words_of code ++ replicate (sizes.code - sizes.code) 0 in
+      let bytes = words_of code in
       let b0 : memory (65536 + 4 * k) ≡ get_or bytes (4 * k) 0 = byte_of_code (4 * k) (omega arith) in
       let b1 : memory (65536 + (4 * k + 1)) ≡ get_or bytes (4 * k + 1) 0 = byte_of_code (4 * k + 1) (omega arith) in
       let b2 : memory (65536 + (4 * k + 2)) ≡ get_or bytes (4 * k + 2) 0 = byte_of_code (4 * k + 2) (omega arith) in
@@ -228,5 +248,26 @@ module _ (image : List ℕ) (sizes : Sizes) (settings : Settings) (code : List I
       let c3 = ap memory (sym e3) ∙ b3 in
       let same : word_at memory (65536 + 4 * k) ≡ word_in_bytes bytes (4 * k) = omega arith in
       ap (λ at. instr_at (word_at memory at)) (sym there.place)
-      ∙ ap instr_at (same ∙ word_there code (replicate (sizes.code - sizes.code) 0) k i fit there.is)
+      ∙ ap instr_at (same ∙ word_there code k i fit there.is)
       ∙ decodes_there code k i decodes there.is
+
+  module _ (constants : List ℕ) (stand : take sizes.constants (drop (constants_address sizes - 0xF000) image) ≡ constants) where
+    constants_region : Region
+    constants_region = region_in image (filled (constants_address sizes) sizes.constants sizes.constants 4)
+
+    in_constants : (a : ℕ) → constants_address sizes ≤ a → a < constants_address sizes + length constants → region_at (regions_in image) a ≡ Some constants_region
+    unfolding segments_of constants_region
+    in_constants a lower upper =
+        let from = constants_from sizes in
+        ap (λ rs. region_at rs a) regions_are
+        ∙ past_segment image (filled code_address sizes.code sizes.code 5) (map (region_in image) (drop 1 (segments_of sizes settings))) a (omega arith) (omega arith)
+        ∙ in_filled image (constants_address sizes) sizes.constants 4 constants (map (region_in image) (drop 2 (segments_of sizes settings))) a stand lower upper
+
+    pub constants_readable : (a : ℕ) → constants_address sizes ≤ a → a < constants_address sizes + length constants → readable_in (regions_in image) a ≡ true
+    unfolding readable_in constants_region
+    constants_readable a lower upper = ap (λ found. option_map_or (λ (region : Region). region.readable) found false) (in_constants a lower upper)
+
+    pub byte_of_constants : (k : ℕ) → k < length constants → byte_in (regions_in image) (constants_address sizes + k) ≡ get_or constants k 0
+    unfolding constants_region
+    byte_of_constants k before =
+        byte_filled image (constants_address sizes) sizes.constants 4 constants (regions_in image) k stand before (in_constants (constants_address sizes + k) (omega arith) (omega arith))

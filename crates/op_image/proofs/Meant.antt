@@ -48,7 +48,7 @@ use Rattle.op_image.proofs.Counting.{HasItems}
 use Rattle.op_image.proofs.Expanding.{Reachable}
 use Rattle.op_image.proofs.Linkable.{all_fields, same_length}
 use Rattle.op_image.proofs.Mapped.{code_decodes, stack_lies}
-use Rattle.op_image.proofs.Placed.{Known, few_zeros, is_setting, knows, size_within, targets, with_items}
+use Rattle.op_image.proofs.Placed.{Known, few_zeros, is_setting, knows, literal_stands, size_within, targets, with_items}
 use Rattle.op_image.proofs.Places.{places_lie}
 use Rattle.op_image.proofs.Standing.{instruction_here}
 use Rattle.op_image.proofs.Started.{BeginsWith, SixDone, SixStand, bytes_small, program_begins, six_done}
@@ -277,7 +277,7 @@ module _ (low : Low) (layout : Layout) (settings : Settings) (image : List ℕ) 
   means bytes =
       record {
         loads = loaded.meets;
-        literals = λ id place is. ?;
+        literals = literal_stands low layout settings image buildable ranged within loaded has;
         setting = law_here;
         placement = is_placement;
         runs = λ room input input_bytes good. runs_here bytes input room input_bytes good;

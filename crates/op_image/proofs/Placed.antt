@@ -1,17 +1,22 @@
 -- A linked image is a setting of its low code.
-use Rattle.std.proofs.Common.{◌≡◌, ℕ, suc, ◌+◌, ◌-◌, ◌*◌, ◌^◌, ◌<◌, ◌≤◌, Bool, true, false, cond, nat_eq, Option, Some, None, List, [], ◌∷◌, length, take, drop, slice_get, refl, ap, sym, subst, ◌∙◌, arith}
-use Rattle.std.proofs.lemmas.Bool.{eqb-true, leb-true}
+use Rattle.std.proofs.Common.{◌≡◌, ℕ, suc, ◌+◌, ◌-◌, ◌*◌, ◌^◌, ◌<◌, ◌≤◌, Bool, true, false, cond, nat_eq, nat_lt, Option, Some, None, List, [], ◌∷◌, length, get_or, take, drop, map, slice_get, refl, ap, sym, subst, ◌∙◌, arith, length-append}
+use Rattle.std.proofs.lemmas.Bool.{eqb-true, leb-true, lt-ltb}
+use Rattle.std.proofs.lemmas.List.{get_or-drop, get_or-take, get_or_append_left, length-drop, length-take}
 use Rattle.std.specs.Option.{option_map, option_map_or}
 use Rattle.op_layout.specs.declared.layout.Layout.{Layout}
+use Rattle.op_layout.specs.declared.layout.LiteralPlace.{LiteralPlace}
 use Rattle.op_link.proofs.Growth.{code_end}
 use Rattle.op_link.proofs.Lengths.{code_end_is}
 use Rattle.op_link.proofs.Loading.{zeros_at_most}
-use Rattle.op_link.specs.Code.{symbol_address, words_of}
-use Rattle.op_link.specs.Linking.{addresses_of, linked_size, linked_size_by, linked_size_of, program_code, settled, sizes_of}
+use Rattle.op_link.proofs.Mapped.{length-constants}
+use Rattle.op_link.specs.Code.{address_at, address_of_place, symbol_address, words_of}
+use Rattle.op_link.specs.Image.{regions_in}
+use Rattle.op_link.specs.Linking.{addresses_of, constants_bytes, entry_word, linked_size, linked_size_by, linked_size_of, program_code, settled, sizes_of, words}
 use Rattle.op_link.specs.Loaded.{Decodes, HasCode, HasCodeBy, IsLoaded, addresses_by, linked_sizes, sizes_by}
-use Rattle.op_link.specs.Memory.{are_in_range, globals_size, segments_of, zero_size}
+use Rattle.op_link.specs.Memory.{are_in_range, constants_address, constants_size, globals_size, segments_of, zero_size}
 use Rattle.op_link.specs.Placing.{items_in_routines, placement_by}
 use Rattle.op_link.specs.Reach.{head_in}
+use Rattle.op_link.specs.Region.{byte_in}
 use Rattle.op_link.specs.Standing.{AllStand}
 use Rattle.op_link.specs.declared.addresses.Addresses.{Addresses}
 use Rattle.op_link.specs.declared.memory_map.Settings.{Settings}
@@ -22,17 +27,21 @@ use Rattle.op_low.specs.declared.code.Routine.{Routine}
 use Rattle.op_rv.specs.declared.instruction.Instr.{Instr}
 use Rattle.op_rv.specs.declared.objects.ObjectRoutine.{ObjectRoutine}
 use Rattle.op_rv.specs.declared.objects.Objects.{Objects}
+use Rattle.op_rv.specs.declared.symbol.LiteralId.{LiteralId}
+use Rattle.op_rv.specs.declared.symbol.Symbol.TheVariants.{Literal}
+use Rattle.op_select.proofs.WordLemmas.{cond_true}
 use Rattle.op_select.specs.Going.{IsSetting}
 use Rattle.op_select.specs.Placing.{StandsObjects}
 use Rattle.op_select.specs.Selection.{select_of}
 use Rattle.op_image.proofs.Counting.{HasItems, have_items, routines_counted}
 use Rattle.op_image.proofs.Expanding.{Targets}
-use Rattle.op_image.proofs.Linkable.{globals_fit, routines_valid, valid_code}
-use Rattle.op_image.proofs.Mapped.{code_executable, code_fixed, located, stack_lies, stack_readable, stack_writable}
+use Rattle.op_image.proofs.Linkable.{globals_fit, literal_offset, routines_valid, valid_code}
+use Rattle.op_image.proofs.Mapped.{byte_of_constants, bytes_there, code_executable, code_fixed, constants_readable, located, stack_lies, stack_readable, stack_writable}
 use Rattle.op_image.proofs.Places.{targets_reached}
 use Rattle.op_image.proofs.Standing.{routine_stands}
 use Rattle.op_image.specs.Building.{is_buildable}
 use Rattle.op_image.specs.Meaning.{linked_addresses, linked_code, or_zero, placing_by, routine_from, setting_of}
+use Rattle.op_image.specs.Means.{StandsText, literal_bytes}
 
 some_same : {X : Type 0} (x y : X) → Some x ≡ Some y → x ≡ y
 some_same x y e = cc
@@ -163,6 +172,58 @@ module _ (low : Low) (layout : Layout) (settings : Settings) (image : List ℕ) 
   pub size_within : linked_size_of (linked_sizes (select_of low) layout settings) ≤ 67108864
   unfolding linked_size_by sizes_by
   size_within = within_by
+
+  -- ---- the literals
+
+  constants_are : (linked_sizes (select_of low) layout settings).constants ≡ constants_size layout
+  unfolding sizes_by sizes_of
+  constants_are = refl
+
+  literal_address : (id : LiteralId) (place : LiteralPlace) → slice_get layout.literals id.0 ≡ Some place → place.offset ≤ constants_size layout → (setting_of low layout settings image).placing.address (Literal id) ≡ constants_address (linked_sizes (select_of low) layout settings) + place.offset
+  unfolding symbol_address address_at addresses_by addresses_of constants_address
+  literal_address id place is inside =
+      let from = constants_address (linked_sizes (select_of low) layout settings) in
+      let size = size_within in
+      let laid = constants_are in
+      ap (λ found. or_zero (address_of_place from (option_map (λ (place : LiteralPlace). place.offset) found))) is
+      ∙ ap or_zero (cond_true (nat_lt (from + place.offset) (2 ^ 32)) (Some (from + place.offset)) None (lt-ltb (from + place.offset) (2 ^ 32) (omega arith)))
+
+  literal_byte : (place : LiteralPlace) (k : ℕ) → k < length (literal_bytes layout place) → byte_in (regions_in image) (constants_address (linked_sizes (select_of low) layout settings) + (place.offset + k)) ≡ get_or (literal_bytes layout place) k 0
+  unfolding constants_bytes
+  literal_byte place k before =
+      let sizes = linked_sizes (select_of low) layout settings in
+      let routines = (linked_addresses (select_of low) layout settings).routines in
+      let entries = words (map (entry_word routines) layout.entries) in
+      let rest = drop place.offset layout.bytes in
+      let cut = length-take place.length rest in
+      let left = length-drop place.offset layout.bytes in
+      let whole = length-append layout.bytes entries in
+      byte_of_constants image sizes settings (linked_code (select_of low) layout settings) loaded knows.words ranged size_within few_zeros (constants_bytes layout routines) has.constants (place.offset + k) (omega arith)
+      ∙ get_or_append_left layout.bytes entries 0 (place.offset + k) (omega arith)
+      ∙ sym (get_or-drop place.offset layout.bytes k 0)
+      ∙ sym (get_or-take place.length rest k 0 (omega arith))
+
+  pub literal_stands : (id : LiteralId) (place : LiteralPlace) → slice_get layout.literals id.0 ≡ Some place → StandsText (setting_of low layout settings image) image ((setting_of low layout settings image).placing.address (Literal id)) (literal_bytes layout place)
+  unfolding constants_address
+  literal_stands id place is =
+      let sizes = linked_sizes (select_of low) layout settings in
+      let constants = constants_bytes layout (linked_addresses (select_of low) layout settings).routines in
+      let inside = leb-true place.offset (constants_size layout) (literal_offset low layout buildable id.0 place is) in
+      let rest = drop place.offset layout.bytes in
+      let cut = length-take place.length rest in
+      let left = length-drop place.offset layout.bytes in
+      let whole = length-constants layout (linked_addresses (select_of low) layout settings).routines in
+      let size = size_within in
+      let laid = constants_are in
+      let stack = (stack_lies settings ranged).from in
+      let at = constants_address sizes + place.offset in
+      subst (λ at. StandsText (setting_of low layout settings image) image at (literal_bytes layout place)) (sym (literal_address id place is inside)) record {
+        readable = λ x from before. constants_readable image sizes settings (linked_code (select_of low) layout settings) loaded knows.words ranged size_within few_zeros constants has.constants x (omega arith) (omega arith);
+        below = omega arith;
+        stands = bytes_there (byte_in (regions_in image)) at (literal_bytes layout place) (λ k before. let place_of : at + k ≡ constants_address sizes + (place.offset + k) = omega arith in ap (byte_in (regions_in image)) place_of ∙ literal_byte place k before);
+      }
+
+  -- ---- the setting
 
   pub is_setting : IsSetting (setting_of low layout settings image)
   is_setting =
