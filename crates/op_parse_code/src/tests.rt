@@ -242,6 +242,7 @@ fn reads_statements(rt: HostRuntime) -> Result<(), Fail> {
         ("begin a; b; end", "block of 3 6"),
         ("begin a b end", "V9/0 1:9"),
         ("begin a;", "V9/0 1:9"),
+        ("begin x: y end", "V9/0 1:8"),
         ("if a then b", "if 4"),
         ("if a then if b then c else d", "if 9"),
         ("if a then begin if b then c end else d", "if else 11"),

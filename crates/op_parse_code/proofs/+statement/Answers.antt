@@ -23,7 +23,7 @@ compound::statement_at-returns-in-Nothing-clause-whole t c = statement_none c.ar
 
 pub compound::statement_at-returns-in-LeftOut-clause-refused :
     goal.compound::statement_at-returns-in-LeftOut-clause-refused
-compound::statement_at-returns-in-LeftOut-clause-refused t c = left_out _ _ c.left_out.ensures ([], _, refl, rw c.in-Some.ensures.cases.0 (c.in-LeftOut.ensures _ _))
+compound::statement_at-returns-in-LeftOut-clause-refused t c = left_out c.in-LeftOut.feature (terminals c.args.tokens.now) c.left_out.ensures ([], terminals c.args.tokens.now, refl, rw c.in-Some.ensures.cases.0 (c.in-LeftOut.ensures _ _))
 
 pub compound::statement_at-returns-in_err-inner-in-Designator-clause-refused :
     goal.compound::statement_at-returns-in_err-inner-in-Designator-clause-refused
@@ -301,9 +301,9 @@ pub branch::case_statement-returns-in_err-rest-in-None-clause-refused :
     goal.branch::case_statement-returns-in_err-rest-in-None-clause-refused
 branch::case_statement-returns-in_err-rest-in-None-clause-refused t c = passed c.from_residual-in_err-rest-in-None.result c.from_residual-in_err-rest-in-None.ensures.1 (λ y e. rw e (case_end_missing c.args.position _ c.args.left c.args.end _ _ _ _ _ _ _ c.in_ok-selector.ensures.whole c.in_ok-rest.ensures.mark.1 c.in_ok-branches.ensures.whole c.in-None.ensures.mark (c.in_err-rest-in-None.ensures.refused _)))
 
-pub branch::case_statement-returns-in-None-clause-whole :
-    goal.branch::case_statement-returns-in-None-clause-whole
-branch::case_statement-returns-in-None-clause-whole t c = rw c.case_node.ensures (case_whole c.args.position _ _ c.args.left _ _ _ _ _ _ _ c.in_ok-selector.ensures.whole c.in_ok-rest.ensures.mark.1 c.in_ok-branches.ensures.whole c.in_ok-rest-in-None.ensures.mark.1)
+pub branch::case_statement-returns-in_ok-rest-in-None-clause-whole :
+    goal.branch::case_statement-returns-in_ok-rest-in-None-clause-whole
+branch::case_statement-returns-in_ok-rest-in-None-clause-whole t c = rw c.case_node.ensures (case_whole c.args.position _ _ c.args.left _ _ _ _ _ _ _ c.in_ok-selector.ensures.whole c.in_ok-rest.ensures.mark.1 c.in_ok-branches.ensures.whole c.in_ok-rest-in-None.ensures.mark.1)
 
 pub branch::case_statement-returns-in_err-otherwise-in-Some-clause-refused :
     goal.branch::case_statement-returns-in_err-otherwise-in-Some-clause-refused
@@ -313,9 +313,9 @@ pub branch::case_statement-returns-in_err-rest-in-Some-clause-refused :
     goal.branch::case_statement-returns-in_err-rest-in-Some-clause-refused
 branch::case_statement-returns-in_err-rest-in-Some-clause-refused t c = passed c.from_residual-in_err-rest-in-Some.result c.from_residual-in_err-rest-in-Some.ensures.1 (λ y e. rw e (case_else_open c.args.position _ _ c.args.left c.args.end _ _ _ _ _ _ _ _ _ _ c.in_ok-selector.ensures.whole c.in_ok-rest.ensures.mark.1 c.in_ok-branches.ensures.whole c.in-Some.ensures.mark.1 c.in_ok-otherwise-in-Some.ensures.whole (c.in_err-rest-in-Some.ensures.refused _)))
 
-pub branch::case_statement-returns-in-Some-clause-whole :
-    goal.branch::case_statement-returns-in-Some-clause-whole
-branch::case_statement-returns-in-Some-clause-whole t c = rw c.case_else_node.ensures (case_else_whole c.args.position _ _ _ c.args.left _ _ _ _ _ _ _ _ _ _ c.in_ok-selector.ensures.whole c.in_ok-rest.ensures.mark.1 c.in_ok-branches.ensures.whole c.in-Some.ensures.mark.1 c.in_ok-otherwise-in-Some.ensures.whole c.in_ok-rest-in-Some.ensures.mark.1)
+pub branch::case_statement-returns-in_ok-rest-in-Some-clause-whole :
+    goal.branch::case_statement-returns-in_ok-rest-in-Some-clause-whole
+branch::case_statement-returns-in_ok-rest-in-Some-clause-whole t c = rw c.case_else_node.ensures (case_else_whole c.args.position _ _ _ c.args.left _ _ _ _ _ _ _ _ _ _ c.in_ok-selector.ensures.whole c.in_ok-rest.ensures.mark.1 c.in_ok-branches.ensures.whole c.in-Some.ensures.mark.1 c.in_ok-otherwise-in-Some.ensures.whole c.in_ok-rest-in-Some.ensures.mark.1)
 
 pub branch::branches-returns-then-ends_list-clause-whole :
     goal.branch::branches-returns-then-ends_list-clause-whole
@@ -337,13 +337,13 @@ pub branch::branches-loop-alloc-preserved :
     goal.branch::branches-loop-alloc-preserved
 branch::branches-loop-alloc-preserved t c = (rw c.in_ok-push.ensures.items (branching_more c.args.left c.args.end _ _ _ _ _ _ _ _ c.loop-alloc.invariant.0 (sym c.ends_list.ensures ∙ c.if-ends_list.false) c.in_ok-labels.ensures.whole c.in_ok-body.ensures.whole c.in-Some.ensures.mark.1), omega (arith, c.loop-alloc.invariant.1, c.in-Some.ensures.shorter, c.in_ok-body.ensures.shorter, c.in_ok-labels.ensures.shorter))
 
-pub branch::branches-returns-then-ends_list-in-None-clause-whole :
-    goal.branch::branches-returns-then-ends_list-in-None-clause-whole
-branch::branches-returns-then-ends_list-in-None-clause-whole t c = rw c.in_ok-push.ensures.items (branching_last c.args.left c.args.end _ _ _ _ _ _ c.loop-alloc.invariant.0 c.in_ok-labels.ensures.whole c.in_ok-body.ensures.whole (sym c.ends_list-in-None.ensures ∙ c.if-ends_list-in-None.true))
+pub branch::branches-returns-then-ends_list-2-clause-whole :
+    goal.branch::branches-returns-then-ends_list-2-clause-whole
+branch::branches-returns-then-ends_list-2-clause-whole t c = rw c.in_ok-push.ensures.items (branching_last c.args.left c.args.end _ _ _ _ _ _ c.loop-alloc.invariant.0 c.in_ok-labels.ensures.whole c.in_ok-body.ensures.whole (sym c.ends_list-in-None.ensures ∙ c.if-ends_list-2.true))
 
-pub branch::branches-returns-else-ends_list-in-None-clause-refused :
-    goal.branch::branches-returns-else-ends_list-in-None-clause-refused
-branch::branches-returns-else-ends_list-in-None-clause-refused t c = branching_stops c.args.left c.args.end _ _ _ _ _ _ _ _ c.loop-alloc.invariant.0 (sym c.ends_list.ensures ∙ c.if-ends_list.false) c.in_ok-labels.ensures.whole c.in_ok-body.ensures.whole c.in-None.ensures.mark (sym c.ends_list-in-None.ensures ∙ c.if-ends_list-in-None.false) c.syntax.ensures
+pub branch::branches-returns-in-None-clause-refused :
+    goal.branch::branches-returns-in-None-clause-refused
+branch::branches-returns-in-None-clause-refused t c = branching_stops c.args.left c.args.end _ _ _ _ _ _ _ _ c.loop-alloc.invariant.0 (sym c.ends_list.ensures ∙ c.if-ends_list.false) c.in_ok-labels.ensures.whole c.in_ok-body.ensures.whole c.in-None.ensures.mark (sym c.ends_list-in-None.ensures ∙ c.if-ends_list-2.false) c.syntax.ensures
 
 pub handler::handlers-returns-then-ends_list-clause-whole :
     goal.handler::handlers-returns-then-ends_list-clause-whole
@@ -365,17 +365,17 @@ pub handler::handlers-loop-alloc-preserved :
     goal.handler::handlers-loop-alloc-preserved
 handler::handlers-loop-alloc-preserved t c = (rw c.in_ok-push.ensures.items (handling_more c.args.left c.args.end _ _ _ _ _ _ _ _ c.loop-alloc.invariant.0 (sym c.ends_list.ensures ∙ c.if-ends_list.false) c.in_ok-variable.ensures.whole c.in_ok-body.ensures.whole c.in-Some.ensures.mark.1), omega (arith, c.loop-alloc.invariant.1, c.in-Some.ensures.shorter, c.in_ok-body.ensures.shorter, c.in_ok-variable.ensures.shorter))
 
-pub handler::handlers-returns-then-ends_list-in-None-clause-whole :
-    goal.handler::handlers-returns-then-ends_list-in-None-clause-whole
-handler::handlers-returns-then-ends_list-in-None-clause-whole t c = rw c.in_ok-push.ensures.items (handling_last c.args.left c.args.end _ _ _ _ _ _ c.loop-alloc.invariant.0 c.in_ok-variable.ensures.whole c.in_ok-body.ensures.whole (sym c.ends_list-in-None.ensures ∙ c.if-ends_list-in-None.true))
+pub handler::handlers-returns-then-ends_list-2-clause-whole :
+    goal.handler::handlers-returns-then-ends_list-2-clause-whole
+handler::handlers-returns-then-ends_list-2-clause-whole t c = rw c.in_ok-push.ensures.items (handling_last c.args.left c.args.end _ _ _ _ _ _ c.loop-alloc.invariant.0 c.in_ok-variable.ensures.whole c.in_ok-body.ensures.whole (sym c.ends_list-in-None.ensures ∙ c.if-ends_list-2.true))
 
-pub handler::handlers-returns-else-ends_list-in-None-clause-refused :
-    goal.handler::handlers-returns-else-ends_list-in-None-clause-refused
-handler::handlers-returns-else-ends_list-in-None-clause-refused t c = handling_stops c.args.left c.args.end _ _ _ _ _ _ _ _ _ c.loop-alloc.invariant.0 (sym c.ends_list.ensures ∙ c.if-ends_list.false) c.in_ok-variable.ensures.whole c.in_ok-body.ensures.whole c.in-None.ensures.mark (sym c.ends_list-in-None.ensures ∙ c.if-ends_list-in-None.false) c.syntax.ensures
+pub handler::handlers-returns-in-None-clause-refused :
+    goal.handler::handlers-returns-in-None-clause-refused
+handler::handlers-returns-in-None-clause-refused t c = handling_stops c.args.left c.args.end _ _ _ _ _ _ _ _ _ c.loop-alloc.invariant.0 (sym c.ends_list.ensures ∙ c.if-ends_list.false) c.in_ok-variable.ensures.whole c.in_ok-body.ensures.whole c.in-None.ensures.mark (sym c.ends_list-in-None.ensures ∙ c.if-ends_list-2.false) c.syntax.ensures
 
 pub branch::branches-elements-requires :
     goal.branch::branches-elements-requires
-branch::branches-elements-requires t c = (omega arith, closes_labels)
+branch::branches-elements-requires t c = closes_labels
 
 pub handler::try_statement-returns-in_err-body-clause-refused :
     goal.handler::try_statement-returns-in_err-body-clause-refused
@@ -389,9 +389,9 @@ pub handler::try_statement-returns-in_err-rest-in-Some-clause-refused :
     goal.handler::try_statement-returns-in_err-rest-in-Some-clause-refused
 handler::try_statement-returns-in_err-rest-in-Some-clause-refused t c = passed c.from_residual-in_err-rest-in-Some.result c.from_residual-in_err-rest-in-Some.ensures.1 (λ y e. rw e (try_finally_open c.args.position _ c.args.left c.args.end _ _ _ _ _ _ _ c.in_ok-body.ensures.whole c.in-Some.ensures.mark.1 c.in_ok-finalization-in-Some.ensures.whole (c.in_err-rest-in-Some.ensures.refused _)))
 
-pub handler::try_statement-returns-in-Some-clause-whole :
-    goal.handler::try_statement-returns-in-Some-clause-whole
-handler::try_statement-returns-in-Some-clause-whole t c = rw c.try_node.ensures (try_finally_whole c.args.position _ _ c.args.left _ _ _ _ _ _ _ c.in_ok-body.ensures.whole c.in-Some.ensures.mark.1 c.in_ok-finalization-in-Some.ensures.whole c.in_ok-rest-in-Some.ensures.mark.1)
+pub handler::try_statement-returns-in_ok-rest-in-Some-clause-whole :
+    goal.handler::try_statement-returns-in_ok-rest-in-Some-clause-whole
+handler::try_statement-returns-in_ok-rest-in-Some-clause-whole t c = rw c.try_node.ensures (try_finally_whole c.args.position _ _ c.args.left _ _ _ _ _ _ _ c.in_ok-body.ensures.whole c.in-Some.ensures.mark.1 c.in_ok-finalization-in-Some.ensures.whole c.in_ok-rest-in-Some.ensures.mark.1)
 
 pub handler::try_statement-returns-in_err-after-in-None-clause-refused :
     goal.handler::try_statement-returns-in_err-after-in-None-clause-refused
@@ -401,9 +401,9 @@ pub handler::try_statement-returns-in_err-others-in-None-clause-refused :
     goal.handler::try_statement-returns-in_err-others-in-None-clause-refused
 handler::try_statement-returns-in_err-others-in-None-clause-refused t c = passed c.from_residual-in_err-others-in-None.result c.from_residual-in_err-others-in-None.ensures.1 (λ y e. rw e (try_except_refuses c.args.position _ c.args.left c.args.end _ _ _ _ _ c.in_ok-body.ensures.whole c.in_ok-after-in-None.ensures.mark.1 c.in_err-others-in-None.ensures.refused))
 
-pub handler::try_statement-returns-in-None-clause-whole :
-    goal.handler::try_statement-returns-in-None-clause-whole
-handler::try_statement-returns-in-None-clause-whole t c = rw c.try_node-in-None.ensures (try_except_whole c.args.position _ c.args.left _ _ _ _ _ _ c.in_ok-body.ensures.whole c.in_ok-after-in-None.ensures.mark.1 c.in_ok-others-in-None.ensures.whole)
+pub handler::try_statement-returns-in_ok-others-in-None-clause-whole :
+    goal.handler::try_statement-returns-in_ok-others-in-None-clause-whole
+handler::try_statement-returns-in_ok-others-in-None-clause-whole t c = rw c.try_node-in-None.ensures (try_except_whole c.args.position _ c.args.left _ _ _ _ _ _ c.in_ok-body.ensures.whole c.in_ok-after-in-None.ensures.mark.1 c.in_ok-others-in-None.ensures.whole)
 
 pub handler::except_part-returns-in_err-handler-clause-refused :
     goal.handler::except_part-returns-in_err-handler-clause-refused
@@ -425,9 +425,9 @@ pub handler::except_part-returns-in_err-rest-in-None-clause-refused :
     goal.handler::except_part-returns-in_err-rest-in-None-clause-refused
 handler::except_part-returns-in_err-rest-in-None-clause-refused t c = passed c.from_residual-in_err-rest-in-None.result c.from_residual-in_err-rest-in-None.ensures.1 (λ y e. rw e (except_end_missing c.args.left c.args.end _ _ _ _ (sym c.begins_handler.ensures ∙ c.if-not-begins_handler.false) c.in_ok-handlers.ensures.whole c.in-None.ensures.mark (c.in_err-rest-in-None.ensures.refused _)))
 
-pub handler::except_part-returns-in-None-clause-whole :
-    goal.handler::except_part-returns-in-None-clause-whole
-handler::except_part-returns-in-None-clause-whole t c = except_on_whole _ c.args.left _ _ _ _ (sym c.begins_handler.ensures ∙ c.if-not-begins_handler.false) c.in_ok-handlers.ensures.whole c.in_ok-rest-in-None.ensures.mark.1
+pub handler::except_part-returns-in_ok-rest-in-None-clause-whole :
+    goal.handler::except_part-returns-in_ok-rest-in-None-clause-whole
+handler::except_part-returns-in_ok-rest-in-None-clause-whole t c = except_on_whole _ c.args.left _ _ _ _ (sym c.begins_handler.ensures ∙ c.if-not-begins_handler.false) c.in_ok-handlers.ensures.whole c.in_ok-rest-in-None.ensures.mark.1
 
 pub handler::except_part-returns-in_err-otherwise-in-Some-clause-refused :
     goal.handler::except_part-returns-in_err-otherwise-in-Some-clause-refused
@@ -437,6 +437,6 @@ pub handler::except_part-returns-in_err-rest-in-Some-clause-refused :
     goal.handler::except_part-returns-in_err-rest-in-Some-clause-refused
 handler::except_part-returns-in_err-rest-in-Some-clause-refused t c = passed c.from_residual-in_err-rest-in-Some.result c.from_residual-in_err-rest-in-Some.ensures.1 (λ y e. rw e (except_else_open _ c.args.left c.args.end _ _ _ _ _ _ _ (sym c.begins_handler.ensures ∙ c.if-not-begins_handler.false) c.in_ok-handlers.ensures.whole c.in-Some.ensures.mark.1 c.in_ok-otherwise-in-Some.ensures.whole (c.in_err-rest-in-Some.ensures.refused _)))
 
-pub handler::except_part-returns-in-Some-clause-whole :
-    goal.handler::except_part-returns-in-Some-clause-whole
-handler::except_part-returns-in-Some-clause-whole t c = except_else_whole _ _ c.args.left _ _ _ _ _ _ _ (sym c.begins_handler.ensures ∙ c.if-not-begins_handler.false) c.in_ok-handlers.ensures.whole c.in-Some.ensures.mark.1 c.in_ok-otherwise-in-Some.ensures.whole c.in_ok-rest-in-Some.ensures.mark.1
+pub handler::except_part-returns-in_ok-rest-in-Some-clause-whole :
+    goal.handler::except_part-returns-in_ok-rest-in-Some-clause-whole
+handler::except_part-returns-in_ok-rest-in-Some-clause-whole t c = except_else_whole _ _ c.args.left _ _ _ _ _ _ _ (sym c.begins_handler.ensures ∙ c.if-not-begins_handler.false) c.in_ok-handlers.ensures.whole c.in-Some.ensures.mark.1 c.in_ok-otherwise-in-Some.ensures.whole c.in_ok-rest-in-Some.ensures.mark.1
