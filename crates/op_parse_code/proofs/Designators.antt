@@ -6,7 +6,7 @@ use Rattle.op_parse_code.proofs.ExpressionKnown.{known_chain, known_root, known_
 use Rattle.op_parse_code.proofs.Factors.{same_begins}
 use Rattle.op_parse_code.proofs.Refusing.{Some_, Seq, refuses_map, refuses_first, refuses_after, refuses_behind, refuses_inside, dead_here}
 use Rattle.op_parse_code.specs.Opening.{is_identifier}
-use Rattle.op_parse_code.specs.Refusal.{SameHead, Refuses, syntax, nested, refused_at}
+use Rattle.op_parse_code.specs.Refusal.{SameHead, Refuses, syntax, nested, decides_there, refused_at}
 use Rattle.op_parse_code.specs.Whole.{Chain, Marked, SomeName, SomeDesignator, SomeSelectors, IndicesBefore, InsideCall, no_arguments_inside, arguments_inside}
 use Rattle.op_parse_code.specs.declared.error.ParseError.{ParseError}
 use Rattle.op_parse_code.specs.declared.mark.Mark.TheVariants as mark
@@ -71,7 +71,7 @@ no_bracket_so k p ks h g [] r s f = absurd s
 no_bracket_so k p ks h g (t ∷ ls) r s f = no_bracket g p ls r (subst (λ z. IsRoot 0 g (z ∷ ls) r) (sym s ∙ ap (λ z. z at p) h) f)
 
 pub bracket_too_deep : (d : ℕ) (end : Place) (k : TokenKind) (p : Position) (r : List Terminal) (e : ParseError) → k ≡ kind.OpenParenthesis → d ≡ 0 → e ≡ refused_at 61 0 end (k at p ∷ r) → Refuses IsRoot d end (k at p ∷ r) e
-bracket_too_deep d end k p r e h z x = subst (λ (w : ℕ). Refuses IsRoot w end (k at p ∷ r) e) (sym z) (nested (k at p ∷ r) x (dead_here (IsRoot 0) (k at p ∷ r) (no_bracket_so k p r h)))
+bracket_too_deep d end k p r e h z x = subst (λ (w : ℕ). Refuses IsRoot w end (k at p ∷ r) e) (sym z) (nested (k at p ∷ r) (k at p ∷ r) x decides_there (dead_here (IsRoot 0) (k at p ∷ r) (no_bracket_so k p r h)))
 
 into_bracket : (p : Position) (d : ℕ) (g : Root) (ls r : List Terminal) → IsRoot d g (kind.OpenParenthesis at p ∷ ls) r → (i : ℕ) × (d ≡ suc i) × Some_ (Seq (Chain Relational) (Marked mark.CloseParenthesis)) i ls
 into_bracket p d g ls r (is_bracketed {d = i} {q = q} {e = e} f) = (i, refl, ((e, q), r, (kind.CloseParenthesis at q ∷ r, (f, stop e _ (refl, refl)), refl)))
@@ -155,10 +155,10 @@ no_selector_here t ks h none b [] r s f = absurd s
 no_selector_here t ks h none b (u ∷ ls) r s f = let g = into_selectors 0 b (u ∷ ls) r (subst (λ (z : Terminal). begins_selector z.kind ≡ true) s h) f in none g.0.0 ls g.2.0 (subst (λ z. IsSelector 0 g.0.0 (z ∷ ls) g.2.0) (sym s) g.2.1)
 
 pub index_too_deep : (d : ℕ) (end : Place) (k : TokenKind) (p : Position) (r : List Terminal) (e : ParseError) → k ≡ kind.OpenBracket → d ≡ 0 → e ≡ refused_at 61 0 end (k at p ∷ r) → Refuses SomeSelectors d end (k at p ∷ r) e
-index_too_deep d end k p r e h z x = subst (λ (w : ℕ). Refuses SomeSelectors w end (k at p ∷ r) e) (sym z) (nested (k at p ∷ r) x (dead_here (SomeSelectors 0) (k at p ∷ r) (no_selector_here (k at p) r (ap begins_selector h) (λ b ls r1 f. no_index b p ls r1 (subst (λ w. IsSelector 0 b (w at p ∷ ls) r1) h f)))))
+index_too_deep d end k p r e h z x = subst (λ (w : ℕ). Refuses SomeSelectors w end (k at p ∷ r) e) (sym z) (nested (k at p ∷ r) (k at p ∷ r) x decides_there (dead_here (SomeSelectors 0) (k at p ∷ r) (no_selector_here (k at p) r (ap begins_selector h) (λ b ls r1 f. no_index b p ls r1 (subst (λ w. IsSelector 0 b (w at p ∷ ls) r1) h f)))))
 
 pub call_too_deep : (d : ℕ) (end : Place) (k : TokenKind) (p : Position) (r : List Terminal) (e : ParseError) → k ≡ kind.OpenParenthesis → d ≡ 0 → e ≡ refused_at 61 0 end (k at p ∷ r) → Refuses SomeSelectors d end (k at p ∷ r) e
-call_too_deep d end k p r e h z x = subst (λ (w : ℕ). Refuses SomeSelectors w end (k at p ∷ r) e) (sym z) (nested (k at p ∷ r) x (dead_here (SomeSelectors 0) (k at p ∷ r) (no_selector_here (k at p) r (ap begins_selector h) (λ b ls r1 f. no_call b p ls r1 (subst (λ w. IsSelector 0 b (w at p ∷ ls) r1) h f)))))
+call_too_deep d end k p r e h z x = subst (λ (w : ℕ). Refuses SomeSelectors w end (k at p ∷ r) e) (sym z) (nested (k at p ∷ r) (k at p ∷ r) x decides_there (dead_here (SomeSelectors 0) (k at p ∷ r) (no_selector_here (k at p) r (ap begins_selector h) (λ b ls r1 f. no_call b p ls r1 (subst (λ w. IsSelector 0 b (w at p ∷ ls) r1) h f)))))
 
 into_index : (p : Position) (d : ℕ) (b : Selectors) (ls r : List Terminal) → SomeSelectors d b (kind.OpenBracket at p ∷ ls) r → (i : ℕ) × (d ≡ suc i) × Some_ IndicesBefore i ls
 into_index p d b ls r (are_no_selectors, n) = true_false n

@@ -6,7 +6,7 @@ use Rattle.op_parse_code.proofs.Refusing.{Some_, refuses_map, refuses_behind, re
 use Rattle.op_parse_code.proofs.Names.{number_kind}
 use Rattle.op_parse_code.specs.Form.{Form, HasForm, is_fraction}
 use Rattle.op_parse_code.specs.Opening.{is_number as is_numeral}
-use Rattle.op_parse_code.specs.Refusal.{SameHead, Refuses, syntax, nested, refused_at}
+use Rattle.op_parse_code.specs.Refusal.{SameHead, Refuses, syntax, nested, decides_there, refused_at}
 use Rattle.op_parse_code.specs.Whole.{Factor, SomeDesignator, SomeSelectors, InsideSet, no_inside, some_inside, CannotEnter, begins_none, too_deep}
 use Rattle.op_parse_code.specs.declared.error.ParseError.{ParseError}
 use Rattle.op_scan.specs.declared.token.TokenKind.{TokenKind}
@@ -65,7 +65,7 @@ into_set p (suc d) e ls r (is_set {q = q} {es = es} f, t) = (d, refl, (es, r, so
 into_set p d e ls r (is_designated g, t) = false_true (designator_begins g)
 
 pub set_too_deep : (d : ℕ) (end : Place) (k : TokenKind) (p : Position) (r : List Terminal) (e : ParseError) → k ≡ kind.OpenBracket → d ≡ 0 → e ≡ refused_at 61 0 end (k at p ∷ r) → Refuses Factor d end (k at p ∷ r) e
-set_too_deep d end k p r e h z x = subst (λ (w : ℕ). Refuses Factor w end (k at p ∷ r) e) (sym z) (nested (k at p ∷ r) x (dead_here (Factor 0) (k at p ∷ r) (no_set_so k p r h)))
+set_too_deep d end k p r e h z x = subst (λ (w : ℕ). Refuses Factor w end (k at p ∷ r) e) (sym z) (nested (k at p ∷ r) (k at p ∷ r) x decides_there (dead_here (Factor 0) (k at p ∷ r) (no_set_so k p r h)))
 
 pub set_refuses : (d i : ℕ) (end : Place) (k : TokenKind) (p : Position) (ks : List Terminal) (e : ParseError) → k ≡ kind.OpenBracket → d ≡ suc i → Refuses InsideSet i end ks e → Refuses Factor d end (k at p ∷ ks) e
 set_refuses d i end k p ks e h z x = subst (λ (w : ℕ). Refuses Factor w end (k at p ∷ ks) e) (sym z) (subst (λ w. Refuses Factor (suc i) end (w at p ∷ ks) e) (sym h) (refuses_inside InsideSet Factor i end (kind.OpenBracket at p) ks e (into_set p) x))
@@ -123,7 +123,7 @@ zero_suc h = absurd (omega (arith, h))
 
 prefix_enters : (end : Place) (k : TokenKind) (o : PrefixOperator) (p : Position) (ks : List Terminal) (e : ParseError) → prefix_operator_of k ≡ Some o → CannotEnter end ks e → Refuses Factor 0 end (k at p ∷ ks) e
 prefix_enters end k o p ks e h (begins_none x never) = syntax ks x (λ d'. inside_any Factor Factor d' (k at p) ks ks (into_prefix k o p h d') never)
-prefix_enters end k o p ks e h (too_deep x) = nested ks x (k at p ∷ [], refl, λ ls a r s f. absurd (zero_suc (into_prefix k o p h 0 a ls r f).1))
+prefix_enters end k o p ks e h (too_deep x) = nested ks ks x decides_there (k at p ∷ [], refl, λ ls a r s f. absurd (zero_suc (into_prefix k o p h 0 a ls r f).1))
 
 pub prefix_too_deep : (d : ℕ) (end : Place) (k : TokenKind) (o : PrefixOperator) (p : Position) (ks : List Terminal) (e : ParseError) → prefix_operator_of k ≡ Some o → (d ≡ 0) × CannotEnter end ks e → Refuses Factor d end (k at p ∷ ks) e
 prefix_too_deep d end k o p ks e h x = subst (λ (w : ℕ). Refuses Factor w end (k at p ∷ ks) e) (sym x.0) (prefix_enters end k o p ks e h x.1)

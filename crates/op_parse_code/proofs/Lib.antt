@@ -1,3 +1,5 @@
+pub mod Branches
+pub mod Calls
 pub mod Chains
 pub mod Cuts
 pub mod Designators
@@ -6,8 +8,12 @@ pub mod ExpressionFronts
 pub mod ExpressionKnown
 pub mod ExpressionLists
 pub mod Factors
+pub mod Handlers
 pub mod Lists
 pub mod Marks
 pub mod Names
 pub mod Parts
 pub mod Refusing
+pub mod StatementFronts
+pub mod StatementKnown
+pub mod Statements

@@ -53,3 +53,7 @@ specialized_form k k' p q ks m r word e e1 h w h' =
     let a = word_kind word k h in
     let whole : ks ≡ kind.Identifier (spelled k) at p ∷ kind.Identifier (spelled k') at q ∷ r = e ∙ ap (λ z. k at p ∷ z) e1 ∙ same2 (λ x y. x at p ∷ y at q ∷ r) a.0 (identifier_kind k' h') in
     ([], ks, refl, subst (λ z. Form 29 z z) (sym whole) (is_specialized (a.1 ∙ w)))
+
+pub none_left : (ts : List Token) → length ts ≡ 0 → ts ≡ []
+none_left [] h = refl
+none_left (t ∷ ts) h = absurd (omega (arith, h))

@@ -29,7 +29,7 @@ dead_none P ks q a r p (seen, e, never) = never q a r (same_refl q) (subst (λ z
 pub refuses_free : {A : Type 0} (P : Phrase A) (d : ℕ) (end : Place) (ks : List Terminal) (e : ParseError) (a : A) (r : List Terminal) → P d a ks r → Refuses P d end ks e → IsFree e
 refuses_free P d end ks e a r p (out_of_memory x) = subst IsFree (sym x) tt
 refuses_free P d end ks e a r p (syntax q x never) = absurd (dead_none (P d) ks q a r p (never d))
-refuses_free P d end ks e a r p (nested q x never) = absurd (dead_none (P d) ks q a r p never)
+refuses_free P d end ks e a r p (nested q m x w never) = absurd (dead_none (P d) ks m a r p never)
 refuses_free P d end ks e a r p (left_out feature q x f) = subst IsFree (sym x) refl
 
 pub match_of : {T : Type 0} (P : T → Type 0) (Q : ParseError → Type 0) (r : Result T ParseError) → IfOk r P → IfErr r Q → MatchResult r P Q

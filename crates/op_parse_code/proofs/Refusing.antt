@@ -45,7 +45,7 @@ dead_token P Q t ks q h (seen, e, never) = (t ∷ seen, ap (λ z. t ∷ z) e, λ
 dead_map : {A B : Type 0} (P : A → List Terminal → List Terminal → Type 0) (Q : B → List Terminal → List Terminal → Type 0) (ks q : List Terminal) → ((b : B) (ls r : List Terminal) → SameHead ks ls → Q b ls r → (a : A) × (r' : List Terminal) × P a ls r') → Dead P ks q → Dead Q ks q
 dead_map P Q ks q h (seen, e, never) = (seen, e, λ ls b r s x. let w = h b (seen ++ ls) r (subst (λ z. SameHead z (seen ++ ls)) (sym e) (same_behind seen q ls s)) x in never ls w.0 w.1 s w.2)
 
-inside_seen : {A : Type 0} (P : A → List Terminal → List Terminal → Type 0) (ks q front : List Terminal) → ks ≡ front ++ q → Dead P ks q → (ls : List Terminal) (a : A) (r : List Terminal) → SameHead q ls → P a (front ++ ls) r → ⊥
+pub inside_seen : {A : Type 0} (P : A → List Terminal → List Terminal → Type 0) (ks q front : List Terminal) → ks ≡ front ++ q → Dead P ks q → (ls : List Terminal) (a : A) (r : List Terminal) → SameHead q ls → P a (front ++ ls) r → ⊥
 inside_seen P ks q front e (seen, e1, never) ls a r s x = never ls a r s (subst (λ z. P a (z ++ ls) r) (append_same_front front seen q (sym e ∙ e1)) x)
 
 pub dead_here : {A : Type 0} (P : A → List Terminal → List Terminal → Type 0) (ks : List Terminal) → ((a : A) (ls r : List Terminal) → SameHead ks ls → P a ls r → ⊥) → Dead P ks ks
@@ -56,27 +56,39 @@ inside_any P Q d' t ks q h never =
     let first = never d' in
     (t ∷ first.0, ap (λ z. t ∷ z) first.1, λ ls b r s x. let w = h b (first.0 ++ ls) r x in inside_seen (P w.0) ks q first.0 first.1 (never w.0) ls w.2.0 w.2.1 s w.2.2)
 
+deeper_any : {A B : Type 0} (P : Phrase A) (Q : Phrase B) (d' : ℕ) (ks q : List Terminal) → ((b : B) (ls r : List Terminal) → SameHead ks ls → Q d' b ls r → (i : ℕ) × (d' ≡ suc i) × Some_ P i ls) → ((i : ℕ) → Dead (P i) ks q) → Dead (Q d') ks q
+deeper_any P Q d' ks q h never =
+    let first = never d' in
+    (first.0, first.1, λ ls b r s x. let w = h b (first.0 ++ ls) r (subst (λ z. SameHead z (first.0 ++ ls)) (sym first.1) (same_behind first.0 q ls s)) x in inside_seen (P w.0) ks q first.0 first.1 (never w.0) ls w.2.0 w.2.1 s w.2.2)
+
 -- ---- refusals
 
 -- at the same depth, what stands behind a token
 pub refuses_behind : {A B : Type 0} (P : Phrase A) (Q : Phrase B) (d : ℕ) (end : Place) (t : Terminal) (ks : List Terminal) (e : ParseError) → ((d' : ℕ) (b : B) (ls r : List Terminal) → Q d' b (t ∷ ls) r → Some_ P d' ls) → Refuses P d end ks e → Refuses Q d end (t ∷ ks) e
 refuses_behind P Q d end t ks e h (out_of_memory x) = out_of_memory x
 refuses_behind P Q d end t ks e h (syntax q x never) = syntax q x (λ d'. dead_token (P d') (Q d') t ks q (h d') (never d'))
-refuses_behind P Q d end t ks e h (nested q x never) = nested q x (dead_token (P d) (Q d) t ks q (h d) never)
+refuses_behind P Q d end t ks e h (nested q z x w never) = nested q z x w (dead_token (P d) (Q d) t ks z (h d) never)
 refuses_behind P Q d end t ks e h (left_out feature q x f) = left_out feature q x (with_token t f)
 
 -- one deeper, what stands behind a token
 pub refuses_inside : {A B : Type 0} (P : Phrase A) (Q : Phrase B) (d : ℕ) (end : Place) (t : Terminal) (ks : List Terminal) (e : ParseError) → ((d' : ℕ) (b : B) (ls r : List Terminal) → Q d' b (t ∷ ls) r → (i : ℕ) × (d' ≡ suc i) × Some_ P i ls) → Refuses P d end ks e → Refuses Q (suc d) end (t ∷ ks) e
 refuses_inside P Q d end t ks e h (out_of_memory x) = out_of_memory x
 refuses_inside P Q d end t ks e h (syntax q x (never)) = syntax q x (λ d'. inside_any P Q d' t ks q (h d') never)
-refuses_inside P Q d end t ks e h (nested q x never) = nested q x (dead_token (P d) (Q (suc d)) t ks q (λ b ls r f. let w = h (suc d) b ls r f in subst (λ (i : ℕ). Some_ P i ls) (sym (suc_same w.1)) w.2) never)
+refuses_inside P Q d end t ks e h (nested q z x w never) = nested q z x w (dead_token (P d) (Q (suc d)) t ks z (λ b ls r f. let v = h (suc d) b ls r f in subst (λ (i : ℕ). Some_ P i ls) (sym (suc_same v.1)) v.2) never)
 refuses_inside P Q d end t ks e h (left_out feature q x f) = left_out feature q x (with_token t f)
+
+-- one deeper at the same place
+pub refuses_deeper : {A B : Type 0} (P : Phrase A) (Q : Phrase B) (d : ℕ) (end : Place) (ks : List Terminal) (e : ParseError) → ((d' : ℕ) (b : B) (ls r : List Terminal) → SameHead ks ls → Q d' b ls r → (i : ℕ) × (d' ≡ suc i) × Some_ P i ls) → Refuses P d end ks e → Refuses Q (suc d) end ks e
+refuses_deeper P Q d end ks e h (out_of_memory x) = out_of_memory x
+refuses_deeper P Q d end ks e h (syntax q x never) = syntax q x (λ d'. deeper_any P Q d' ks q (h d') never)
+refuses_deeper P Q d end ks e h (nested q z x w never) = nested q z x w (dead_map (P d) (Q (suc d)) ks z (λ b ls r s f. let v = h (suc d) b ls r s f in subst (λ (i : ℕ). Some_ P i ls) (sym (suc_same v.1)) v.2) never)
+refuses_deeper P Q d end ks e h (left_out feature q x f) = left_out feature q x f
 
 -- the same place and depth
 pub refuses_map : {A B : Type 0} (P : Phrase A) (Q : Phrase B) (d : ℕ) (end : Place) (ks : List Terminal) (e : ParseError) → ((d' : ℕ) (b : B) (ls r : List Terminal) → SameHead ks ls → Q d' b ls r → Some_ P d' ls) → Refuses P d end ks e → Refuses Q d end ks e
 refuses_map P Q d end ks e h (out_of_memory x) = out_of_memory x
 refuses_map P Q d end ks e h (syntax q x never) = syntax q x (λ d'. dead_map (P d') (Q d') ks q (h d') (never d'))
-refuses_map P Q d end ks e h (nested q x never) = nested q x (dead_map (P d) (Q d) ks q (h d) never)
+refuses_map P Q d end ks e h (nested q z x w never) = nested q z x w (dead_map (P d) (Q d) ks z (h d) never)
 refuses_map P Q d end ks e h (left_out feature q x f) = left_out feature q x f
 
 pub refuses_first : {A B : Type 0} (P : Phrase A) (Q : Phrase B) (d : ℕ) (end : Place) (ks : List Terminal) (e : ParseError) → Refuses P d end ks e → Refuses (Seq P Q) d end ks e
@@ -104,7 +116,7 @@ dead_after P Q d d' a ks m q known p (seen, e, never) =
 pub refuses_after : {A B : Type 0} (P : Phrase A) (Q : Phrase B) (d : ℕ) (end : Place) (a : A) (ks m : List Terminal) (e : ParseError) → Known P → P d a ks m → Refuses Q d end m e → Refuses (Seq P Q) d end ks e
 refuses_after P Q d end a ks m e known p (out_of_memory x) = out_of_memory x
 refuses_after P Q d end a ks m e known p (syntax q x never) = syntax q x (λ d'. dead_after P Q d d' a ks m q known p (never d'))
-refuses_after P Q d end a ks m e known p (nested q x never) = nested q x (dead_after P Q d d a ks m q known p never)
+refuses_after P Q d end a ks m e known p (nested q z x w never) = nested q z x w (dead_after P Q d d a ks m z known p never)
 refuses_after P Q d end a ks m e known p (left_out feature q x f) =
     let w = known.front d a ks m p in
     let s = cut_seen w.1 in

@@ -2,3 +2,4 @@ pub mod Form
 pub mod Opening
 pub mod Refusal
 pub mod Whole
+pub mod WholeStatement

@@ -12,7 +12,12 @@ use Rattle.op_parse_code.specs.declared.opening.RootOpening.{RootOpening}
 use Rattle.op_parse_code.specs.declared.opening.RootOpening.TheVariants as root
 use Rattle.op_parse_code.specs.declared.opening.SelectorOpening.{SelectorOpening}
 use Rattle.op_parse_code.specs.declared.opening.SelectorOpening.TheVariants as selects
-use Rattle.op_tree.specs.Ends.{IsNot, binds, begins_selector, begins_designator, begins_expression}
+use Rattle.op_parse_code.specs.Form.{Form}
+use Rattle.op_parse_code.specs.declared.opening.StatementOpening.{StatementOpening}
+use Rattle.op_parse_code.specs.declared.opening.StatementOpening.TheVariants as opens_statement
+use Rattle.op_parse_code.specs.declared.opening.Word.{Word}
+use Rattle.op_parse_code.specs.declared.opening.Word.TheVariants as word
+use Rattle.op_tree.specs.Ends.{IsNot, binds, begins_selector, begins_designator, begins_expression, begins_statement}
 use Rattle.op_tree.specs.Operator.{operator_of, prefix_operator_of, level_of}
 use Rattle.op_tree.specs.Terminal.{Terminal, ◌at◌}
 use Rattle.op_tree.specs.declared.operator.Level.{Level}
@@ -48,6 +53,25 @@ OpensSelector selects.Member k = k ≡ kind.Dot
 OpensSelector selects.Index k = k ≡ kind.OpenBracket
 OpensSelector selects.Call k = k ≡ kind.OpenParenthesis
 OpensSelector selects.Nothing k = begins_selector k ≡ false
+
+-- the token that a word is
+abbrev pub kind_of_word : Word → TokenKind
+kind_of_word word.Begin = kind.Begin
+kind_of_word word.If_ = kind.If_
+kind_of_word word.Case = kind.Case
+kind_of_word word.While_ = kind.While_
+kind_of_word word.Repeat = kind.Repeat
+kind_of_word word.For_ = kind.For_
+kind_of_word word.Try_ = kind.Try_
+kind_of_word word.Inherited = kind.Inherited
+
+-- a statement that begins with a token of this kind begins so
+abbrev pub OpensStatement : StatementOpening → TokenKind → Type 0
+OpensStatement (opens_statement.Word w) k = k ≡ kind_of_word w
+OpensStatement opens_statement.Raise k = k ≡ kind.Raise
+OpensStatement opens_statement.Designator k = begins_designator k ≡ true
+OpensStatement (opens_statement.LeftOut feature) k = (p : Position) (r : List Terminal) → Form feature (k at p ∷ r) (k at p ∷ r)
+OpensStatement opens_statement.Nothing k = begins_statement k ≡ false
 
 -- the mark that a token is
 abbrev pub mark_of : TokenKind → Option Mark

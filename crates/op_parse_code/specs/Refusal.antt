@@ -1,10 +1,12 @@
 -- What a refusal of a part says.
-use Rattle.std.specs.Prelude.{◌≡◌, ℕ, List, [], ◌∷◌, ◌++◌}
+use Rattle.std.specs.Prelude.{◌≡◌, ℕ, List, [], ◌∷◌, ◌++◌, codes}
 use Rattle.op_base.specs.declared.place.Place.{Place}
 use Rattle.op_parse_code.specs.Form.{HasForm}
 use Rattle.op_parse_code.specs.declared.error.ParseError.{ParseError}
 use Rattle.op_parse_code.specs.declared.error.ParseError.TheVariants.{Refused, NoMemory}
-use Rattle.op_tree.specs.Terminal.{Terminal}
+use Rattle.op_scan.specs.declared.token.TokenKind.TheVariants as kind
+use Rattle.op_tree.specs.Terminal.{Terminal, ◌at◌, IsWord}
+use Rattle.op_tree.specs.declared.position.Position.{Position}
 
 -- A sort of parts: the depth that is left, the part, the tokens before it, those behind it.
 abbrev pub Phrase : Type 0 → Type 1
@@ -33,12 +35,18 @@ refused_at number feature end q = Refused (record {
   place = place_at end q;
 })
 
+-- Where it is decided that a token is nested too deep: at that token, or behind it where it is the word `on`, with which
+-- a handler begins, and so may a statement.
+pub data Decides : List Terminal → List Terminal → Type 0 where
+  decides_there : {q : List Terminal} → Decides q q
+  decides_behind : {text : List ℕ} {p : Position} {q m : List Terminal} → IsWord (codes "on") text → Decides q m → Decides (kind.Identifier text at p ∷ q) m
+
 -- Why the tokens have no part at this depth: rule 9 where none begins so, whatever the depth, rule 61 where none of this
 -- depth begins so, rule 13 where a form that is left out stands in the tokens. Want of memory may come at any time.
 pub data Refuses {A : Type 0} (P : Phrase A) (d : ℕ) (end : Place) (ks : List Terminal) : ParseError → Type 0 where
   out_of_memory : {e : ParseError} → e ≡ NoMemory → Refuses P d end ks e
   syntax : {e : ParseError} (q : List Terminal) → e ≡ refused_at 9 0 end q → ((d' : ℕ) → Dead (P d') ks q) → Refuses P d end ks e
-  nested : {e : ParseError} (q : List Terminal) → e ≡ refused_at 61 0 end q → Dead (P d) ks q → Refuses P d end ks e
+  nested : {e : ParseError} (q m : List Terminal) → e ≡ refused_at 61 0 end q → Decides q m → Dead (P d) ks m → Refuses P d end ks e
   left_out : {e : ParseError} (feature : ℕ) (q : List Terminal) → e ≡ refused_at 13 feature end q → HasForm feature ks q → Refuses P d end ks e
 
 -- the refusals that a part which stands there leaves open

@@ -1,6 +1,7 @@
 //! What the first token of a part tells.
-ghost use Rattle.op_parse_code.specs.Opening.{OpensFactor, OpensRoot, OpensSelector};
+ghost use Rattle.op_parse_code.specs.Opening.{OpensFactor, OpensRoot, OpensSelector, OpensStatement};
 
+use crate::error::{ASSEMBLY, GOTO_OR_LABEL, WITH};
 use op_scan::TokenKind;
 use op_tree::{PrefixOperator, prefix_operator_of};
 
@@ -76,5 +77,54 @@ pub fn selector_opening(kind: &TokenKind) -> SelectorOpening
         TokenKind::OpenBracket => SelectorOpening::Index,
         TokenKind::OpenParenthesis => SelectorOpening::Call,
         _ => SelectorOpening::Nothing,
+    }
+}
+
+/// The words that begin a statement.
+#[derive(Clone, Copy, Debug)]
+pub enum Word {
+    Begin,
+    If_,
+    Case,
+    While_,
+    Repeat,
+    For_,
+    Try_,
+    Inherited,
+}
+
+/// How a statement begins.
+#[derive(Clone, Copy, Debug)]
+pub enum StatementOpening {
+    Word(Word),
+    Raise,
+    Designator,
+    /// A form with this feature begins so.
+    LeftOut(u8),
+    /// No statement begins so, so an empty one stands there.
+    Nothing,
+}
+
+pub fn statement_opening(kind: &TokenKind) -> StatementOpening
+    ensures { OpensStatement result kind.now }
+{
+    match kind {
+        TokenKind::Begin => StatementOpening::Word(Word::Begin),
+        TokenKind::If_ => StatementOpening::Word(Word::If_),
+        TokenKind::Case => StatementOpening::Word(Word::Case),
+        TokenKind::While_ => StatementOpening::Word(Word::While_),
+        TokenKind::Repeat => StatementOpening::Word(Word::Repeat),
+        TokenKind::For_ => StatementOpening::Word(Word::For_),
+        TokenKind::Try_ => StatementOpening::Word(Word::Try_),
+        TokenKind::Raise => StatementOpening::Raise,
+        TokenKind::Inherited => StatementOpening::Word(Word::Inherited),
+        TokenKind::Identifier(_) => StatementOpening::Designator,
+        TokenKind::String => StatementOpening::Designator,
+        TokenKind::OpenParenthesis => StatementOpening::Designator,
+        TokenKind::With => StatementOpening::LeftOut(WITH),
+        TokenKind::Goto => StatementOpening::LeftOut(GOTO_OR_LABEL),
+        TokenKind::Asm => StatementOpening::LeftOut(ASSEMBLY),
+        TokenKind::Inline => StatementOpening::LeftOut(ASSEMBLY),
+        _ => StatementOpening::Nothing,
     }
 }

@@ -2,16 +2,20 @@
 ghost use Rattle.std.specs.Prelude.{◌≡◌, ◌-◌, ◌<◌, ◌≤◌, IfOk, IfErr, List, MatchResult, drop, length};
 ghost use Rattle.op_parse_code.specs.Refusal.{IsFree, Refuses};
 ghost use Rattle.op_parse_code.specs.Whole.{Chain};
-ghost use Rattle.op_tree.specs.Ends.{EndsChain, EndsExpr};
+ghost use Rattle.op_parse_code.specs.WholeStatement.{SomeStatement};
+ghost use Rattle.op_tree.specs.Ends.{EndsChain, EndsExpr, EndsStatement};
 ghost use Rattle.op_tree.specs.Expression.{Expression, expr_of};
 ghost use Rattle.op_tree.specs.ExpressionGrammar.{IsExpr, IsSimple};
+ghost use Rattle.op_tree.specs.Statement.{Statement, stmt_of};
+ghost use Rattle.op_tree.specs.StatementGrammar.{IsStatement};
 ghost use Rattle.op_tree.specs.Terminal.{Terminal, terminals};
 ghost use Rattle.op_tree.specs.declared.operator.Level.TheVariants.{Additive, Relational};
 
 use crate::ParseError;
 use crate::chain::chain;
+use crate::compound::statement_at;
 use op_scan::Tokens;
-use op_tree::{Expr, Level};
+use op_tree::{Expr, Level, Stmt};
 use std::alloc::Global;
 
 /// How deep parts may be nested.
@@ -77,5 +81,42 @@ fn part(
     let list = tokens.list.as_slice();
     let (_, rest) = list.split_at(at);
     let (tree, behind) = chain(alloc, level, left, tokens.end, rest)?;
+    Ok((tree, list.len() - behind.len()))
+}
+
+/// The statement at a place among the tokens, and the place behind it, as for `expression`. Where none begins it is the
+/// empty statement.
+pub fn statement(
+    alloc: Global,
+    tokens: &Tokens,
+    at: usize,
+    depth: u32,
+) -> Result<(Stmt, usize), ParseError>
+    requires within { at ≤ length tokens.now.list }
+    requires depth { depth ≤ 200 }
+    ensures range { IfOk result (λ f. (at ≤ f.1) × (f.1 ≤ length tokens.now.list)) }
+    ensures spells { IfOk result (λ f. IsStatement (200 - depth) (stmt_of f.0) (drop at (terminals tokens.now.list)) (drop f.1 (terminals tokens.now.list))) }
+    ensures whole { IfOk result (λ f. EndsStatement (stmt_of f.0) (drop f.1 (terminals tokens.now.list))) }
+    ensures refused { IfErr result (Refuses SomeStatement (200 - depth) tokens.now.end (drop at (terminals tokens.now.list))) }
+    ensures only { (s : Statement) (r : List Terminal) → IsStatement (200 - depth) s (drop at (terminals tokens.now.list)) r → EndsStatement s r → MatchResult result (λ f. (stmt_of f.0 ≡ s) × (drop f.1 (terminals tokens.now.list) ≡ r)) IsFree }
+{
+    statement_part(alloc, tokens, at, DEEPEST - depth)
+}
+
+/// The statement at a place, and the place behind it.
+fn statement_part(
+    alloc: Global,
+    tokens: &Tokens,
+    at: usize,
+    left: u32,
+) -> Result<(Stmt, usize), ParseError>
+    requires within { at ≤ length tokens.now.list }
+    ensures range { IfOk result (λ f. (at ≤ f.1) × (f.1 ≤ length tokens.now.list)) }
+    ensures whole { IfOk result (λ f. SomeStatement left (stmt_of f.0) (drop at (terminals tokens.now.list)) (drop f.1 (terminals tokens.now.list))) }
+    ensures refused { IfErr result (Refuses SomeStatement left tokens.now.end (drop at (terminals tokens.now.list))) }
+{
+    let list = tokens.list.as_slice();
+    let (_, rest) = list.split_at(at);
+    let (tree, behind) = statement_at(alloc, left, tokens.end, rest)?;
     Ok((tree, list.len() - behind.len()))
 }

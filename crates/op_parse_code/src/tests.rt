@@ -1,6 +1,6 @@
 use crate::*;
 use op_scan::scan;
-use op_tree::Expr;
+use op_tree::{Expr, Stmt};
 use std::alloc::AllocError;
 use std::process::Abort;
 use std::test::Fail;
@@ -161,6 +161,146 @@ fn counts_depth(rt: HostRuntime) -> Result<(), Fail> {
     ];
     for (depth, text, wanted) in rows {
         let found = shape(&rt, text.as_bytes(), depth, false)?;
+        assert!(rt; found.as_str() == wanted);
+    }
+    Ok(())
+}
+
+/// Of a statement the sort, with the number of parts.
+fn push_statement(all: &mut String, tree: &Stmt) -> Result<(), AllocError> {
+    match tree {
+        Stmt::Empty => all.push_str("empty "),
+        Stmt::Block(statements) => {
+            let count = statements.len();
+            write!(all, "block of {count} ")
+        }
+        Stmt::If { .. } => all.push_str("if "),
+        Stmt::IfElse { .. } => all.push_str("if else "),
+        Stmt::Case { branches, .. } => {
+            let count = branches.len();
+            write!(all, "case of {count} ")
+        }
+        Stmt::CaseElse { branches, .. } => {
+            let count = branches.len();
+            write!(all, "case of {count} else ")
+        }
+        Stmt::While { .. } => all.push_str("while "),
+        Stmt::Repeat { .. } => all.push_str("repeat "),
+        Stmt::For { direction, .. } => write!(all, "{direction:?} "),
+        Stmt::ForIn { .. } => all.push_str("for in "),
+        Stmt::TryFinally { .. } => all.push_str("try finally "),
+        Stmt::TryExcept { .. } => all.push_str("try except "),
+        Stmt::TryOn { handlers, .. } => {
+            let count = handlers.len();
+            write!(all, "try on {count} ")
+        }
+        Stmt::TryOnElse { handlers, .. } => {
+            let count = handlers.len();
+            write!(all, "try on {count} else ")
+        }
+        Stmt::Raise { .. } => all.push_str("raise "),
+        Stmt::Reraise { .. } => all.push_str("reraise "),
+        Stmt::Inherited { .. } => all.push_str("inherited "),
+        Stmt::InheritedCall { .. } => all.push_str("inherited call "),
+        Stmt::Call(_) => all.push_str("call "),
+        Stmt::Assign { .. } => all.push_str("assign "),
+    }
+}
+
+/// The sort of the statement at the front of a text at a depth, and the number of its tokens, or its refusal.
+fn sort(
+    rt: &(impl Abort + AllocGlobal),
+    text: &[u8],
+    depth: u32,
+) -> Result<String, AllocError> {
+    assert!(rt; text.len() < 100_000);
+    assert!(rt; depth <= 200);
+    let mut all = String::new(rt.alloc());
+    match scan(rt.alloc(), text, 0) {
+        Ok(tokens) => match statement(rt.alloc(), &tokens, 0, depth) {
+            Ok((tree, past)) => {
+                push_statement(&mut all, &tree)?;
+                write!(all, "{past}")?;
+            }
+            Err(error) => push_error(&mut all, error)?,
+        },
+        Err(_) => all.push_str("no tokens")?,
+    }
+    Ok(all)
+}
+
+#[test]
+fn reads_statements(rt: HostRuntime) -> Result<(), Fail> {
+    let rows = [
+        ("", "empty 0"),
+        ("; x", "empty 0"),
+        ("end", "empty 0"),
+        ("x := 1;", "assign 3"),
+        ("f(x).g else", "call 6"),
+        ("(a).b := c", "assign 7"),
+        ("begin end", "block of 1 2"),
+        ("begin a; b; end", "block of 3 6"),
+        ("begin a b end", "V9/0 1:9"),
+        ("begin a;", "V9/0 1:9"),
+        ("begin x: y end", "V9/0 1:8"),
+        ("if a then b", "if 4"),
+        ("if a then if b then c else d", "if 9"),
+        ("if a then begin if b then c end else d", "if else 11"),
+        ("if a b", "V9/0 1:6"),
+        ("if a then b; else c", "if 4"),
+        ("while a do b; c", "while 4"),
+        ("repeat a; b until c; d", "repeat 6"),
+        ("repeat a end", "V9/0 1:10"),
+        ("for i := 1 to 2 do x", "To 8"),
+        ("for i := 1 downto 2 do x", "Downto 8"),
+        ("for x in y do z", "for in 6"),
+        ("for i = 1 to 2 do x", "V9/0 1:7"),
+        ("for i := 1 do x", "V9/0 1:12"),
+        ("case a of 1: b; 2, 3..4: c; end", "case of 2 16"),
+        ("case a of 1: b else c; d end", "case of 1 else 11"),
+        ("case a of end", "case of 0 4"),
+        ("case a of 1: if b then c else d end", "case of 1 12"),
+        ("case a of 1 b end", "V9/0 1:13"),
+        ("case a of 1: b 2: c end", "V9/0 1:16"),
+        ("try a finally b end", "try finally 5"),
+        ("try a except b end", "try except 5"),
+        ("try a except on E do b; end", "try on 1 9"),
+        ("try a except on x: u.E do b; on F do c else d end", "try on 2 else 19"),
+        ("try a except on; b end", "try except 7"),
+        ("try a except on E b end", "V9/0 1:19"),
+        ("try a end", "V9/0 1:7"),
+        ("raise", "reraise 1"),
+        ("raise E.Create(x);", "raise 7"),
+        ("raise e at a", "V13/34 1:9"),
+        ("inherited;", "inherited 1"),
+        ("inherited Create(x)", "inherited call 5"),
+        ("with a do b", "V13/15 1:1"),
+        ("begin goto x end", "V13/16 1:7"),
+        ("asm end", "V13/17 1:1"),
+        ("x :=", "V9/0 1:5"),
+    ];
+    for (text, wanted) in rows {
+        let found = sort(&rt, text.as_bytes(), 0)?;
+        assert!(rt; found.as_str() == wanted);
+    }
+    Ok(())
+}
+
+// A statement that is not empty is counted, at its first token.
+#[test]
+fn counts_statements(rt: HostRuntime) -> Result<(), Fail> {
+    let rows = [
+        (200, ";", "empty 0"),
+        (200, "x", "V61/0 1:1"),
+        (199, "x := y", "assign 3"),
+        (199, "x := (y)", "V61/0 1:6"),
+        (199, "begin end", "block of 1 2"),
+        (199, "begin x end", "V61/0 1:7"),
+        (200, "with x", "V13/15 1:1"),
+        (199, "if a then b", "V61/0 1:11"),
+    ];
+    for (depth, text, wanted) in rows {
+        let found = sort(&rt, text.as_bytes(), depth)?;
         assert!(rt; found.as_str() == wanted);
     }
     Ok(())

@@ -1,0 +1,485 @@
+-- The statement `try` and its handlers.
+use Rattle.std.proofs.Common.{◌≡◌, ℕ, suc, Bool, true, false, ◌&&◌, List, [], ◌∷◌, ◌++◌, Option, Some, None, codes, map, refl, sym, ap, ◌∙◌, subst}
+use Rattle.std.proofs.lemmas.Slice.Eq.{bytes_eq-Decides}
+use Rattle.std.specs.Char.{to_ascii_lowercase}
+use Rattle.op_base.specs.declared.place.Place.{Place}
+use Rattle.op_parse_code.proofs.Branches.{CaseEnd, end_of_case, else_of_case, EndsWith, at_end, at_else, ends_with, same_front_false, StatementsEnd}
+use Rattle.op_parse_code.proofs.Cuts.{same_behind}
+use Rattle.op_parse_code.proofs.ExpressionKnown.{known_mark}
+use Rattle.op_parse_code.proofs.Lists.{kind_same}
+use Rattle.op_parse_code.proofs.Names.{word_kind}
+use Rattle.op_parse_code.proofs.Refusing.{Some_, Seq, Known, refuses_map, refuses_first, refuses_after, refuses_behind, dead_here, inside_seen, no_mark_same}
+use Rattle.op_parse_code.proofs.StatementKnown.{known_name, known_on, known_statement, known_statements, known_handlers, begins_of}
+use Rattle.op_parse_code.proofs.Statements.{closed, ends_all}
+use Rattle.op_parse_code.specs.Opening.{is_word, spelled, is_identifier}
+use Rattle.op_parse_code.specs.Refusal.{Phrase, SameHead, Dead, Refuses, out_of_memory, syntax, nested, left_out, Decides, decides_there, decides_behind, refused_at}
+use Rattle.op_parse_code.specs.Whole.{Marked, NoMark, SomeName}
+use Rattle.op_parse_code.specs.WholeStatement.{SomeStatement, SomeStatements, SomeHandlers, SomeOn, SomeExcept, Rest, finally_rest, except_rest, on_rest, on_else_rest, try_of, IsHandled, ClassTail, class_of, Behind, front_is, begins_handler}
+use Rattle.op_parse_code.specs.declared.error.ParseError.{ParseError}
+use Rattle.op_parse_code.specs.declared.mark.Mark.TheVariants as mark
+use Rattle.op_scan.specs.declared.token.TokenKind.{TokenKind}
+use Rattle.op_scan.specs.declared.token.TokenKind.TheVariants as kind
+use Rattle.op_tree.proofs.ExpressionUnique.{Begins, behind, designator_begins, true_false, false_true}
+use Rattle.op_tree.proofs.StatementUnique.{is_identifier as is_identifier_there, both, ends, ends_closed, ends_list, no_statements_at}
+use Rattle.op_tree.specs.Ends.{IsNot}
+use Rattle.op_tree.specs.Expression.{designator, named, no_selectors}
+use Rattle.op_tree.specs.ExpressionGrammar.{is_designator, is_named, are_no_selectors}
+use Rattle.op_tree.specs.Lists.{handlers_of}
+use Rattle.op_tree.specs.NameGrammar.{IsName, is_name, IsQualified, is_unqualified, is_qualified}
+use Rattle.op_tree.specs.Statement.{Statement, empty, call, Statements, no_statements, statements, Handlers, no_handlers, handlers, stmt_of}
+use Rattle.op_tree.specs.StatementGrammar.{IsOn, is_on_class, is_on_variable, IsStatement, is_empty, is_call, is_assignment, is_try_finally, is_try_except, is_try_on, is_try_on_else, AreStatements, are_one_statement, AreHandlers, are_no_handlers, are_handlers, is_handler_before_end, is_handler_before_else}
+use Rattle.op_tree.specs.Terminal.{Terminal, ◌at◌, IsWord, name}
+use Rattle.op_tree.specs.declared.position.Name.{Name}
+use Rattle.op_tree.specs.declared.position.Position.{Position}
+use Rattle.op_tree.specs.declared.position.QualifiedName.{QualifiedName}
+use Rattle.op_tree.specs.declared.statement.Handler.{Handler}
+
+-- ---- one handler
+
+-- what stands behind the statement of a handler
+abbrev HandlerTail : ℕ → Option Handlers → List Terminal → List Terminal → Type 0
+HandlerTail d None ks r = front_is ends_list ks ≡ true
+HandlerTail d (Some hs) ks r = (p : Position) × (m : List Terminal) × (ks ≡ kind.Semicolon at p ∷ m) × SomeHandlers d hs m r
+
+abbrev HandlerBody : Phrase (Statement × Option Handlers)
+HandlerBody = Seq SomeStatement HandlerTail
+
+abbrev HandlerParts : Phrase ((Option Name × QualifiedName) × (Statement × Option Handlers))
+HandlerParts = Seq SomeOn HandlerBody
+
+into_handler : (d : ℕ) (hs : Handlers) (ls r : List Terminal) → front_is ends_list ls ≡ false → SomeHandlers d hs ls r → Some_ HandlerParts d ls
+into_handler d hs ls r h (are_no_handlers, t) = true_false (sym t ∙ h)
+into_handler d hs ls r h (are_handlers {v = v} {c = c} {s = s} {hs = more} {p = p} {m = m} {n = n} o f g, t) = (((v, c), (s, Some more)), r, (m, o, (kind.Semicolon at p ∷ n, (f, ends s _ refl refl), (p, n, refl, (g, t)))))
+into_handler d hs ls r h (is_handler_before_end {v = v} {c = c} {s = s} {p = p} {m = m} {r = r1} o f, t) = (((v, c), (s, None)), kind.End at p ∷ r1, (m, o, (kind.End at p ∷ r1, (f, ends s _ refl refl), refl)))
+into_handler d hs ls r h (is_handler_before_else {v = v} {c = c} {s = s} {p = p} {m = m} {r = r1} o f shut, t) = (((v, c), (s, None)), kind.Else_ at p ∷ r1, (m, o, (kind.Else_ at p ∷ r1, (f, ends_closed s _ refl shut), refl)))
+
+handler_refuses : (d : ℕ) (end : Place) (ks : List Terminal) (e : ParseError) → front_is ends_list ks ≡ false → Refuses HandlerParts d end ks e → Refuses SomeHandlers d end ks e
+handler_refuses d end ks e h x = refuses_map HandlerParts SomeHandlers d end ks e (λ d' b ls r s f. into_handler d' b ls r (same_front_false ends_list ks ls s h) f) x
+
+-- ---- handlers
+
+abbrev pub handlers_before : List Handler → Handlers → Handlers
+handlers_before [] more = more
+handlers_before (x ∷ xs) more = handlers x.variable x.class (stmt_of x.body) (handlers_before xs more)
+
+handlers_none : (xs : List Handler) → handlers_before xs no_handlers ≡ handlers_of xs
+handlers_none [] = refl
+handlers_none (x ∷ xs) = ap (handlers x.variable x.class (stmt_of x.body)) (handlers_none xs)
+
+handlers_push : (xs : List Handler) (x : Handler) (more : Handlers) → handlers_before (xs ++ (x ∷ [])) more ≡ handlers_before xs (handlers x.variable x.class (stmt_of x.body) more)
+handlers_push [] x more = refl
+handlers_push (y ∷ xs) x more = ap (handlers y.variable y.class (stmt_of y.body)) (handlers_push xs x more)
+
+-- the handlers that are read so far, and what is left
+pub record Handling (d : ℕ) (end : Place) (all : List Terminal) (xs : List Handler) (rest : List Terminal) : Type 0 where
+  pub completes : (more : Handlers) (r : List Terminal) → SomeHandlers d more rest r → SomeHandlers d (handlers_before xs more) all r
+  pub dies : (e : ParseError) → Refuses SomeHandlers d end rest e → Refuses SomeHandlers d end all e
+
+pub handling_none : (d : ℕ) (end : Place) (all : List Terminal) → Handling d end all [] all
+handling_none d end all = record { completes = λ more r x. x; dies = λ e x. x }
+
+pub handling_ends : (d : ℕ) (end : Place) (all rest : List Terminal) (xs : List Handler) → Handling d end all xs rest → front_is ends_list rest ≡ true → SomeHandlers d (handlers_of xs) all rest
+handling_ends d end all rest xs so_far h = subst (λ z. SomeHandlers d z all rest) (handlers_none xs) (so_far.completes no_handlers rest (are_no_handlers, h))
+
+pub handling_on : (d : ℕ) (end : Place) (all rest : List Terminal) (xs : List Handler) (e : ParseError) → Handling d end all xs rest → front_is ends_list rest ≡ false → Refuses SomeOn d end rest e → Refuses SomeHandlers d end all e
+handling_on d end all rest xs e so_far h x = so_far.dies e (handler_refuses d end rest e h (refuses_first SomeOn HandlerBody d end rest e x))
+
+pub handling_body : (d : ℕ) (end : Place) (v : Option Name) (c : QualifiedName) (all rest m : List Terminal) (xs : List Handler) (e : ParseError) → Handling d end all xs rest → front_is ends_list rest ≡ false → IsOn v c rest m → Refuses SomeStatement d end m e → Refuses SomeHandlers d end all e
+handling_body d end v c all rest m xs e so_far h f x = so_far.dies e (handler_refuses d end rest e h (refuses_after SomeOn HandlerBody d end (v, c) rest m e known_on f (refuses_first SomeStatement HandlerTail d end m e x)))
+
+handler_tail : (d : ℕ) (end : Place) (v : Option Name) (c : QualifiedName) (s : Statement) (ks m n : List Terminal) (e : ParseError) → front_is ends_list ks ≡ false → IsOn v c ks m → SomeStatement d s m n → Refuses HandlerTail d end n e → Refuses SomeHandlers d end ks e
+handler_tail d end v c s ks m n e h f g x = handler_refuses d end ks e h (refuses_after SomeOn HandlerBody d end (v, c) ks m e known_on f (refuses_after SomeStatement HandlerTail d end s m n e known_statement g x))
+
+no_tail : (n : List Terminal) → NoMark mark.Semicolon n → front_is ends_list n ≡ false → (d : ℕ) (x : Option Handlers) (ls r : List Terminal) → SameHead n ls → HandlerTail d x ls r → ⊥
+no_tail n none h d None ls r s f = true_false (sym f ∙ same_front_false ends_list n ls s h)
+no_tail n none h d (Some hs) ls r s (p, m, e, f) = no_mark_same mark.Semicolon n ls s none p m e
+
+pub handling_stops : (d : ℕ) (end : Place) (v : Option Name) (c : QualifiedName) (s : Statement) (all rest m n : List Terminal) (xs : List Handler) (e : ParseError) → Handling d end all xs rest → front_is ends_list rest ≡ false → IsOn v c rest m → SomeStatement d s m n → NoMark mark.Semicolon n → front_is ends_list n ≡ false → e ≡ refused_at 9 0 end n → Refuses SomeHandlers d end all e
+handling_stops d end v c s all rest m n xs e so_far h f g none h1 x = so_far.dies e (handler_tail d end v c s rest m n e h f g (syntax n x (λ d'. dead_here (HandlerTail d') n (λ a l1 r z w. no_tail n none h1 d' a l1 r z w))))
+
+tail_behind : (p : Position) (d : ℕ) (x : Option Handlers) (ls r : List Terminal) → HandlerTail d x (kind.Semicolon at p ∷ ls) r → Some_ SomeHandlers d ls
+tail_behind p d None ls r f = false_true f
+tail_behind p d (Some hs) ls r (q, m, e, f) = (hs, r, subst (λ z. SomeHandlers d hs z r) (sym (ap behind e)) f)
+
+pub handling_more : (d : ℕ) (end : Place) (all rest m n : List Terminal) (xs : List Handler) (x : Handler) (p : Position) (after : List Terminal) → Handling d end all xs rest → front_is ends_list rest ≡ false → IsOn x.variable x.class rest m → SomeStatement d (stmt_of x.body) m n → n ≡ kind.Semicolon at p ∷ after → Handling d end all (xs ++ (x ∷ [])) after
+handling_more d end all rest m n xs x p after so_far h f g is = record {
+  completes = λ more r w. subst (λ z. SomeHandlers d z all r) (sym (handlers_push xs x more)) (so_far.completes _ r (are_handlers f (subst (λ z. IsStatement d (stmt_of x.body) m z) is g.0) w.0, w.1));
+  dies = λ e w. so_far.dies e (handler_tail d end x.variable x.class (stmt_of x.body) rest m n e h f g (subst (λ z. Refuses HandlerTail d end z e) (sym is) (refuses_behind SomeHandlers HandlerTail d end (kind.Semicolon at p) after e (tail_behind p) w)));
+}
+
+last_handler : (d : ℕ) (v : Option Name) (c : QualifiedName) (s : Statement) (ks m n : List Terminal) → IsOn v c ks m → SomeStatement d s m n → EndsWith n → AreHandlers d (handlers v c s no_handlers) ks n
+last_handler d v c s ks m n f g (at_end p r is) = subst (λ z. AreHandlers d (handlers v c s no_handlers) ks z) (sym is) (is_handler_before_end f (subst (λ z. IsStatement d s m z) is g.0))
+last_handler d v c s ks m n f g (at_else p r is) =
+    let w : SomeStatement d s m (kind.Else_ at p ∷ r) = subst (λ z. SomeStatement d s m z) is g in
+    subst (λ z. AreHandlers d (handlers v c s no_handlers) ks z) (sym is) (is_handler_before_else f w.0 (closed s p r w.1))
+
+pub handling_last : (d : ℕ) (end : Place) (all rest m n : List Terminal) (xs : List Handler) (x : Handler) → Handling d end all xs rest → IsOn x.variable x.class rest m → SomeStatement d (stmt_of x.body) m n → front_is ends_list n ≡ true → SomeHandlers d (handlers_of (xs ++ (x ∷ []))) all n
+handling_last d end all rest m n xs x so_far f g h = subst (λ z. SomeHandlers d z all n) (sym (handlers_push xs x no_handlers) ∙ handlers_none (xs ++ (x ∷ []))) (so_far.completes _ n (last_handler d x.variable x.class (stmt_of x.body) rest m n f g (ends_with n h), h))
+
+-- ---- the word `on`
+
+on_test : (text : List ℕ) → IsWord (codes "on") text → is_word (codes "on") (kind.Identifier text) ≡ true
+on_test text h = (bytes_eq-Decides (map to_ascii_lowercase text) (map to_ascii_lowercase (codes "on"))).1 h
+
+on_word : {v : Option Name} {c : QualifiedName} {ks r : List Terminal} → IsOn v c ks r → front_is (is_word (codes "on")) ks ≡ true
+on_word (is_on_class {on = text} h a) = on_test text h
+on_word (is_on_variable {on = text} h n a) = on_test text h
+
+pub on_missing : (d : ℕ) (end : Place) (ks : List Terminal) (e : ParseError) → front_is (is_word (codes "on")) ks ≡ false → e ≡ refused_at 9 0 end ks → Refuses SomeOn d end ks e
+on_missing d end ks e h x = syntax ks x (λ d'. dead_here (SomeOn d') ks (λ a ls r s f. true_false (sym (on_word f) ∙ same_front_false (is_word (codes "on")) ks ls s h)))
+
+-- ---- the class
+
+dot_is_no_do : kind.Dot ≡ kind.Do_ → ⊥
+dot_is_no_do h = absurd cc
+
+colon_is_no_do : kind.Colon ≡ kind.Do_ → ⊥
+colon_is_no_do h = absurd cc
+
+colon_is_no_dot : kind.Colon ≡ kind.Dot → ⊥
+colon_is_no_dot h = absurd cc
+
+do_of_tail : (m : List Terminal) → NoMark mark.Dot m → (d : ℕ) (x : Option Name) (ls r : List Terminal) → SameHead m ls → ClassTail d x ls r → Some_ (Marked mark.Do_) d ls
+do_of_tail m none d None ls r s (u, e) = (u, r, e)
+do_of_tail m none d (Some n) ls r s (p, u, k, e, f) = absurd (no_mark_same mark.Dot m ls s none p k e)
+
+pub class_do_missing : (d : ℕ) (end : Place) (ks : List Terminal) (e : ParseError) → NoMark mark.Dot ks → Refuses (Marked mark.Do_) d end ks e → Refuses ClassTail d end ks e
+class_do_missing d end ks e none h = refuses_map (Marked mark.Do_) ClassTail d end ks e (do_of_tail ks none) h
+
+behind_dot : (p : Position) (d : ℕ) (x : Option Name) (ls r : List Terminal) → ClassTail d x (kind.Dot at p ∷ ls) r → Some_ (Seq SomeName (Marked mark.Do_)) d ls
+behind_dot p d None ls r (u, e) = absurd (dot_is_no_do (kind_same e))
+behind_dot p d (Some n) ls r (q, u, k, e, f) = ((n, u), r, (kind.Do_ at u ∷ r, subst (λ z. IsName n z (kind.Do_ at u ∷ r)) (sym (ap behind e)) f, refl))
+
+class_behind_dot : (d : ℕ) (end : Place) (p : Position) (ks after : List Terminal) (e : ParseError) → ks ≡ kind.Dot at p ∷ after → Refuses (Seq SomeName (Marked mark.Do_)) d end after e → Refuses ClassTail d end ks e
+class_behind_dot d end p ks after e is h = subst (λ z. Refuses ClassTail d end z e) (sym is) (refuses_behind (Seq SomeName (Marked mark.Do_)) ClassTail d end (kind.Dot at p) after e (behind_dot p) h)
+
+pub class_name_missing : (d : ℕ) (end : Place) (p : Position) (ks after : List Terminal) (e : ParseError) → ks ≡ kind.Dot at p ∷ after → Refuses SomeName d end after e → Refuses ClassTail d end ks e
+class_name_missing d end p ks after e is h = class_behind_dot d end p ks after e is (refuses_first SomeName (Marked mark.Do_) d end after e h)
+
+pub class_open : (d : ℕ) (end : Place) (p : Position) (n : Name) (ks after m : List Terminal) (e : ParseError) → ks ≡ kind.Dot at p ∷ after → IsName n after m → Refuses (Marked mark.Do_) d end m e → Refuses ClassTail d end ks e
+class_open d end p n ks after m e is f h = class_behind_dot d end p ks after e is (refuses_after SomeName (Marked mark.Do_) d end n after m e known_name f h)
+
+pub class_alone : (u : Position) (ks r : List Terminal) → ks ≡ kind.Do_ at u ∷ r → ClassTail 0 None ks r
+class_alone u ks r is = (u, is)
+
+pub class_qualified : (p u : Position) (n : Name) (ks after m r : List Terminal) → ks ≡ kind.Dot at p ∷ after → IsName n after m → m ≡ kind.Do_ at u ∷ r → ClassTail 0 (Some n) ks r
+class_qualified p u n ks after m r is f is1 = (p, u, after, is, subst (λ z. IsName n after z) is1 f)
+
+-- ---- `on`
+
+-- what stands behind the first name
+abbrev OnTail : ℕ → Option Name × Option Name → List Terminal → List Terminal → Type 0
+OnTail d (None, y) ks r = ClassTail d y ks r
+OnTail d (Some m, y) ks r = (q : Position) × (k k1 : List Terminal) × (ks ≡ kind.Colon at q ∷ k) × IsName m k k1 × ClassTail d y k1 r
+
+abbrev OnParts : Phrase (Name × (Option Name × Option Name))
+OnParts = Seq SomeName OnTail
+
+into_on : (text : List ℕ) (p : Position) (d : ℕ) (x : Option Name × QualifiedName) (ls r : List Terminal) → SomeOn d x (kind.Identifier text at p ∷ ls) r → Some_ OnParts d ls
+into_on text p d (v, c) ls r (is_on_class {q = u} h (is_unqualified {n = n} a)) = ((n, (None, None)), r, (kind.Do_ at u ∷ r, a, (u, refl)))
+into_on text p d (v, c) ls r (is_on_class {q = u} h (is_qualified {unit = n} {n = m} {p = q} {m = k} a b)) = ((n, (None, Some m)), r, (kind.Dot at q ∷ k, a, (q, u, k, refl, b)))
+into_on text p d (v, c) ls r (is_on_variable {n = n} {q = q} {u = u} {m = k} h a (is_unqualified {n = m} b)) = ((n, (Some m, None)), r, (kind.Colon at q ∷ k, a, (q, k, kind.Do_ at u ∷ r, refl, b, (u, refl))))
+into_on text p d (v, c) ls r (is_on_variable {n = n} {q = q} {u = u} {m = k} h a (is_qualified {unit = m} {n = o} {p = w} {m = k1} b g)) = ((n, (Some m, Some o)), r, (kind.Colon at q ∷ k, a, (q, k, kind.Dot at w ∷ k1, refl, b, (w, u, k1, refl, g))))
+
+on_parts : (d : ℕ) (end : Place) (k : TokenKind) (p : Position) (ks : List Terminal) (e : ParseError) → is_word (codes "on") k ≡ true → Refuses OnParts d end ks e → Refuses SomeOn d end (k at p ∷ ks) e
+on_parts d end k p ks e h x = subst (λ z. Refuses SomeOn d end (z at p ∷ ks) e) (sym (word_kind (codes "on") k h).0) (refuses_behind OnParts SomeOn d end (kind.Identifier (spelled k) at p) ks e (into_on (spelled k) p) x)
+
+pub on_name_missing : (d : ℕ) (end : Place) (k : TokenKind) (p : Position) (ks : List Terminal) (e : ParseError) → is_word (codes "on") k ≡ true → Refuses SomeName d end ks e → Refuses SomeOn d end (k at p ∷ ks) e
+on_name_missing d end k p ks e h x = on_parts d end k p ks e h (refuses_first SomeName OnTail d end ks e x)
+
+on_tail : (d : ℕ) (end : Place) (k : TokenKind) (p : Position) (n : Name) (ks m : List Terminal) (e : ParseError) → is_word (codes "on") k ≡ true → IsName n ks m → Refuses OnTail d end m e → Refuses SomeOn d end (k at p ∷ ks) e
+on_tail d end k p n ks m e h f x = on_parts d end k p ks e h (refuses_after SomeName OnTail d end n ks m e known_name f x)
+
+class_of_on : (m : List Terminal) → NoMark mark.Colon m → (d : ℕ) (x : Option Name × Option Name) (ls r : List Terminal) → SameHead m ls → OnTail d x ls r → Some_ ClassTail d ls
+class_of_on m none d (None, y) ls r s f = (y, r, f)
+class_of_on m none d (Some n, y) ls r s (q, k, k1, e, f, g) = absurd (no_mark_same mark.Colon m ls s none q k e)
+
+pub on_class_refuses : (d : ℕ) (end : Place) (k : TokenKind) (p : Position) (n : Name) (ks m : List Terminal) (e : ParseError) → is_word (codes "on") k ≡ true → IsName n ks m → NoMark mark.Colon m → Refuses ClassTail d end m e → Refuses SomeOn d end (k at p ∷ ks) e
+on_class_refuses d end k p n ks m e h f none x = on_tail d end k p n ks m e h f (refuses_map ClassTail OnTail d end m e (class_of_on m none) x)
+
+no_class_at_colon : {A : Type 0} (q : Position) (d : ℕ) (y : Option Name) (ls r : List Terminal) → ClassTail d y (kind.Colon at q ∷ ls) r → A
+no_class_at_colon q d None ls r (u, e) = absurd (colon_is_no_do (kind_same e))
+no_class_at_colon q d (Some n) ls r (p, u, k, e, f) = absurd (colon_is_no_dot (kind_same e))
+
+behind_colon : (q : Position) (d : ℕ) (x : Option Name × Option Name) (ls r : List Terminal) → OnTail d x (kind.Colon at q ∷ ls) r → Some_ (Seq SomeName ClassTail) d ls
+behind_colon q d (None, y) ls r f = no_class_at_colon q d y ls r f
+behind_colon q d (Some n, y) ls r (u, k, k1, e, f, g) = ((n, y), r, (k1, subst (λ z. IsName n z k1) (sym (ap behind e)) f, g))
+
+on_colon : (d : ℕ) (end : Place) (k : TokenKind) (p q : Position) (n : Name) (ks m after : List Terminal) (e : ParseError) → is_word (codes "on") k ≡ true → IsName n ks m → m ≡ kind.Colon at q ∷ after → Refuses (Seq SomeName ClassTail) d end after e → Refuses SomeOn d end (k at p ∷ ks) e
+on_colon d end k p q n ks m after e h f is x = on_tail d end k p n ks m e h f (subst (λ z. Refuses OnTail d end z e) (sym is) (refuses_behind (Seq SomeName ClassTail) OnTail d end (kind.Colon at q) after e (behind_colon q) x))
+
+pub on_class_missing : (d : ℕ) (end : Place) (k : TokenKind) (p q : Position) (n : Name) (ks m after : List Terminal) (e : ParseError) → is_word (codes "on") k ≡ true → IsName n ks m → m ≡ kind.Colon at q ∷ after → Refuses SomeName d end after e → Refuses SomeOn d end (k at p ∷ ks) e
+on_class_missing d end k p q n ks m after e h f is x = on_colon d end k p q n ks m after e h f is (refuses_first SomeName ClassTail d end after e x)
+
+pub on_variable_refuses : (d : ℕ) (end : Place) (k : TokenKind) (p q : Position) (n c : Name) (ks m after o : List Terminal) (e : ParseError) → is_word (codes "on") k ≡ true → IsName n ks m → m ≡ kind.Colon at q ∷ after → IsName c after o → Refuses ClassTail d end o e → Refuses SomeOn d end (k at p ∷ ks) e
+on_variable_refuses d end k p q n c ks m after o e h f is g x = on_colon d end k p q n ks m after e h f is (refuses_after SomeName ClassTail d end c after o e known_name g x)
+
+class_whole : (n : Name) (y : Option Name) (ks m r : List Terminal) → IsName n ks m → ClassTail 0 y m r → (u : Position) × IsQualified (class_of n y) ks (kind.Do_ at u ∷ r)
+class_whole n None ks m r f (u, e) = (u, is_unqualified (subst (λ z. IsName n ks z) e f))
+class_whole n (Some c) ks m r f (p, u, k, e, g) = (u, is_qualified (subst (λ z. IsName n ks z) e f) g)
+
+pub on_class_whole : (k : TokenKind) (p : Position) (n : Name) (y : Option Name) (ks m r : List Terminal) → is_word (codes "on") k ≡ true → IsName n ks m → ClassTail 0 y m r → IsOn None (class_of n y) (k at p ∷ ks) r
+on_class_whole k p n y ks m r h f g =
+    let w = word_kind (codes "on") k h in
+    let c = class_whole n y ks m r f g in
+    subst (λ z. IsOn None (class_of n y) (z at p ∷ ks) r) (sym w.0) (is_on_class w.1 c.1)
+
+pub on_variable_whole : (k : TokenKind) (p q : Position) (n c : Name) (y : Option Name) (ks m after o r : List Terminal) → is_word (codes "on") k ≡ true → IsName n ks m → m ≡ kind.Colon at q ∷ after → IsName c after o → ClassTail 0 y o r → IsOn (Some n) (class_of c y) (k at p ∷ ks) r
+on_variable_whole k p q n c y ks m after o r h f is g i =
+    let w = word_kind (codes "on") k h in
+    let x = class_whole c y after o r g i in
+    subst (λ z. IsOn (Some n) (class_of c y) (z at p ∷ ks) r) (sym w.0) (is_on_variable w.1 (subst (λ z. IsName n ks z) is f) x.1)
+
+-- ---- a handler or a statement
+
+and_both : (a b : Bool) → a && b ≡ true → (a ≡ true) × (b ≡ true)
+and_both true b h = (refl, h)
+and_both false b h = absurd cc
+
+on_two : {v : Option Name} {c : QualifiedName} {ks r : List Terminal} → IsOn v c ks r → begins_handler ks ≡ true
+on_two (is_on_class {on = text} h (is_unqualified is_name)) = ap (λ z. z && true) (on_test text h)
+on_two (is_on_class {on = text} h (is_qualified is_name b)) = ap (λ z. z && true) (on_test text h)
+on_two (is_on_variable {on = text} h is_name a) = ap (λ z. z && true) (on_test text h)
+
+handlers_begin : {d : ℕ} {hs : Handlers} {ks r : List Terminal} → IsHandled hs → AreHandlers d hs ks r → begins_handler ks ≡ true
+handlers_begin i are_no_handlers = absurd i
+handlers_begin i (are_handlers o f hs) = on_two o
+handlers_begin i (is_handler_before_end o f) = on_two o
+handlers_begin i (is_handler_before_else o f c) = on_two o
+
+-- two lists that begin alike in their first two tokens
+word_ends_none : (k : TokenKind) → is_word (codes "on") k ≡ true → ends_list k ≡ true → ⊥
+word_ends_none kind.End h e = false_true h
+word_ends_none kind.Else_ h e = false_true h
+word_ends_none other h e = false_true e
+
+no_list_end : (ks : List Terminal) → begins_handler ks ≡ true → front_is ends_list ks ≡ true → ⊥
+no_list_end [] h e = false_true h
+no_list_end (t ∷ []) h e = false_true h
+no_list_end (t ∷ u ∷ ks) h e = word_ends_none t.kind (and_both _ _ h).0 e
+
+pub handled : (d : ℕ) (hs : Handlers) (ks r : List Terminal) → begins_handler ks ≡ true → SomeHandlers d hs ks r → IsHandled hs
+handled d hs ks r h (are_no_handlers, t) = no_list_end ks h t
+handled d hs ks r h (are_handlers o f g, t) = tt
+handled d hs ks r h (is_handler_before_end o f, t) = tt
+handled d hs ks r h (is_handler_before_else o f c, t) = tt
+
+identifier_begins : (k : TokenKind) → is_identifier k ≡ true → is_identifier_there k ≡ true
+identifier_begins (kind.Identifier text) h = refl
+identifier_begins other h = false_true h
+
+handler_is_no_statement : {A : Type 0} (d : ℕ) (ss : Statements) (ks : List Terminal) (u : Position) (r : List Terminal) → begins_handler ks ≡ true → AreStatements d ss ks (kind.End at u ∷ r) → A
+handler_is_no_statement d ss [] u r h f = false_true h
+handler_is_no_statement d ss (t ∷ []) u r h f = false_true h
+handler_is_no_statement d ss (t ∷ v ∷ ks) u r h f =
+    let w = and_both _ _ h in
+    no_statements_at (subst (λ z. AreStatements d ss (z at t.position ∷ v ∷ ks) (kind.End at u ∷ r)) (word_kind (codes "on") t.kind w.0).0 f) (identifier_begins v.kind w.1) refl
+
+-- ---- except
+
+into_except_statements : (d : ℕ) (x : Rest) (ks r : List Terminal) → begins_handler ks ≡ false → SomeExcept d x ks r → Some_ StatementsEnd d ks
+into_except_statements d (except_rest ts) ks r h (u, f) = ((ts, u), r, (kind.End at u ∷ r, (f, ends_all f refl refl refl), refl))
+into_except_statements d (on_rest hs) ks r h (u, i, f) = true_false (sym (handlers_begin i f) ∙ h)
+into_except_statements d (on_else_rest hs ts) ks r h (u, w, n, i, f, g) = true_false (sym (handlers_begin i f) ∙ h)
+into_except_statements d (finally_rest ts) ks r h f = absurd f
+
+into_except_handlers : (d : ℕ) (x : Rest) (ks r : List Terminal) → begins_handler ks ≡ true → SomeExcept d x ks r → Some_ (Seq SomeHandlers CaseEnd) d ks
+into_except_handlers d (except_rest ts) ks r h (u, f) = handler_is_no_statement d ts ks u r h f
+into_except_handlers d (on_rest hs) ks r h (u, i, f) = ((hs, None), r, (kind.End at u ∷ r, (f, refl), (u, refl)))
+into_except_handlers d (on_else_rest hs ts) ks r h (u, w, n, i, f, g) = ((hs, Some ts), r, (kind.Else_ at u ∷ n, (f, refl), (u, w, n, refl, g)))
+into_except_handlers d (finally_rest ts) ks r h f = absurd f
+
+-- the first two tokens tell
+same_two : (t : Terminal) (m n : List Terminal) → SameHead m n → begins_handler (t ∷ m) ≡ begins_handler (t ∷ n)
+same_two t [] [] s = refl
+same_two t [] (u ∷ n) s = absurd s
+same_two t (u ∷ m) [] s = absurd s
+same_two t (u ∷ m) (v ∷ n) s = ap (λ (z : Terminal). begins_handler (t ∷ z ∷ [])) s
+
+not_on : (ks : List Terminal) → front_is (is_word (codes "on")) ks ≡ false → begins_handler ks ≡ false
+not_on [] h = refl
+not_on (t ∷ []) h = refl
+not_on (t ∷ u ∷ ks) h = ap (λ z. z && is_identifier u.kind) h
+
+-- behind at least one token the first two are the same
+dead_behind : {A : Type 0} (P : A → List Terminal → List Terminal → Type 0) (Q : Rest → List Terminal → List Terminal → Type 0) (b : Bool) (ks q : List Terminal) (t : Terminal) (seen : List Terminal) → begins_handler ks ≡ b → ((x : Rest) (ls r : List Terminal) → begins_handler ls ≡ b → Q x ls r → (a : A) × (r' : List Terminal) × P a ls r') → ks ≡ t ∷ (seen ++ q) → ((ls : List Terminal) (a : A) (r : List Terminal) → SameHead q ls → P a (t ∷ (seen ++ ls)) r → ⊥) → Dead Q ks q
+dead_behind P Q b ks q t seen h into e never = (t ∷ seen, e, λ ls x r s f. let w = into x (t ∷ (seen ++ ls)) r (sym (same_two t (seen ++ q) (seen ++ ls) (same_behind seen q ls s)) ∙ (ap begins_handler (sym e) ∙ h)) f in never ls w.0 w.1 s w.2)
+
+-- a statement that is the word `on` alone
+on_alone : (d : ℕ) (text : List ℕ) (p : Position) → (a : Statements × Position) × (r : List Terminal) × StatementsEnd (suc d) a (kind.Identifier text at p ∷ kind.End at p ∷ []) r
+on_alone d text p = ((statements (call (designator (named (name text p)) no_selectors)) no_statements, p), [], (kind.End at p ∷ [], (are_one_statement (is_call (is_designator is_named are_no_selectors)), ((refl, refl), refl)), refl))
+
+-- a handler of nothing
+on_nothing : (d : ℕ) (text : List ℕ) (p : Position) → IsWord (codes "on") text → (a : Handlers × Option Statements) × (r : List Terminal) × Seq SomeHandlers CaseEnd d a (kind.Identifier text at p ∷ kind.Identifier text at p ∷ kind.Do_ at p ∷ kind.End at p ∷ []) r
+on_nothing d text p h = ((handlers None (record { unit = None; name = name text p }) empty no_handlers, None), [], (kind.End at p ∷ [], (is_handler_before_end (is_on_class h (is_unqualified is_name)) is_empty, refl), (p, refl)))
+
+on_front : (ks : List Terminal) → front_is (is_word (codes "on")) ks ≡ true → (text : List ℕ) × (p : Position) × (m : List Terminal) × (ks ≡ kind.Identifier text at p ∷ m) × IsWord (codes "on") text
+on_front [] h = false_true h
+on_front (t ∷ ks) h = let w = word_kind (codes "on") t.kind h in (spelled t.kind, t.position, ks, ap (λ z. z at t.position ∷ ks) w.0, w.1)
+
+decides_more : {q m : List Terminal} (text : List ℕ) (p : Position) (n : List Terminal) → IsWord (codes "on") text → Decides q m → m ≡ kind.Identifier text at p ∷ n → Decides q n
+decides_more text p n h decides_there e = subst (λ z. Decides z n) (sym e) (decides_behind h decides_there)
+decides_more text p n h (decides_behind w g) e = decides_behind w (decides_more text p n h g e)
+
+-- where the word in front is not `on`, one token tells
+dead_other : {A : Type 0} (P : A → List Terminal → List Terminal → Type 0) (Q : Rest → List Terminal → List Terminal → Type 0) (ks : List Terminal) → front_is (is_word (codes "on")) ks ≡ false → ((x : Rest) (ls r : List Terminal) → begins_handler ls ≡ false → Q x ls r → (a : A) × (r' : List Terminal) × P a ls r') → ((ls : List Terminal) (a : A) (r : List Terminal) → SameHead ks ls → P a ls r → ⊥) → Dead Q ks ks
+dead_other P Q ks h into never = dead_here Q ks (λ x ls r s f. let w = into x ls r (not_on ls (same_front_false (is_word (codes "on")) ks ls s h)) f in never ls w.0 w.1 s w.2)
+
+from_here : {A : Type 0} (P : A → List Terminal → List Terminal → Type 0) (ks q : List Terminal) → ks ≡ q → ((ls : List Terminal) (a : A) (r : List Terminal) → SameHead q ls → P a ls r → ⊥) → (ls : List Terminal) (a : A) (r : List Terminal) → SameHead ks ls → P a ls r → ⊥
+from_here P ks q e never ls a r s f = never ls a r (subst (λ z. SameHead z ls) e s) f
+
+no_statement_dead : (ks q : List Terminal) → ks ≡ q → front_is (is_word (codes "on")) ks ≡ true → Dead (StatementsEnd 1) ks q → ⊥
+no_statement_dead ks q e h dead =
+    let w = on_front ks h in
+    let a = on_alone 0 w.0 w.1 in
+    let ls = kind.Identifier w.0 at w.1 ∷ kind.End at w.1 ∷ [] in
+    inside_seen (StatementsEnd 1) ks q [] e dead ls a.0 a.1 (subst (λ z. SameHead z ls) (sym (sym e ∙ w.3)) refl) a.2
+
+statements_dead : (d : ℕ) (ks q : List Terminal) (b : Bool) → front_is (is_word (codes "on")) ks ≡ b → begins_handler ks ≡ false → ((i : ℕ) → Dead (StatementsEnd i) ks q) → Dead (StatementsEnd d) ks q → Dead (SomeExcept d) ks q
+statements_dead d ks q b on h any (t ∷ seen, e, never) = dead_behind (StatementsEnd d) (SomeExcept d) false ks q t seen h (λ x ls r. into_except_statements d x ls r) e never
+statements_dead d ks q true on h any ([], e, never) = absurd (no_statement_dead ks q e on (any 1))
+statements_dead d ks q false on h any ([], e, never) = subst (λ z. Dead (SomeExcept d) ks z) e (dead_other (StatementsEnd d) (SomeExcept d) ks on (λ x ls r. into_except_statements d x ls r) (from_here (StatementsEnd d) ks q e never))
+
+statements_nested : (d : ℕ) (end : Place) (ks q z : List Terminal) (e : ParseError) (b : Bool) → front_is (is_word (codes "on")) ks ≡ b → begins_handler ks ≡ false → e ≡ refused_at 61 0 end q → Decides q z → Dead (StatementsEnd d) ks z → Refuses SomeExcept d end ks e
+statements_nested d end ks q z e b on h x w (t ∷ seen, e1, never) = nested q z x w (dead_behind (StatementsEnd d) (SomeExcept d) false ks z t seen h (λ x1 ls r. into_except_statements d x1 ls r) e1 never)
+statements_nested d end ks q z e false on h x w ([], e1, never) = nested q z x w (subst (λ y. Dead (SomeExcept d) ks y) e1 (dead_other (StatementsEnd d) (SomeExcept d) ks on (λ x1 ls r. into_except_statements d x1 ls r) (from_here (StatementsEnd d) ks z e1 never)))
+statements_nested d end ks q z e true on h x w ([], e1, never) =
+    let v = on_front ks on in
+    let t = kind.Identifier v.0 at v.1 in
+    nested q v.2 x (decides_more v.0 v.1 v.2 v.4 w (sym e1 ∙ v.3)) (dead_behind (StatementsEnd d) (SomeExcept d) false ks v.2 t [] h (λ x1 ls r. into_except_statements d x1 ls r) v.3 (λ ls a r s f. never (t ∷ ls) a r (subst (λ y. SameHead y (t ∷ ls)) (sym (sym e1 ∙ v.3)) refl) f))
+
+except_statements : (d : ℕ) (end : Place) (ks : List Terminal) (e : ParseError) → begins_handler ks ≡ false → Refuses StatementsEnd d end ks e → Refuses SomeExcept d end ks e
+except_statements d end ks e h (out_of_memory x) = out_of_memory x
+except_statements d end ks e h (syntax q x never) = syntax q x (λ d'. statements_dead d' ks q _ refl h never (never d'))
+except_statements d end ks e h (nested q z x w never) = statements_nested d end ks q z e _ refl h x w never
+except_statements d end ks e h (left_out feature q x f) = left_out feature q x f
+
+pub except_body : (d : ℕ) (end : Place) (ks : List Terminal) (e : ParseError) → begins_handler ks ≡ false → Refuses SomeStatements d end ks e → Refuses SomeExcept d end ks e
+except_body d end ks e h x = except_statements d end ks e h (refuses_first SomeStatements (Marked mark.End) d end ks e x)
+
+pub except_open : (d : ℕ) (end : Place) (ss : Statements) (ks m : List Terminal) (e : ParseError) → begins_handler ks ≡ false → SomeStatements d ss ks m → Refuses (Marked mark.End) d end m e → Refuses SomeExcept d end ks e
+except_open d end ss ks m e h f x = except_statements d end ks e h (refuses_after SomeStatements (Marked mark.End) d end ss ks m e known_statements f x)
+
+pub except_whole : (u : Position) (d : ℕ) (ss : Statements) (ks m r : List Terminal) → SomeStatements d ss ks m → m ≡ kind.End at u ∷ r → SomeExcept d (except_rest ss) ks r
+except_whole u d ss ks m r f is = (u, subst (λ z. AreStatements d ss ks z) is f.0)
+
+on_first : (ks : List Terminal) → begins_handler ks ≡ true → front_is (is_word (codes "on")) ks ≡ true
+on_first [] h = false_true h
+on_first (t ∷ []) h = false_true h
+on_first (t ∷ u ∷ ks) h = (and_both _ _ h).0
+
+handlers_dead : (d : ℕ) (ks q : List Terminal) → begins_handler ks ≡ true → Dead (Seq SomeHandlers CaseEnd d) ks q → Dead (SomeExcept d) ks q
+handlers_dead d ks q h (t ∷ seen, e, never) = dead_behind (Seq SomeHandlers CaseEnd d) (SomeExcept d) true ks q t seen h (λ x ls r. into_except_handlers d x ls r) e never
+handlers_dead d ks q h ([], e, never) =
+    let v = on_front ks (on_first ks h) in
+    let a = on_nothing d v.0 v.1 v.4 in
+    let ls = kind.Identifier v.0 at v.1 ∷ kind.Identifier v.0 at v.1 ∷ kind.Do_ at v.1 ∷ kind.End at v.1 ∷ [] in
+    absurd (never ls a.0 a.1 (subst (λ y. SameHead y ls) (sym (sym e ∙ v.3)) refl) a.2)
+
+except_handlers : (d : ℕ) (end : Place) (ks : List Terminal) (e : ParseError) → begins_handler ks ≡ true → Refuses (Seq SomeHandlers CaseEnd) d end ks e → Refuses SomeExcept d end ks e
+except_handlers d end ks e h (out_of_memory x) = out_of_memory x
+except_handlers d end ks e h (syntax q x never) = syntax q x (λ d'. handlers_dead d' ks q h (never d'))
+except_handlers d end ks e h (nested q z x w never) = nested q z x w (handlers_dead d ks z h never)
+except_handlers d end ks e h (left_out feature q x f) = left_out feature q x f
+
+pub except_on : (d : ℕ) (end : Place) (ks : List Terminal) (e : ParseError) → begins_handler ks ≡ true → Refuses SomeHandlers d end ks e → Refuses SomeExcept d end ks e
+except_on d end ks e h x = except_handlers d end ks e h (refuses_first SomeHandlers CaseEnd d end ks e x)
+
+except_end : (d : ℕ) (end : Place) (hs : Handlers) (ks o : List Terminal) (e : ParseError) → begins_handler ks ≡ true → SomeHandlers d hs ks o → Refuses CaseEnd d end o e → Refuses SomeExcept d end ks e
+except_end d end hs ks o e h f x = except_handlers d end ks e h (refuses_after SomeHandlers CaseEnd d end hs ks o e known_handlers f x)
+
+pub except_end_missing : (d : ℕ) (end : Place) (hs : Handlers) (ks o : List Terminal) (e : ParseError) → begins_handler ks ≡ true → SomeHandlers d hs ks o → NoMark mark.Else_ o → Refuses (Marked mark.End) d end o e → Refuses SomeExcept d end ks e
+except_end_missing d end hs ks o e h f none x = except_end d end hs ks o e h f (refuses_map (Marked mark.End) CaseEnd d end o e (end_of_case o none) x)
+
+except_else : (u : Position) (d : ℕ) (end : Place) (hs : Handlers) (ks o after : List Terminal) (e : ParseError) → begins_handler ks ≡ true → SomeHandlers d hs ks o → Marked mark.Else_ d u o after → Refuses StatementsEnd d end after e → Refuses SomeExcept d end ks e
+except_else u d end hs ks o after e h f j x = except_end d end hs ks o e h f (subst (λ z. Refuses CaseEnd d end z e) (sym j) (refuses_behind StatementsEnd CaseEnd d end (kind.Else_ at u) after e (else_of_case u) x))
+
+pub except_else_body : (u : Position) (d : ℕ) (end : Place) (hs : Handlers) (ks o after : List Terminal) (e : ParseError) → begins_handler ks ≡ true → SomeHandlers d hs ks o → Marked mark.Else_ d u o after → Refuses SomeStatements d end after e → Refuses SomeExcept d end ks e
+except_else_body u d end hs ks o after e h f j x = except_else u d end hs ks o after e h f j (refuses_first SomeStatements (Marked mark.End) d end after e x)
+
+pub except_else_open : (u : Position) (d : ℕ) (end : Place) (hs : Handlers) (ss : Statements) (ks o after o1 : List Terminal) (e : ParseError) → begins_handler ks ≡ true → SomeHandlers d hs ks o → Marked mark.Else_ d u o after → SomeStatements d ss after o1 → Refuses (Marked mark.End) d end o1 e → Refuses SomeExcept d end ks e
+except_else_open u d end hs ss ks o after o1 e h f j k x = except_else u d end hs ks o after e h f j (refuses_after SomeStatements (Marked mark.End) d end ss after o1 e known_statements k x)
+
+pub except_on_whole : (u : Position) (d : ℕ) (hs : Handlers) (ks o r : List Terminal) → begins_handler ks ≡ true → SomeHandlers d hs ks o → Marked mark.End d u o r → SomeExcept d (on_rest hs) ks r
+except_on_whole u d hs ks o r h f j = (u, handled d hs ks o h f, subst (λ z. AreHandlers d hs ks z) j f.0)
+
+pub except_else_whole : (u w : Position) (d : ℕ) (hs : Handlers) (ss : Statements) (ks o after o1 r : List Terminal) → begins_handler ks ≡ true → SomeHandlers d hs ks o → Marked mark.Else_ d u o after → SomeStatements d ss after o1 → Marked mark.End d w o1 r → SomeExcept d (on_else_rest hs ss) ks r
+except_else_whole u w d hs ss ks o after o1 r h f j k l = (u, w, after, handled d hs ks o h f, subst (λ z. AreHandlers d hs ks z) j f.0, subst (λ z. AreStatements d ss after z) l k.0)
+
+-- ---- try
+
+-- what stands behind the body
+abbrev BodyTail : ℕ → Rest → List Terminal → List Terminal → Type 0
+BodyTail d (finally_rest ts) ks r = (q u : Position) × (m : List Terminal) × (ks ≡ kind.Finally at q ∷ m) × AreStatements d ts m (kind.End at u ∷ r)
+BodyTail d other ks r = (q : Position) × (m : List Terminal) × (ks ≡ kind.Except at q ∷ m) × SomeExcept d other m r
+
+abbrev TryParts : Phrase (Statements × Rest)
+TryParts = Seq SomeStatements BodyTail
+
+into_try : (p : Position) (d : ℕ) (s : Statement) (ls r : List Terminal) → Behind kind.Try_ p d s ls r → Some_ TryParts d ls
+into_try p d s ls r (is_empty, t) = true_false t
+into_try p d s ls r (is_try_finally {ss = ss} {ts = ts} {q = q} {u = u} {m = m} f g, t) = ((ss, finally_rest ts), r, (kind.Finally at q ∷ m, (f, ends_all f refl refl refl), (q, u, m, refl, g)))
+into_try p d s ls r (is_try_except {ss = ss} {ts = ts} {q = q} {u = u} {m = m} f g, t) = ((ss, except_rest ts), r, (kind.Except at q ∷ m, (f, ends_all f refl refl refl), (q, m, refl, (u, g))))
+into_try p d s ls r (is_try_on {ss = ss} {v = v} {c = c} {s = body} {hs = hs} {q = q} {u = u} {m = m} f g, t) = ((ss, on_rest (handlers v c body hs)), r, (kind.Except at q ∷ m, (f, ends_all f refl refl refl), (q, m, refl, (u, tt, g))))
+into_try p d s ls r (is_try_on_else {ss = ss} {ts = ts} {v = v} {c = c} {s = body} {hs = hs} {q = q} {u = u} {w = w} {m = m} {n = n} f g h, t) = ((ss, on_else_rest (handlers v c body hs) ts), r, (kind.Except at q ∷ m, (f, ends_all f refl refl refl), (q, m, refl, (u, w, n, tt, g, h))))
+into_try p d s ls r (is_call g, t) = false_true (designator_begins g)
+into_try p d s ls r (is_assignment g e, t) = false_true (designator_begins g)
+
+try_parts : (p : Position) (d : ℕ) (end : Place) (ks : List Terminal) (e : ParseError) → Refuses TryParts d end ks e → Refuses (Behind kind.Try_ p) d end ks e
+try_parts p d end ks e h = refuses_map TryParts (Behind kind.Try_ p) d end ks e (λ d' b ls r s x. into_try p d' b ls r x) h
+
+pub try_body : (p : Position) (d : ℕ) (end : Place) (ks : List Terminal) (e : ParseError) → Refuses SomeStatements d end ks e → Refuses (Behind kind.Try_ p) d end ks e
+try_body p d end ks e h = try_parts p d end ks e (refuses_first SomeStatements BodyTail d end ks e h)
+
+try_tail : (p : Position) (d : ℕ) (end : Place) (ss : Statements) (ks m : List Terminal) (e : ParseError) → SomeStatements d ss ks m → Refuses BodyTail d end m e → Refuses (Behind kind.Try_ p) d end ks e
+try_tail p d end ss ks m e f h = try_parts p d end ks e (refuses_after SomeStatements BodyTail d end ss ks m e known_statements f h)
+
+except_of_tail : (m : List Terminal) → NoMark mark.Finally m → (d : ℕ) (x : Rest) (ls r : List Terminal) → SameHead m ls → BodyTail d x ls r → Some_ (Marked mark.Except) d ls
+except_of_tail m none d (finally_rest ts) ls r s (q, u, k, e, f) = absurd (no_mark_same mark.Finally m ls s none q k e)
+except_of_tail m none d (except_rest ts) ls r s (q, k, e, f) = (q, k, e)
+except_of_tail m none d (on_rest hs) ls r s (q, k, e, f) = (q, k, e)
+except_of_tail m none d (on_else_rest hs ts) ls r s (q, k, e, f) = (q, k, e)
+
+pub try_except_missing : (p : Position) (d : ℕ) (end : Place) (ss : Statements) (ks m : List Terminal) (e : ParseError) → SomeStatements d ss ks m → NoMark mark.Finally m → Refuses (Marked mark.Except) d end m e → Refuses (Behind kind.Try_ p) d end ks e
+try_except_missing p d end ss ks m e f none h = try_tail p d end ss ks m e f (refuses_map (Marked mark.Except) BodyTail d end m e (except_of_tail m none) h)
+
+finally_except : kind.Finally ≡ kind.Except → ⊥
+finally_except h = absurd cc
+
+except_finally : kind.Except ≡ kind.Finally → ⊥
+except_finally h = absurd cc
+
+behind_finally : (q : Position) (d : ℕ) (x : Rest) (ls r : List Terminal) → BodyTail d x (kind.Finally at q ∷ ls) r → Some_ StatementsEnd d ls
+behind_finally q d (finally_rest ts) ls r (w, u, k, e, f) = ((ts, u), r, subst (λ z. StatementsEnd d (ts, u) z r) (sym (ap behind e)) (kind.End at u ∷ r, (f, ends_all f refl refl refl), refl))
+behind_finally q d (except_rest ts) ls r (w, k, e, f) = absurd (finally_except (kind_same e))
+behind_finally q d (on_rest hs) ls r (w, k, e, f) = absurd (finally_except (kind_same e))
+behind_finally q d (on_else_rest hs ts) ls r (w, k, e, f) = absurd (finally_except (kind_same e))
+
+behind_except : (q : Position) (d : ℕ) (x : Rest) (ls r : List Terminal) → BodyTail d x (kind.Except at q ∷ ls) r → Some_ SomeExcept d ls
+behind_except q d (finally_rest ts) ls r (w, u, k, e, f) = absurd (except_finally (kind_same e))
+behind_except q d (except_rest ts) ls r (w, k, e, f) = (except_rest ts, r, subst (λ z. SomeExcept d (except_rest ts) z r) (sym (ap behind e)) f)
+behind_except q d (on_rest hs) ls r (w, k, e, f) = (on_rest hs, r, subst (λ z. SomeExcept d (on_rest hs) z r) (sym (ap behind e)) f)
+behind_except q d (on_else_rest hs ts) ls r (w, k, e, f) = (on_else_rest hs ts, r, subst (λ z. SomeExcept d (on_else_rest hs ts) z r) (sym (ap behind e)) f)
+
+pub try_except_refuses : (p q : Position) (d : ℕ) (end : Place) (ss : Statements) (ks m after : List Terminal) (e : ParseError) → SomeStatements d ss ks m → Marked mark.Except d q m after → Refuses SomeExcept d end after e → Refuses (Behind kind.Try_ p) d end ks e
+try_except_refuses p q d end ss ks m after e f is h = try_tail p d end ss ks m e f (subst (λ z. Refuses BodyTail d end z e) (sym is) (refuses_behind SomeExcept BodyTail d end (kind.Except at q) after e (behind_except q) h))
+
+try_finally_refuses : (p q : Position) (d : ℕ) (end : Place) (ss : Statements) (ks m after : List Terminal) (e : ParseError) → SomeStatements d ss ks m → Marked mark.Finally d q m after → Refuses StatementsEnd d end after e → Refuses (Behind kind.Try_ p) d end ks e
+try_finally_refuses p q d end ss ks m after e f is h = try_tail p d end ss ks m e f (subst (λ z. Refuses BodyTail d end z e) (sym is) (refuses_behind StatementsEnd BodyTail d end (kind.Finally at q) after e (behind_finally q) h))
+
+pub try_finally_body : (p q : Position) (d : ℕ) (end : Place) (ss : Statements) (ks m after : List Terminal) (e : ParseError) → SomeStatements d ss ks m → Marked mark.Finally d q m after → Refuses SomeStatements d end after e → Refuses (Behind kind.Try_ p) d end ks e
+try_finally_body p q d end ss ks m after e f is h = try_finally_refuses p q d end ss ks m after e f is (refuses_first SomeStatements (Marked mark.End) d end after e h)
+
+pub try_finally_open : (p q : Position) (d : ℕ) (end : Place) (ss ts : Statements) (ks m after o : List Terminal) (e : ParseError) → SomeStatements d ss ks m → Marked mark.Finally d q m after → SomeStatements d ts after o → Refuses (Marked mark.End) d end o e → Refuses (Behind kind.Try_ p) d end ks e
+try_finally_open p q d end ss ts ks m after o e f is g h = try_finally_refuses p q d end ss ks m after e f is (refuses_after SomeStatements (Marked mark.End) d end ts after o e known_statements g h)
+
+pub try_finally_whole : (p q u : Position) (d : ℕ) (ss ts : Statements) (ks m after o r : List Terminal) → SomeStatements d ss ks m → Marked mark.Finally d q m after → SomeStatements d ts after o → Marked mark.End d u o r → Behind kind.Try_ p d (try_of ss (finally_rest ts)) ks r
+try_finally_whole p q u d ss ts ks m after o r f is g h = (is_try_finally (subst (λ z. AreStatements d ss ks z) is f.0) (subst (λ z. AreStatements d ts after z) h g.0), tt)
+
+pub try_except_whole : (p q : Position) (d : ℕ) (ss : Statements) (x : Rest) (ks m after r : List Terminal) → SomeStatements d ss ks m → Marked mark.Except d q m after → SomeExcept d x after r → Behind kind.Try_ p d (try_of ss x) ks r
+try_except_whole p q d ss (finally_rest ts) ks m after r f is g = absurd g
+try_except_whole p q d ss (except_rest ts) ks m after r f is (u, g) = (is_try_except (subst (λ z. AreStatements d ss ks z) is f.0) g, tt)
+try_except_whole p q d ss (on_rest no_handlers) ks m after r f is (u, i, g) = absurd i
+try_except_whole p q d ss (on_rest (handlers v c s hs)) ks m after r f is (u, i, g) = (is_try_on (subst (λ z. AreStatements d ss ks z) is f.0) g, tt)
+try_except_whole p q d ss (on_else_rest no_handlers ts) ks m after r f is (u, w, n, i, g, h) = absurd i
+try_except_whole p q d ss (on_else_rest (handlers v c s hs) ts) ks m after r f is (u, w, n, i, g, h) = (is_try_on_else (subst (λ z. AreStatements d ss ks z) is f.0) g h, tt)
