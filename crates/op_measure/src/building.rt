@@ -7,7 +7,7 @@ use op_link::Settings;
 use op_low::{Block, Call, Counts, Instruction, Low, Routine, VirtualRegister};
 use op_rv::{AluOp, BlockId, BranchOp, RoutineId};
 use std::alloc::{AllocError, Global};
-use std::io;
+use std::io::{self, Write};
 
 const SETTINGS: Settings = Settings {
     heap: 64,
@@ -106,7 +106,7 @@ fn nothing(alloc: Global) -> Result<Layout, NoMemory> {
     Layout::of_literals(alloc, &[])
 }
 
-/// How many bytes the image of so many instructions has; of none, only the low code is made.
+/// Writes the image of so many instructions; where it is not to be built, only their low code is made.
 pub fn tell(rt: &HostRuntime, instructions: u32, builds: bool) -> io::Result<()> {
     let alloc = rt.alloc();
     let low = program(alloc, instructions / (BLOCKS * LENGTH))?;
@@ -114,13 +114,13 @@ pub fn tell(rt: &HostRuntime, instructions: u32, builds: bool) -> io::Result<()>
         return println!(rt; "out of memory");
     };
     if !buildable(&low, &layout) {
-        return println!(rt; "{instructions} instructions: not buildable");
+        return println!(rt; "not buildable");
     }
     if !builds {
-        return println!(rt; "{instructions} instructions");
+        return Ok(());
     }
     match build(alloc, &low, &layout, &SETTINGS) {
-        Ok(image) => println!(rt; "{instructions} instructions: {} bytes", image.len()),
-        Err(error) => println!(rt; "{instructions} instructions: {error:?}"),
+        Ok(image) => rt.stdout().write_all(image.as_slice()),
+        Err(error) => println!(rt; "{error:?}"),
     }
 }

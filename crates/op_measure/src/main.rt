@@ -1,7 +1,7 @@
 //! What the scripts in `bench/` and `tests/` ask of parts of the compiler.
 //!
 //! `count FILE..` tells how many tokens each file has, and `list FILE..` each token with its place. `words FILE..` decodes the words
-//! of code. `make N..` makes low code of N instructions, and `build N..` its image too.
+//! of code. `make N..` makes low code of N instructions, and `build N..` writes its image.
 #![tactic(auto)]
 
 mod building;
