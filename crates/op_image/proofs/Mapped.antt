@@ -7,7 +7,7 @@ use Rattle.std.proofs.lemmas.List.{get_or_append_left, length-replicate, length-
 use Rattle.std.proofs.lemmas.Option.{slice_get_within}
 use Rattle.std.specs.List.{list_all}
 use Rattle.std.specs.Option.{option_map_or}
-use Rattle.op_link.proofs.Lengths.{length-words_of}
+use Rattle.op_link.proofs.Lengths.{length-words_of, some_same}
 use Rattle.op_link.proofs.Mapped.{constants_from, in_range}
 use Rattle.op_link.specs.Code.{words_of}
 use Rattle.op_link.specs.Image.{region_in, regions_in}
@@ -101,9 +101,6 @@ skips_word a b c d n m ys is =
     let e2 : get_or xs (n + 2) 0 ≡ get_or ys (m + 2) 0 = skips a b c d (n + 2) (m + 2) ys (omega arith) in
     let e3 : get_or xs (n + 3) 0 ≡ get_or ys (m + 3) 0 = skips a b c d (n + 3) (m + 3) ys (omega arith) in
     omega arith
-
-some_same : {X : Type 0} (x y : X) → Some x ≡ Some y → x ≡ y
-some_same x y e = cc
 
 first_word : (w : ℕ) (ys : List ℕ) → w < 2 ^ 32 → word_in_bytes (w % 256 ∷ w / 256 % 256 ∷ w / 65536 % 256 ∷ w / 16777216 % 256 ∷ ys) 0 ≡ w
 first_word w ys fits = bytes_of-word w fits

@@ -5,6 +5,7 @@ use Rattle.std.proofs.lemmas.List.Sums.{sum_by-cons}
 use Rattle.std.specs.Option.{option_map, option_map_or}
 use Rattle.op_layout.specs.declared.layout.Layout.{Layout}
 use Rattle.op_link.proofs.Growth.{Grows, blocks_grow, items_grow, routine_grows, routines_grow}
+use Rattle.op_link.proofs.Lengths.{some_same}
 use Rattle.op_link.specs.Code.{address_at, address_of_place, symbol_address}
 use Rattle.op_link.specs.Linking.{addresses_of, linked_size_by, sizes_of}
 use Rattle.op_link.specs.Loaded.{addresses_by, sizes_by}
@@ -20,9 +21,6 @@ use Rattle.op_rv.specs.declared.objects.Objects.{Objects}
 use Rattle.op_rv.specs.declared.symbol.Symbol.{Symbol}
 use Rattle.op_rv.specs.declared.symbol.Symbol.TheVariants.{Literal, Table, Descriptor, Global, Routine}
 use Rattle.op_image.proofs.Expanding.{Reachable, Targets}
-
-some_same : {X : Type 0} (x y : X) → Some x ≡ Some y → x ≡ y
-some_same x y e = cc
 
 -- ---- code goes on by whole words
 
