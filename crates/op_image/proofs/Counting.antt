@@ -3,6 +3,7 @@ use Rattle.std.proofs.Common.{◌≡◌, ℕ, pos, ◌-ℤ◌, min, zero, suc, �
 use Rattle.std.proofs.lemmas.Bool.{and_parts}
 use Rattle.std.proofs.lemmas.List.Sums.{sum_by-append, sum_by-cons}
 use Rattle.std.specs.List.{list_all}
+use Rattle.op_link.proofs.Lengths.{some_same}
 use Rattle.op_link.specs.Placing.{items_in_blocks, items_in_routine, items_in_routines}
 use Rattle.op_low.specs.Valid.{is_valid_block, is_valid_instruction, is_valid_routine, leaves_if}
 use Rattle.op_low.specs.declared.code.Block.{Block}
@@ -105,9 +106,6 @@ routine_counted low routine valid =
     let more = blocks_counted low routine routine.blocks parts.1 in
     let head = (head_some routine).some in
     omega arith
-
-some_same : {X : Type 0} (x y : X) → Some x ≡ Some y → x ≡ y
-some_same x y e = cc
 
 pub routines_counted : (low : Low) (routines : List Routine) (k : ℕ) (routine : Routine) → list_all (is_valid_routine low) routines ≡ true → slice_get routines k ≡ Some routine → length routine.blocks ≤ items_in_routines (map object_routine_of routines)
 routines_counted low [] k routine valid is = absurd cc

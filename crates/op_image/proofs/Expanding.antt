@@ -11,6 +11,7 @@ use Rattle.op_link.specs.declared.place.Spot.{Spot}
 use Rattle.op_link.specs.declared.reach.Reach.{Reach}
 use Rattle.op_link.specs.declared.reach.Reach.TheVariants.{Direct as DirectReach, OverJump, ByRegister}
 use Rattle.op_link.proofs.Distances.{backward, forward}
+use Rattle.op_link.proofs.Lengths.{some_same}
 use Rattle.op_rv.specs.Operation.{word_from}
 use Rattle.op_rv.specs.Step.{offset_from}
 use Rattle.op_rv.specs.declared.instruction.BranchOp.{BranchOp}
@@ -55,9 +56,6 @@ distance_reaches from to is_from is_to =
           let d = to - from in
           ap (offset_from from) (forward from to before) ∙ ahead from d (omega arith) ∙ omega arith
     ]
-
-some_same : {X : Type 0} (x y : X) → Some x ≡ Some y → x ≡ y
-some_same x y e = cc
 
 -- an address that code may go to
 pub record Reachable (to : ℕ) : Type 0 where

@@ -7,8 +7,8 @@ use Rattle.std.proofs.lemmas.List.{get_or_append_left, length-replicate, length-
 use Rattle.std.proofs.lemmas.Option.{slice_get_within}
 use Rattle.std.specs.List.{list_all}
 use Rattle.std.specs.Option.{option_map_or}
-use Rattle.op_link.proofs.Lengths.{length-words_of}
-use Rattle.op_link.proofs.Mapped.{constants_from}
+use Rattle.op_link.proofs.Lengths.{length-words_of, some_same}
+use Rattle.op_link.proofs.Mapped.{constants_from, in_range}
 use Rattle.op_link.specs.Code.{words_of}
 use Rattle.op_link.specs.Image.{region_in, regions_in}
 use Rattle.op_link.specs.Linking.{linked_size_of}
@@ -102,9 +102,6 @@ skips_word a b c d n m ys is =
     let e3 : get_or xs (n + 3) 0 ≡ get_or ys (m + 3) 0 = skips a b c d (n + 3) (m + 3) ys (omega arith) in
     omega arith
 
-some_same : {X : Type 0} (x y : X) → Some x ≡ Some y → x ≡ y
-some_same x y e = cc
-
 first_word : (w : ℕ) (ys : List ℕ) → w < 2 ^ 32 → word_in_bytes (w % 256 ∷ w / 256 % 256 ∷ w / 65536 % 256 ∷ w / 16777216 % 256 ∷ ys) 0 ≡ w
 first_word w ys fits = bytes_of-word w fits
 
@@ -145,22 +142,6 @@ located code at i is = located_by code at i (nat_le code_address at && nat_eq (a
 
 -- ---- a loaded image
 
-record InRange (settings : Settings) : Type 0 where
-  heap : settings.heap ≤ 262144
-  stack_least : 16 ≤ settings.stack
-  stack : settings.stack ≤ 65536
-
-in_range : (settings : Settings) → are_in_range settings ≡ true → InRange settings
-in_range settings is =
-    let three = and_parts _ (nat_le settings.stack 65536) is in
-    let two = and_parts _ (nat_le 16 settings.stack) three.0 in
-    let one = and_parts (nat_le 64 settings.heap) (nat_le settings.heap 262144) two.0 in
-    record {
-      heap = leb-true settings.heap 262144 one.1;
-      stack_least = leb-true 16 settings.stack two.1;
-      stack = leb-true settings.stack 65536 three.1;
-    }
-
 -- where the stack lies
 pub record StackLies (settings : Settings) : Type 0 where
   pub from : 0x60000000 ≤ stack_address settings
@@ -172,7 +153,7 @@ unfolding stack_address
 stack_lies settings is =
     let range = in_range settings is in
     let least = range.stack_least in
-    let most = range.stack in
+    let most = range.stack_most in
     record { from = omega arith; sum = omega arith; whole = omega arith }
 
 module _ (image : List ℕ) (sizes : Sizes) (settings : Settings) (code : List Instr) (loaded : IsLoaded image (segments_of sizes settings)) (words : take sizes.code (drop 4096 image) ≡ words_of code) (ranged : are_in_range settings ≡ true) (within : linked_size_of sizes ≤ 67108864) (few : sizes.zeros ≤ 15728640) where
@@ -195,7 +176,7 @@ module _ (image : List ℕ) (sizes : Sizes) (settings : Settings) (code : List I
   unfolding segments_of stack_region constants_address globals_address
   in_stack a lower upper =
       let range = in_range settings ranged in
-      let heap = range.heap in
+      let heap = range.heap_most in
       let stack = stack_lies settings ranged in
       let from = stack.from in
       let sum = stack.sum in

@@ -7,6 +7,7 @@ use Rattle.std.specs.Option.{option_map}
 use Rattle.op_layout.specs.declared.layout.Layout.{Layout}
 use Rattle.op_link.proofs.Decoded.{program_has_words}
 use Rattle.op_link.proofs.Growth.{routine_grows}
+use Rattle.op_link.proofs.Lengths.{some_same}
 use Rattle.op_link.specs.Code.{high_of, low_of, symbol_address}
 use Rattle.op_link.specs.Image.{regions_in, start as start_image}
 use Rattle.op_link.specs.Linking.{addresses_of, linked_size, settled, start_code}
@@ -57,9 +58,6 @@ use Rattle.op_image.specs.Meaning.{linked_code, or_zero, routine_from, setting_o
 use Rattle.op_image.specs.Means.{AreBytes, GoesAlong, HasRoom, Means, Runs, image_run, low_run, low_start}
 
 -- ---- routines are found where they begin
-
-some_same : {X : Type 0} (x y : X) → Some x ≡ Some y → x ≡ y
-some_same x y e = cc
 
 abbrev HaveItems : List ObjectRoutine → Type 0
 HaveItems routines = (k : ℕ) (routine : ObjectRoutine) → slice_get routines k ≡ Some routine → HasItems routine

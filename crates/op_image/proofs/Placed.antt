@@ -6,7 +6,7 @@ use Rattle.std.specs.Option.{option_map, option_map_or}
 use Rattle.op_layout.specs.declared.layout.Layout.{Layout}
 use Rattle.op_layout.specs.declared.layout.LiteralPlace.{LiteralPlace}
 use Rattle.op_link.proofs.Growth.{code_end}
-use Rattle.op_link.proofs.Lengths.{code_end_is}
+use Rattle.op_link.proofs.Lengths.{code_end_is, some_same}
 use Rattle.op_link.proofs.Loading.{zeros_at_most}
 use Rattle.op_link.proofs.Mapped.{length-constants}
 use Rattle.op_link.specs.Code.{address_at, address_of_place, symbol_address, words_of}
@@ -42,9 +42,6 @@ use Rattle.op_image.proofs.Standing.{routine_stands}
 use Rattle.op_image.specs.Building.{is_buildable}
 use Rattle.op_image.specs.Meaning.{linked_addresses, linked_code, or_zero, placing_by, routine_from, setting_of}
 use Rattle.op_image.specs.Means.{StandsText, literal_bytes}
-
-some_same : {X : Type 0} (x y : X) → Some x ≡ Some y → x ≡ y
-some_same x y e = cc
 
 -- ---- the code
 

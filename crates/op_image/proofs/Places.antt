@@ -4,28 +4,23 @@ use Rattle.std.proofs.lemmas.Bool.{ltb-true}
 use Rattle.std.proofs.lemmas.List.Sums.{sum_by-cons}
 use Rattle.std.specs.Option.{option_map, option_map_or}
 use Rattle.op_layout.specs.declared.layout.Layout.{Layout}
+use Rattle.op_link.proofs.Growth.{Grows, blocks_grow, items_grow, routine_grows, routines_grow}
+use Rattle.op_link.proofs.Lengths.{some_same}
 use Rattle.op_link.specs.Code.{address_at, address_of_place, symbol_address}
 use Rattle.op_link.specs.Linking.{addresses_of, linked_size_by, sizes_of}
 use Rattle.op_link.specs.Loaded.{addresses_by, sizes_by}
 use Rattle.op_link.specs.Memory.{begins_as_zero, constants_address, global_addresses, globals_address, initial_part, initial_size, zero_part, zero_size}
-use Rattle.op_link.specs.Placing.{behind, behind_items, behind_blocks, behind_routine, behind_routines, block_addresses, first_spot, placement_by, routine_place, routine_places}
-use Rattle.op_link.specs.Reach.{block_in, branch_size, head_in, jump_size, reach_of, size_of}
+use Rattle.op_link.specs.Placing.{behind_items, behind_blocks, behind_routine, behind_routines, block_addresses, first_spot, placement_by, routine_place, routine_places}
+use Rattle.op_link.specs.Reach.{block_in, head_in}
 use Rattle.op_link.specs.declared.place.RoutinePlace.{RoutinePlace}
 use Rattle.op_link.specs.declared.place.Spot.{Spot}
-use Rattle.op_link.specs.declared.reach.Reach.{Reach}
-use Rattle.op_link.specs.declared.reach.Reach.TheVariants.{Direct, OverJump, ByRegister}
 use Rattle.op_rv.specs.declared.objects.GlobalVariable.{GlobalVariable}
-use Rattle.op_rv.specs.declared.objects.Item.{Item}
-use Rattle.op_rv.specs.declared.objects.Item.TheVariants.{Plain, Address, Branch, Call, CallAt, Jump}
 use Rattle.op_rv.specs.declared.objects.ObjectBlock.{ObjectBlock}
 use Rattle.op_rv.specs.declared.objects.ObjectRoutine.{ObjectRoutine}
 use Rattle.op_rv.specs.declared.objects.Objects.{Objects}
 use Rattle.op_rv.specs.declared.symbol.Symbol.{Symbol}
 use Rattle.op_rv.specs.declared.symbol.Symbol.TheVariants.{Literal, Table, Descriptor, Global, Routine}
 use Rattle.op_image.proofs.Expanding.{Reachable, Targets}
-
-some_same : {X : Type 0} (x y : X) → Some x ≡ Some y → x ≡ y
-some_same x y e = cc
 
 -- ---- code goes on by whole words
 
@@ -42,50 +37,10 @@ rises_join a b c first second =
     let v = second.under in
     record { under = omega arith; whole = second.whole ∙ first.whole }
 
-branch_whole : (reach : Reach) → branch_size reach % 4 ≡ 0
-branch_whole Direct = refl
-branch_whole OverJump = refl
-branch_whole ByRegister = refl
-
-jump_whole : (reach : Reach) → jump_size reach % 4 ≡ 0
-jump_whole Direct = refl
-jump_whole OverJump = refl
-jump_whole ByRegister = refl
-
-size_whole : (reach : Reach) (item : Item) → size_of reach item % 4 ≡ 0
-unfolding size_of
-size_whole reach (Plain i) = refl
-size_whole reach (Address rd symbol) = refl
-size_whole reach (Branch op left right block) = branch_whole reach
-size_whole reach (Jump block) = jump_whole reach
-size_whole reach (Call routine landing) = jump_whole reach
-size_whole reach (CallAt landing) = refl
-
-item_rises : (known : List RoutinePlace) (r : ℕ) (spot : Spot) (item : Item) → Rises spot.address (behind known r spot item).address
-unfolding behind
-item_rises known r spot item =
-    let size = size_of (reach_of known r spot.longest item) item in
-    let whole : size % 4 ≡ 0 = size_whole (reach_of known r spot.longest item) item in
-    record { under = omega arith; whole = omega arith }
-
-items_rise : (known : List RoutinePlace) (r : ℕ) (spot : Spot) (items : List Item) → Rises spot.address (behind_items known r spot items).address
-items_rise known r spot [] = rises_none spot.address
-items_rise known r spot (item ∷ items) =
-    rises_join spot.address (behind known r spot item).address (behind_items known r spot (item ∷ items)).address (item_rises known r spot item) (items_rise known r (behind known r spot item) items)
-
-blocks_rise : (known : List RoutinePlace) (r : ℕ) (spot : Spot) (blocks : List ObjectBlock) → Rises spot.address (behind_blocks known r spot blocks).address
-blocks_rise known r spot [] = rises_none spot.address
-blocks_rise known r spot (block ∷ blocks) =
-    rises_join spot.address (behind_items known r spot block.items).address (behind_blocks known r spot (block ∷ blocks)).address (items_rise known r spot block.items) (blocks_rise known r (behind_items known r spot block.items) blocks)
-
-routine_rises : (known : List RoutinePlace) (r : ℕ) (spot : Spot) (routine : ObjectRoutine) → Rises spot.address (behind_routine known r spot routine).address
-routine_rises known r spot routine =
-    rises_join spot.address (behind_items known r spot routine.head).address (behind_routine known r spot routine).address (items_rise known r spot routine.head) (blocks_rise known r (behind_items known r spot routine.head) routine.blocks)
-
-routines_rise : (known : List RoutinePlace) (r : ℕ) (spot : Spot) (routines : List ObjectRoutine) → Rises spot.address (behind_routines known r spot routines).address
-routines_rise known r spot [] = rises_none spot.address
-routines_rise known r spot (routine ∷ routines) =
-    rises_join spot.address (behind_routine known r spot routine).address (behind_routines known r spot (routine ∷ routines)).address (routine_rises known r spot routine) (routines_rise known (suc r) (behind_routine known r spot routine) routines)
+rises_of : {from to items : ℕ} → Grows from to items → Rises from to
+rises_of grows =
+    let least = grows.least in
+    record { under = omega arith; whole = grows.whole }
 
 -- ---- what lies in between
 
@@ -100,11 +55,11 @@ lies_further a b c d at front rest lies =
 block_lies : (known : List RoutinePlace) (r : ℕ) (spot : Spot) (blocks : List ObjectBlock) (b at : ℕ) → slice_get (block_addresses known r spot blocks) b ≡ Some at → Lies spot.address (behind_blocks known r spot blocks).address at
 block_lies known r spot [] b at is = absurd cc
 block_lies known r spot (block ∷ blocks) zero at is =
-    subst (Lies spot.address (behind_blocks known r spot (block ∷ blocks)).address) (some_same spot.address at is) (record { lower = rises_none spot.address; upper = blocks_rise known r spot (block ∷ blocks) })
+    subst (Lies spot.address (behind_blocks known r spot (block ∷ blocks)).address) (some_same spot.address at is) (record { lower = rises_none spot.address; upper = rises_of (blocks_grow known r spot (block ∷ blocks)) })
 block_lies known r spot (block ∷ blocks) (suc b) at is =
     let next = behind_items known r spot block.items in
     let end = (behind_blocks known r next blocks).address in
-    lies_further spot.address next.address end end at (items_rise known r spot block.items) (rises_none end) (block_lies known r next blocks b at is)
+    lies_further spot.address next.address end end at (rises_of (items_grow known r spot block.items)) (rises_none end) (block_lies known r next blocks b at is)
 
 -- the head of a place lies there, and each of its blocks
 pub record PlaceLies (from to : ℕ) (place : RoutinePlace) : Type 0 where
@@ -116,8 +71,8 @@ unfolding routine_place
 place_lies known r spot routine =
     let end = (behind_routine known r spot routine).address in
     record {
-      head = record { lower = rises_none spot.address; upper = routine_rises known r spot routine };
-      blocks = λ b at is. lies_further spot.address (behind_items known r spot routine.head).address end end at (items_rise known r spot routine.head) (rises_none end) (block_lies known r (behind_items known r spot routine.head) routine.blocks b at is);
+      head = record { lower = rises_none spot.address; upper = rises_of (routine_grows known r spot routine) };
+      blocks = λ b at is. lies_further spot.address (behind_items known r spot routine.head).address end end at (rises_of (items_grow known r spot routine.head)) (rises_none end) (block_lies known r (behind_items known r spot routine.head) routine.blocks b at is);
     }
 
 place_further : (a b c d : ℕ) (place : RoutinePlace) → Rises a b → Rises c d → PlaceLies b c place → PlaceLies a d place
@@ -132,11 +87,11 @@ places_lie known r spot [] k place is = absurd cc
 places_lie known r spot (routine ∷ routines) zero place is =
     let next = behind_routine known r spot routine in
     let end = (behind_routines known (suc r) next routines).address in
-    subst (PlaceLies spot.address end) (some_same (routine_place known r spot routine) place is) (place_further spot.address spot.address next.address end (routine_place known r spot routine) (rises_none spot.address) (routines_rise known (suc r) next routines) (place_lies known r spot routine))
+    subst (PlaceLies spot.address end) (some_same (routine_place known r spot routine) place is) (place_further spot.address spot.address next.address end (routine_place known r spot routine) (rises_none spot.address) (rises_of (routines_grow known (suc r) next routines)) (place_lies known r spot routine))
 places_lie known r spot (routine ∷ routines) (suc k) place is =
     let next = behind_routine known r spot routine in
     let end = (behind_routines known (suc r) next routines).address in
-    place_further spot.address next.address end end place (routine_rises known r spot routine) (rises_none end) (places_lie known (suc r) next routines k place is)
+    place_further spot.address next.address end end place (rises_of (routine_grows known r spot routine)) (rises_none end) (places_lie known (suc r) next routines k place is)
 
 -- ---- symbols
 

@@ -2,6 +2,7 @@
 use Rattle.std.proofs.Common.{◌≡◌, ◌≢◌, ℕ, zero, suc, ◌+◌, ◌-◌, ◌*◌, ◌/◌, ◌%◌, ◌^◌, ◌<◌, Bool, true, false, cond, Option, Some, None, List, [], ◌∷◌, ◌++◌, length, get_or, take, drop, map, replicate, refl, ap, sym, subst, ◌∙◌, arith}
 use Rattle.std.specs.Option.{option_map_or}
 use Rattle.op_layout.specs.declared.layout.Layout.{Layout}
+use Rattle.op_link.proofs.Lengths.{some_same}
 use Rattle.op_link.specs.Code.{code_at, high_of, low_of, routines_code, then_code}
 use Rattle.op_link.specs.Image.{region_in, regions_in, segments}
 use Rattle.op_link.specs.Linking.{program_code, start_code}
@@ -151,9 +152,6 @@ pub record BeginsWith (addresses : Addresses) (settings : Settings) (entry : ℕ
   pub head : head_in addresses.routines entry ≡ Some to
   pub rest : List Instr
   pub lists : code ≡ start_code settings to ++ rest
-
-some_same : {X : Type 0} (x y : X) → Some x ≡ Some y → x ≡ y
-some_same x y e = cc
 
 begins_with : (addresses : Addresses) (settings : Settings) (entry : ℕ) (code : List Instr) (found : Option ℕ) (more : Option (List Instr)) → head_in addresses.routines entry ≡ found → code_at (λ to. then_code (Some (start_code settings to)) more) found ≡ Some code → BeginsWith addresses settings entry code
 begins_with addresses settings entry code None more head is = absurd cc

@@ -27,6 +27,7 @@ use Rattle.op_link.specs.Linking.{program_code, start_code}
 use Rattle.op_link.specs.Loaded.{Decodes}
 use Rattle.op_link.specs.Memory.{stack_address, stack_top}
 use Rattle.op_link.proofs.Distances.{backward, branch_fits, jump_fits}
+use Rattle.op_link.proofs.Lengths.{some_same}
 
 -- ---- parts of addresses
 
@@ -43,9 +44,6 @@ low_fits n =
 
 Fits : Option (List Instr) → Type 0
 Fits found = (code : List Instr) → found ≡ Some code → list_all fits code ≡ true
-
-some_same : (x y : List Instr) → Some x ≡ Some y → x ≡ y
-some_same x y e = cc
 
 fits_some : (code : List Instr) → list_all fits code ≡ true → Fits (Some code)
 unfolding Fits

@@ -1,5 +1,5 @@
 -- How far the code goes: by at least four bytes an item, and furthest if every item has its longest form.
-use Rattle.std.proofs.Common.{◌≡◌, ℕ, suc, ◌+◌, ◌*◌, ◌≤◌, length, List, [], ◌∷◌, refl, arith}
+use Rattle.std.proofs.Common.{◌≡◌, ℕ, suc, ◌+◌, ◌*◌, ◌%◌, ◌≤◌, length, List, [], ◌∷◌, refl, ◌∙◌, arith}
 use Rattle.std.proofs.lemmas.List.Sums.{sum_by-cons}
 use Rattle.op_layout.specs.declared.layout.Layout.{Layout}
 use Rattle.op_rv.specs.declared.objects.Item.{Item}
@@ -17,47 +17,52 @@ use Rattle.op_link.specs.Memory.{constants_size, initial_size}
 use Rattle.op_link.specs.Reach.{size_of, branch_size, jump_size, reach_of, branch_reach, jump_reach, block_in, head_in}
 use Rattle.op_link.specs.Placing.{behind, behind_items, behind_blocks, behind_routine, behind_routines, first_spot, placement_by, items_in_blocks, items_in_routine, items_in_routines}
 
--- ---- four to twelve bytes an item
+-- ---- four to twelve bytes an item, in whole words
 
 pub record Grows (from to items : ℕ) : Type 0 where
   pub least : from + 4 * items ≤ to
   pub most : to ≤ from + 12 * items
+  pub whole : to % 4 ≡ from % 4
+
+grows_none : (at : ℕ) → Grows at at 0
+grows_none at = record { least = omega arith; most = omega arith; whole = refl }
 
 grows_join : (a b c n m k : ℕ) → k ≡ n + m → Grows a b n → Grows b c m → Grows a c k
 grows_join a b c n m k count first second =
     record {
       least = omega (arith, count, first.least, second.least);
       most = omega (arith, count, first.most, second.most);
+      whole = second.whole ∙ first.whole;
     }
 
 branch_grows : (from : ℕ) (reach : Reach) → Grows from (from + branch_size reach) 1
-branch_grows from Direct = record { least = omega arith; most = omega arith }
-branch_grows from OverJump = record { least = omega arith; most = omega arith }
-branch_grows from ByRegister = record { least = omega arith; most = omega arith }
+branch_grows from Direct = record { least = omega arith; most = omega arith; whole = omega arith }
+branch_grows from OverJump = record { least = omega arith; most = omega arith; whole = omega arith }
+branch_grows from ByRegister = record { least = omega arith; most = omega arith; whole = omega arith }
 
 jump_grows : (from : ℕ) (reach : Reach) → Grows from (from + jump_size reach) 1
-jump_grows from Direct = record { least = omega arith; most = omega arith }
-jump_grows from OverJump = record { least = omega arith; most = omega arith }
-jump_grows from ByRegister = record { least = omega arith; most = omega arith }
+jump_grows from Direct = record { least = omega arith; most = omega arith; whole = omega arith }
+jump_grows from OverJump = record { least = omega arith; most = omega arith; whole = omega arith }
+jump_grows from ByRegister = record { least = omega arith; most = omega arith; whole = omega arith }
 
 size_grows : (from : ℕ) (reach : Reach) (item : Item) → Grows from (from + size_of reach item) 1
 unfolding size_of
-size_grows from reach (Plain i) = record { least = omega arith; most = omega arith }
-size_grows from reach (Address rd symbol) = record { least = omega arith; most = omega arith }
+size_grows from reach (Plain i) = record { least = omega arith; most = omega arith; whole = omega arith }
+size_grows from reach (Address rd symbol) = record { least = omega arith; most = omega arith; whole = omega arith }
 size_grows from reach (Branch op left right block) = branch_grows from reach
 size_grows from reach (Jump block) = jump_grows from reach
 size_grows from reach (Call routine landing) = jump_grows from reach
-size_grows from reach (CallAt landing) = record { least = omega arith; most = omega arith }
+size_grows from reach (CallAt landing) = record { least = omega arith; most = omega arith; whole = omega arith }
 
-items_grow : (known : List RoutinePlace) (r : ℕ) (spot : Spot) (items : List Item) → Grows spot.address (behind_items known r spot items).address (length items)
+pub items_grow : (known : List RoutinePlace) (r : ℕ) (spot : Spot) (items : List Item) → Grows spot.address (behind_items known r spot items).address (length items)
 unfolding behind
-items_grow known r spot [] = record { least = omega arith; most = omega arith }
+items_grow known r spot [] = grows_none spot.address
 items_grow known r spot (item ∷ items) =
     let next = behind known r spot item in
     grows_join spot.address next.address (behind_items known r next items).address 1 (length items) (suc (length items)) (omega arith) (size_grows spot.address (reach_of known r spot.longest item) item) (items_grow known r next items)
 
-blocks_grow : (known : List RoutinePlace) (r : ℕ) (spot : Spot) (blocks : List ObjectBlock) → Grows spot.address (behind_blocks known r spot blocks).address (items_in_blocks blocks)
-blocks_grow known r spot [] = record { least = omega arith; most = omega arith }
+pub blocks_grow : (known : List RoutinePlace) (r : ℕ) (spot : Spot) (blocks : List ObjectBlock) → Grows spot.address (behind_blocks known r spot blocks).address (items_in_blocks blocks)
+blocks_grow known r spot [] = grows_none spot.address
 blocks_grow known r spot (block ∷ blocks) =
     let next = behind_items known r spot block.items in
     grows_join spot.address next.address (behind_blocks known r next blocks).address (length block.items) (items_in_blocks blocks) (items_in_blocks (block ∷ blocks)) (sum_by-cons (λ (block : ObjectBlock). length block.items) block blocks) (items_grow known r spot block.items) (blocks_grow known r next blocks)
@@ -67,8 +72,8 @@ routine_grows known r spot routine =
     let next = behind_items known r spot routine.head in
     grows_join spot.address next.address (behind_routine known r spot routine).address (length routine.head) (items_in_blocks routine.blocks) (items_in_routine routine) refl (items_grow known r spot routine.head) (blocks_grow known r next routine.blocks)
 
-routines_grow : (known : List RoutinePlace) (r : ℕ) (spot : Spot) (routines : List ObjectRoutine) → Grows spot.address (behind_routines known r spot routines).address (items_in_routines routines)
-routines_grow known r spot [] = record { least = omega arith; most = omega arith }
+pub routines_grow : (known : List RoutinePlace) (r : ℕ) (spot : Spot) (routines : List ObjectRoutine) → Grows spot.address (behind_routines known r spot routines).address (items_in_routines routines)
+routines_grow known r spot [] = grows_none spot.address
 routines_grow known r spot (routine ∷ routines) =
     let next = behind_routine known r spot routine in
     grows_join spot.address next.address (behind_routines known (suc r) next routines).address (items_in_routine routine) (items_in_routines routines) (items_in_routines (routine ∷ routines)) (sum_by-cons items_in_routine routine routines) (routine_grows known r spot routine) (routines_grow known (suc r) next routines)

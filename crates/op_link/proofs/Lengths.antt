@@ -24,7 +24,7 @@ use Rattle.op_link.specs.Linking.{program_code, start_code}
 Ends : Option (List Instr) → ℕ → ℕ → Type 0
 Ends found from to = (code : List Instr) → found ≡ Some code → from + 4 * length code ≡ to
 
-some_same : (x y : List Instr) → Some x ≡ Some y → x ≡ y
+pub some_same : {X : Type 0} (x y : X) → Some x ≡ Some y → x ≡ y
 some_same x y e = cc
 
 ends_some : (code : List Instr) (from to : ℕ) → from + 4 * length code ≡ to → Ends (Some code) from to

@@ -19,7 +19,7 @@ use Rattle.op_link.specs.Linking.{addresses_of, all_names_exist, code_padding, c
 use Rattle.op_link.specs.Loaded.{HasCode, HasCodeBy, IsLoaded, addresses_by, linked_sizes, sizes_by}
 use Rattle.op_link.proofs.Decoded.{program_decodes}
 use Rattle.op_link.proofs.Growth.{code_end}
-use Rattle.op_link.proofs.Lengths.{code_end_is, length-words_of}
+use Rattle.op_link.proofs.Lengths.{code_end_is, length-words_of, some_same}
 use Rattle.op_link.proofs.Loads.{fitting_loads}
 use Rattle.op_link.proofs.Mapped.{constants_from, fits, globals_from, length-constants, length-data, length-front}
 use Rattle.op_link.proofs.Standing.{all_stand}
@@ -51,9 +51,6 @@ zeros_at_most (global ∷ globals) =
     omega (arith, zero_at_most global, zeros_at_most globals, sum_by-cons zero_part global globals, sum_by-cons global_size global globals)
 
 -- ---- one attempt
-
-some_same : {X : Type 0} (x y : X) → Some x ≡ Some y → x ≡ y
-some_same x y e = cc
 
 record Found (f : List Instr → List ℕ) (found : Option (List Instr)) (image : List ℕ) : Type 0 where
   code : List Instr

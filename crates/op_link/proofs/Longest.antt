@@ -17,6 +17,7 @@ use Rattle.op_rv.specs.declared.symbol.BlockId.{BlockId}
 use Rattle.op_rv.specs.declared.symbol.RoutineId.{RoutineId}
 use Rattle.op_rv.specs.declared.symbol.Symbol.{Symbol}
 use Rattle.op_rv.specs.declared.symbol.Symbol.TheVariants.{Literal, Table, Descriptor, Global, Routine}
+use Rattle.op_link.proofs.Lengths.{some_same}
 use Rattle.op_link.specs.declared.addresses.Addresses.{Addresses}
 use Rattle.op_link.specs.declared.memory_map.Settings.{Settings}
 use Rattle.op_link.specs.declared.memory_map.Sizes.{Sizes}
@@ -48,9 +49,6 @@ some_within : {X : Type 0} (xs : List X) (i : ℕ) → i < length xs → is_some
 some_within [] i inside = absurd (let none : ⊥ = omega (arith, inside) in none)
 some_within (x ∷ xs) zero inside = refl
 some_within (x ∷ xs) (suc i) inside = some_within xs i (omega (arith, inside))
-
-some_same : {X : Type 0} (x y : X) → Some x ≡ Some y → x ≡ y
-some_same x y e = cc
 
 -- ---- addresses
 

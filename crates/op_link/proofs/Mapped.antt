@@ -34,13 +34,13 @@ globals_below : (sizes : Sizes) → globals_address sizes < constants_address si
 unfolding globals_address
 globals_below sizes = omega arith
 
-record InRange (settings : Settings) : Type 0 where
-  heap_least : 64 ≤ settings.heap
-  heap_most : settings.heap ≤ 262144
-  stack_least : 16 ≤ settings.stack
-  stack_most : settings.stack ≤ 65536
+pub record InRange (settings : Settings) : Type 0 where
+  pub heap_least : 64 ≤ settings.heap
+  pub heap_most : settings.heap ≤ 262144
+  pub stack_least : 16 ≤ settings.stack
+  pub stack_most : settings.stack ≤ 65536
 
-in_range : (settings : Settings) → IsTrue (are_in_range settings) → InRange settings
+pub in_range : (settings : Settings) → IsTrue (are_in_range settings) → InRange settings
 in_range settings is =
     let three = and_parts _ (nat_le settings.stack 65536) is in
     let two = and_parts _ (nat_le 16 settings.stack) three.0 in

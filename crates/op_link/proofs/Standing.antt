@@ -16,7 +16,7 @@ use Rattle.op_link.specs.Linking.{program_code, start_code}
 use Rattle.op_link.specs.Placing.{behind, behind_items, behind_routine, block_addresses, routine_place, routine_places, first_spot}
 use Rattle.op_link.specs.Reach.{block_in, head_in}
 use Rattle.op_link.specs.Standing.{StandsAt, ItemsStand, RoutineStands, AllStand}
-use Rattle.op_link.proofs.Lengths.{item_ends_at, items_end_at, routine_ends_at}
+use Rattle.op_link.proofs.Lengths.{item_ends_at, items_end_at, routine_ends_at, some_same}
 
 -- ---- joined code
 
@@ -26,9 +26,6 @@ record Both (a b : Option (List Instr)) (code : List Instr) : Type 0 where
   is_first : a ≡ Some first
   is_rest : b ≡ Some rest
   joined : code ≡ first ++ rest
-
-some_same : {X : Type 0} (x y : X) → Some x ≡ Some y → x ≡ y
-some_same x y e = cc
 
 both : (a b : Option (List Instr)) (code : List Instr) → then_code a b ≡ Some code → Both a b code
 both None b code is = absurd (cc)

@@ -9,13 +9,11 @@ use Rattle.op_rv.specs.declared.instruction.Instr.{Instr}
 use Rattle.op_rv.specs.declared.objects.Item.{Item}
 use Rattle.op_rv.specs.declared.objects.ObjectBlock.{ObjectBlock}
 use Rattle.op_rv.specs.declared.objects.ObjectRoutine.{ObjectRoutine}
+use Rattle.op_link.proofs.Lengths.{some_same}
 use Rattle.op_link.specs.declared.addresses.Addresses.{Addresses}
 use Rattle.op_link.specs.declared.place.Spot.{Spot}
 use Rattle.op_link.specs.Placing.{behind, behind_items, behind_routine}
 use Rattle.op_link.specs.Code.{then_code, words_of, written, item_code, items_code, blocks_code, routine_code, routines_code}
-
-some_same : {X : Type 0} (x y : X) → Some x ≡ Some y → x ≡ y
-some_same x y e = cc
 
 pub words-append : (a b : List Instr) → words_of (a ++ b) ≡ words_of a ++ words_of b
 words-append a b = flat_map-append (λ i. little_bytes 4 (word_of i)) a b
