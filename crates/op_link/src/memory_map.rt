@@ -98,6 +98,12 @@ impl Sizes {
 }
 
 impl Settings {
+    /// What a program gets that asks for nothing else.
+    pub const DEFAULT: Settings = Settings {
+        heap: 8192,
+        stack: 1024,
+    };
+
     /// The size of the stack's segment.
     fn stack_size(&self) -> u32
         requires { IsTrue (are_in_range self.now) }

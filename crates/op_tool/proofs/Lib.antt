@@ -3,8 +3,6 @@ pub mod Compiling
 pub mod Executing
 pub mod Failing
 pub mod Grows
-pub mod ImageLoads
-pub mod ImageRuns
 pub mod Lengths
 pub mod PartLemmas
 pub mod ProgramLemmas
@@ -12,5 +10,6 @@ pub mod ReadingLemmas
 pub mod Running
 pub mod RunningFiles
 pub mod Saying
+pub mod TextImage
+pub mod TextRuns
 pub mod Words
-pub mod WriterLemmas

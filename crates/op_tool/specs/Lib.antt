@@ -7,4 +7,4 @@ pub mod Owes
 pub mod Prints
 pub mod Reading
 pub mod Status
-pub mod Writer
+pub mod TextProgram

@@ -3,7 +3,7 @@ ghost use Rattle.std.specs.Prelude.{◌≡◌, ◌≤◌, List, ℕ, IfOk, IfErr
 ghost use Rattle.op_tool.specs.Compiles.{Compiles, FailsAs, RefusesBy};
 
 use crate::constant_lines::output_of;
-use crate::writer::write_image;
+use crate::text_program::text_image;
 use op_base::{
     FILE_MISSING, FileAnswer, Files, NOT_BUILT_YET, NoMemory, Place, Refusal, Rule, Text,
 };
@@ -74,7 +74,7 @@ pub fn compile<F: Files>(alloc: Global, files: &mut F, main: &str) -> Result<Vec
 {
     match files.read(alloc, main, MOST_BYTES)? {
         FileAnswer::Found(text) => match output_of(alloc, text.as_slice())? {
-            Some(output) => Ok(write_image(alloc, output.as_slice())?),
+            Some(output) => Ok(text_image(alloc, output)?),
             None => Err(refuse(alloc, main, NOT_BUILT_YET)),
         },
         FileAnswer::Long => Err(refuse(alloc, main, NOT_BUILT_YET)),

@@ -8,7 +8,7 @@ mod driver;
 mod finish;
 mod image_run;
 mod report;
-mod writer;
+mod text_program;
 
 pub use compiler::{CompileError, compile};
 pub use driver::tool;
