@@ -338,7 +338,7 @@ fn images_read_and_write(rt: HostRuntime) -> Result<(), Fail> {
 #[test]
 fn bad_images_are_told_by_their_condition(rt: HostRuntime) -> Result<(), Fail> {
     let built = say(rt.alloc(), &["exec", "h.pas"], SOUND)?.image;
-    for (size, condition) in [(0, 1), (51, 1), (52, 6), (83, 6), (115, 6)] {
+    for (size, condition) in [(0, 1), (51, 1), (52, 6), (83, 6), (243, 6), (244, 7)] {
         let cut = built.as_slice().get(..size).unwrap_or(b"".as_slice());
         let said = call(rt.alloc(), &["run", "i"], cut, SOUND)?;
         assert!(rt; said.finish == Finish::BadImage(condition), "{size}");
@@ -367,10 +367,12 @@ fn bad_images_are_told_by_their_condition(rt: HostRuntime) -> Result<(), Fail> {
 
 #[test]
 fn built_images_are_written(rt: HostRuntime) -> Result<(), Fail> {
-    let built = say(rt.alloc(), &["build", "h.pas"], narrow(8192))?;
+    let built = say(rt.alloc(), &["build", "h.pas"], narrow(16_384))?;
     assert!(rt; built.finish == Finish::Ended(0));
     assert_eq!(rt; built.out.bytes(), built.image.as_slice());
     assert_eq!(rt; built.err.bytes(), b"".as_slice());
+    let said = say(rt.alloc(), &["exec", "h.pas"], SOUND)?;
+    assert_eq!(rt; built.out.bytes(), said.image.as_slice());
     let said = call(rt.alloc(), &["run", "i"], built.out.bytes(), SOUND)?;
     assert!(rt; said.finish == Finish::Ended(0));
     assert_eq!(rt; said.out.bytes(), b"Hello\n".as_slice());

@@ -6,10 +6,9 @@ use Rattle.op_tool.proofs.Lengths.{output_within}
 use Rattle.op_tool.proofs.Compiling.{fails_other, other_text}
 use Rattle.op_tool.proofs.compiler.compile.Goals as goal
 
-pub write_image-requires : goal.write_image-requires
-write_image-requires g c =
-    let writes = subst (λ found. MatchOption found ((texts : List (List ℕ)) → IsConstantLines c.as_slice.result.now texts → ⊥) (Writes c.as_slice.result.now)) c.in-Some.is c.in_ok-output-in-Found.ensures in
-    subst (λ bytes. length bytes ≤ 65536) (sym c.as_slice-in-Some.ensures) (output_within c.as_slice.result.now c.in-Some.output writes)
+pub text_image-requires : goal.text_image-requires
+text_image-requires g c =
+    output_within c.as_slice.result.now c.in-Some.output (subst (λ found. MatchOption found ((texts : List (List ℕ)) → IsConstantLines c.as_slice.result.now texts → ⊥) (Writes c.as_slice.result.now)) c.in-Some.is c.in_ok-output-in-Found.ensures)
 
 pub returns-in-Found-clause-failed : goal.returns-in-Found-clause-failed
 returns-in-Found-clause-failed g c =
