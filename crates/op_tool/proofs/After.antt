@@ -19,10 +19,6 @@ step-ended : (s : State) (status : ℕ) → s.ending ≡ Ended status → step s
 unfolding step step_by_ending
 step-ended s status is = ap (λ ending. step_by_ending ending s) is
 
-step-faulted : (s : State) (kind : FaultKind) (pc : ℕ) → s.ending ≡ Faulted kind pc → step s ≡ s
-unfolding step step_by_ending
-step-faulted s kind pc is = ap (λ ending. step_by_ending ending s) is
-
 pub after-ended : (n : ℕ) (s : State) (status : ℕ) → s.ending ≡ Ended status → after n s ≡ s
 unfolding after
 after-ended zero s status is = refl
@@ -34,24 +30,3 @@ pub after-from_end : (m n : ℕ) (s : State) (status : ℕ) → (after m s).endi
 after-from_end m n s status is le =
     let e : n ≡ m + (n - m) = omega arith in
     ap (λ k. after k s) e ∙ after-add m (n - m) s ∙ after-ended (n - m) (after m s) status is
-
-ended_not_faulted : (status : ℕ) (kind : FaultKind) (pc : ℕ) → Ended status ≡ Faulted kind pc → ⊥
-ended_not_faulted status kind pc is = cc
-
-pub after-faulted : (n : ℕ) (s : State) (kind : FaultKind) (pc : ℕ) → s.ending ≡ Faulted kind pc → after n s ≡ s
-unfolding after
-after-faulted zero s kind pc is = refl
-after-faulted (suc n) s kind pc is =
-    ap (after n) (step-faulted s kind pc is) ∙ after-faulted n s kind pc is
-
-faults_not : (m n : ℕ) (s : State) (status : ℕ) (kind : FaultKind) (pc : ℕ) → (after m s).ending ≡ Ended status → (after n s).ending ≡ Faulted kind pc → ((m < n) ⊎ (n ≤ m)) → ⊥
-faults_not m n s status kind pc ends faults (inl later) =
-    ended_not_faulted status kind pc (sym ends ∙ ap (λ s. s.ending) (sym (after-from_end m n s status ends (omega arith))) ∙ faults)
-faults_not m n s status kind pc ends faults (inr earlier) =
-    let e : m ≡ n + (m - n) = omega arith in
-    let stays : after m s ≡ after n s = ap (λ k. after k s) e ∙ after-add n (m - n) s ∙ after-faulted (m - n) (after n s) kind pc faults in
-    ended_not_faulted status kind pc (sym ends ∙ ap (λ s. s.ending) stays ∙ faults)
-
--- a run that ends never faults
-pub never_faults_by : (m n : ℕ) (s : State) (status : ℕ) (kind : FaultKind) (pc : ℕ) → (after m s).ending ≡ Ended status → (after n s).ending ≡ Faulted kind pc → ⊥
-never_faults_by m n s status kind pc ends faults = faults_not m n s status kind pc ends faults (cases_lt m n)

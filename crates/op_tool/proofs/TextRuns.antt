@@ -1,5 +1,5 @@
 -- The low code that writes a text writes it and ends.
-use Rattle.std.proofs.Common.{◌≡◌, ℕ, zero, suc, ◌+◌, ◌-◌, ◌<◌, ◌≤◌, Bool, true, ◌&&◌, nat_lt, List, [], ◌∷◌, length, drop, refl, ap, sym, ◌∙◌, arith}
+use Rattle.std.proofs.Common.{◌≡◌, ℕ, zero, suc, ◌+◌, ◌<◌, ◌≤◌, Bool, true, ◌&&◌, nat_lt, List, [], ◌∷◌, length, drop, refl, ap, sym, ◌∙◌, arith}
 use Rattle.std.proofs.lemmas.Bool.Decides.{nat_tests}
 use Rattle.op_low.proofs.MachineLemmas.{stopped_halts}
 use Rattle.op_low.specs.Machine.{NeverBad, low_machine, start, step, step_by_ending, done, act, write, written, cost, cost_by}
@@ -62,7 +62,10 @@ pub record WritesText (low : Low) (p : Placement) (m : State) (text input : List
   pub cost : spent (low_machine low p) 5 m ≡ 5
 
 -- if the text stands at the address of the first literal, below the bottom of the stack, and may be read
-module _ (text input : List ℕ) (p : Placement) (at bottom room : ℕ) (memory : ℕ → ℕ) (address : p.address (Literal (record { 0 = 0 })) ≡ at) (readable : (x : ℕ) → at ≤ x → x < at + length text → p.rights.readable x ≡ true) (below : at + length text ≤ bottom) (stands : bytes_from memory at (length text) ≡ text) where
+module _ (text input : List ℕ) (p : Placement) (bottom room : ℕ) (memory : ℕ → ℕ) (readable : (x : ℕ) → p.address (Literal (record { 0 = 0 })) ≤ x → x < p.address (Literal (record { 0 = 0 })) + length text → p.rights.readable x ≡ true) (below : p.address (Literal (record { 0 = 0 })) + length text ≤ bottom) (stands : bytes_from memory (p.address (Literal (record { 0 = 0 }))) (length text) ≡ text) where
+  abbrev at : ℕ
+  at = p.address (Literal (record { 0 = 0 }))
+
   abbrev low : Low
   low = text_program (length text)
 
@@ -82,8 +85,7 @@ module _ (text input : List ℕ) (p : Placement) (at bottom room : ℕ) (memory 
   writes_text : step low p before ≡ behind
   unfolding start step step_by_ending done act
   writes_text =
-      ap (λ a. write p Console a (length text) under_way) address
-      ∙ writes p Console at (length text) under_way text
+      writes p Console at (length text) under_way text
       (all_usable p.rights.readable under_way at (length text) readable (omega arith))
       (bytes_same memory (with_bytes memory bottom []) at (length text) (λ x from under. with_bytes-below memory bottom [] x (omega arith)) ∙ stands)
 

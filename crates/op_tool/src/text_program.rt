@@ -49,7 +49,11 @@ fn text_program(alloc: Global, length: u32) -> Result<Low, AllocError>
     ensures { IfOk result (λ low. low ≡ text_program length) }
 {
     let code = text_code(alloc, length)?;
-    let blocks = vec![in alloc; Block { code: Sequence::from(code) }]?;
+    let blocks = vec![in alloc;
+        Block {
+            code: Sequence::from(code)
+        },
+    ]?;
     let entry = Routine {
         parameters: 0,
         registers: 2,

@@ -1,4 +1,4 @@
-use Rattle.std.proofs.Common.{◌≡◌, ◌∙◌, ◌≤◌, true, ap, length, refl, arith}
+use Rattle.std.proofs.Common.{◌≡◌, ◌∙◌, ◌≤◌, true, ap, length, arith}
 use Rattle.op_image.specs.Building.{is_buildable}
 use Rattle.op_image.specs.Means.{Means}
 use Rattle.op_link.specs.Linking.{linked_size}
