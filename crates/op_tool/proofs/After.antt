@@ -1,8 +1,6 @@
 -- Runs of the machine's definition: they compose, and one that is over stays.
-use Rattle.std.proofs.Common.{◌≡◌, ℕ, zero, suc, ◌+◌, ◌-◌, ◌<◌, ◌≤◌, ◌⊎◌, inl, inr, refl, ap, sym, ◌∙◌, arith}
-use Rattle.std.proofs.lemmas.Bool.{cases_lt}
-use Rattle.op_rv.specs.State.{State, Ended, Faulted}
-use Rattle.op_rv.specs.declared.fault.FaultKind.{FaultKind}
+use Rattle.std.proofs.Common.{◌≡◌, ℕ, zero, suc, ◌+◌, ◌-◌, ◌≤◌, refl, ap, ◌∙◌, arith}
+use Rattle.op_rv.specs.State.{State, Ended}
 use Rattle.op_rv.specs.Step.{step, step_by_ending, after}
 
 pub after-add : (m n : ℕ) (s : State) → after (m + n) s ≡ after n (after m s)

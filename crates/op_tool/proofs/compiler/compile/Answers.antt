@@ -1,4 +1,4 @@
-use Rattle.std.proofs.Common.{◌≡◌, ◌≤◌, List, ℕ, length}
+use Rattle.std.proofs.Common.{◌≡◌, List, ℕ}
 use Rattle.std.proofs.Common.{subst, sym, MatchOption, IfSome, Some}
 use Rattle.op_base.specs.FileAnswer.{Answers, file_named}
 use Rattle.op_tool.specs.ConstantLines.{IsConstantLines, Writes}
