@@ -1,4 +1,4 @@
-use Rattle.std.proofs.Common.{true, false, [], refl, sym, ◌∙◌, arith, rules}
+use Rattle.std.proofs.Common.{[], refl, sym, ◌∙◌, arith}
 use Rattle.op_parse_code.proofs.Branches.{branches_list, led_ends, led_lead, led_body, led_stops, led_more, led_last, case_whole, case_else_whole, CaseBranches, case_refuses, list_first, list_end, list_else}
 use Rattle.op_parse_code.proofs.Calls.{designator_statement}
 use Rattle.op_parse_code.proofs.Errors.{passed, ok_weaker, err_weaker}
