@@ -1,30 +1,28 @@
 -- Statements that hold no statement.
-use Rattle.std.proofs.Common.{◌≡◌, ℕ, Bool, true, false, List, [], ◌∷◌, ◌++◌, Option, Some, None, codes, map, refl, sym, ap, ◌∙◌, subst}
+use Rattle.std.proofs.Common.{◌≡◌, ℕ, Bool, true, false, List, [], ◌∷◌, Option, Some, None, codes, map, refl, sym, ap, ◌∙◌, subst}
 use Rattle.std.specs.Char.{to_ascii_lowercase}
 use Rattle.op_base.specs.declared.place.Place.{Place}
-use Rattle.op_parse_code.proofs.Cuts.{cut_seen, same_not}
-use Rattle.op_parse_code.proofs.ExpressionKnown.{known_chain}
 use Rattle.op_parse_code.proofs.Factors.{same_begins}
-use Rattle.op_parse_code.proofs.Lists.{Open, SplitsOpen, open_item, open_more, kind_same}
+use Rattle.op_parse_code.proofs.Lists.{Open, SplitsOpen, open_more, kind_same}
 use Rattle.op_parse_code.proofs.Names.{word_kind}
 use Rattle.op_parse_code.proofs.Refusing.{Some_, Seq, refuses_map, refuses_first, refuses_behind}
 use Rattle.op_parse_code.proofs.StatementKnown.{known_designator}
-use Rattle.op_parse_code.specs.Form.{Form, HasForm, is_raise_at}
+use Rattle.op_parse_code.specs.Form.{Form, is_raise_at}
 use Rattle.op_parse_code.specs.Opening.{is_word, spelled}
-use Rattle.op_parse_code.specs.Refusal.{Phrase, SameHead, Refuses, left_out, refused_at}
+use Rattle.op_parse_code.specs.Refusal.{Phrase, Refuses, left_out, refused_at}
 use Rattle.op_parse_code.specs.Whole.{Chain, Marked, NoMark, SomeDesignator}
 use Rattle.op_parse_code.specs.WholeStatement.{SomeCall, Behind, front_is}
 use Rattle.op_parse_code.specs.declared.error.ParseError.{ParseError}
 use Rattle.op_parse_code.specs.declared.mark.Mark.TheVariants as mark
 use Rattle.op_scan.specs.declared.token.TokenKind.{TokenKind}
 use Rattle.op_scan.specs.declared.token.TokenKind.TheVariants as kind
-use Rattle.op_tree.proofs.ExpressionUnique.{Begins, chain_begins, designator_begins, true_false, false_true}
+use Rattle.op_tree.proofs.ExpressionUnique.{Begins, designator_begins, true_false, false_true}
 use Rattle.op_tree.proofs.StatementUnique.{both}
-use Rattle.op_tree.specs.Ends.{IsNot, begins_statement, begins_designator, begins_expression, begins_selector, is_assign, EndsExpr}
+use Rattle.op_tree.specs.Ends.{IsNot, begins_statement, begins_designator, begins_expression, is_assign}
 use Rattle.op_tree.specs.Expression.{Expression, Designator}
 use Rattle.op_tree.specs.ExpressionGrammar.{IsChain, IsDesignator}
 use Rattle.op_tree.specs.Statement.{Statement, call, assign, raise, reraise, inherited, inherited_call}
-use Rattle.op_tree.specs.StatementGrammar.{IsStatement, is_empty, is_block, is_if_then, is_if_else, is_while, is_repeat, is_for_to, is_for_in, is_call, is_assignment, is_case, is_case_else, is_try_finally, is_try_except, is_try_on, is_try_on_else, is_raise, is_reraise, is_inherited, is_inherited_call}
+use Rattle.op_tree.specs.StatementGrammar.{is_empty, is_call, is_assignment, is_raise, is_reraise, is_inherited, is_inherited_call}
 use Rattle.op_tree.specs.Terminal.{Terminal, ◌at◌}
 use Rattle.op_tree.specs.declared.operator.Level.TheVariants.{Relational}
 use Rattle.op_tree.specs.declared.position.Position.{Position}
@@ -81,23 +79,7 @@ into_call : (d : ℕ) (s : Statement) (ks r : List Terminal) → Begins begins_d
 into_call d s ks r b (is_empty, t) = no_designator ks b t
 into_call d s ks r b (is_call {g = g} f, t) = ((g, None), r, (r, (f, t.0), assign_mark r t.1))
 into_call d s ks r b (is_assignment {g = g} {e = e} {p = p} {m = m} f h, t) = ((g, Some e), r, (kind.Assign at p ∷ m, (f, refl), (p, m, refl, (h, t))))
-into_call d s ks r b (is_block f, t) = false_true b
-into_call d s ks r b (is_if_then e f, t) = false_true b
-into_call d s ks r b (is_if_else e f c g, t) = false_true b
-into_call d s ks r b (is_case e f, t) = false_true b
-into_call d s ks r b (is_case_else e f g, t) = false_true b
-into_call d s ks r b (is_while e f, t) = false_true b
-into_call d s ks r b (is_repeat e f, t) = false_true b
-into_call d s ks r b (is_for_to n e w f g, t) = false_true b
-into_call d s ks r b (is_for_in n e f, t) = false_true b
-into_call d s ks r b (is_try_finally f g, t) = false_true b
-into_call d s ks r b (is_try_except f g, t) = false_true b
-into_call d s ks r b (is_try_on f g, t) = false_true b
-into_call d s ks r b (is_try_on_else f g h, t) = false_true b
-into_call d s ks r b (is_raise e, t) = false_true b
-into_call d s ks r b (is_reraise, t) = false_true b
-into_call d s ks r b (is_inherited, t) = false_true b
-into_call d s ks r b (is_inherited_call g, t) = false_true b
+into_call d s ks r b (other, t) = false_true b
 
 pub call_target : (d : ℕ) (end : Place) (ks : List Terminal) (e : ParseError) → Begins begins_designator ks → Refuses SomeDesignator d end ks e → Refuses SomeCall d end ks e
 call_target d end ks e b h = refuses_map SeqCall SomeCall d end ks e (λ d' s ls r x f. into_call d' s ls r (same_begins begins_designator ks ls x b) f) (refuses_first SomeDesignator (Open (Chain Relational) mark.Assign) d end ks e h)

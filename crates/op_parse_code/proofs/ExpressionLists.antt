@@ -1,14 +1,14 @@
 -- Lists of elements, of arguments and of indices.
-use Rattle.std.proofs.Common.{◌≡◌, ℕ, List, [], ◌∷◌, ◌++◌, Option, Some, None, refl, sym, ap, ◌∙◌, subst}
+use Rattle.std.proofs.Common.{◌≡◌, ℕ, List, ◌∷◌, ◌++◌, Option, Some, None, refl, sym, ap, ◌∙◌, subst}
 use Rattle.op_base.specs.declared.place.Place.{Place}
 use Rattle.op_parse_code.proofs.ExpressionKnown.{known_chain, known_element, known_argument}
-use Rattle.op_parse_code.proofs.Lists.{Splits, kind_same, list_item, list_close, list_more}
+use Rattle.op_parse_code.proofs.Lists.{Splits, Listed, kind_same}
 use Rattle.op_parse_code.proofs.Refusing.{Some_, Seq, refuses_map, refuses_first, refuses_after, refuses_behind, no_mark_same}
 use Rattle.op_parse_code.proofs.Cuts.{cut_seen}
 use Rattle.op_parse_code.specs.Form.{Form, is_fraction_width}
 use Rattle.op_parse_code.specs.Opening.{kind_of}
 use Rattle.op_parse_code.specs.Refusal.{SameHead, Refuses, left_out, refused_at}
-use Rattle.op_parse_code.specs.Whole.{Chain, Marked, NoMark, SomeElement, SomeArgument, ElementsBefore, ArgumentsBefore, IndicesBefore, ClosesElements, closes_set, closes_labels, InsideSet, no_inside, some_inside, InsideCall, no_arguments_inside, arguments_inside}
+use Rattle.op_parse_code.specs.Whole.{Chain, NoMark, SomeElement, SomeArgument, ElementsBefore, ArgumentsBefore, IndicesBefore, ClosesElements, closes_set, closes_labels, InsideSet, no_inside, some_inside, InsideCall, no_arguments_inside, arguments_inside}
 use Rattle.op_parse_code.specs.declared.error.ParseError.{ParseError}
 use Rattle.op_parse_code.specs.declared.mark.Mark.{Mark}
 use Rattle.op_parse_code.specs.declared.mark.Mark.TheVariants as mark
@@ -27,21 +27,6 @@ use Rattle.op_tree.specs.declared.operator.Level.TheVariants.{Relational}
 use Rattle.op_tree.specs.declared.position.Position.{Position}
 
 -- ---- marks are apart
-
-bracket_no_range : kind.CloseBracket ≡ kind.DotDot → ⊥
-bracket_no_range h = absurd cc
-
-colon_no_range : kind.Colon ≡ kind.DotDot → ⊥
-colon_no_range h = absurd cc
-
-comma_is_no_range : kind.Comma ≡ kind.DotDot → ⊥
-comma_is_no_range h = absurd cc
-
-close_is_no_colon : kind.CloseParenthesis ≡ kind.Colon → ⊥
-close_is_no_colon h = absurd cc
-
-comma_is_no_colon : kind.Comma ≡ kind.Colon → ⊥
-comma_is_no_colon h = absurd cc
 
 -- ---- one element
 
@@ -81,111 +66,60 @@ element_range d a b ks m p after r f is g = (p, after, subst (λ z. Chain Relati
 
 -- ---- elements
 
-abbrev pub elements_before : List RustElement → Elements → Elements
-elements_before [] more = more
-elements_before (x ∷ xs) more = elements (element_of x) (elements_before xs more)
-
-elements_none : (xs : List RustElement) → elements_before xs no_elements ≡ elements_of xs
-elements_none [] = refl
-elements_none (x ∷ xs) = ap (elements (element_of x)) (elements_none xs)
-
-elements_push : (xs : List RustElement) (x : RustElement) (more : Elements) → elements_before (xs ++ (x ∷ [])) more ≡ elements_before xs (elements (element_of x) more)
-elements_push [] x more = refl
-elements_push (y ∷ xs) x more = ap (elements (element_of y)) (elements_push xs x more)
+abbrev pub add_element : RustElement → Elements → Elements
+add_element x more = elements (element_of x) more
 
 closes_stops : (close : Mark) → ClosesElements close → (p : Position) (r : List Terminal) → Stops (kind_of close at p ∷ r)
 closes_stops close closes_set p r = (refl, refl)
 closes_stops close closes_labels p r = (refl, refl)
 
 closes_no_range : (close : Mark) → ClosesElements close → (p : Position) (r : List Terminal) → NoMark mark.DotDot (kind_of close at p ∷ r)
-closes_no_range close closes_set p r = λ q s h. bracket_no_range (kind_same h)
-closes_no_range close closes_labels p r = λ q s h. colon_no_range (kind_same h)
+closes_no_range close closes_set p r = λ q s h. let clash : kind.CloseBracket ≡ kind.DotDot = kind_same h in absurd cc
+closes_no_range close closes_labels p r = λ q s h. let clash : kind.Colon ≡ kind.DotDot = kind_same h in absurd cc
 
 closes_no_comma : (close : Mark) → ClosesElements close → kind.Comma ≡ kind_of close → ⊥
 closes_no_comma close closes_set h = absurd cc
 closes_no_comma close closes_labels h = absurd cc
 
 comma_no_range : (p : Position) (r : List Terminal) → NoMark mark.DotDot (kind.Comma at p ∷ r)
-comma_no_range p r = λ q s h. comma_is_no_range (kind_same h)
+comma_no_range p r = λ q s h. let clash : kind.Comma ≡ kind.DotDot = kind_same h in absurd cc
 
 elements_split : (close : Mark) → ClosesElements close → Splits SomeElement (ElementsBefore close) mark.Comma close
 elements_split close c d x ls r (p, are_one_element {e = e} f) = ((e, None), r, (kind_of close at p ∷ r, element_before d e ls close p r (closes_stops close c p r) (closes_no_range close c p r) f, (p, refl)))
 elements_split close c d x ls r (p, are_elements {e = e} {es = es} {p = q} {m = m} f g) = ((e, Some es), r, (kind.Comma at q ∷ m, element_before d e ls mark.Comma q m (refl, refl) (comma_no_range q m) f, (q, m, refl, (p, g))))
 
--- the elements that are read so far, and what is left
-pub record Enumerating (close : Mark) (d : ℕ) (end : Place) (all : List Terminal) (xs : List RustElement) (rest : List Terminal) : Type 0 where
-  pub completes : (more : Elements) (r : List Terminal) → ElementsBefore close d more rest r → ElementsBefore close d (elements_before xs more) all r
-  pub dies : (e : ParseError) → Refuses (ElementsBefore close) d end rest e → Refuses (ElementsBefore close) d end all e
-
-pub enumerating_none : (close : Mark) (d : ℕ) (end : Place) (all : List Terminal) → Enumerating close d end all [] all
-enumerating_none close d end all = record { completes = λ more r x. x; dies = λ e x. x }
-
-pub enumerating_item : (close : Mark) (d : ℕ) (end : Place) (all rest : List Terminal) (xs : List RustElement) (e : ParseError) → ClosesElements close → Enumerating close d end all xs rest → Refuses SomeElement d end rest e → Refuses (ElementsBefore close) d end all e
-enumerating_item close d end all rest xs e c so_far h = so_far.dies e (list_item SomeElement (ElementsBefore close) mark.Comma close d end rest e (elements_split close c) h)
-
-pub enumerating_close : (close : Mark) (d : ℕ) (end : Place) (all rest m : List Terminal) (xs : List RustElement) (x : Element) (e : ParseError) → ClosesElements close → Enumerating close d end all xs rest → SomeElement d x rest m → NoMark mark.Comma m → Refuses (Marked close) d end m e → Refuses (ElementsBefore close) d end all e
-enumerating_close close d end all rest m xs x e c so_far f none h = so_far.dies e (list_close SomeElement (ElementsBefore close) mark.Comma close d end x rest m e (elements_split close c) known_element f none h)
-
-pub enumerating_more : (close : Mark) (d : ℕ) (end : Place) (all rest m : List Terminal) (xs : List RustElement) (x : RustElement) (p : Position) (after : List Terminal) → ClosesElements close → Enumerating close d end all xs rest → SomeElement d (element_of x) rest m → m ≡ kind.Comma at p ∷ after → Enumerating close d end all (xs ++ (x ∷ [])) after
-enumerating_more close d end all rest m xs x p after c so_far f is =
-    let g : SomeElement d (element_of x) rest (kind.Comma at p ∷ after) = subst (λ z. SomeElement d (element_of x) rest z) is f in
-    record {
-      completes = λ more r h. subst (λ z. ElementsBefore close d z all r) (sym (elements_push xs x more)) (so_far.completes _ r (h.0, are_elements (element_is d (element_of x) rest _ g) h.1));
-      dies = λ e h. so_far.dies e (list_more SomeElement (ElementsBefore close) mark.Comma close d end (element_of x) rest after p e (elements_split close c) known_element (closes_no_comma close c) g h);
-    }
-
-pub enumerating_ends : (close : Mark) (d : ℕ) (end : Place) (all rest m : List Terminal) (xs : List RustElement) (x : RustElement) (p : Position) (after : List Terminal) → Enumerating close d end all xs rest → SomeElement d (element_of x) rest m → m ≡ kind_of close at p ∷ after → ElementsBefore close d (elements_of (xs ++ (x ∷ []))) all after
-enumerating_ends close d end all rest m xs x p after so_far f is =
-    let g : SomeElement d (element_of x) rest (kind_of close at p ∷ after) = subst (λ z. SomeElement d (element_of x) rest z) is f in
-    subst (λ z. ElementsBefore close d z all after) (sym (elements_push xs x no_elements) ∙ elements_none (xs ++ (x ∷ []))) (so_far.completes _ after (p, are_one_element (element_is d (element_of x) rest _ g)))
+pub elements_list : (close : Mark) → ClosesElements close → Listed SomeElement (ElementsBefore close) mark.Comma close element_of add_element elements_of
+elements_list close c = record {
+  none = no_elements;
+  known = known_element;
+  split = elements_split close c;
+  apart = closes_no_comma close c;
+  one = λ d x ks r p f. (p, are_one_element (element_is d (element_of x) ks _ f));
+  next = λ d x more ks m r p f g. (g.0, are_elements (element_is d (element_of x) ks _ f) g.1);
+  empty = refl;
+  added = λ x xs. refl;
+}
 
 -- ---- indices
 
-abbrev pub indices_before : List Expr → Expressions → Expressions
-indices_before [] more = more
-indices_before (x ∷ xs) more = expressions (expr_of x) (indices_before xs more)
-
-indices_none : (xs : List Expr) → indices_before xs no_expressions ≡ expressions_of xs
-indices_none [] = refl
-indices_none (x ∷ xs) = ap (expressions (expr_of x)) (indices_none xs)
-
-indices_push : (xs : List Expr) (x : Expr) (more : Expressions) → indices_before (xs ++ (x ∷ [])) more ≡ indices_before xs (expressions (expr_of x) more)
-indices_push [] x more = refl
-indices_push (y ∷ xs) x more = ap (expressions (expr_of y)) (indices_push xs x more)
-
-no_comma_closes : kind.Comma ≡ kind.CloseBracket → ⊥
-no_comma_closes h = absurd cc
+abbrev pub add_index : Expr → Expressions → Expressions
+add_index x more = expressions (expr_of x) more
 
 indices_split : Splits (Chain Relational) IndicesBefore mark.Comma mark.CloseBracket
 indices_split d x ls r (p, are_one_expression {e = e} f) = ((e, None), r, (kind.CloseBracket at p ∷ r, (f, stop e _ (refl, refl)), (p, refl)))
 indices_split d x ls r (p, are_expressions {e = e} {es = es} {p = q} {m = m} f g) = ((e, Some es), r, (kind.Comma at q ∷ m, (f, stop e _ (refl, refl)), (q, m, refl, (p, g))))
 
--- the indices that are read so far, and what is left
-pub record Indexing (d : ℕ) (end : Place) (all : List Terminal) (xs : List Expr) (rest : List Terminal) : Type 0 where
-  pub completes : (more : Expressions) (r : List Terminal) → IndicesBefore d more rest r → IndicesBefore d (indices_before xs more) all r
-  pub dies : (e : ParseError) → Refuses IndicesBefore d end rest e → Refuses IndicesBefore d end all e
-
-pub indexing_none : (d : ℕ) (end : Place) (all : List Terminal) → Indexing d end all [] all
-indexing_none d end all = record { completes = λ more r x. x; dies = λ e x. x }
-
-pub indexing_item : (d : ℕ) (end : Place) (all rest : List Terminal) (xs : List Expr) (e : ParseError) → Indexing d end all xs rest → Refuses (Chain Relational) d end rest e → Refuses IndicesBefore d end all e
-indexing_item d end all rest xs e so_far h = so_far.dies e (list_item (Chain Relational) IndicesBefore mark.Comma mark.CloseBracket d end rest e indices_split h)
-
-pub indexing_close : (d : ℕ) (end : Place) (all rest m : List Terminal) (xs : List Expr) (x : Expression) (e : ParseError) → Indexing d end all xs rest → Chain Relational d x rest m → NoMark mark.Comma m → Refuses (Marked mark.CloseBracket) d end m e → Refuses IndicesBefore d end all e
-indexing_close d end all rest m xs x e so_far f none h = so_far.dies e (list_close (Chain Relational) IndicesBefore mark.Comma mark.CloseBracket d end x rest m e indices_split (known_chain Relational) f none h)
-
-pub indexing_more : (d : ℕ) (end : Place) (all rest m : List Terminal) (xs : List Expr) (x : Expr) (p : Position) (after : List Terminal) → Indexing d end all xs rest → Chain Relational d (expr_of x) rest m → m ≡ kind.Comma at p ∷ after → Indexing d end all (xs ++ (x ∷ [])) after
-indexing_more d end all rest m xs x p after so_far f is =
-    let g : Chain Relational d (expr_of x) rest (kind.Comma at p ∷ after) = subst (λ z. Chain Relational d (expr_of x) rest z) is f in
-    record {
-      completes = λ more r h. subst (λ z. IndicesBefore d z all r) (sym (indices_push xs x more)) (so_far.completes _ r (h.0, are_expressions g.0 h.1));
-      dies = λ e h. so_far.dies e (list_more (Chain Relational) IndicesBefore mark.Comma mark.CloseBracket d end (expr_of x) rest after p e indices_split (known_chain Relational) no_comma_closes g h);
-    }
-
-pub indexing_ends : (d : ℕ) (end : Place) (all rest m : List Terminal) (xs : List Expr) (x : Expr) (p : Position) (after : List Terminal) → Indexing d end all xs rest → Chain Relational d (expr_of x) rest m → m ≡ kind.CloseBracket at p ∷ after → IndicesBefore d (expressions_of (xs ++ (x ∷ []))) all after
-indexing_ends d end all rest m xs x p after so_far f is =
-    let g : Chain Relational d (expr_of x) rest (kind.CloseBracket at p ∷ after) = subst (λ z. Chain Relational d (expr_of x) rest z) is f in
-    subst (λ z. IndicesBefore d z all after) (sym (indices_push xs x no_expressions) ∙ indices_none (xs ++ (x ∷ []))) (so_far.completes _ after (p, are_one_expression g.0))
+pub indices_list : Listed (Chain Relational) IndicesBefore mark.Comma mark.CloseBracket expr_of add_index expressions_of
+indices_list = record {
+  none = no_expressions;
+  known = known_chain Relational;
+  split = indices_split;
+  apart = λ h. absurd cc;
+  one = λ d x ks r p f. (p, are_one_expression f.0);
+  next = λ d x more ks m r p f g. (g.0, are_expressions f.0 g.1);
+  empty = refl;
+  added = λ x xs. refl;
+}
 
 -- ---- one argument
 
@@ -230,57 +164,30 @@ argument_digits d end a b ks m p q after r s e f is g is1 x =
 
 -- ---- arguments
 
-abbrev pub arguments_before : List RustArgument → Arguments → Arguments
-arguments_before [] more = more
-arguments_before (x ∷ xs) more = arguments (argument_of x) (arguments_before xs more)
-
-arguments_none : (xs : List RustArgument) → arguments_before xs no_arguments ≡ arguments_of xs
-arguments_none [] = refl
-arguments_none (x ∷ xs) = ap (arguments (argument_of x)) (arguments_none xs)
-
-arguments_push : (xs : List RustArgument) (x : RustArgument) (more : Arguments) → arguments_before (xs ++ (x ∷ [])) more ≡ arguments_before xs (arguments (argument_of x) more)
-arguments_push [] x more = refl
-arguments_push (y ∷ xs) x more = ap (arguments (argument_of y)) (arguments_push xs x more)
-
-comma_no_close : kind.Comma ≡ kind.CloseParenthesis → ⊥
-comma_no_close h = absurd cc
+abbrev pub add_argument : RustArgument → Arguments → Arguments
+add_argument x more = arguments (argument_of x) more
 
 close_no_colon : (p : Position) (r : List Terminal) → NoMark mark.Colon (kind.CloseParenthesis at p ∷ r)
-close_no_colon p r = λ q s h. close_is_no_colon (kind_same h)
+close_no_colon p r = λ q s h. let clash : kind.CloseParenthesis ≡ kind.Colon = kind_same h in absurd cc
 
 comma_no_colon : (p : Position) (r : List Terminal) → NoMark mark.Colon (kind.Comma at p ∷ r)
-comma_no_colon p r = λ q s h. comma_is_no_colon (kind_same h)
+comma_no_colon p r = λ q s h. let clash : kind.Comma ≡ kind.Colon = kind_same h in absurd cc
 
 arguments_split : Splits SomeArgument ArgumentsBefore mark.Comma mark.CloseParenthesis
 arguments_split d x ls r (p, are_one_argument {a = a} f) = ((a, None), r, (kind.CloseParenthesis at p ∷ r, argument_before d a ls mark.CloseParenthesis p r (refl, refl) (close_no_colon p r) f, (p, refl)))
 arguments_split d x ls r (p, are_arguments {a = a} {args = args} {p = q} {m = m} f g) = ((a, Some args), r, (kind.Comma at q ∷ m, argument_before d a ls mark.Comma q m (refl, refl) (comma_no_colon q m) f, (q, m, refl, (p, g))))
 
--- the arguments that are read so far, and what is left
-pub record Arguing (d : ℕ) (end : Place) (all : List Terminal) (xs : List RustArgument) (rest : List Terminal) : Type 0 where
-  pub completes : (more : Arguments) (r : List Terminal) → ArgumentsBefore d more rest r → ArgumentsBefore d (arguments_before xs more) all r
-  pub dies : (e : ParseError) → Refuses ArgumentsBefore d end rest e → Refuses ArgumentsBefore d end all e
-
-pub arguing_none : (d : ℕ) (end : Place) (all : List Terminal) → Arguing d end all [] all
-arguing_none d end all = record { completes = λ more r x. x; dies = λ e x. x }
-
-pub arguing_item : (d : ℕ) (end : Place) (all rest : List Terminal) (xs : List RustArgument) (e : ParseError) → Arguing d end all xs rest → Refuses SomeArgument d end rest e → Refuses ArgumentsBefore d end all e
-arguing_item d end all rest xs e so_far h = so_far.dies e (list_item SomeArgument ArgumentsBefore mark.Comma mark.CloseParenthesis d end rest e arguments_split h)
-
-pub arguing_close : (d : ℕ) (end : Place) (all rest m : List Terminal) (xs : List RustArgument) (x : Argument) (e : ParseError) → Arguing d end all xs rest → SomeArgument d x rest m → NoMark mark.Comma m → Refuses (Marked mark.CloseParenthesis) d end m e → Refuses ArgumentsBefore d end all e
-arguing_close d end all rest m xs x e so_far f none h = so_far.dies e (list_close SomeArgument ArgumentsBefore mark.Comma mark.CloseParenthesis d end x rest m e arguments_split known_argument f none h)
-
-pub arguing_more : (d : ℕ) (end : Place) (all rest m : List Terminal) (xs : List RustArgument) (x : RustArgument) (p : Position) (after : List Terminal) → Arguing d end all xs rest → SomeArgument d (argument_of x) rest m → m ≡ kind.Comma at p ∷ after → Arguing d end all (xs ++ (x ∷ [])) after
-arguing_more d end all rest m xs x p after so_far f is =
-    let g : SomeArgument d (argument_of x) rest (kind.Comma at p ∷ after) = subst (λ z. SomeArgument d (argument_of x) rest z) is f in
-    record {
-      completes = λ more r h. subst (λ z. ArgumentsBefore d z all r) (sym (arguments_push xs x more)) (so_far.completes _ r (h.0, are_arguments (argument_is d (argument_of x) rest _ g) h.1));
-      dies = λ e h. so_far.dies e (list_more SomeArgument ArgumentsBefore mark.Comma mark.CloseParenthesis d end (argument_of x) rest after p e arguments_split known_argument comma_no_close g h);
-    }
-
-pub arguing_ends : (d : ℕ) (end : Place) (all rest m : List Terminal) (xs : List RustArgument) (x : RustArgument) (p : Position) (after : List Terminal) → Arguing d end all xs rest → SomeArgument d (argument_of x) rest m → m ≡ kind.CloseParenthesis at p ∷ after → ArgumentsBefore d (arguments_of (xs ++ (x ∷ []))) all after
-arguing_ends d end all rest m xs x p after so_far f is =
-    let g : SomeArgument d (argument_of x) rest (kind.CloseParenthesis at p ∷ after) = subst (λ z. SomeArgument d (argument_of x) rest z) is f in
-    subst (λ z. ArgumentsBefore d z all after) (sym (arguments_push xs x no_arguments) ∙ arguments_none (xs ++ (x ∷ []))) (so_far.completes _ after (p, are_one_argument (argument_is d (argument_of x) rest _ g)))
+pub arguments_list : Listed SomeArgument ArgumentsBefore mark.Comma mark.CloseParenthesis argument_of add_argument arguments_of
+arguments_list = record {
+  none = no_arguments;
+  known = known_argument;
+  split = arguments_split;
+  apart = λ h. absurd cc;
+  one = λ d x ks r p f. (p, are_one_argument (argument_is d (argument_of x) ks _ f));
+  next = λ d x more ks m r p f g. (g.0, are_arguments (argument_is d (argument_of x) ks _ f) g.1);
+  empty = refl;
+  added = λ x xs. refl;
+}
 
 -- ---- inside brackets
 

@@ -3,14 +3,13 @@ use Rattle.std.proofs.Common.{◌≡◌, ℕ, suc, Bool, true, false, ◌&&◌, 
 use Rattle.std.proofs.lemmas.Slice.Eq.{bytes_eq-Decides}
 use Rattle.std.specs.Char.{to_ascii_lowercase}
 use Rattle.op_base.specs.declared.place.Place.{Place}
-use Rattle.op_parse_code.proofs.Branches.{CaseEnd, end_of_case, else_of_case, EndsWith, at_end, at_else, ends_with, same_front_false, StatementsEnd}
+use Rattle.op_parse_code.proofs.Branches.{CaseEnd, EndsWith, at_end, at_else, ends_with, same_front_false, Led, LedBody}
 use Rattle.op_parse_code.proofs.Cuts.{same_behind}
-use Rattle.op_parse_code.proofs.ExpressionKnown.{known_mark}
 use Rattle.op_parse_code.proofs.Lists.{kind_same}
 use Rattle.op_parse_code.proofs.Names.{word_kind}
-use Rattle.op_parse_code.proofs.Refusing.{Some_, Seq, Known, refuses_map, refuses_first, refuses_after, refuses_behind, dead_here, inside_seen, no_mark_same}
-use Rattle.op_parse_code.proofs.StatementKnown.{known_name, known_on, known_statement, known_statements, known_handlers, begins_of}
-use Rattle.op_parse_code.proofs.Statements.{closed, ends_all}
+use Rattle.op_parse_code.proofs.Refusing.{Some_, Seq, refuses_map, refuses_first, refuses_after, refuses_behind, dead_here, inside_seen, no_mark_same}
+use Rattle.op_parse_code.proofs.StatementKnown.{known_name, known_on, known_statements}
+use Rattle.op_parse_code.proofs.Statements.{closed, ends_all, StatementsEnd}
 use Rattle.op_parse_code.specs.Opening.{is_word, spelled, is_identifier}
 use Rattle.op_parse_code.specs.Refusal.{Phrase, SameHead, Dead, Refuses, out_of_memory, syntax, nested, left_out, Decides, decides_there, decides_behind, refused_at}
 use Rattle.op_parse_code.specs.Whole.{Marked, NoMark, SomeName}
@@ -19,9 +18,8 @@ use Rattle.op_parse_code.specs.declared.error.ParseError.{ParseError}
 use Rattle.op_parse_code.specs.declared.mark.Mark.TheVariants as mark
 use Rattle.op_scan.specs.declared.token.TokenKind.{TokenKind}
 use Rattle.op_scan.specs.declared.token.TokenKind.TheVariants as kind
-use Rattle.op_tree.proofs.ExpressionUnique.{Begins, behind, designator_begins, true_false, false_true}
-use Rattle.op_tree.proofs.StatementUnique.{is_identifier as is_identifier_there, both, ends, ends_closed, ends_list, no_statements_at}
-use Rattle.op_tree.specs.Ends.{IsNot}
+use Rattle.op_tree.proofs.ExpressionUnique.{behind, designator_begins, true_false, false_true}
+use Rattle.op_tree.proofs.StatementUnique.{is_identifier as is_identifier_there, ends, ends_closed, ends_list, no_statements_at}
 use Rattle.op_tree.specs.Expression.{designator, named, no_selectors}
 use Rattle.op_tree.specs.ExpressionGrammar.{is_designator, is_named, are_no_selectors}
 use Rattle.op_tree.specs.Lists.{handlers_of}
@@ -34,18 +32,10 @@ use Rattle.op_tree.specs.declared.position.Position.{Position}
 use Rattle.op_tree.specs.declared.position.QualifiedName.{QualifiedName}
 use Rattle.op_tree.specs.declared.statement.Handler.{Handler}
 
--- ---- one handler
-
--- what stands behind the statement of a handler
-abbrev HandlerTail : ℕ → Option Handlers → List Terminal → List Terminal → Type 0
-HandlerTail d None ks r = front_is ends_list ks ≡ true
-HandlerTail d (Some hs) ks r = (p : Position) × (m : List Terminal) × (ks ≡ kind.Semicolon at p ∷ m) × SomeHandlers d hs m r
-
-abbrev HandlerBody : Phrase (Statement × Option Handlers)
-HandlerBody = Seq SomeStatement HandlerTail
+-- ---- handlers
 
 abbrev HandlerParts : Phrase ((Option Name × QualifiedName) × (Statement × Option Handlers))
-HandlerParts = Seq SomeOn HandlerBody
+HandlerParts = Seq SomeOn (LedBody SomeHandlers)
 
 into_handler : (d : ℕ) (hs : Handlers) (ls r : List Terminal) → front_is ends_list ls ≡ false → SomeHandlers d hs ls r → Some_ HandlerParts d ls
 into_handler d hs ls r h (are_no_handlers, t) = true_false (sym t ∙ h)
@@ -53,68 +43,26 @@ into_handler d hs ls r h (are_handlers {v = v} {c = c} {s = s} {hs = more} {p = 
 into_handler d hs ls r h (is_handler_before_end {v = v} {c = c} {s = s} {p = p} {m = m} {r = r1} o f, t) = (((v, c), (s, None)), kind.End at p ∷ r1, (m, o, (kind.End at p ∷ r1, (f, ends s _ refl refl), refl)))
 into_handler d hs ls r h (is_handler_before_else {v = v} {c = c} {s = s} {p = p} {m = m} {r = r1} o f shut, t) = (((v, c), (s, None)), kind.Else_ at p ∷ r1, (m, o, (kind.Else_ at p ∷ r1, (f, ends_closed s _ refl shut), refl)))
 
-handler_refuses : (d : ℕ) (end : Place) (ks : List Terminal) (e : ParseError) → front_is ends_list ks ≡ false → Refuses HandlerParts d end ks e → Refuses SomeHandlers d end ks e
-handler_refuses d end ks e h x = refuses_map HandlerParts SomeHandlers d end ks e (λ d' b ls r s f. into_handler d' b ls r (same_front_false ends_list ks ls s h) f) x
-
--- ---- handlers
-
-abbrev pub handlers_before : List Handler → Handlers → Handlers
-handlers_before [] more = more
-handlers_before (x ∷ xs) more = handlers x.variable x.class (stmt_of x.body) (handlers_before xs more)
-
-handlers_none : (xs : List Handler) → handlers_before xs no_handlers ≡ handlers_of xs
-handlers_none [] = refl
-handlers_none (x ∷ xs) = ap (handlers x.variable x.class (stmt_of x.body)) (handlers_none xs)
-
-handlers_push : (xs : List Handler) (x : Handler) (more : Handlers) → handlers_before (xs ++ (x ∷ [])) more ≡ handlers_before xs (handlers x.variable x.class (stmt_of x.body) more)
-handlers_push [] x more = refl
-handlers_push (y ∷ xs) x more = ap (handlers y.variable y.class (stmt_of y.body)) (handlers_push xs x more)
-
--- the handlers that are read so far, and what is left
-pub record Handling (d : ℕ) (end : Place) (all : List Terminal) (xs : List Handler) (rest : List Terminal) : Type 0 where
-  pub completes : (more : Handlers) (r : List Terminal) → SomeHandlers d more rest r → SomeHandlers d (handlers_before xs more) all r
-  pub dies : (e : ParseError) → Refuses SomeHandlers d end rest e → Refuses SomeHandlers d end all e
-
-pub handling_none : (d : ℕ) (end : Place) (all : List Terminal) → Handling d end all [] all
-handling_none d end all = record { completes = λ more r x. x; dies = λ e x. x }
-
-pub handling_ends : (d : ℕ) (end : Place) (all rest : List Terminal) (xs : List Handler) → Handling d end all xs rest → front_is ends_list rest ≡ true → SomeHandlers d (handlers_of xs) all rest
-handling_ends d end all rest xs so_far h = subst (λ z. SomeHandlers d z all rest) (handlers_none xs) (so_far.completes no_handlers rest (are_no_handlers, h))
-
-pub handling_on : (d : ℕ) (end : Place) (all rest : List Terminal) (xs : List Handler) (e : ParseError) → Handling d end all xs rest → front_is ends_list rest ≡ false → Refuses SomeOn d end rest e → Refuses SomeHandlers d end all e
-handling_on d end all rest xs e so_far h x = so_far.dies e (handler_refuses d end rest e h (refuses_first SomeOn HandlerBody d end rest e x))
-
-pub handling_body : (d : ℕ) (end : Place) (v : Option Name) (c : QualifiedName) (all rest m : List Terminal) (xs : List Handler) (e : ParseError) → Handling d end all xs rest → front_is ends_list rest ≡ false → IsOn v c rest m → Refuses SomeStatement d end m e → Refuses SomeHandlers d end all e
-handling_body d end v c all rest m xs e so_far h f x = so_far.dies e (handler_refuses d end rest e h (refuses_after SomeOn HandlerBody d end (v, c) rest m e known_on f (refuses_first SomeStatement HandlerTail d end m e x)))
-
-handler_tail : (d : ℕ) (end : Place) (v : Option Name) (c : QualifiedName) (s : Statement) (ks m n : List Terminal) (e : ParseError) → front_is ends_list ks ≡ false → IsOn v c ks m → SomeStatement d s m n → Refuses HandlerTail d end n e → Refuses SomeHandlers d end ks e
-handler_tail d end v c s ks m n e h f g x = handler_refuses d end ks e h (refuses_after SomeOn HandlerBody d end (v, c) ks m e known_on f (refuses_after SomeStatement HandlerTail d end s m n e known_statement g x))
-
-no_tail : (n : List Terminal) → NoMark mark.Semicolon n → front_is ends_list n ≡ false → (d : ℕ) (x : Option Handlers) (ls r : List Terminal) → SameHead n ls → HandlerTail d x ls r → ⊥
-no_tail n none h d None ls r s f = true_false (sym f ∙ same_front_false ends_list n ls s h)
-no_tail n none h d (Some hs) ls r s (p, m, e, f) = no_mark_same mark.Semicolon n ls s none p m e
-
-pub handling_stops : (d : ℕ) (end : Place) (v : Option Name) (c : QualifiedName) (s : Statement) (all rest m n : List Terminal) (xs : List Handler) (e : ParseError) → Handling d end all xs rest → front_is ends_list rest ≡ false → IsOn v c rest m → SomeStatement d s m n → NoMark mark.Semicolon n → front_is ends_list n ≡ false → e ≡ refused_at 9 0 end n → Refuses SomeHandlers d end all e
-handling_stops d end v c s all rest m n xs e so_far h f g none h1 x = so_far.dies e (handler_tail d end v c s rest m n e h f g (syntax n x (λ d'. dead_here (HandlerTail d') n (λ a l1 r z w. no_tail n none h1 d' a l1 r z w))))
-
-tail_behind : (p : Position) (d : ℕ) (x : Option Handlers) (ls r : List Terminal) → HandlerTail d x (kind.Semicolon at p ∷ ls) r → Some_ SomeHandlers d ls
-tail_behind p d None ls r f = false_true f
-tail_behind p d (Some hs) ls r (q, m, e, f) = (hs, r, subst (λ z. SomeHandlers d hs z r) (sym (ap behind e)) f)
-
-pub handling_more : (d : ℕ) (end : Place) (all rest m n : List Terminal) (xs : List Handler) (x : Handler) (p : Position) (after : List Terminal) → Handling d end all xs rest → front_is ends_list rest ≡ false → IsOn x.variable x.class rest m → SomeStatement d (stmt_of x.body) m n → n ≡ kind.Semicolon at p ∷ after → Handling d end all (xs ++ (x ∷ [])) after
-handling_more d end all rest m n xs x p after so_far h f g is = record {
-  completes = λ more r w. subst (λ z. SomeHandlers d z all r) (sym (handlers_push xs x more)) (so_far.completes _ r (are_handlers f (subst (λ z. IsStatement d (stmt_of x.body) m z) is g.0) w.0, w.1));
-  dies = λ e w. so_far.dies e (handler_tail d end x.variable x.class (stmt_of x.body) rest m n e h f g (subst (λ z. Refuses HandlerTail d end z e) (sym is) (refuses_behind SomeHandlers HandlerTail d end (kind.Semicolon at p) after e (tail_behind p) w)));
-}
-
 last_handler : (d : ℕ) (v : Option Name) (c : QualifiedName) (s : Statement) (ks m n : List Terminal) → IsOn v c ks m → SomeStatement d s m n → EndsWith n → AreHandlers d (handlers v c s no_handlers) ks n
 last_handler d v c s ks m n f g (at_end p r is) = subst (λ z. AreHandlers d (handlers v c s no_handlers) ks z) (sym is) (is_handler_before_end f (subst (λ z. IsStatement d s m z) is g.0))
 last_handler d v c s ks m n f g (at_else p r is) =
     let w : SomeStatement d s m (kind.Else_ at p ∷ r) = subst (λ z. SomeStatement d s m z) is g in
     subst (λ z. AreHandlers d (handlers v c s no_handlers) ks z) (sym is) (is_handler_before_else f w.0 (closed s p r w.1))
 
-pub handling_last : (d : ℕ) (end : Place) (all rest m n : List Terminal) (xs : List Handler) (x : Handler) → Handling d end all xs rest → IsOn x.variable x.class rest m → SomeStatement d (stmt_of x.body) m n → front_is ends_list n ≡ true → SomeHandlers d (handlers_of (xs ++ (x ∷ []))) all n
-handling_last d end all rest m n xs x so_far f g h = subst (λ z. SomeHandlers d z all n) (sym (handlers_push xs x no_handlers) ∙ handlers_none (xs ++ (x ∷ []))) (so_far.completes _ n (last_handler d x.variable x.class (stmt_of x.body) rest m n f g (ends_with n h), h))
+abbrev pub add_handler : Handler → Handlers → Handlers
+add_handler x more = handlers x.variable x.class (stmt_of x.body) more
+
+pub handlers_list : Led SomeOn SomeHandlers (λ (x : Handler). (x.variable, x.class)) (λ (x : Handler). stmt_of x.body) add_handler handlers_of
+handlers_list = record {
+  none = no_handlers;
+  known = known_on;
+  split = into_handler;
+  nothing = λ d ks h. (are_no_handlers, h);
+  last = λ d x ks m n f g h. (last_handler d x.variable x.class (stmt_of x.body) ks m n f g (ends_with n h), h);
+  next = λ d x more ks m n r p f g w. (are_handlers f g w.0, w.1);
+  empty = refl;
+  added = λ x xs. refl;
+}
 
 -- ---- the word `on`
 
@@ -130,15 +78,6 @@ on_missing d end ks e h x = syntax ks x (λ d'. dead_here (SomeOn d') ks (λ a l
 
 -- ---- the class
 
-dot_is_no_do : kind.Dot ≡ kind.Do_ → ⊥
-dot_is_no_do h = absurd cc
-
-colon_is_no_do : kind.Colon ≡ kind.Do_ → ⊥
-colon_is_no_do h = absurd cc
-
-colon_is_no_dot : kind.Colon ≡ kind.Dot → ⊥
-colon_is_no_dot h = absurd cc
-
 do_of_tail : (m : List Terminal) → NoMark mark.Dot m → (d : ℕ) (x : Option Name) (ls r : List Terminal) → SameHead m ls → ClassTail d x ls r → Some_ (Marked mark.Do_) d ls
 do_of_tail m none d None ls r s (u, e) = (u, r, e)
 do_of_tail m none d (Some n) ls r s (p, u, k, e, f) = absurd (no_mark_same mark.Dot m ls s none p k e)
@@ -147,7 +86,7 @@ pub class_do_missing : (d : ℕ) (end : Place) (ks : List Terminal) (e : ParseEr
 class_do_missing d end ks e none h = refuses_map (Marked mark.Do_) ClassTail d end ks e (do_of_tail ks none) h
 
 behind_dot : (p : Position) (d : ℕ) (x : Option Name) (ls r : List Terminal) → ClassTail d x (kind.Dot at p ∷ ls) r → Some_ (Seq SomeName (Marked mark.Do_)) d ls
-behind_dot p d None ls r (u, e) = absurd (dot_is_no_do (kind_same e))
+behind_dot p d None ls r (u, e) = let clash : kind.Dot ≡ kind.Do_ = kind_same e in absurd cc
 behind_dot p d (Some n) ls r (q, u, k, e, f) = ((n, u), r, (kind.Do_ at u ∷ r, subst (λ z. IsName n z (kind.Do_ at u ∷ r)) (sym (ap behind e)) f, refl))
 
 class_behind_dot : (d : ℕ) (end : Place) (p : Position) (ks after : List Terminal) (e : ParseError) → ks ≡ kind.Dot at p ∷ after → Refuses (Seq SomeName (Marked mark.Do_)) d end after e → Refuses ClassTail d end ks e
@@ -198,8 +137,8 @@ pub on_class_refuses : (d : ℕ) (end : Place) (k : TokenKind) (p : Position) (n
 on_class_refuses d end k p n ks m e h f none x = on_tail d end k p n ks m e h f (refuses_map ClassTail OnTail d end m e (class_of_on m none) x)
 
 no_class_at_colon : {A : Type 0} (q : Position) (d : ℕ) (y : Option Name) (ls r : List Terminal) → ClassTail d y (kind.Colon at q ∷ ls) r → A
-no_class_at_colon q d None ls r (u, e) = absurd (colon_is_no_do (kind_same e))
-no_class_at_colon q d (Some n) ls r (p, u, k, e, f) = absurd (colon_is_no_dot (kind_same e))
+no_class_at_colon q d None ls r (u, e) = let clash : kind.Colon ≡ kind.Do_ = kind_same e in absurd cc
+no_class_at_colon q d (Some n) ls r (p, u, k, e, f) = let clash : kind.Colon ≡ kind.Dot = kind_same e in absurd cc
 
 behind_colon : (q : Position) (d : ℕ) (x : Option Name × Option Name) (ls r : List Terminal) → OnTail d x (kind.Colon at q ∷ ls) r → Some_ (Seq SomeName ClassTail) d ls
 behind_colon q d (None, y) ls r f = no_class_at_colon q d y ls r f
@@ -348,17 +287,11 @@ statements_nested d end ks q z e true on h x w ([], e1, never) =
     let t = kind.Identifier v.0 at v.1 in
     nested q v.2 x (decides_more v.0 v.1 v.2 v.4 w (sym e1 ∙ v.3)) (dead_behind (StatementsEnd d) (SomeExcept d) false ks v.2 t [] h (λ x1 ls r. into_except_statements d x1 ls r) v.3 (λ ls a r s f. never (t ∷ ls) a r (subst (λ y. SameHead y (t ∷ ls)) (sym (sym e1 ∙ v.3)) refl) f))
 
-except_statements : (d : ℕ) (end : Place) (ks : List Terminal) (e : ParseError) → begins_handler ks ≡ false → Refuses StatementsEnd d end ks e → Refuses SomeExcept d end ks e
+pub except_statements : (d : ℕ) (end : Place) (ks : List Terminal) (e : ParseError) → begins_handler ks ≡ false → Refuses StatementsEnd d end ks e → Refuses SomeExcept d end ks e
 except_statements d end ks e h (out_of_memory x) = out_of_memory x
 except_statements d end ks e h (syntax q x never) = syntax q x (λ d'. statements_dead d' ks q _ refl h never (never d'))
 except_statements d end ks e h (nested q z x w never) = statements_nested d end ks q z e _ refl h x w never
 except_statements d end ks e h (left_out feature q x f) = left_out feature q x f
-
-pub except_body : (d : ℕ) (end : Place) (ks : List Terminal) (e : ParseError) → begins_handler ks ≡ false → Refuses SomeStatements d end ks e → Refuses SomeExcept d end ks e
-except_body d end ks e h x = except_statements d end ks e h (refuses_first SomeStatements (Marked mark.End) d end ks e x)
-
-pub except_open : (d : ℕ) (end : Place) (ss : Statements) (ks m : List Terminal) (e : ParseError) → begins_handler ks ≡ false → SomeStatements d ss ks m → Refuses (Marked mark.End) d end m e → Refuses SomeExcept d end ks e
-except_open d end ss ks m e h f x = except_statements d end ks e h (refuses_after SomeStatements (Marked mark.End) d end ss ks m e known_statements f x)
 
 pub except_whole : (u : Position) (d : ℕ) (ss : Statements) (ks m r : List Terminal) → SomeStatements d ss ks m → m ≡ kind.End at u ∷ r → SomeExcept d (except_rest ss) ks r
 except_whole u d ss ks m r f is = (u, subst (λ z. AreStatements d ss ks z) is f.0)
@@ -376,29 +309,11 @@ handlers_dead d ks q h ([], e, never) =
     let ls = kind.Identifier v.0 at v.1 ∷ kind.Identifier v.0 at v.1 ∷ kind.Do_ at v.1 ∷ kind.End at v.1 ∷ [] in
     absurd (never ls a.0 a.1 (subst (λ y. SameHead y ls) (sym (sym e ∙ v.3)) refl) a.2)
 
-except_handlers : (d : ℕ) (end : Place) (ks : List Terminal) (e : ParseError) → begins_handler ks ≡ true → Refuses (Seq SomeHandlers CaseEnd) d end ks e → Refuses SomeExcept d end ks e
+pub except_handlers : (d : ℕ) (end : Place) (ks : List Terminal) (e : ParseError) → begins_handler ks ≡ true → Refuses (Seq SomeHandlers CaseEnd) d end ks e → Refuses SomeExcept d end ks e
 except_handlers d end ks e h (out_of_memory x) = out_of_memory x
 except_handlers d end ks e h (syntax q x never) = syntax q x (λ d'. handlers_dead d' ks q h (never d'))
 except_handlers d end ks e h (nested q z x w never) = nested q z x w (handlers_dead d ks z h never)
 except_handlers d end ks e h (left_out feature q x f) = left_out feature q x f
-
-pub except_on : (d : ℕ) (end : Place) (ks : List Terminal) (e : ParseError) → begins_handler ks ≡ true → Refuses SomeHandlers d end ks e → Refuses SomeExcept d end ks e
-except_on d end ks e h x = except_handlers d end ks e h (refuses_first SomeHandlers CaseEnd d end ks e x)
-
-except_end : (d : ℕ) (end : Place) (hs : Handlers) (ks o : List Terminal) (e : ParseError) → begins_handler ks ≡ true → SomeHandlers d hs ks o → Refuses CaseEnd d end o e → Refuses SomeExcept d end ks e
-except_end d end hs ks o e h f x = except_handlers d end ks e h (refuses_after SomeHandlers CaseEnd d end hs ks o e known_handlers f x)
-
-pub except_end_missing : (d : ℕ) (end : Place) (hs : Handlers) (ks o : List Terminal) (e : ParseError) → begins_handler ks ≡ true → SomeHandlers d hs ks o → NoMark mark.Else_ o → Refuses (Marked mark.End) d end o e → Refuses SomeExcept d end ks e
-except_end_missing d end hs ks o e h f none x = except_end d end hs ks o e h f (refuses_map (Marked mark.End) CaseEnd d end o e (end_of_case o none) x)
-
-except_else : (u : Position) (d : ℕ) (end : Place) (hs : Handlers) (ks o after : List Terminal) (e : ParseError) → begins_handler ks ≡ true → SomeHandlers d hs ks o → Marked mark.Else_ d u o after → Refuses StatementsEnd d end after e → Refuses SomeExcept d end ks e
-except_else u d end hs ks o after e h f j x = except_end d end hs ks o e h f (subst (λ z. Refuses CaseEnd d end z e) (sym j) (refuses_behind StatementsEnd CaseEnd d end (kind.Else_ at u) after e (else_of_case u) x))
-
-pub except_else_body : (u : Position) (d : ℕ) (end : Place) (hs : Handlers) (ks o after : List Terminal) (e : ParseError) → begins_handler ks ≡ true → SomeHandlers d hs ks o → Marked mark.Else_ d u o after → Refuses SomeStatements d end after e → Refuses SomeExcept d end ks e
-except_else_body u d end hs ks o after e h f j x = except_else u d end hs ks o after e h f j (refuses_first SomeStatements (Marked mark.End) d end after e x)
-
-pub except_else_open : (u : Position) (d : ℕ) (end : Place) (hs : Handlers) (ss : Statements) (ks o after o1 : List Terminal) (e : ParseError) → begins_handler ks ≡ true → SomeHandlers d hs ks o → Marked mark.Else_ d u o after → SomeStatements d ss after o1 → Refuses (Marked mark.End) d end o1 e → Refuses SomeExcept d end ks e
-except_else_open u d end hs ss ks o after o1 e h f j k x = except_else u d end hs ks o after e h f j (refuses_after SomeStatements (Marked mark.End) d end ss after o1 e known_statements k x)
 
 pub except_on_whole : (u : Position) (d : ℕ) (hs : Handlers) (ks o r : List Terminal) → begins_handler ks ≡ true → SomeHandlers d hs ks o → Marked mark.End d u o r → SomeExcept d (on_rest hs) ks r
 except_on_whole u d hs ks o r h f j = (u, handled d hs ks o h f, subst (λ z. AreHandlers d hs ks z) j f.0)
@@ -443,20 +358,14 @@ except_of_tail m none d (on_else_rest hs ts) ls r s (q, k, e, f) = (q, k, e)
 pub try_except_missing : (p : Position) (d : ℕ) (end : Place) (ss : Statements) (ks m : List Terminal) (e : ParseError) → SomeStatements d ss ks m → NoMark mark.Finally m → Refuses (Marked mark.Except) d end m e → Refuses (Behind kind.Try_ p) d end ks e
 try_except_missing p d end ss ks m e f none h = try_tail p d end ss ks m e f (refuses_map (Marked mark.Except) BodyTail d end m e (except_of_tail m none) h)
 
-finally_except : kind.Finally ≡ kind.Except → ⊥
-finally_except h = absurd cc
-
-except_finally : kind.Except ≡ kind.Finally → ⊥
-except_finally h = absurd cc
-
 behind_finally : (q : Position) (d : ℕ) (x : Rest) (ls r : List Terminal) → BodyTail d x (kind.Finally at q ∷ ls) r → Some_ StatementsEnd d ls
 behind_finally q d (finally_rest ts) ls r (w, u, k, e, f) = ((ts, u), r, subst (λ z. StatementsEnd d (ts, u) z r) (sym (ap behind e)) (kind.End at u ∷ r, (f, ends_all f refl refl refl), refl))
-behind_finally q d (except_rest ts) ls r (w, k, e, f) = absurd (finally_except (kind_same e))
-behind_finally q d (on_rest hs) ls r (w, k, e, f) = absurd (finally_except (kind_same e))
-behind_finally q d (on_else_rest hs ts) ls r (w, k, e, f) = absurd (finally_except (kind_same e))
+behind_finally q d (except_rest ts) ls r (w, k, e, f) = let clash : kind.Finally ≡ kind.Except = kind_same e in absurd cc
+behind_finally q d (on_rest hs) ls r (w, k, e, f) = let clash : kind.Finally ≡ kind.Except = kind_same e in absurd cc
+behind_finally q d (on_else_rest hs ts) ls r (w, k, e, f) = let clash : kind.Finally ≡ kind.Except = kind_same e in absurd cc
 
 behind_except : (q : Position) (d : ℕ) (x : Rest) (ls r : List Terminal) → BodyTail d x (kind.Except at q ∷ ls) r → Some_ SomeExcept d ls
-behind_except q d (finally_rest ts) ls r (w, u, k, e, f) = absurd (except_finally (kind_same e))
+behind_except q d (finally_rest ts) ls r (w, u, k, e, f) = let clash : kind.Except ≡ kind.Finally = kind_same e in absurd cc
 behind_except q d (except_rest ts) ls r (w, k, e, f) = (except_rest ts, r, subst (λ z. SomeExcept d (except_rest ts) z r) (sym (ap behind e)) f)
 behind_except q d (on_rest hs) ls r (w, k, e, f) = (on_rest hs, r, subst (λ z. SomeExcept d (on_rest hs) z r) (sym (ap behind e)) f)
 behind_except q d (on_else_rest hs ts) ls r (w, k, e, f) = (on_else_rest hs ts, r, subst (λ z. SomeExcept d (on_else_rest hs ts) z r) (sym (ap behind e)) f)
@@ -464,14 +373,8 @@ behind_except q d (on_else_rest hs ts) ls r (w, k, e, f) = (on_else_rest hs ts, 
 pub try_except_refuses : (p q : Position) (d : ℕ) (end : Place) (ss : Statements) (ks m after : List Terminal) (e : ParseError) → SomeStatements d ss ks m → Marked mark.Except d q m after → Refuses SomeExcept d end after e → Refuses (Behind kind.Try_ p) d end ks e
 try_except_refuses p q d end ss ks m after e f is h = try_tail p d end ss ks m e f (subst (λ z. Refuses BodyTail d end z e) (sym is) (refuses_behind SomeExcept BodyTail d end (kind.Except at q) after e (behind_except q) h))
 
-try_finally_refuses : (p q : Position) (d : ℕ) (end : Place) (ss : Statements) (ks m after : List Terminal) (e : ParseError) → SomeStatements d ss ks m → Marked mark.Finally d q m after → Refuses StatementsEnd d end after e → Refuses (Behind kind.Try_ p) d end ks e
+pub try_finally_refuses : (p q : Position) (d : ℕ) (end : Place) (ss : Statements) (ks m after : List Terminal) (e : ParseError) → SomeStatements d ss ks m → Marked mark.Finally d q m after → Refuses StatementsEnd d end after e → Refuses (Behind kind.Try_ p) d end ks e
 try_finally_refuses p q d end ss ks m after e f is h = try_tail p d end ss ks m e f (subst (λ z. Refuses BodyTail d end z e) (sym is) (refuses_behind StatementsEnd BodyTail d end (kind.Finally at q) after e (behind_finally q) h))
-
-pub try_finally_body : (p q : Position) (d : ℕ) (end : Place) (ss : Statements) (ks m after : List Terminal) (e : ParseError) → SomeStatements d ss ks m → Marked mark.Finally d q m after → Refuses SomeStatements d end after e → Refuses (Behind kind.Try_ p) d end ks e
-try_finally_body p q d end ss ks m after e f is h = try_finally_refuses p q d end ss ks m after e f is (refuses_first SomeStatements (Marked mark.End) d end after e h)
-
-pub try_finally_open : (p q : Position) (d : ℕ) (end : Place) (ss ts : Statements) (ks m after o : List Terminal) (e : ParseError) → SomeStatements d ss ks m → Marked mark.Finally d q m after → SomeStatements d ts after o → Refuses (Marked mark.End) d end o e → Refuses (Behind kind.Try_ p) d end ks e
-try_finally_open p q d end ss ts ks m after o e f is g h = try_finally_refuses p q d end ss ks m after e f is (refuses_after SomeStatements (Marked mark.End) d end ts after o e known_statements g h)
 
 pub try_finally_whole : (p q u : Position) (d : ℕ) (ss ts : Statements) (ks m after o r : List Terminal) → SomeStatements d ss ks m → Marked mark.Finally d q m after → SomeStatements d ts after o → Marked mark.End d u o r → Behind kind.Try_ p d (try_of ss (finally_rest ts)) ks r
 try_finally_whole p q u d ss ts ks m after o r f is g h = (is_try_finally (subst (λ z. AreStatements d ss ks z) is f.0) (subst (λ z. AreStatements d ts after z) h g.0), tt)

@@ -1,5 +1,5 @@
 -- Lists of parts with a mark between them, up to another mark.
-use Rattle.std.proofs.Common.{◌≡◌, ℕ, List, [], ◌∷◌, Option, Some, None, sym, ap, subst, refl}
+use Rattle.std.proofs.Common.{◌≡◌, ℕ, List, [], ◌∷◌, ◌++◌, Option, Some, None, sym, ap, ◌∙◌, subst, refl}
 use Rattle.op_base.specs.declared.place.Place.{Place}
 use Rattle.op_parse_code.proofs.Refusing.{Some_, Seq, Known, refuses_map, refuses_first, refuses_after, refuses_behind, no_mark_same}
 use Rattle.op_parse_code.specs.Opening.{kind_of}
@@ -63,3 +63,61 @@ open_behind More by p d (Some x) ls r (q, m, e, f) = (x, r, subst (λ z. More d 
 
 pub open_more : {A X Y : Type 0} (Item : Phrase A) (More : Phrase X) (Whole : Phrase Y) (by : Mark) (d : ℕ) (end : Place) (a : A) (ks m after : List Terminal) (p : Position) (e : ParseError) → SplitsOpen Item More Whole by → Known Item → Item d a ks m → m ≡ kind_of by at p ∷ after → Refuses More d end after e → Refuses Whole d end ks e
 open_more Item More Whole by d end a ks m after p e into known f is h = refuses_map (Seq Item (Open More by)) Whole d end ks e (λ d' b ls r s x. into d' b ls r x) (refuses_after Item (Open More by) d end a ks m e known f (subst (λ z. Refuses (Open More by) d end z e) (sym is) (refuses_behind More (Open More by) d end (kind_of by at p) after e (open_behind More by p) h)))
+
+-- ---- what is read of a list so far
+
+-- the parts that are read, in front of more
+abbrev pub before : {X B : Type 0} → (X → B → B) → List X → B → B
+before add [] more = more
+before add (x ∷ xs) more = add x (before add xs more)
+
+before_push : {X B : Type 0} (add : X → B → B) (xs : List X) (x : X) (more : B) → before add (xs ++ (x ∷ [])) more ≡ before add xs (add x more)
+before_push add [] x more = refl
+before_push add (y ∷ xs) x more = ap (add y) (before_push add xs x more)
+
+before_all : {X B : Type 0} (add : X → B → B) (none : B) (whole : List X → B) → whole [] ≡ none → ((x : X) (xs : List X) → whole (x ∷ xs) ≡ add x (whole xs)) → (xs : List X) → before add xs none ≡ whole xs
+before_all add none whole z s [] = sym z
+before_all add none whole z s (x ∷ xs) = ap (add x) (before_all add none whole z s xs) ∙ sym (s x xs)
+
+-- More parts complete what is read, and a refusal of what is left is one of the whole.
+pub record Reading {X B : Type 0} (add : X → B → B) (More : Phrase B) (d : ℕ) (end : Place) (all : List Terminal) (xs : List X) (rest : List Terminal) : Type 0 where
+  pub completes : (more : B) (r : List Terminal) → More d more rest r → More d (before add xs more) all r
+  pub dies : (e : ParseError) → Refuses More d end rest e → Refuses More d end all e
+
+pub reading_more : {X B : Type 0} (add : X → B → B) (More : Phrase B) (d : ℕ) (end : Place) (all rest : List Terminal) (xs : List X) (x : X) (after : List Terminal) → Reading add More d end all xs rest → ((more : B) (r : List Terminal) → More d more after r → More d (add x more) rest r) → ((e : ParseError) → Refuses More d end after e → Refuses More d end rest e) → Reading add More d end all (xs ++ (x ∷ [])) after
+reading_more add More d end all rest xs x after so_far h k = record {
+  completes = λ more r w. subst (λ z. More d z all r) (sym (before_push add xs x more)) (so_far.completes (add x more) r (h more r w));
+  dies = λ e w. so_far.dies e (k e w);
+}
+
+pub reading_ends : {X B : Type 0} (add : X → B → B) (none : B) (whole : List X → B) (More : Phrase B) (d : ℕ) (end : Place) (all rest r : List Terminal) (xs : List X) → whole [] ≡ none → ((x : X) (xs : List X) → whole (x ∷ xs) ≡ add x (whole xs)) → Reading add More d end all xs rest → More d none rest r → More d (whole xs) all r
+reading_ends add none whole More d end all rest r xs z s so_far h = subst (λ y. More d y all r) (before_all add none whole z s xs) (so_far.completes none r h)
+
+pub reading_last : {X B : Type 0} (add : X → B → B) (none : B) (whole : List X → B) (More : Phrase B) (d : ℕ) (end : Place) (all rest r : List Terminal) (xs : List X) (x : X) → whole [] ≡ none → ((x : X) (xs : List X) → whole (x ∷ xs) ≡ add x (whole xs)) → Reading add More d end all xs rest → More d (add x none) rest r → More d (whole (xs ++ (x ∷ []))) all r
+reading_last add none whole More d end all rest r xs x z s so_far h = subst (λ y. More d y all r) (sym (before_push add xs x none) ∙ before_all add none whole z s (xs ++ (x ∷ []))) (so_far.completes (add x none) r h)
+
+-- A list of parts with a mark between two of them and another behind the last: how parts are put together, and what the list of
+-- nodes says.
+pub record Listed {A X B : Type 0} (Item : Phrase A) (More : Phrase B) (by close : Mark) (of : X → A) (add : X → B → B) (whole : List X → B) : Type 0 where
+  pub none : B
+  pub known : Known Item
+  pub split : Splits Item More by close
+  pub apart : kind_of by ≡ kind_of close → ⊥
+  pub one : (d : ℕ) (x : X) (ks r : List Terminal) (p : Position) → Item d (of x) ks (kind_of close at p ∷ r) → More d (add x none) ks r
+  pub next : (d : ℕ) (x : X) (more : B) (ks m r : List Terminal) (p : Position) → Item d (of x) ks (kind_of by at p ∷ m) → More d more m r → More d (add x more) ks r
+  pub empty : whole [] ≡ none
+  pub added : (x : X) (xs : List X) → whole (x ∷ xs) ≡ add x (whole xs)
+
+pub listed_item : {A X B : Type 0} {Item : Phrase A} {More : Phrase B} {by close : Mark} {of : X → A} {add : X → B → B} {whole : List X → B} (l : Listed Item More by close of add whole) (d : ℕ) (end : Place) (all rest : List Terminal) (xs : List X) (e : ParseError) → Reading add More d end all xs rest → Refuses Item d end rest e → Refuses More d end all e
+listed_item {Item = Item} {More = More} {by = by} {close = close} l d end all rest xs e so_far h = so_far.dies e (list_item Item More by close d end rest e l.split h)
+
+pub listed_close : {A X B : Type 0} {Item : Phrase A} {More : Phrase B} {by close : Mark} {of : X → A} {add : X → B → B} {whole : List X → B} (l : Listed Item More by close of add whole) (d : ℕ) (end : Place) (all rest m : List Terminal) (xs : List X) (a : A) (e : ParseError) → Reading add More d end all xs rest → Item d a rest m → NoMark by m → Refuses (Marked close) d end m e → Refuses More d end all e
+listed_close {Item = Item} {More = More} {by = by} {close = close} l d end all rest m xs a e so_far f none h = so_far.dies e (list_close Item More by close d end a rest m e l.split l.known f none h)
+
+pub listed_more : {A X B : Type 0} {Item : Phrase A} {More : Phrase B} {by close : Mark} {of : X → A} {add : X → B → B} {whole : List X → B} (l : Listed Item More by close of add whole) (d : ℕ) (end : Place) (all rest m : List Terminal) (xs : List X) (x : X) (p : Position) (after : List Terminal) → Reading add More d end all xs rest → Item d (of x) rest m → m ≡ kind_of by at p ∷ after → Reading add More d end all (xs ++ (x ∷ [])) after
+listed_more {Item = Item} {More = More} {by = by} {close = close} {of = of} {add = add} l d end all rest m xs x p after so_far f is =
+    let g : Item d (of x) rest (kind_of by at p ∷ after) = subst (λ z. Item d (of x) rest z) is f in
+    reading_more add More d end all rest xs x after so_far (λ more r w. l.next d x more rest after r p g w) (λ e w. list_more Item More by close d end (of x) rest after p e l.split l.known l.apart g w)
+
+pub listed_ends : {A X B : Type 0} {Item : Phrase A} {More : Phrase B} {by close : Mark} {of : X → A} {add : X → B → B} {whole : List X → B} (l : Listed Item More by close of add whole) (d : ℕ) (end : Place) (all rest m : List Terminal) (xs : List X) (x : X) (p : Position) (after : List Terminal) → Reading add More d end all xs rest → Item d (of x) rest m → m ≡ kind_of close at p ∷ after → More d (whole (xs ++ (x ∷ []))) all after
+listed_ends {Item = Item} {More = More} {of = of} {add = add} {whole = whole} l d end all rest m xs x p after so_far f is = reading_last add l.none whole More d end all rest after xs x l.empty l.added so_far (l.one d x rest after p (subst (λ z. Item d (of x) rest z) is f))

@@ -1,5 +1,5 @@
 -- Statements keep their derivations, whatever stands behind them.
-use Rattle.std.proofs.Common.{◌≡◌, ℕ, List, [], ◌∷◌, Option, refl, sym, ap, ◌∙◌, subst}
+use Rattle.std.proofs.Common.{◌≡◌, ℕ, List, [], ◌∷◌, Option, refl, ap, ◌∙◌, subst}
 use Rattle.op_parse_code.proofs.Cuts.{IsCut, cut_none, cut_one, cut_join, Front, same_not, same_chain}
 use Rattle.op_parse_code.proofs.ExpressionFronts.{front_chain, front_designator, front_elements}
 use Rattle.op_parse_code.specs.Refusal.{SameHead}

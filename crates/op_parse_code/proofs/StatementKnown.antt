@@ -1,8 +1,8 @@
 -- The sorts of parts of statements: each stands whatever follows that begins so, and ends at one place.
-use Rattle.std.proofs.Common.{◌≡◌, ℕ, Bool, true, List, [], ◌∷◌, Some, refl, sym, ap, ◌∙◌, subst}
-use Rattle.op_parse_code.proofs.Cuts.{IsCut, cut_none, cut_one, cut_join, same_not}
+use Rattle.std.proofs.Common.{◌≡◌, ℕ, Bool, true, List, [], ◌∷◌, refl, sym, ap, ◌∙◌, subst}
+use Rattle.op_parse_code.proofs.Cuts.{cut_none, cut_one, cut_join, same_not}
 use Rattle.op_parse_code.proofs.ExpressionFronts.{front_designator, front_elements}
-use Rattle.op_parse_code.proofs.Refusing.{Known, no_mark_same}
+use Rattle.op_parse_code.proofs.Refusing.{Known}
 use Rattle.op_parse_code.proofs.StatementFronts.{front_statement, front_statements, front_branches, front_handlers, front_name, front_on, same_statement, same_statements}
 use Rattle.op_parse_code.specs.Refusal.{SameHead}
 use Rattle.op_parse_code.specs.Whole.{SomeName, SomeDesignator, ElementsBefore}
@@ -13,10 +13,8 @@ use Rattle.op_scan.specs.declared.token.TokenKind.TheVariants as kind
 use Rattle.op_tree.proofs.ExpressionUnique.{Begins, behind, unique_designator, unique_elements, true_false}
 use Rattle.op_tree.proofs.StatementUnique.{ends, ends_list, unique_name, unique_on, unique_statement, unique_branches, unique_handlers}
 use Rattle.op_tree.specs.Ends.{IsNot}
-use Rattle.op_tree.specs.Expression.{Elements}
-use Rattle.op_tree.specs.ExpressionGrammar.{AreElements}
-use Rattle.op_tree.specs.Statement.{Statement, Statements, no_statements, statements}
-use Rattle.op_tree.specs.StatementGrammar.{IsStatement, AreStatements, are_one_statement, are_statements}
+use Rattle.op_tree.specs.Statement.{Statement, Statements, statements}
+use Rattle.op_tree.specs.StatementGrammar.{AreStatements, are_one_statement, are_statements}
 use Rattle.op_tree.specs.Terminal.{Terminal, ◌at◌}
 
 pub known_name : Known SomeName

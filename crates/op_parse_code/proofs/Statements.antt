@@ -1,17 +1,15 @@
 -- Statements that hold others.
-use Rattle.std.proofs.Common.{◌≡◌, ℕ, zero, suc, Bool, true, false, List, [], ◌∷◌, ◌++◌, Option, Some, None, refl, sym, ap, ◌∙◌, subst, arith}
+use Rattle.std.proofs.Common.{◌≡◌, ℕ, zero, suc, true, false, List, [], ◌∷◌, ◌++◌, Option, Some, None, refl, sym, ap, ◌∙◌, subst, arith}
 use Rattle.op_base.specs.declared.place.Place.{Place}
-use Rattle.op_parse_code.proofs.Cuts.{same_not}
 use Rattle.op_parse_code.proofs.ExpressionKnown.{known_chain, known_mark}
 use Rattle.op_parse_code.proofs.Factors.{same_begins}
-use Rattle.op_parse_code.proofs.Lists.{Open, SplitsOpen, open_item, open_more, kind_same}
-use Rattle.op_parse_code.proofs.Refusing.{Some_, Seq, Known, refuses_map, refuses_first, refuses_after, refuses_behind, refuses_inside, refuses_deeper, dead_here, no_mark_same, suc_same}
+use Rattle.op_parse_code.proofs.Lists.{Open, SplitsOpen, open_item, open_more, Reading, reading_more, reading_last, kind_same}
+use Rattle.op_parse_code.proofs.Refusing.{Some_, Seq, refuses_map, refuses_first, refuses_after, refuses_behind, refuses_inside, refuses_deeper, dead_here, no_mark_same}
 use Rattle.op_parse_code.proofs.StatementKnown.{known_name, known_direction, known_statement, known_statements, ends_behind}
-use Rattle.op_parse_code.specs.Form.{Form}
-use Rattle.op_parse_code.specs.Opening.{kind_of, kind_of_word}
+use Rattle.op_parse_code.specs.Opening.{kind_of_word}
 use Rattle.op_parse_code.specs.declared.opening.Word.{Word}
 use Rattle.op_parse_code.specs.declared.opening.Word.TheVariants as word
-use Rattle.op_parse_code.specs.Refusal.{Phrase, SameHead, Refuses, syntax, nested, decides_there, left_out, refused_at}
+use Rattle.op_parse_code.specs.Refusal.{Phrase, SameHead, Refuses, syntax, nested, decides_there, refused_at}
 use Rattle.op_parse_code.specs.Whole.{Chain, Marked, NoMark, SomeName}
 use Rattle.op_parse_code.specs.WholeStatement.{SomeStatement, SomeStatements, SomeDirection, SomeCall, Behind, EndsStatements, is_semicolon}
 use Rattle.op_parse_code.specs.declared.error.ParseError.{ParseError}
@@ -26,7 +24,7 @@ use Rattle.op_tree.specs.Expression.{Expression}
 use Rattle.op_tree.specs.ExpressionGrammar.{IsChain}
 use Rattle.op_tree.specs.NameGrammar.{IsName}
 use Rattle.op_tree.specs.Statement.{Statement, empty, block, if_then, if_else, while_do, repeat_until, for_to, for_in, Statements, no_statements, statements, stmt_of, stmts_of}
-use Rattle.op_tree.specs.StatementGrammar.{IsClosed, direction_of, IsStatement, is_empty, is_block, is_if_then, is_if_else, is_while, is_repeat, is_for_to, is_for_in, is_begin_end, is_call, is_assignment, is_case, is_case_else, is_try_finally, is_try_except, is_try_on, is_try_on_else, is_raise, is_reraise, is_inherited, is_inherited_call, AreStatements, are_one_statement, are_statements}
+use Rattle.op_tree.specs.StatementGrammar.{IsClosed, direction_of, IsStatement, is_empty, is_block, is_if_then, is_if_else, is_while, is_repeat, is_for_to, is_for_in, is_begin_end, is_call, is_assignment, AreStatements, are_one_statement, are_statements}
 use Rattle.op_tree.specs.Terminal.{Terminal, ◌at◌}
 use Rattle.op_tree.specs.declared.operator.Level.TheVariants.{Relational}
 use Rattle.op_tree.specs.declared.position.Name.{Name}
@@ -36,33 +34,12 @@ use Rattle.op_tree.specs.declared.statement.Stmt.{Stmt}
 
 -- ---- the depth of a statement that is not empty
 
-empty_at_zero : {s : Statement} {ks r : List Terminal} → IsStatement 0 s ks r → s ≡ empty
-empty_at_zero is_empty = refl
-
-not_empty : {A : Type 0} (s : Statement) (d : ℕ) (ks r : List Terminal) → s ≡ empty → IsStatement d s ks r → EndsStatement s r → Begins begins_statement ks → A
-not_empty s d ks r q is_empty t b = both begins_statement ks b t
-not_empty s d ks r q (is_block f) t b = absurd cc
-not_empty s d ks r q (is_if_then e f) t b = absurd cc
-not_empty s d ks r q (is_if_else e f c g) t b = absurd cc
-not_empty s d ks r q (is_case e f) t b = absurd cc
-not_empty s d ks r q (is_case_else e f g) t b = absurd cc
-not_empty s d ks r q (is_while e f) t b = absurd cc
-not_empty s d ks r q (is_repeat e f) t b = absurd cc
-not_empty s d ks r q (is_for_to n e w f g) t b = absurd cc
-not_empty s d ks r q (is_for_in n e f) t b = absurd cc
-not_empty s d ks r q (is_try_finally f g) t b = absurd cc
-not_empty s d ks r q (is_try_except f g) t b = absurd cc
-not_empty s d ks r q (is_try_on f g) t b = absurd cc
-not_empty s d ks r q (is_try_on_else f g h) t b = absurd cc
-not_empty s d ks r q (is_raise e) t b = absurd cc
-not_empty s d ks r q is_reraise t b = absurd cc
-not_empty s d ks r q is_inherited t b = absurd cc
-not_empty s d ks r q (is_inherited_call g) t b = absurd cc
-not_empty s d ks r q (is_call g) t b = absurd cc
-not_empty s d ks r q (is_assignment g e) t b = absurd cc
+-- with no depth left there is the empty one alone
+at_zero : {A : Type 0} {s : Statement} {ks r : List Terminal} → IsStatement 0 s ks r → EndsStatement s r → Begins begins_statement ks → A
+at_zero {ks = ks} is_empty t b = both begins_statement ks b t
 
 counted : (d : ℕ) (s : Statement) (ks r : List Terminal) → Begins begins_statement ks → SomeStatement d s ks r → (i : ℕ) × (d ≡ suc i)
-counted zero s ks r b (f, t) = not_empty s 0 ks r (empty_at_zero f) f t b
+counted zero s ks r b (f, t) = at_zero f t b
 counted (suc i) s ks r b f = (i, refl)
 
 zero_suc : {n : ℕ} → 0 ≡ suc n → ⊥
@@ -102,12 +79,6 @@ semicolon_kind : (k : TokenKind) → (k ≡ kind.Semicolon → ⊥) → is_semic
 semicolon_kind kind.Semicolon h = absurd (h refl)
 semicolon_kind other h = refl
 
-assign_in : kind.Assign ≡ kind.In_ → ⊥
-assign_in h = absurd cc
-
-in_assign : kind.In_ ≡ kind.Assign → ⊥
-in_assign h = absurd cc
-
 else_mark : (r : List Terminal) → IsNot is_else r → NoMark mark.Else_ r
 else_mark [] h = λ p m q. absurd cc
 else_mark (t ∷ r) h = λ p m q. true_false (sym (ap is_else (kind_same q)) ∙ h)
@@ -141,17 +112,8 @@ ends_all (are_statements f (are_statements g ss)) h e n = ends_all (are_statemen
 
 -- ---- lists of statements
 
-abbrev pub statements_before : List Stmt → Statements → Statements
-statements_before [] more = more
-statements_before (x ∷ xs) more = statements (stmt_of x) (statements_before xs more)
-
-statements_none : (xs : List Stmt) → statements_before xs no_statements ≡ stmts_of xs
-statements_none [] = refl
-statements_none (x ∷ xs) = ap (statements (stmt_of x)) (statements_none xs)
-
-statements_push : (xs : List Stmt) (x : Stmt) (more : Statements) → statements_before (xs ++ (x ∷ [])) more ≡ statements_before xs (statements (stmt_of x) more)
-statements_push [] x more = refl
-statements_push (y ∷ xs) x more = ap (statements (stmt_of y)) (statements_push xs x more)
+abbrev pub add_stmt : Stmt → Statements → Statements
+add_stmt x more = statements (stmt_of x) more
 
 statements_split : SplitsOpen SomeStatement SomeStatements SomeStatements mark.Semicolon
 statements_split d x ls r (are_one_statement {s = s} f, t) = ((s, None), r, (r, (f, t.0), semicolon_mark r t.1))
@@ -161,58 +123,63 @@ add_statement : (d : ℕ) (s : Statement) (ss : Statements) (p : Position) (ks m
 add_statement d s ss p ks m r (f, t) (are_one_statement g, u) = (are_statements f (are_one_statement g), u)
 add_statement d s ss p ks m r (f, t) (are_statements g gs, u) = (are_statements f (are_statements g gs), u)
 
--- the statements that are read so far, and what is left
-pub record Sequencing (d : ℕ) (end : Place) (all : List Terminal) (xs : List Stmt) (rest : List Terminal) : Type 0 where
-  pub completes : (more : Statements) (r : List Terminal) → SomeStatements d more rest r → SomeStatements d (statements_before xs more) all r
-  pub dies : (e : ParseError) → Refuses SomeStatements d end rest e → Refuses SomeStatements d end all e
-
-pub sequencing_none : (d : ℕ) (end : Place) (all : List Terminal) → Sequencing d end all [] all
-sequencing_none d end all = record { completes = λ more r x. x; dies = λ e x. x }
-
-pub sequencing_item : (d : ℕ) (end : Place) (all rest : List Terminal) (xs : List Stmt) (e : ParseError) → Sequencing d end all xs rest → Refuses SomeStatement d end rest e → Refuses SomeStatements d end all e
+pub sequencing_item : (d : ℕ) (end : Place) (all rest : List Terminal) (xs : List Stmt) (e : ParseError) → Reading add_stmt SomeStatements d end all xs rest → Refuses SomeStatement d end rest e → Refuses SomeStatements d end all e
 sequencing_item d end all rest xs e so_far h = so_far.dies e (open_item SomeStatement SomeStatements SomeStatements mark.Semicolon d end rest e statements_split h)
 
-pub sequencing_more : (d : ℕ) (end : Place) (all rest m : List Terminal) (xs : List Stmt) (x : Stmt) (p : Position) (after : List Terminal) → Sequencing d end all xs rest → SomeStatement d (stmt_of x) rest m → m ≡ kind.Semicolon at p ∷ after → Sequencing d end all (xs ++ (x ∷ [])) after
+pub sequencing_more : (d : ℕ) (end : Place) (all rest m : List Terminal) (xs : List Stmt) (x : Stmt) (p : Position) (after : List Terminal) → Reading add_stmt SomeStatements d end all xs rest → SomeStatement d (stmt_of x) rest m → m ≡ kind.Semicolon at p ∷ after → Reading add_stmt SomeStatements d end all (xs ++ (x ∷ [])) after
 sequencing_more d end all rest m xs x p after so_far f is =
     let g : SomeStatement d (stmt_of x) rest (kind.Semicolon at p ∷ after) = subst (λ z. SomeStatement d (stmt_of x) rest z) is f in
-    record {
-      completes = λ more r h. subst (λ z. SomeStatements d z all r) (sym (statements_push xs x more)) (so_far.completes _ r (add_statement d (stmt_of x) more p rest after r g h));
-      dies = λ e h. so_far.dies e (open_more SomeStatement SomeStatements SomeStatements mark.Semicolon d end (stmt_of x) rest m after p e statements_split known_statement f is h);
-    }
+    reading_more add_stmt SomeStatements d end all rest xs x after so_far (λ more r h. add_statement d (stmt_of x) more p rest after r g h) (λ e h. open_more SomeStatement SomeStatements SomeStatements mark.Semicolon d end (stmt_of x) rest m after p e statements_split known_statement f is h)
 
-pub sequencing_ends : (d : ℕ) (end : Place) (all rest m : List Terminal) (xs : List Stmt) (x : Stmt) → Sequencing d end all xs rest → SomeStatement d (stmt_of x) rest m → NoMark mark.Semicolon m → SomeStatements d (stmts_of (xs ++ (x ∷ []))) all m
-sequencing_ends d end all rest m xs x so_far f none = subst (λ z. SomeStatements d z all m) (sym (statements_push xs x no_statements) ∙ statements_none (xs ++ (x ∷ []))) (so_far.completes _ m (are_one_statement f.0, (f.1, no_semicolon m none)))
+pub sequencing_ends : (d : ℕ) (end : Place) (all rest m : List Terminal) (xs : List Stmt) (x : Stmt) → Reading add_stmt SomeStatements d end all xs rest → SomeStatement d (stmt_of x) rest m → NoMark mark.Semicolon m → SomeStatements d (stmts_of (xs ++ (x ∷ []))) all m
+sequencing_ends d end all rest m xs x so_far f none = reading_last add_stmt no_statements stmts_of SomeStatements d end all rest m xs x refl (λ x xs. refl) so_far (are_one_statement f.0, (f.1, no_semicolon m none))
+
+-- ---- statements up to `end`
+
+abbrev pub StatementsEnd : Phrase (Statements × Position)
+StatementsEnd = Seq SomeStatements (Marked mark.End)
+
+pub end_body : (d : ℕ) (end : Place) (ks : List Terminal) (e : ParseError) → Refuses SomeStatements d end ks e → Refuses StatementsEnd d end ks e
+end_body d end ks e h = refuses_first SomeStatements (Marked mark.End) d end ks e h
+
+pub end_open : (d : ℕ) (end : Place) (ss : Statements) (ks m : List Terminal) (e : ParseError) → SomeStatements d ss ks m → Refuses (Marked mark.End) d end m e → Refuses StatementsEnd d end ks e
+end_open d end ss ks m e f h = refuses_after SomeStatements (Marked mark.End) d end ss ks m e known_statements f h
+
+-- ---- an expression, a mark and what stands behind it
+
+abbrev pub Headed : {B : Type 0} → Mark → Phrase B → Phrase (Expression × (Position × B))
+Headed m Q = Seq (Chain Relational) (Seq (Marked m) Q)
+
+pub headed_first : {B : Type 0} (m : Mark) (Q : Phrase B) (d : ℕ) (end : Place) (ks : List Terminal) (e : ParseError) → Refuses (Chain Relational) d end ks e → Refuses (Headed m Q) d end ks e
+headed_first m Q d end ks e h = refuses_first (Chain Relational) (Seq (Marked m) Q) d end ks e h
+
+pub headed_mark : {B : Type 0} (m : Mark) (Q : Phrase B) (d : ℕ) (end : Place) (c : Expression) (ks n : List Terminal) (e : ParseError) → Chain Relational d c ks n → Refuses (Marked m) d end n e → Refuses (Headed m Q) d end ks e
+headed_mark m Q d end c ks n e f h = refuses_after (Chain Relational) (Seq (Marked m) Q) d end c ks n e (known_chain Relational) f (refuses_first (Marked m) Q d end n e h)
+
+pub headed_rest : {B : Type 0} (m : Mark) (Q : Phrase B) (q : Position) (d : ℕ) (end : Place) (c : Expression) (ks n o : List Terminal) (e : ParseError) → Chain Relational d c ks n → Marked m d q n o → Refuses Q d end o e → Refuses (Headed m Q) d end ks e
+headed_rest m Q q d end c ks n o e f g h = refuses_after (Chain Relational) (Seq (Marked m) Q) d end c ks n e (known_chain Relational) f (refuses_after (Marked m) Q d end q n o e (known_mark m) g h)
 
 -- ---- begin
 
-abbrev BlockParts : Phrase (Statements × Position)
-BlockParts = Seq SomeStatements (Marked mark.End)
-
-into_block : (p : Position) (d : ℕ) (s : Statement) (ls r : List Terminal) → Behind kind.Begin p d s ls r → Some_ BlockParts d ls
+into_block : (p : Position) (d : ℕ) (s : Statement) (ls r : List Terminal) → Behind kind.Begin p d s ls r → Some_ StatementsEnd d ls
 into_block p d s ls r (is_block (is_begin_end {ss = ss} {q = q} f), t) = ((ss, q), r, (kind.End at q ∷ r, (f, ends_all f refl refl refl), refl))
 into_block p d s ls r (is_empty, t) = true_false t
 into_block p d s ls r (is_call g, t) = false_true (designator_begins g)
 into_block p d s ls r (is_assignment g e, t) = false_true (designator_begins g)
 
-pub block_statements : (p : Position) (d : ℕ) (end : Place) (ks : List Terminal) (e : ParseError) → Refuses SomeStatements d end ks e → Refuses (Behind kind.Begin p) d end ks e
-block_statements p d end ks e h = refuses_map BlockParts (Behind kind.Begin p) d end ks e (λ d' b ls r s x. into_block p d' b ls r x) (refuses_first SomeStatements (Marked mark.End) d end ks e h)
-
-pub block_open : (p : Position) (d : ℕ) (end : Place) (ss : Statements) (ks m : List Terminal) (e : ParseError) → SomeStatements d ss ks m → Refuses (Marked mark.End) d end m e → Refuses (Behind kind.Begin p) d end ks e
-block_open p d end ss ks m e f h = refuses_map BlockParts (Behind kind.Begin p) d end ks e (λ d' b ls r s x. into_block p d' b ls r x) (refuses_after SomeStatements (Marked mark.End) d end ss ks m e known_statements f h)
+pub block_refuses : (p : Position) (d : ℕ) (end : Place) (ks : List Terminal) (e : ParseError) → Refuses StatementsEnd d end ks e → Refuses (Behind kind.Begin p) d end ks e
+block_refuses p d end ks e h = refuses_map StatementsEnd (Behind kind.Begin p) d end ks e (λ d' b ls r s x. into_block p d' b ls r x) h
 
 pub block_whole : (p q : Position) (d : ℕ) (ss : Statements) (ks m r : List Terminal) → SomeStatements d ss ks m → m ≡ kind.End at q ∷ r → Behind kind.Begin p d (block ss) ks r
 block_whole p q d ss ks m r f is = (is_block (is_begin_end (subst (λ z. AreStatements d ss ks z) is f.0)), tt)
 
 -- ---- if
 
-abbrev IfBody : Phrase (Statement × Option Statement)
+abbrev pub IfBody : Phrase (Statement × Option Statement)
 IfBody = Seq SomeStatement (Open SomeStatement mark.Else_)
 
-abbrev IfThen : Phrase (Position × (Statement × Option Statement))
-IfThen = Seq (Marked mark.Then) IfBody
-
 abbrev IfParts : Phrase (Expression × (Position × (Statement × Option Statement)))
-IfParts = Seq (Chain Relational) IfThen
+IfParts = Headed mark.Then IfBody
 
 into_if : (p : Position) (d : ℕ) (s : Statement) (ls r : List Terminal) → Behind kind.If_ p d s ls r → Some_ IfParts d ls
 into_if p d s ls r (is_if_then {c = c} {s = body} {q = q} {m = m} e f, t) = ((c, (q, (body, None))), r, (kind.Then at q ∷ m, (e, stop c _ (refl, refl)), (m, refl, (r, (f, t.0), else_mark r t.1))))
@@ -221,26 +188,17 @@ into_if p d s ls r (is_empty, t) = true_false t
 into_if p d s ls r (is_call g, t) = false_true (designator_begins g)
 into_if p d s ls r (is_assignment g e, t) = false_true (designator_begins g)
 
-if_parts : (p : Position) (d : ℕ) (end : Place) (ks : List Terminal) (e : ParseError) → Refuses IfParts d end ks e → Refuses (Behind kind.If_ p) d end ks e
-if_parts p d end ks e h = refuses_map IfParts (Behind kind.If_ p) d end ks e (λ d' b ls r s x. into_if p d' b ls r x) h
+pub if_refuses : (p : Position) (d : ℕ) (end : Place) (ks : List Terminal) (e : ParseError) → Refuses IfParts d end ks e → Refuses (Behind kind.If_ p) d end ks e
+if_refuses p d end ks e h = refuses_map IfParts (Behind kind.If_ p) d end ks e (λ d' b ls r s x. into_if p d' b ls r x) h
 
-pub if_condition : (p : Position) (d : ℕ) (end : Place) (ks : List Terminal) (e : ParseError) → Refuses (Chain Relational) d end ks e → Refuses (Behind kind.If_ p) d end ks e
-if_condition p d end ks e h = if_parts p d end ks e (refuses_first (Chain Relational) IfThen d end ks e h)
-
-pub if_then_missing : (p : Position) (d : ℕ) (end : Place) (c : Expression) (ks m : List Terminal) (e : ParseError) → Chain Relational d c ks m → Refuses (Marked mark.Then) d end m e → Refuses (Behind kind.If_ p) d end ks e
-if_then_missing p d end c ks m e f h = if_parts p d end ks e (refuses_after (Chain Relational) IfThen d end c ks m e (known_chain Relational) f (refuses_first (Marked mark.Then) IfBody d end m e h))
-
-if_body : (p q : Position) (d : ℕ) (end : Place) (c : Expression) (ks m n : List Terminal) (e : ParseError) → Chain Relational d c ks m → Marked mark.Then d q m n → Refuses IfBody d end n e → Refuses (Behind kind.If_ p) d end ks e
-if_body p q d end c ks m n e f g h = if_parts p d end ks e (refuses_after (Chain Relational) IfThen d end c ks m e (known_chain Relational) f (refuses_after (Marked mark.Then) IfBody d end q m n e (known_mark mark.Then) g h))
-
-pub if_statement : (p q : Position) (d : ℕ) (end : Place) (c : Expression) (ks m n : List Terminal) (e : ParseError) → Chain Relational d c ks m → Marked mark.Then d q m n → Refuses SomeStatement d end n e → Refuses (Behind kind.If_ p) d end ks e
-if_statement p q d end c ks m n e f g h = if_body p q d end c ks m n e f g (refuses_first SomeStatement (Open SomeStatement mark.Else_) d end n e h)
+pub if_body : (d : ℕ) (end : Place) (ks : List Terminal) (e : ParseError) → Refuses SomeStatement d end ks e → Refuses IfBody d end ks e
+if_body d end ks e h = refuses_first SomeStatement (Open SomeStatement mark.Else_) d end ks e h
 
 body_split : SplitsOpen SomeStatement SomeStatement IfBody mark.Else_
 body_split d x ls r f = (x, r, f)
 
-pub if_otherwise : (p q u : Position) (d : ℕ) (end : Place) (c : Expression) (s : Statement) (ks m n o after : List Terminal) (e : ParseError) → Chain Relational d c ks m → Marked mark.Then d q m n → SomeStatement d s n o → Marked mark.Else_ d u o after → Refuses SomeStatement d end after e → Refuses (Behind kind.If_ p) d end ks e
-if_otherwise p q u d end c s ks m n o after e f g i j h = if_body p q d end c ks m n e f g (open_more SomeStatement SomeStatement IfBody mark.Else_ d end s n o after u e body_split known_statement i j h)
+pub if_otherwise : (d : ℕ) (end : Place) (s : Statement) (ks m after : List Terminal) (u : Position) (e : ParseError) → SomeStatement d s ks m → Marked mark.Else_ d u m after → Refuses SomeStatement d end after e → Refuses IfBody d end ks e
+if_otherwise d end s ks m after u e f g h = open_more SomeStatement SomeStatement IfBody mark.Else_ d end s ks m after u e body_split known_statement f g h
 
 pub if_whole : (p q : Position) (d : ℕ) (c : Expression) (s : Statement) (ks m n r : List Terminal) → Chain Relational d c ks m → Marked mark.Then d q m n → SomeStatement d s n r → NoMark mark.Else_ r → Behind kind.If_ p d (if_then c s) ks r
 if_whole p q d c s ks m n r f g h none = (is_if_then (subst (λ z. IsChain Relational d c ks z) g f.0) h.0, (h.1, no_else r none))
@@ -252,11 +210,8 @@ if_else_whole p q u d c s t ks m n o after r f g i j h =
 
 -- ---- while
 
-abbrev DoBody : Phrase (Position × Statement)
-DoBody = Seq (Marked mark.Do_) SomeStatement
-
 abbrev WhileParts : Phrase (Expression × (Position × Statement))
-WhileParts = Seq (Chain Relational) DoBody
+WhileParts = Headed mark.Do_ SomeStatement
 
 into_while : (p : Position) (d : ℕ) (s : Statement) (ls r : List Terminal) → Behind kind.While_ p d s ls r → Some_ WhileParts d ls
 into_while p d s ls r (is_while {c = c} {s = body} {q = q} {m = m} e f, t) = ((c, (q, body)), r, (kind.Do_ at q ∷ m, (e, stop c _ (refl, refl)), (m, refl, (f, t))))
@@ -266,16 +221,6 @@ into_while p d s ls r (is_assignment g e, t) = false_true (designator_begins g)
 
 pub while_refuses : (p : Position) (d : ℕ) (end : Place) (ks : List Terminal) (e : ParseError) → Refuses WhileParts d end ks e → Refuses (Behind kind.While_ p) d end ks e
 while_refuses p d end ks e h = refuses_map WhileParts (Behind kind.While_ p) d end ks e (λ d' b ls r s x. into_while p d' b ls r x) h
-
--- an expression, `do` and a statement, as behind `while` and `for variable in`
-pub do_condition : (d : ℕ) (end : Place) (ks : List Terminal) (e : ParseError) → Refuses (Chain Relational) d end ks e → Refuses WhileParts d end ks e
-do_condition d end ks e h = refuses_first (Chain Relational) DoBody d end ks e h
-
-pub do_missing : (d : ℕ) (end : Place) (c : Expression) (ks m : List Terminal) (e : ParseError) → Chain Relational d c ks m → Refuses (Marked mark.Do_) d end m e → Refuses WhileParts d end ks e
-do_missing d end c ks m e f h = refuses_after (Chain Relational) DoBody d end c ks m e (known_chain Relational) f (refuses_first (Marked mark.Do_) SomeStatement d end m e h)
-
-pub do_body : (q : Position) (d : ℕ) (end : Place) (c : Expression) (ks m n : List Terminal) (e : ParseError) → Chain Relational d c ks m → Marked mark.Do_ d q m n → Refuses SomeStatement d end n e → Refuses WhileParts d end ks e
-do_body q d end c ks m n e f g h = refuses_after (Chain Relational) DoBody d end c ks m e (known_chain Relational) f (refuses_after (Marked mark.Do_) SomeStatement d end q m n e (known_mark mark.Do_) g h)
 
 pub while_whole : (p q : Position) (d : ℕ) (c : Expression) (s : Statement) (ks m n r : List Terminal) → Chain Relational d c ks m → Marked mark.Do_ d q m n → SomeStatement d s n r → Behind kind.While_ p d (while_do c s) ks r
 while_whole p q d c s ks m n r f g h = (is_while (subst (λ z. IsChain Relational d c ks z) g f.0) h.0, h.1)
@@ -341,10 +286,10 @@ for_in_missing p d end n ks m e f none h = for_parts p d end ks e (refuses_after
 
 to_of_rest : (q : Position) (d : ℕ) (x : Option (Expression × (Direction × (Expression × (Position × Statement))))) (ls r : List Terminal) → ForRest d x (kind.Assign at q ∷ ls) r → Some_ ForTo d ls
 to_of_rest q d (Some x) ls r (u, n, e, f) = (x, r, subst (λ z. ForTo d x z r) (sym (ap behind e)) f)
-to_of_rest q d None ls r (u, n, x, e, f) = absurd (assign_in (kind_same e))
+to_of_rest q d None ls r (u, n, x, e, f) = let clash : kind.Assign ≡ kind.In_ = kind_same e in absurd cc
 
 in_rest : (q : Position) (d : ℕ) (x : Option (Expression × (Direction × (Expression × (Position × Statement))))) (ls r : List Terminal) → ForRest d x (kind.In_ at q ∷ ls) r → Some_ WhileParts d ls
-in_rest q d (Some x) ls r (u, n, e, f) = absurd (in_assign (kind_same e))
+in_rest q d (Some x) ls r (u, n, e, f) = let clash : kind.In_ ≡ kind.Assign = kind_same e in absurd cc
 in_rest q d None ls r (u, n, x, e, f) = (x, r, subst (λ z. WhileParts d x z r) (sym (ap behind e)) f)
 
 for_to_refuses : (p q : Position) (d : ℕ) (end : Place) (n : Name) (ks m after : List Terminal) (e : ParseError) → IsName n ks m → Marked mark.Assign d q m after → Refuses ForTo d end after e → Refuses (Behind kind.For_ p) d end ks e

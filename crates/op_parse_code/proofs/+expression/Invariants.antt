@@ -1,7 +1,9 @@
 use Rattle.std.proofs.Common.{ℕ, ◌+◌, ◌*◌, ◌≤◌, length}
 use Rattle.op_parse_code.proofs.Chains.{Operating}
 use Rattle.op_parse_code.proofs.Designators.{Selecting}
-use Rattle.op_parse_code.proofs.ExpressionLists.{Arguing, Enumerating, Indexing}
+use Rattle.op_parse_code.proofs.ExpressionLists.{add_argument, add_element, add_index}
+use Rattle.op_parse_code.proofs.Lists.{Reading}
+use Rattle.op_parse_code.specs.Whole.{ArgumentsBefore, ElementsBefore, IndicesBefore}
 use Rattle.op_tree.specs.Terminal.{terminals}
 use Rattle.op_tree.specs.declared.operator.Level.{Level}
 use Rattle.op_tree.specs.declared.operator.Level.TheVariants.{Relational, Additive, Multiplicative}
@@ -58,36 +60,32 @@ decreases-list::element l = 32 * l.left + 24
 abbrev pub decreases-list::indices : goal.decreases-list::indices
 decreases-list::indices l = 32 * l.left + 25
 
-abbrev pub invariant-chain::operations-loop-operator :
-    goal.invariant-chain::operations-loop-operator
+abbrev pub invariant-chain::operations-loop-operator : goal.invariant-chain::operations-loop-operator
 invariant-chain::operations-loop-operator l = Operating l.fn.level l.fn.left l.fn.end (terminals l.fn.tokens) l.operations.items (terminals l.rest) × (length l.rest ≤ length l.fn.tokens)
 
-abbrev pub decreases-chain::operations-loop-operator :
-    goal.decreases-chain::operations-loop-operator
+abbrev pub decreases-chain::operations-loop-operator : goal.decreases-chain::operations-loop-operator
 decreases-chain::operations-loop-operator l = length l.rest
 
-abbrev pub invariant-designator::selectors-loop-selectors :
-    goal.invariant-designator::selectors-loop-selectors
+abbrev pub invariant-designator::selectors-loop-selectors : goal.invariant-designator::selectors-loop-selectors
 invariant-designator::selectors-loop-selectors l = Selecting l.fn.left l.fn.end (terminals l.fn.tokens) l.selectors.items (terminals l.rest) × (length l.rest ≤ length l.fn.tokens)
 
-abbrev pub decreases-designator::selectors-loop-selectors :
-    goal.decreases-designator::selectors-loop-selectors
+abbrev pub decreases-designator::selectors-loop-selectors : goal.decreases-designator::selectors-loop-selectors
 decreases-designator::selectors-loop-selectors l = length l.rest
 
 abbrev pub invariant-list::arguments-loop-arguments : goal.invariant-list::arguments-loop-arguments
-invariant-list::arguments-loop-arguments l = Arguing l.fn.left l.fn.end (terminals l.fn.tokens) l.arguments.items (terminals l.rest) × (length l.rest ≤ length l.fn.tokens)
+invariant-list::arguments-loop-arguments l = Reading add_argument ArgumentsBefore l.fn.left l.fn.end (terminals l.fn.tokens) l.arguments.items (terminals l.rest) × (length l.rest ≤ length l.fn.tokens)
 
 abbrev pub decreases-list::arguments-loop-arguments : goal.decreases-list::arguments-loop-arguments
 decreases-list::arguments-loop-arguments l = length l.rest
 
 abbrev pub invariant-list::elements-loop-elements : goal.invariant-list::elements-loop-elements
-invariant-list::elements-loop-elements l = Enumerating l.fn.close l.fn.left l.fn.end (terminals l.fn.tokens) l.elements.items (terminals l.rest) × (length l.rest ≤ length l.fn.tokens)
+invariant-list::elements-loop-elements l = Reading add_element (ElementsBefore l.fn.close) l.fn.left l.fn.end (terminals l.fn.tokens) l.elements.items (terminals l.rest) × (length l.rest ≤ length l.fn.tokens)
 
 abbrev pub decreases-list::elements-loop-elements : goal.decreases-list::elements-loop-elements
 decreases-list::elements-loop-elements l = length l.rest
 
 abbrev pub invariant-list::indices-loop-indices : goal.invariant-list::indices-loop-indices
-invariant-list::indices-loop-indices l = Indexing l.fn.left l.fn.end (terminals l.fn.tokens) l.indices.items (terminals l.rest) × (length l.rest ≤ length l.fn.tokens)
+invariant-list::indices-loop-indices l = Reading add_index IndicesBefore l.fn.left l.fn.end (terminals l.fn.tokens) l.indices.items (terminals l.rest) × (length l.rest ≤ length l.fn.tokens)
 
 abbrev pub decreases-list::indices-loop-indices : goal.decreases-list::indices-loop-indices
 decreases-list::indices-loop-indices l = length l.rest

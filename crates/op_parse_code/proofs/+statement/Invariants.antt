@@ -1,7 +1,9 @@
 use Rattle.std.proofs.Common.{◌+◌, ◌*◌, ◌≤◌, length}
-use Rattle.op_parse_code.proofs.Branches.{Branching}
-use Rattle.op_parse_code.proofs.Handlers.{Handling}
-use Rattle.op_parse_code.proofs.Statements.{Sequencing}
+use Rattle.op_parse_code.proofs.Branches.{add_branch}
+use Rattle.op_parse_code.proofs.Handlers.{add_handler}
+use Rattle.op_parse_code.proofs.Lists.{Reading}
+use Rattle.op_parse_code.proofs.Statements.{add_stmt}
+use Rattle.op_parse_code.specs.WholeStatement.{SomeBranches, SomeHandlers, SomeStatements}
 use Rattle.op_tree.specs.Terminal.{terminals}
 use Rattle.op_parse_code.proofs.+statement.Given as goal
 
@@ -45,19 +47,19 @@ abbrev pub decreases-handler::handlers : goal.decreases-handler::handlers
 decreases-handler::handlers l = 8 * l.left + 2
 
 abbrev pub invariant-compound::statements-loop-statements : goal.invariant-compound::statements-loop-statements
-invariant-compound::statements-loop-statements l = Sequencing l.fn.left l.fn.end (terminals l.fn.tokens) l.statements.items (terminals l.rest) × (length l.rest ≤ length l.fn.tokens)
+invariant-compound::statements-loop-statements l = Reading add_stmt SomeStatements l.fn.left l.fn.end (terminals l.fn.tokens) l.statements.items (terminals l.rest) × (length l.rest ≤ length l.fn.tokens)
 
 abbrev pub decreases-compound::statements-loop-statements : goal.decreases-compound::statements-loop-statements
 decreases-compound::statements-loop-statements l = length l.rest
 
 abbrev pub invariant-branch::branches-loop-alloc : goal.invariant-branch::branches-loop-alloc
-invariant-branch::branches-loop-alloc l = Branching l.fn.left l.fn.end (terminals l.fn.tokens) l.branches.items (terminals l.rest) × (length l.rest ≤ length l.fn.tokens)
+invariant-branch::branches-loop-alloc l = Reading add_branch SomeBranches l.fn.left l.fn.end (terminals l.fn.tokens) l.branches.items (terminals l.rest) × (length l.rest ≤ length l.fn.tokens)
 
 abbrev pub decreases-branch::branches-loop-alloc : goal.decreases-branch::branches-loop-alloc
 decreases-branch::branches-loop-alloc l = length l.rest
 
 abbrev pub invariant-handler::handlers-loop-alloc : goal.invariant-handler::handlers-loop-alloc
-invariant-handler::handlers-loop-alloc l = Handling l.fn.left l.fn.end (terminals l.fn.tokens) l.handlers.items (terminals l.rest) × (length l.rest ≤ length l.fn.tokens)
+invariant-handler::handlers-loop-alloc l = Reading add_handler SomeHandlers l.fn.left l.fn.end (terminals l.fn.tokens) l.handlers.items (terminals l.rest) × (length l.rest ≤ length l.fn.tokens)
 
 abbrev pub decreases-handler::handlers-loop-alloc : goal.decreases-handler::handlers-loop-alloc
 decreases-handler::handlers-loop-alloc l = length l.rest

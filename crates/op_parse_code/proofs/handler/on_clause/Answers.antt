@@ -1,4 +1,4 @@
-use Rattle.std.proofs.Common.{codes, sym, ap, ◌∙◌, refl}
+use Rattle.std.proofs.Common.{sym, ◌∙◌, refl}
 use Rattle.op_parse_code.proofs.Errors.{passed}
 use Rattle.op_parse_code.proofs.Handlers.{on_missing, on_name_missing, on_class_refuses, on_class_missing, on_variable_refuses, on_class_whole, on_variable_whole}
 use Rattle.op_parse_code.proofs.Names.{none_left}

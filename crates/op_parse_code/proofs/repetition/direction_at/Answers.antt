@@ -1,4 +1,4 @@
-use Rattle.std.proofs.Common.{List, [], length, refl, sym, ap, ◌∙◌, arith}
+use Rattle.std.proofs.Common.{sym, ap, ◌∙◌}
 use Rattle.op_parse_code.proofs.Names.{none_left}
 use Rattle.op_parse_code.proofs.Statements.{direction_none, direction_missing}
 use Rattle.op_tree.specs.Terminal.{terminals}

@@ -1,5 +1,4 @@
 use Rattle.op_tree.proofs.Rows.{block_says}
-use Rattle.op_parse_code.proofs.Statements.{for_in_whole}
 use Rattle.op_parse_code.proofs.statement_nodes.block_node.Goals as goal
 
 pub returns : goal.returns
