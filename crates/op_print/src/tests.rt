@@ -355,26 +355,34 @@ fn attempt(alloc: Global) -> Result<Stmt, NoTree> {
     })
 }
 
+fn routine(method: Method, body: Body) -> Declaration {
+    Declaration::Routine(Routine {
+        heading: method.heading,
+        directives: method.directives,
+        body,
+    })
+}
+
+/// `procedure TBox.Grow; begin .. end`
+fn grow(alloc: Global) -> Result<Declaration, NoTree> {
+    let statements = vec![in alloc; attempt(alloc)?]?;
+    let mut method = procedure(alloc, "Grow", no_directives(alloc))?;
+    method.heading.class = Some(name(alloc, "TBox")?);
+    let body = Body::Block {
+        declarations: Vec::new(alloc),
+        statements,
+    };
+    Ok(routine(method, body))
+}
+
 /// A body that follows later, and a body that is here, of a method.
 fn routines(alloc: Global) -> Result<Vec<Declaration>, NoTree> {
-    let later = procedure(alloc, "Later", no_directives(alloc))?;
-    let mut grow = procedure(alloc, "Grow", no_directives(alloc))?;
-    grow.heading.class = Some(name(alloc, "TBox")?);
-    let forward = Declaration::Routine(Routine {
-        heading: later.heading,
-        directives: later.directives,
-        body: Body::Forward,
-    });
-    let here = Declaration::Routine(Routine {
-        heading: grow.heading,
-        directives: grow.directives,
-        body: Body::Block {
-            declarations: Vec::new(alloc),
-            statements: vec![in alloc; attempt(alloc)?]?,
-        },
-    });
-    let all = vec![in alloc; forward, here]?;
-    Ok(all)
+    let later = routine(
+        procedure(alloc, "Later", no_directives(alloc))?,
+        Body::Forward,
+    );
+    let grow = grow(alloc)?;
+    Ok(vec![in alloc; later, grow]?)
 }
 
 fn unit(alloc: Global) -> Result<Tree, NoTree> {
