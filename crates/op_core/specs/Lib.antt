@@ -1,0 +1,4 @@
+pub mod Expression
+pub mod Faults
+pub mod Initial
+pub mod Statement

@@ -1,0 +1,44 @@
+//! A table that grows.
+ghost use Rattle.std.specs.Prelude.{◌≡◌, [], ◌∷◌, ◌++◌, IfOk};
+
+use op_base::NoMemory;
+use std::alloc::Global;
+use std::marker::Model;
+
+/// Rows, each found by its number. No row is taken out.
+#[derive(Drop)]
+pub struct Table<T> {
+    rows: Vec<T>,
+}
+
+impl<T> Model for Table<T> {
+    ghost use Rattle.std.specs.Prelude.{List};
+
+    ghost Value = { List T };
+
+    ghost view = { λ t. t.rows.items };
+}
+
+impl<T: Drop> Table<T> {
+    pub fn new(alloc: Global) -> Table<T>
+        ensures { result ≡ [] }
+    {
+        Table {
+            rows: Vec::new(alloc),
+        }
+    }
+
+    /// Puts a row behind the others.
+    pub fn push(&mut self, row: T) -> Result<(), NoMemory>
+        ensures { IfOk result (λ _. self.new ≡ self.old ++ row ∷ []) }
+    {
+        self.rows.push(row)?;
+        Ok(())
+    }
+
+    pub fn as_slice(&self) -> &[T]
+        ensures { result.now ≡ self.now }
+    {
+        self.rows.as_slice()
+    }
+}
