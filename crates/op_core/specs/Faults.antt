@@ -53,11 +53,14 @@ after faults c = record { typed = c.typed; faults = both faults c.faults }
 
 -- ---- the first one
 
+-- by the first number, and where these are equal by what follows
+abbrev pub lower_or : ℕ → ℕ → Bool → Bool
+lower_or a b others = nat_lt a b || (nat_eq a b && others)
+
 -- by line, column and the rule's number
 abbrev pub comes_before : Refusal → Refusal → Bool
 comes_before a b =
-    nat_lt a.place.line b.place.line || (nat_eq a.place.line b.place.line
-      && (nat_lt a.place.col b.place.col || (nat_eq a.place.col b.place.col && nat_lt a.rule.number b.rule.number)))
+    lower_or a.place.line b.place.line (lower_or a.place.col b.place.col (nat_lt a.rule.number b.rule.number))
 
 -- of two faults the first, and the one that was there where they stand alike
 abbrev pub earlier : Option Refusal → Refusal → Option Refusal

@@ -11,6 +11,7 @@ mod constant;
 mod error;
 mod expression;
 mod first_refusal;
+mod heading;
 mod ids;
 mod operation;
 mod program;
@@ -24,6 +25,7 @@ pub use constant::{Const, Initial};
 pub use error::CheckError;
 pub use expression::{Action, CoreArgument, CoreElement, CoreExpr, Root, Step};
 pub use first_refusal::{FirstRefusal, first_is_kept};
+pub use heading::{one_type, same_heading};
 pub use ids::{ClassId, FieldId, InterfaceId, RoutineId, Run, TypeId, UnitId, VariableId};
 pub use operation::{
     BooleanOperation, Compared, Comparison, Conversion, Dispatch, Function, IntegerOperation,
@@ -35,4 +37,4 @@ pub use statement::{
     CoreAction, CoreBranch, CoreHandler, CoreItem, CoreStmt, CoreTarget, Label,
 };
 pub use table::Table;
-pub use types::{Field, IntegerKind, Type};
+pub use types::{Field, IntegerKind, CoreType};

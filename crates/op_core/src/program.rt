@@ -1,7 +1,7 @@
 //! The typed program.
 use crate::{
     Class, ClassId, Field, FieldId, Interface, InterfaceId, Method, Parameter, Property, Routine,
-    RoutineId, Run, Table, Type, Variable,
+    RoutineId, Run, Table, CoreType, Variable,
 };
 use op_base::Text;
 
@@ -36,7 +36,7 @@ pub struct ExceptionClasses {
 /// The typed program: every name is replaced by what it names, and every conversion is written out.
 #[derive(Drop)]
 pub struct Core {
-    pub types: Table<Type>,
+    pub types: Table<CoreType>,
     pub fields: Table<Field>,
     pub classes: Table<Class>,
     pub interfaces: Table<Interface>,

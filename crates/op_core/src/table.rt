@@ -1,6 +1,8 @@
 //! A table that grows.
 ghost use Rattle.std.specs.Prelude.{◌≡◌, [], ◌∷◌, ◌++◌, IfOk};
+ghost use Rattle.op_core.specs.Rows.{rows};
 
+use crate::Run;
 use op_base::NoMemory;
 use std::alloc::Global;
 use std::marker::Model;
@@ -40,5 +42,15 @@ impl<T: Drop> Table<T> {
         ensures { result.now ≡ self.now }
     {
         self.rows.as_slice()
+    }
+
+    /// Those of the rows that lie together and are there.
+    pub fn rows(&self, run: Run) -> &[T]
+        ensures { result.now ≡ rows self.now run }
+    {
+        let rows = self.rows.as_slice();
+        let (_, behind) = rows.split_at(rows.len().min(run.first as usize));
+        let (front, _) = behind.split_at(behind.len().min(run.count as usize));
+        front
     }
 }

@@ -17,7 +17,7 @@ pub enum IntegerKind {
 /// Records, static arrays, sets and subranges are entered behind the types that they are made of. So only a dynamic array
 /// could reach itself; where one does through records and arrays alone, it is entered as `Broken`.
 #[derive(Clone, Copy, Debug, PartialEq, Eq)]
-pub enum Type {
+pub enum CoreType {
     Integer(IntegerKind),
     Boolean,
     Char,
