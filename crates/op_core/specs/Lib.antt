@@ -2,6 +2,9 @@ pub mod Expression
 pub mod Faults
 pub mod Heading
 pub mod Initial
+pub mod Members
 pub mod Rows
+pub mod Sizes
 pub mod Statement
 pub mod Types
+pub mod Typing
