@@ -5,6 +5,8 @@ pub mod Initial
 pub mod Members
 pub mod Rows
 pub mod Sizes
+pub mod Sound
 pub mod Statement
+pub mod StatementTyping
 pub mod Types
 pub mod Typing
