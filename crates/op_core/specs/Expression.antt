@@ -18,9 +18,9 @@ use Rattle.op_core.specs.declared.ids.VariableId.{VariableId}
 use Rattle.op_core.specs.declared.operation.Conversion.{Conversion}
 use Rattle.op_core.specs.declared.operation.Dispatch.{Dispatch}
 use Rattle.op_core.specs.declared.operation.Function.{Function}
-use Rattle.op_core.specs.declared.operation.Operation.{Operation}
 use Rattle.op_core.specs.declared.operation.Origin.{Origin}
-use Rattle.op_core.specs.declared.operation.PrefixOperation.{PrefixOperation}
+use Rattle.op_tree.specs.declared.operator.Operator.{Operator}
+use Rattle.op_tree.specs.declared.operator.PrefixOperator.{PrefixOperator}
 
 mutual
   pub data Expression : Type 0 where
@@ -46,8 +46,8 @@ mutual
     field : (id : FieldId) → Action
     index : (at : Expression) → Action
     method : (method : RoutineId) (dispatch : Dispatch) (arguments : Arguments) → Action
-    prefixed : (operation : PrefixOperation) (checked : Bool) → Action
-    operate : (operation : Operation) (checked : Bool) (operand : Expression) → Action
+    prefixed : (operator : PrefixOperator) (checked : Bool) → Action
+    operate : (operator : Operator) (checked : Bool) (operand : Expression) → Action
     is : (of : TypeId) → Action
     apply : (function : Function) (checked : Bool) → Action
     copy : (first count : Expression) → Action
@@ -98,8 +98,8 @@ abbrev mutual
   action_of (Field id) = field id
   action_of (Index e) = index (expr_of e)
   action_of (Method' id dispatch _ row) = method id dispatch (argument_row row)
-  action_of (Prefix operation checked) = prefixed operation checked
-  action_of (Operate operation checked e) = operate operation checked (expr_of e)
+  action_of (Prefix operator checked) = prefixed operator checked
+  action_of (Operate operator checked e) = operate operator checked (expr_of e)
   action_of (Is of) = is of
   action_of (Apply function checked) = apply function checked
   action_of (Copy e e') = copy (expr_of e) (expr_of e')

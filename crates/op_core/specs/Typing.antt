@@ -13,17 +13,12 @@ use Rattle.op_core.specs.declared.ids.FieldId.{FieldId}
 use Rattle.op_core.specs.declared.ids.RoutineId.{RoutineId}
 use Rattle.op_core.specs.declared.ids.TypeId.{TypeId}
 use Rattle.op_core.specs.declared.ids.VariableId.{VariableId}
-use Rattle.op_core.specs.declared.operation.BooleanOperation.{BooleanOperation}
-use Rattle.op_core.specs.declared.operation.Compared.{Compared}
-use Rattle.op_core.specs.declared.operation.Compared.TheVariants.{Ordinals, Strings, Sets, References}
 use Rattle.op_core.specs.declared.operation.Conversion.{Conversion}
 use Rattle.op_core.specs.declared.operation.Conversion.TheVariants.{Keep, LowBits, Check, ToString, ToInterface, Instance}
 use Rattle.op_core.specs.declared.operation.Function.{Function}
 use Rattle.op_core.specs.declared.operation.Function.TheVariants.{Length, Low, High, Ord, Succ, Pred, Abs, Sqr, Odd, Assigned, UpCase, Whole, ClassName}
-use Rattle.op_core.specs.declared.operation.Operation.{Operation}
-use Rattle.op_core.specs.declared.operation.Operation.TheVariants.{Integer as OnIntegers, Boolean as OnBooleans, Set as OnSets, Concatenate, Contains, Compare}
-use Rattle.op_core.specs.declared.operation.PrefixOperation.{PrefixOperation}
-use Rattle.op_core.specs.declared.operation.PrefixOperation.TheVariants.{Not, Plus, Minus}
+use Rattle.op_core.specs.declared.operation.Dispatch.{Dispatch}
+use Rattle.op_core.specs.declared.operation.Dispatch.TheVariants.{Direct, Virtual, Interface as ByInterface}
 use Rattle.op_core.specs.declared.program.Core.{Core}
 use Rattle.op_core.specs.declared.routine.Owner.TheVariants.{Unit as OfUnit}
 use Rattle.op_core.specs.declared.routine.Parameter.{Parameter}
@@ -34,6 +29,10 @@ use Rattle.op_core.specs.declared.types.IntegerKind.TheVariants.{Signed32}
 use Rattle.op_tree.specs.declared.heading.ParameterMode.{ParameterMode}
 use Rattle.op_tree.specs.declared.heading.ParameterMode.TheVariants.{Value, Var, Const_, Out}
 use Rattle.op_tree.specs.declared.heading.RoutineKind.TheVariants.{Constructor}
+use Rattle.op_tree.specs.declared.operator.Operator.{Operator}
+use Rattle.op_tree.specs.declared.operator.Operator.TheVariants.{Equal, NotEqual, Less, Greater, LessEqual, GreaterEqual, In_, Is, Add, Subtract, Or, Xor, Multiply, Slash, Div, Mod_, And, Shl, Shr, As_}
+use Rattle.op_tree.specs.declared.operator.PrefixOperator.{PrefixOperator}
+use Rattle.op_tree.specs.declared.operator.PrefixOperator.TheVariants.{Not, Plus, Minus}
 
 -- what a body may name
 pub record Sees : Type 1 where
@@ -132,21 +131,52 @@ Converts core ToString from to = Kind core from Char × IsString core to
 Converts core ToInterface from to = IsImplemented core (type_at core from) (type_at core to)
 Converts core Instance from to = IsInstance (type_at core from) × IsInstance (type_at core to)
 
-abbrev pub Compares : Core → Compared → TypeId → TypeId → Type 0
-Compares core Ordinals a b = IsOrdinal core a × IsOrdinal core b
-Compares core Strings a b = IsString core a × IsString core b
-Compares core Sets a b = IsSet core a × (a ≡ b)
-Compares core References a b = IsReference core a × IsReference core b
+-- both sides and what comes out
+abbrev All3 : (TypeId → Type 0) → TypeId → TypeId → TypeId → Type 0
+All3 Q a b to = Q a × Q b × Q to
 
-abbrev pub Operates : Core → Operation → TypeId → TypeId → TypeId → Type 0
-Operates core (OnIntegers operation) a b to = IsInteger core a × IsInteger core b × IsInteger core to
-Operates core (OnBooleans operation) a b to = IsBoolean core a × IsBoolean core b × IsBoolean core to
-Operates core (OnSets operation) a b to = IsSet core a × (a ≡ b) × (a ≡ to)
-Operates core Concatenate a b to = IsString core a × IsString core b × IsString core to
-Operates core Contains a b to = IsOrdinal core a × IsSet core b × IsBoolean core to
-Operates core (Compare compared comparison) a b to = Compares core compared a b × IsBoolean core to
+abbrev OnSets : Core → TypeId → TypeId → TypeId → Type 0
+OnSets core a b to = IsSet core a × (a ≡ b) × (a ≡ to)
 
-abbrev pub Prefixes : Core → PrefixOperation → TypeId → Type 0
+abbrev Both : (TypeId → Type 0) → TypeId → TypeId → Type 0
+Both Q a b = Q a × Q b
+
+abbrev AreOrdered : Core → TypeId → TypeId → Type 0
+AreOrdered core a b = Both (IsOrdinal core) a b ⊎ Both (IsString core) a b
+
+abbrev AreSets : Core → TypeId → TypeId → Type 0
+AreSets core a b = IsSet core a × (a ≡ b)
+
+abbrev Equates : Core → TypeId → TypeId → TypeId → Type 0
+Equates core a b to = (AreOrdered core a b ⊎ AreSets core a b ⊎ Both (IsReference core) a b) × IsBoolean core to
+
+abbrev Includes : Core → TypeId → TypeId → TypeId → Type 0
+Includes core a b to = (AreOrdered core a b ⊎ AreSets core a b) × IsBoolean core to
+
+abbrev Combines : Core → TypeId → TypeId → TypeId → Type 0
+Combines core a b to = All3 (IsInteger core) a b to ⊎ All3 (IsBoolean core) a b to
+
+abbrev pub Operates : Core → Operator → TypeId → TypeId → TypeId → Type 0
+Operates core Add a b to = All3 (IsInteger core) a b to ⊎ All3 (IsString core) a b to ⊎ OnSets core a b to
+Operates core Subtract a b to = All3 (IsInteger core) a b to ⊎ OnSets core a b to
+Operates core Multiply a b to = All3 (IsInteger core) a b to ⊎ OnSets core a b to
+Operates core Div a b to = All3 (IsInteger core) a b to
+Operates core Mod_ a b to = All3 (IsInteger core) a b to
+Operates core Shl a b to = All3 (IsInteger core) a b to
+Operates core Shr a b to = All3 (IsInteger core) a b to
+Operates core And a b to = Combines core a b to
+Operates core Or a b to = Combines core a b to
+Operates core Xor a b to = Combines core a b to
+Operates core Equal a b to = Equates core a b to
+Operates core NotEqual a b to = Equates core a b to
+Operates core LessEqual a b to = Includes core a b to
+Operates core GreaterEqual a b to = Includes core a b to
+Operates core Less a b to = AreOrdered core a b × IsBoolean core to
+Operates core Greater a b to = AreOrdered core a b × IsBoolean core to
+Operates core In_ a b to = IsOrdinal core a × IsSet core b × IsBoolean core to
+Operates core _ a b to = ⊥
+
+abbrev pub Prefixes : Core → PrefixOperator → TypeId → Type 0
 Prefixes core Not of = IsInteger core of ⊎ IsBoolean core of
 Prefixes core Plus of = IsInteger core of
 Prefixes core Minus of = IsInteger core of
@@ -181,10 +211,11 @@ HoldsField core (Some (Record fields)) f = InRun fields f.0
 HoldsField core (Some (Class c)) f = HasField core c f
 HoldsField core _ f = ⊥
 
-abbrev pub HoldsMethod : Core → Option CoreType → RoutineId → Type 0
-HoldsMethod core (Some (Class c)) r = HasMethod core c r
-HoldsMethod core (Some (Interface i)) r = AsksFor core i r
-HoldsMethod core _ r = ⊥
+abbrev pub HoldsMethod : Core → Option CoreType → Dispatch → RoutineId → Type 0
+HoldsMethod core (Some (Class c)) Direct r = HasMethod core c r
+HoldsMethod core (Some (Class c)) Virtual r = HasMethod core c r
+HoldsMethod core (Some (Interface i)) ByInterface r = AsksFor core i r
+HoldsMethod core _ dispatch r = ⊥
 
 -- a value of the type, at an index of this type, gives one of the last
 abbrev pub Indexes : Core → Option CoreType → TypeId → TypeId → Type 0
@@ -260,9 +291,9 @@ abbrev mutual
   IsAction core sees from bracket to = from ≡ to
   IsAction core sees from (field f) to = HoldsField core (type_at core from) f × There core.fields f.0 (λ x. x.of ≡ to)
   IsAction core sees from (index e) to = IsTyped core sees e × Indexes core (type_at core from) (type_of e) to
-  IsAction core sees from (method id dispatch given) to = HoldsMethod core (type_at core from) id × There core.routines id.0 (λ r. GivesType core r.result to × AreArguments core sees (rows core.parameters r.parameters) given)
-  IsAction core sees from (prefixed operation checked) to = Prefixes core operation from × (from ≡ to)
-  IsAction core sees from (operate operation checked e) to = IsTyped core sees e × Operates core operation from (type_of e) to
+  IsAction core sees from (method id dispatch given) to = HoldsMethod core (type_at core from) dispatch id × There core.routines id.0 (λ r. GivesType core r.result to × AreArguments core sees (rows core.parameters r.parameters) given)
+  IsAction core sees from (prefixed operator checked) to = Prefixes core operator from × (from ≡ to)
+  IsAction core sees from (operate operator checked e) to = IsTyped core sees e × Operates core operator from (type_of e) to
   IsAction core sees from (is of) to = IsInstance (type_at core from) × IsInstance (type_at core of) × IsBoolean core to
   IsAction core sees from (apply function checked) to = Applies core function from to
   IsAction core sees from (copy e e') to = IsTyped core sees e × IsInteger core (type_of e) × IsTyped core sees e' × IsInteger core (type_of e') × IsSequence core from × (from ≡ to)

@@ -3,9 +3,9 @@
 //! An expression is a root and what is done with its value, step by step: `(a + b)[i] * c` is the root a, and the steps
 //! `+ b`, brackets, `[i]` and `* c`. So a long chain of operators or selectors is a list and no deep tree.
 use crate::{
-    ClassId, Const, Conversion, Dispatch, FieldId, Function, Operation, Origin, PrefixOperation,
-    RoutineId, TypeId, VariableId,
+    ClassId, Const, Conversion, Dispatch, FieldId, Function, Origin, RoutineId, TypeId, VariableId,
 };
+use op_tree::{Operator, PrefixOperator};
 
 /// An expression. It is of the type of its last step, or of its root where it has none.
 #[cycle(typed_expression)]
@@ -79,12 +79,13 @@ pub enum Action {
     },
     /// `checked` is whether an overflow is error 215: the switch Q at the operator.
     Prefix {
-        operation: PrefixOperation,
+        operator: PrefixOperator,
         checked: bool,
     },
+    /// The types of the two sides tell what the operator does: they are equal, but for an ordinal value `in` a set.
     /// `checked` is whether an overflow is error 215: the switch Q at the operator.
     Operate {
-        operation: Operation,
+        operator: Operator,
         checked: bool,
         operand: CoreExpr,
     },

@@ -27,10 +27,7 @@ pub use expression::{Action, CoreArgument, CoreElement, CoreExpr, Root, Step};
 pub use first_refusal::{FirstRefusal, first_is_kept};
 pub use heading::{one_type, same_heading};
 pub use ids::{ClassId, FieldId, InterfaceId, RoutineId, Run, TypeId, UnitId, VariableId};
-pub use operation::{
-    BooleanOperation, Compared, Comparison, Conversion, Dispatch, Function, IntegerOperation,
-    Operation, Origin, PrefixOperation, SetOperation,
-};
+pub use operation::{Conversion, Dispatch, Function, Origin};
 pub use program::{Core, ExceptionClasses, Unit};
 pub use routine::{Body, Owner, Parameter, Role, Routine, Variable};
 pub use statement::{
