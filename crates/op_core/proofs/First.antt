@@ -17,7 +17,7 @@ not_lower q f a s t u h e others = grind arith
 not_before : (q f a : Refusal) → comes_before q a ≡ false → comes_before f a ≡ true → comes_before q f ≡ false
 not_before q f a h e =
     not_lower q.place.line f.place.line a.place.line _ _ _ h e (λ h e.
-      not_lower q.place.col f.place.col a.place.col _ _ _ h e (not_below q.rule.number f.rule.number a.rule.number))
+    not_lower q.place.col f.place.col a.place.col _ _ _ h e (not_below q.rule.number f.rule.number a.rule.number))
 
 not_before_itself : (f : Refusal) → comes_before f f ≡ false
 not_before_itself f = grind arith

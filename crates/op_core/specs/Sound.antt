@@ -1,5 +1,5 @@
 -- What every typed program keeps that the checker gives. The limits are those of this compiler.
-use Rattle.std.specs.Prelude.{◌≡◌, ℕ, zero, suc, pos, ◌+◌, ◌<◌, ◌≤◌, ◌≤ℤ◌, ◌≢◌, Bool, true, false, List, [], ◌∷◌, Option, Some, None, IsSome, IsTrue, IsSomeAnd, IfSome, length, slice_get, map, codes, replicate, ◌⊎◌}
+use Rattle.std.specs.Prelude.{◌≡◌, ℕ, suc, pos, ◌+◌, ◌<◌, ◌≤◌, ◌≤ℤ◌, ◌≢◌, Bool, true, false, List, [], ◌∷◌, Option, Some, None, IsSome, IsTrue, IsSomeAnd, IfSome, length, slice_get, map, codes, replicate, ◌⊎◌}
 use Rattle.std.specs.Char.{to_ascii_lowercase}
 use Rattle.std.specs.List.{All, Contains, filter, flat_map, sum_by}
 use Rattle.std.specs.Option.{option_and_then, option_map}

@@ -1,11 +1,9 @@
 -- Typed statements as values: what a `CoreStmt` says, wherever it lies in memory.
-use Rattle.std.specs.Prelude.{Bool, List, [], ◌∷◌, Option, Some, None, map}
+use Rattle.std.specs.Prelude.{Bool, List, [], ◌∷◌, Option, map}
 use Rattle.op_core.specs.Expression.{Expression, expr_of}
 use Rattle.op_core.specs.declared.ids.ClassId.{ClassId}
 use Rattle.op_core.specs.declared.ids.VariableId.{VariableId}
 use Rattle.op_core.specs.declared.operation.Conversion.{Conversion}
-use Rattle.op_core.specs.declared.routine.Routine.{Routine}
-use Rattle.op_core.specs.declared.routine.Body.{Body}
 use Rattle.op_core.specs.declared.statement.CoreAction.{CoreAction}
 use Rattle.op_core.specs.declared.statement.CoreAction.TheVariants.{Write, Read, Count, SetLength, Include, Exclude, Val, Str, Free, Destroy}
 use Rattle.op_core.specs.declared.statement.CoreItem.{CoreItem}

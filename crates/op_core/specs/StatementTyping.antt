@@ -1,5 +1,5 @@
 -- Which typed statements are such, and where they may stand (Free Pascal Reference Guide, "Statements").
-use Rattle.std.specs.Prelude.{◌≡◌, Bool, true, false, List, [], ◌∷◌, Option, Some, None, IsTrue, IsSomeAnd, ◌≤ℤ◌, ◌⊎◌, map}
+use Rattle.std.specs.Prelude.{◌≡◌, Bool, true, false, Option, Some, None, IsTrue, IsSomeAnd, ◌≤ℤ◌, ◌⊎◌}
 use Rattle.std.specs.List.{All}
 use Rattle.op_core.specs.Expression.{Expression}
 use Rattle.op_core.specs.Members.{There, Kind, Descends}
@@ -11,7 +11,7 @@ use Rattle.op_core.specs.declared.ids.TypeId.{TypeId}
 use Rattle.op_core.specs.declared.ids.VariableId.{VariableId}
 use Rattle.op_core.specs.declared.program.Core.{Core}
 use Rattle.op_core.specs.declared.statement.Label.{Label}
-use Rattle.op_core.specs.declared.types.CoreType.TheVariants.{Char, Class, String}
+use Rattle.op_core.specs.declared.types.CoreType.TheVariants.{Char, Class}
 
 -- what stands round a statement: what the routine gives, whether a handler is round it, and whether a loop or the routine may
 -- be left, which no statement of a finally part does

@@ -122,8 +122,5 @@ pub enum CoreArgument {
     /// An array for an open array.
     Array(CoreExpr),
     /// `[a, b]` for an open array of the type `of`.
-    Elements {
-        of: TypeId,
-        values: Vec<CoreExpr>,
-    },
+    Elements { of: TypeId, values: Vec<CoreExpr> },
 }

@@ -3,7 +3,7 @@ ghost use Rattle.std.specs.Prelude.{◌≡◌, ◌<◌, length, slice_get};
 ghost use Rattle.op_core.specs.Heading.{is_same_heading, same_headings, same_kind, same_mode, same_parameter, same_parameters, same_result};
 ghost use Rattle.op_core.specs.Types.{elements, is_one_type};
 
-use crate::{Core, Parameter, Routine, CoreType, TypeId};
+use crate::{Core, CoreType, Parameter, Routine, TypeId};
 use op_tree::{ParameterMode, RoutineKind};
 
 /// Whether two routines have the same heading: of one kind, with parameters of the same modes and types, and a result of
@@ -95,9 +95,10 @@ fn element_types(types: &[CoreType], a: TypeId, b: TypeId) -> Option<(TypeId, Ty
     ensures { result ≡ elements (slice_get types.now a.0) (slice_get types.now b.0) }
 {
     match (types.get(a.0 as usize), types.get(b.0 as usize)) {
-        (Some(CoreType::DynamicArray { element: x }), Some(CoreType::DynamicArray { element: y })) => {
-            Some((*x, *y))
-        }
+        (
+            Some(CoreType::DynamicArray { element: x }),
+            Some(CoreType::DynamicArray { element: y }),
+        ) => { Some((*x, *y)) }
         (Some(CoreType::OpenArray { element: x }), Some(CoreType::OpenArray { element: y })) => {
             Some((*x, *y))
         }

@@ -6,14 +6,23 @@ pub struct TypeId(pub u32);
 
 impl TypeId {
     pub const SHORT_INT: TypeId = TypeId(0);
+
     pub const BYTE: TypeId = TypeId(1);
+
     pub const SMALL_INT: TypeId = TypeId(2);
+
     pub const WORD: TypeId = TypeId(3);
+
     pub const INTEGER: TypeId = TypeId(4);
+
     pub const BOOLEAN: TypeId = TypeId(5);
+
     pub const CHAR: TypeId = TypeId(6);
+
     pub const STRING: TypeId = TypeId(7);
+
     pub const NIL: TypeId = TypeId(8);
+
     pub const NOTHING: TypeId = TypeId(9);
 }
 
@@ -27,6 +36,7 @@ pub struct ClassId(pub u32);
 
 impl ClassId {
     pub const OBJECT: ClassId = ClassId(0);
+
     pub const INTERFACED_OBJECT: ClassId = ClassId(1);
 }
 

@@ -30,8 +30,9 @@ pub use ids::{ClassId, FieldId, InterfaceId, RoutineId, Run, TypeId, UnitId, Var
 pub use operation::{Conversion, Dispatch, Function, Origin};
 pub use program::{Core, ExceptionClasses, Unit};
 pub use routine::{Body, Owner, Parameter, Role, Routine, Variable};
-pub use statement::{
-    CoreAction, CoreBranch, CoreHandler, CoreItem, CoreStmt, CoreTarget, Label,
-};
+pub use statement::{CoreAction, CoreBranch, CoreHandler, CoreItem, CoreStmt, CoreTarget, Label};
 pub use table::Table;
-pub use types::{Field, IntegerKind, CoreType};
+pub use types::{CoreType, Field, IntegerKind};
+
+#[cfg(test)]
+mod tests;

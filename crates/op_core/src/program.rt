@@ -1,9 +1,12 @@
 //! The typed program.
+ghost use Rattle.std.specs.Prelude.{◌≡◌, [], None};
+
 use crate::{
-    Class, ClassId, Field, FieldId, Interface, InterfaceId, Method, Parameter, Property, Routine,
-    RoutineId, Run, Table, CoreType, Variable,
+    Class, ClassId, CoreType, Field, FieldId, Interface, InterfaceId, Method, Parameter, Property,
+    Routine, RoutineId, Run, Table, Variable,
 };
 use op_base::Text;
+use std::alloc::Global;
 
 /// A unit, or the program itself.
 #[derive(Debug, Drop)]
@@ -50,4 +53,26 @@ pub struct Core {
     /// In the order in which they are initialized; the program itself is the last one.
     pub units: Table<Unit>,
     pub exceptions: Option<ExceptionClasses>,
+}
+
+impl Core {
+    /// The program of nothing, which rows are put into.
+    pub fn new(alloc: Global) -> Core
+        ensures { result ≡ record { types = []; fields = []; classes = []; interfaces = []; listed = []; methods = []; properties = []; routines = []; parameters = []; variables = []; units = []; exceptions = None } }
+    {
+        Core {
+            types: Table::new(alloc),
+            fields: Table::new(alloc),
+            classes: Table::new(alloc),
+            interfaces: Table::new(alloc),
+            listed: Table::new(alloc),
+            methods: Table::new(alloc),
+            properties: Table::new(alloc),
+            routines: Table::new(alloc),
+            parameters: Table::new(alloc),
+            variables: Table::new(alloc),
+            units: Table::new(alloc),
+            exceptions: None,
+        }
+    }
 }

@@ -24,34 +24,17 @@ pub enum CoreType {
     /// AnsiString.
     String,
     /// Of so many values, the first of which is 0.
-    Enumeration {
-        values: u32,
-    },
+    Enumeration { values: u32 },
     /// Values of `base`, which is ordinal and no subrange: those from `low` to `high`, which is not below it.
-    Subrange {
-        base: TypeId,
-        low: i32,
-        high: i32,
-    },
-    Set {
-        base: TypeId,
-    },
+    Subrange { base: TypeId, low: i32, high: i32 },
+    Set { base: TypeId },
     /// `fields` are rows of the table of fields, in order of declaration.
-    Record {
-        fields: Run,
-    },
+    Record { fields: Run },
     /// An array with an element for each value of an ordinal type.
-    Array {
-        index: TypeId,
-        element: TypeId,
-    },
-    DynamicArray {
-        element: TypeId,
-    },
+    Array { index: TypeId, element: TypeId },
+    DynamicArray { element: TypeId },
     /// What an open array parameter is.
-    OpenArray {
-        element: TypeId,
-    },
+    OpenArray { element: TypeId },
     Class(ClassId),
     Interface(InterfaceId),
     /// What `nil` is before its use tells.

@@ -1,4 +1,4 @@
-use Rattle.std.proofs.Common.{◌≡◌, ℕ, ◌+◌, ◌-◌, suc, false, List, length, slice_get, Some, refl, sym, ◌∙◌, ap, arith, nat_eq, ◌||◌}
+use Rattle.std.proofs.Common.{◌≡◌, ℕ, ◌+◌, ◌-◌, suc, false, List, length, slice_get, Some, sym, ◌∙◌, ap, arith, nat_eq, ◌||◌}
 use Rattle.op_core.specs.Types.{are_one, elements, true_of}
 use Rattle.op_core.specs.declared.ids.TypeId.{TypeId}
 use Rattle.op_core.specs.declared.types.CoreType.{CoreType}
@@ -12,7 +12,7 @@ within : (n m : ℕ) (types : List CoreType) (a b x y : TypeId) → n ≡ suc m 
 within n m types a b x y e differ are =
     ap (λ k. are_one k types a b) e
     ∙ (ap (λ t. t || true_of (are_one m types) (elements (slice_get types a.0) (slice_get types b.0))) (different a.0 b.0 differ)
-      ∙ ap (true_of (are_one m types)) are)
+    ∙ ap (true_of (are_one m types)) are)
 
 pub loop-inside-preserved : goal.loop-inside-preserved
 loop-inside-preserved c =
