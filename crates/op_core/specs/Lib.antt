@@ -3,6 +3,7 @@ pub mod Faults
 pub mod Heading
 pub mod Initial
 pub mod Members
+pub mod Nodes
 pub mod Rows
 pub mod Sizes
 pub mod Sound
