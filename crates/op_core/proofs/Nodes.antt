@@ -1,8 +1,8 @@
 -- What a row of a typed tree's parts says is what the parts of its list say.
-use Rattle.std.proofs.Common.{◌≡◌, List, refl, ap, sym, ◌∙◌}
+use Rattle.std.proofs.Common.{◌≡◌, List, [], ◌∷◌, ◌++◌, refl, ap, sym, ◌∙◌}
 use Rattle.std.specs.Prelude.{Vec}
 use mathlib.Core.Former.{Count}
-use Rattle.op_core.specs.Expression.{expression, call, construct, set, steps, method, elements, arguments, listed, expressions, expr_of, root_of, action_of, element_of, argument_of, step_row, element_row, argument_row, expr_row, Root}
+use Rattle.op_core.specs.Expression.{expression, call, construct, set, steps, method, elements, arguments, listed, expressions, expr_of, root_of, action_of, element_of, argument_of, step_row, element_row, argument_row, expr_row, behind, then}
 use Rattle.op_core.specs.Initial.{parts, values, first_value_of, initial_row}
 use Rattle.op_core.specs.Nodes.{ListNodes, steps_of, elements_of, arguments_of, expressions_of, branches_of, handlers_of, values_of}
 use Rattle.op_core.specs.Statement.{block, case_of, repeat_until, try_finally, try_on, try_on_else, branches, handlers, stmt_of, stmts_of, statements, stmt_row, branch_row, handler_row}
@@ -12,15 +12,10 @@ use Rattle.op_core.specs.declared.constant.Initial.TheVariants.{Parts}
 use Rattle.op_core.specs.declared.expression.Action.TheVariants.{Call as Method}
 use Rattle.op_core.specs.declared.expression.CoreArgument.{CoreArgument}
 use Rattle.op_core.specs.declared.expression.CoreArgument.TheVariants.{Elements as Listed}
-use Rattle.op_core.specs.declared.expression.CoreElement.{CoreElement}
-use Rattle.op_core.specs.declared.expression.CoreExpr.{CoreExpr, out-CoreExpr}
+use Rattle.op_core.specs.declared.expression.CoreExpr.{CoreExpr, out-CoreExpr, roll-CoreExpr}
 use Rattle.op_core.specs.declared.expression.Root.TheVariants.{Call, Construct, Set}
 use Rattle.op_core.specs.declared.expression.Step.{Step}
-use Rattle.op_core.specs.declared.ids.ClassId.{ClassId}
-use Rattle.op_core.specs.declared.ids.RoutineId.{RoutineId}
 use Rattle.op_core.specs.declared.ids.TypeId.{TypeId}
-use Rattle.op_core.specs.declared.operation.Dispatch.{Dispatch}
-use Rattle.op_core.specs.declared.statement.CoreBranch.{CoreBranch}
 use Rattle.op_core.specs.declared.statement.CoreHandler.{CoreHandler}
 use Rattle.op_core.specs.declared.statement.CoreStmt.{CoreStmt}
 use Rattle.op_core.specs.declared.statement.CoreStmt.TheVariants.{Block, Case, Repeat, TryFinally, TryOn, TryOnElse}
@@ -30,7 +25,8 @@ use Rattle.op_core.specs.declared.expression.Action.{Action}
 use Rattle.op_core.specs.declared.expression.Action.TheVariants.{Call' as Method'}
 use Rattle.op_core.specs.declared.expression.CoreArgument.{Row_of-CoreExpr, end_of-CoreExpr, more_of-CoreExpr, items-the_row-CoreExpr, items_hidden-the_row-CoreExpr-1}
 use Rattle.op_core.specs.declared.expression.CoreArgument.TheVariants.{Elements' as Listed'}
-use Rattle.op_core.specs.declared.expression.CoreExpr.{CoreExpr', Row_of-Step, end_of-Step, more_of-Step, items-the_row-Step, items_shown-the_row-Step-3}
+use Rattle.op_core.specs.declared.expression.CoreExpr.{CoreExpr', Row_of-Step, end_of-Step, more_of-Step, items-the_row-Step, items_shown-the_row-Step-3, items_hidden-the_row-Step-3}
+use Rattle.op_core.specs.declared.expression.Action.TheBlock.{hidden-the_row-Step-3}
 use Rattle.op_core.specs.declared.expression.Root.{Root as RustRoot, Row_of-CoreArgument, end_of-CoreArgument, more_of-CoreArgument, items-the_row-CoreArgument, items_hidden-the_row-CoreArgument-0, Row_of-CoreElement, end_of-CoreElement, more_of-CoreElement, items-the_row-CoreElement, items_hidden-the_row-CoreElement-2}
 use Rattle.op_core.specs.declared.expression.Root.TheVariants.{Call', Construct', Set'}
 use Rattle.op_core.specs.declared.statement.CoreStmt.{Row_of-CoreStmt, end_of-CoreStmt, more_of-CoreStmt, items-the_row-CoreStmt, items_hidden-the_row-CoreStmt-0, Row_of-CoreBranch, end_of-CoreBranch, more_of-CoreBranch, items-the_row-CoreBranch, items_hidden-the_row-CoreBranch-1, Row_of-CoreHandler, end_of-CoreHandler, more_of-CoreHandler, items-the_row-CoreHandler, items_hidden-the_row-CoreHandler-2}
@@ -137,6 +133,22 @@ expr_says : (e : CoreExpr) → expr_of e ≡ expression (root_of (out-CoreExpr e
 unfolding out-CoreExpr denote.Hole.Carrier.out
 expr_says (CoreExpr' root of shape row) = ap (expression (root_of root) of) (step_list _ row ∙ ap steps_of (sym (items_shown-the_row-Step-3 shape row)))
 
+pub expr_made : (root : RustRoot) (of : TypeId) (v : Vec Step Global) → expr_of (roll-CoreExpr (record { root = root; of = of; steps = v })) ≡ expression (root_of root) of (steps_of v.items)
+unfolding roll-CoreExpr hidden-the_row-Step-3 denote.Hole.Carrier.roll
+expr_made root of v = ap (expression (root_of root) of) (let row = steps_in (roll-CoreExpr (record { root = root; of = of; steps = v })) in step_list row.0 row.1 ∙ ap steps_of (items_hidden-the_row-Step-3 v))
+
+steps_more : (xs : List Step) (action : Action) (of : TypeId) → behind (steps_of xs) (action_of action) of ≡ steps_of (xs ++ record { action = action; of = of } ∷ [])
+steps_more [] action of = refl
+steps_more (x ∷ xs) action of = ap (steps (action_of x.action) x.of) (steps_more xs action of)
+
+-- an expression with one step more
+pub expr_more : (e : CoreExpr) (v : Vec Step Global) (action : Action) (of : TypeId) → v.items ≡ (out-CoreExpr e).steps.items ++ record { action = action; of = of } ∷ [] → expr_of (roll-CoreExpr (record { root = (out-CoreExpr e).root; of = (out-CoreExpr e).of; steps = v })) ≡ then (expr_of e) (action_of action) of
+expr_more e v action of is =
+    expr_made (out-CoreExpr e).root (out-CoreExpr e).of v
+    ∙ ap (λ xs. expression (root_of (out-CoreExpr e).root) (out-CoreExpr e).of (steps_of xs)) is
+    ∙ ap (expression (root_of (out-CoreExpr e).root) (out-CoreExpr e).of) (sym (steps_more (out-CoreExpr e).steps.items action of))
+    ∙ ap (λ x. then x (action_of action) of) (sym (expr_says e))
+
 pub list_nodes : ListNodes
 list_nodes = record {
   expr_says = expr_says;
@@ -152,6 +164,6 @@ list_nodes = record {
   finally_says = λ ss ts. both try_finally (by_statements (first_in (TryFinally ss ts)) ss (items_hidden-the_row-CoreStmt-0 ss)) (by_statements (second_in (TryFinally ss ts)) ts (items_hidden-the_row-CoreStmt-0 ts));
   on_says = λ ss hs. both try_on (by_statements (first_in (TryOn ss hs)) ss (items_hidden-the_row-CoreStmt-0 ss)) (by_handlers (handlers_in (TryOn ss hs)) hs (items_hidden-the_row-CoreHandler-2 hs));
   else_says = λ ss hs ts.
-    ap (λ x. try_on_else x (handler_row (handlers_in (TryOnElse ss hs ts)).1) (stmt_row (second_in (TryOnElse ss hs ts)).1)) (by_statements (first_in (TryOnElse ss hs ts)) ss (items_hidden-the_row-CoreStmt-0 ss))
-    ∙ both (try_on_else (stmts_of ss.items)) (by_handlers (handlers_in (TryOnElse ss hs ts)) hs (items_hidden-the_row-CoreHandler-2 hs)) (by_statements (second_in (TryOnElse ss hs ts)) ts (items_hidden-the_row-CoreStmt-0 ts));
+      ap (λ x. try_on_else x (handler_row (handlers_in (TryOnElse ss hs ts)).1) (stmt_row (second_in (TryOnElse ss hs ts)).1)) (by_statements (first_in (TryOnElse ss hs ts)) ss (items_hidden-the_row-CoreStmt-0 ss))
+      ∙ both (try_on_else (stmts_of ss.items)) (by_handlers (handlers_in (TryOnElse ss hs ts)) hs (items_hidden-the_row-CoreHandler-2 hs)) (by_statements (second_in (TryOnElse ss hs ts)) ts (items_hidden-the_row-CoreStmt-0 ts));
 }

@@ -74,6 +74,14 @@ mutual
     no_expressions : Expressions
     expressions : (first : Expression) (others : Expressions) → Expressions
 
+-- with one step more
+abbrev pub behind : Steps → Action → TypeId → Steps
+behind no_steps action of = steps action of no_steps
+behind (steps first next others) action of = steps first next (behind others action of)
+
+abbrev pub then : Expression → Action → TypeId → Expression
+then (expression root from others) action of = expression root from (behind others action of)
+
 abbrev mutual
   pub expr_of : CoreExpr → Expression
   expr_of (CoreExpr' root of _ row) = expression (root_of root) of (step_row row)

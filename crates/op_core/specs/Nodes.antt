@@ -1,5 +1,5 @@
 -- What lists of a typed tree's parts say, and that a node with a list says just that.
-use Rattle.std.specs.Prelude.{◌≡◌, List, [], ◌∷◌, Box, Vec}
+use Rattle.std.specs.Prelude.{◌≡◌, List, [], ◌∷◌, Vec}
 use Rattle.std.specs.declared.alloc.Global.{Global}
 use Rattle.op_core.specs.Expression.{expression, call, construct, set, Steps, no_steps, steps, method, Elements, no_elements, elements, Arguments, no_arguments, arguments, listed, Expressions, no_expressions, expressions, expr_of, root_of, action_of, element_of, argument_of}
 use Rattle.op_core.specs.Initial.{parts, FirstValues, no_values, values, first_value_of}

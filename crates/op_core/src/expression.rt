@@ -2,10 +2,15 @@
 //!
 //! An expression is a root and what is done with its value, step by step: `(a + b)[i] * c` is the root a, and the steps
 //! `+ b`, brackets, `[i]` and `* c`. So a long chain of operators or selectors is a list and no deep tree.
+ghost use Rattle.std.specs.Prelude.{◌≡◌, IfOk};
+ghost use Rattle.op_core.specs.Expression.{action_of, expr_of, expression, no_steps, root_of, then};
+
 use crate::{
     ClassId, Const, Conversion, Dispatch, FieldId, Function, Origin, RoutineId, TypeId, VariableId,
 };
+use op_base::NoMemory;
 use op_tree::{Operator, PrefixOperator};
+use std::alloc::Global;
 
 /// An expression. It is of the type of its last step, or of its root where it has none.
 #[cycle(typed_expression)]
@@ -123,4 +128,22 @@ pub enum CoreArgument {
     Array(CoreExpr),
     /// `[a, b]` for an open array of the type `of`.
     Elements { of: TypeId, values: Vec<CoreExpr> },
+}
+
+impl CoreExpr {
+    /// The root alone.
+    pub fn new(alloc: Global, root: Root, of: TypeId) -> CoreExpr
+        ensures { expr_of result ≡ expression (root_of root) of no_steps }
+    {
+        let steps = Vec::new(alloc);
+        CoreExpr { root, of, steps }
+    }
+
+    /// Does one thing more with what is so far.
+    pub fn push(&mut self, action: Action, of: TypeId) -> Result<(), NoMemory>
+        ensures { IfOk result (λ _. expr_of self.new ≡ then (expr_of self.old) (action_of action) of) }
+    {
+        self.steps.push(Step { action, of })?;
+        Ok(())
+    }
 }
