@@ -5,13 +5,14 @@ use Rattle.op_core.specs.Expression.{Expression}
 use Rattle.op_core.specs.Members.{There, Kind, Descends}
 use Rattle.op_core.specs.Sizes.{type_at, range_of}
 use Rattle.op_core.specs.Statement.{Item, plain, padded, Target, BuiltIn, write, read, count, set_length, include, exclude, val, str, free, destroy, Statement, empty, block, if_then, if_else, case_of, while_do, repeat_until, for_to, for_in, try_finally, try_on, try_on_else, raise, reraise, call, assign, exit, exit_with, break, continue, halt, built_in, Statements, no_statements, statements, Branches, no_branches, branches, Handlers, no_handlers, handlers}
-use Rattle.op_core.specs.Typing.{Sees, IsTyped, type_of, IsValue, IsInteger, IsBoolean, IsString, IsOrdinal, IsSet, IsInstance, IsReference, Within, Converts, OneType, base_of, element_of, is_place}
+use Rattle.op_core.specs.Typing.{Sees, IsTyped, type_of, IsValue, IsInteger, IsBoolean, IsString, IsOrdinal, IsSet, IsObject, Within, Converts, OneType, base_of, element_of, is_place}
 use Rattle.op_core.specs.declared.ids.ClassId.{ClassId}
 use Rattle.op_core.specs.declared.ids.TypeId.{TypeId}
 use Rattle.op_core.specs.declared.ids.VariableId.{VariableId}
 use Rattle.op_core.specs.declared.program.Core.{Core}
 use Rattle.op_core.specs.declared.statement.Label.{Label}
-use Rattle.op_core.specs.declared.types.CoreType.TheVariants.{Char, Class}
+use Rattle.op_core.specs.declared.types.CoreType.{CoreType}
+use Rattle.op_core.specs.declared.types.CoreType.TheVariants.{Integer, Boolean, String, Subrange, DynamicArray, Char, Class}
 
 -- what stands round a statement: what the routine gives, whether a handler is round it, and whether a loop or the routine may
 -- be left, which no statement of a finally part does
@@ -43,9 +44,27 @@ Has Q core sees e = IsTyped core sees e × Q core (type_of e)
 abbrev IsTargetOf : Bool → (Core → TypeId → Type 0) → Core → Sees → Expression → Type 0
 IsTargetOf chars Q core sees e = Has Q core sees e × IsTrue (is_place chars core e)
 
--- what is read or written: an ordinal value or a string
+-- the type that a subrange is of, or the type itself
+abbrev host : Core → Option CoreType → Option CoreType
+host core (Some (Subrange base low high)) = type_at core base
+host core t = t
+
+abbrev is_text : Option CoreType → Bool
+is_text (Some (Integer kind)) = true
+is_text (Some Boolean) = true
+is_text (Some Char) = true
+is_text (Some String) = true
+is_text _ = false
+
+-- what is read or written: integers, Booleans, Chars and strings
 abbrev IsText : Core → TypeId → Type 0
-IsText core of = IsOrdinal core of ⊎ IsString core of
+IsText core of = IsTrue (is_text (host core (type_at core of)))
+
+-- what the bounds of a loop over a variable of a type are: Integers, values of a subrange's base, or else of that type
+abbrev Bounds : Core → TypeId → Option CoreType → TypeId → Type 0
+Bounds core at (Some (Integer kind)) of = IsInteger core of
+Bounds core at (Some (Subrange base low high)) of = base ≡ of
+Bounds core at t of = (at ≡ of) × IsOrdinal core of
 
 abbrev IsItem : Core → Sees → Item → Type 0
 IsItem core sees (plain e) = Has IsText core sees e
@@ -60,8 +79,9 @@ IsVariable sees core id Q = sees.variable id × There core.variables id.0 (λ v.
 abbrev IsElementOf : Core → Sees → Expression → Expression → Type 0
 IsElementOf core sees set e = IsTargetOf false IsSet core sees set × IsTyped core sees e × IsSomeAnd (base_of (type_at core (type_of set))) (λ base. OneType core (type_of e) base)
 
+-- what has a length that can be set
 abbrev IsLength : Core → TypeId → Type 0
-IsLength core of = IsString core of ⊎ IsReference core of
+IsLength core of = IsString core of ⊎ ((element : TypeId) × Kind core of (DynamicArray element))
 
 abbrev IsBuiltIn : Core → Sees → BuiltIn → Type 0
 IsBuiltIn core sees (write items ends_line) = All (IsItem core sees) items
@@ -72,8 +92,8 @@ IsBuiltIn core sees (include set e) = IsElementOf core sees set e
 IsBuiltIn core sees (exclude set e) = IsElementOf core sees set e
 IsBuiltIn core sees (val text v code) = Has IsString core sees text × IsTarget IsOrdinal core sees v × IsTarget IsOrdinal core sees code
 IsBuiltIn core sees (str v target) = IsItem core sees v × IsTargetOf false IsString core sees target
-IsBuiltIn core sees (free object empties) = Has (λ c t. IsInstance (type_at c t)) core sees object
-IsBuiltIn core sees (destroy object) = Has (λ c t. IsInstance (type_at c t)) core sees object
+IsBuiltIn core sees (free object empties) = Has IsObject core sees object
+IsBuiltIn core sees (destroy object) = Has IsObject core sees object
 
 abbrev IsLabel : Core → TypeId → Label → Type 0
 IsLabel core of label = IsSomeAnd (range_of (type_at core of)) (λ r. Within r label.first × Within r label.last) × (label.first ≤ℤ label.last)
@@ -95,7 +115,7 @@ abbrev mutual
   IsStatement core sees here (case_of e bs ss) = Has IsOrdinal core sees e × AreBranches core sees here (type_of e) bs × AreStatements core sees here ss
   IsStatement core sees here (while_do e s) = Has IsBoolean core sees e × IsStatement core sees (in_loop here) s
   IsStatement core sees here (repeat_until ss e) = AreStatements core sees (in_loop here) ss × Has IsBoolean core sees e
-  IsStatement core sees here (for_to id e direction f s) = IsVariable sees core id (IsOrdinal core) × Has IsOrdinal core sees e × IsValue core sees (type_of e) f × IsStatement core sees (in_loop here) s
+  IsStatement core sees here (for_to id e direction f s) = IsVariable sees core id (λ of. Bounds core of (type_at core of) (type_of e)) × IsTyped core sees e × IsValue core sees (type_of e) f × IsStatement core sees (in_loop here) s
   IsStatement core sees here (for_in id store e s) = IsTyped core sees e × IsVariable sees core id (λ of. (element : TypeId) × GivesElements core (type_of e) element × Converts core store element of) × IsStatement core sees (in_loop here) s
   IsStatement core sees here (try_finally ss ts) = AreStatements core sees here ss × AreStatements core sees (in_finally here) ts
   IsStatement core sees here (try_on ss hs) = AreStatements core sees here ss × AreHandlers core sees (in_handler here) hs

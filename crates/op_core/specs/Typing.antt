@@ -62,6 +62,9 @@ IsOrdinal core of = IsSomeAnd (range_of (type_at core of)) (λ r. Unit {0})
 abbrev pub OneType : Core → TypeId → TypeId → Type 0
 OneType core a b = IsTrue (is_one_type core.types a b)
 
+abbrev pub IsObject : Core → TypeId → Type 0
+IsObject core of = (c : ClassId) × Kind core of (Class c)
+
 -- the base of a set
 abbrev pub base_of : Option CoreType → Option TypeId
 base_of (Some (Set base)) = Some base
@@ -201,7 +204,7 @@ Applies core Odd from to = IsInteger core from × IsBoolean core to
 Applies core Assigned from to = IsReference core from × IsBoolean core to
 Applies core UpCase from to = Kind core from Char × (from ≡ to)
 Applies core Whole from to = IsSequence core from × (from ≡ to)
-Applies core ClassName from to = IsInstance (type_at core from) × IsString core to
+Applies core ClassName from to = IsObject core from × IsString core to
 
 -- ---- members and indices
 
