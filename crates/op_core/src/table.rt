@@ -1,5 +1,5 @@
 //! A table that grows.
-ghost use Rattle.std.specs.Prelude.{◌≡◌, [], ◌∷◌, ◌++◌, IfOk};
+ghost use Rattle.std.specs.Prelude.{◌≡◌, ◌<◌, [], ◌∷◌, ◌++◌, IfOk, length, slice_set};
 ghost use Rattle.op_core.specs.Rows.{rows};
 
 use crate::Run;
@@ -36,6 +36,14 @@ impl<T: Drop> Table<T> {
     {
         self.rows.push(row)?;
         Ok(())
+    }
+
+    /// Puts a row in place of another one, as where what was declared ahead is declared.
+    pub fn replace(&mut self, at: usize, row: T)
+        requires { at < length self.old }
+        ensures { self.new ≡ slice_set self.old at row }
+    {
+        self.rows[at] = row;
     }
 
     pub fn as_slice(&self) -> &[T]
