@@ -11,10 +11,13 @@ use Rattle.op_core.specs.Sizes.{type_at, range_of, values_of, extent_of}
 use Rattle.op_core.specs.Statement.{stmts_of}
 use Rattle.op_core.specs.StatementTyping.{AreStatements, Here}
 use Rattle.op_core.specs.Typing.{Sees, Fits, IsOrdinal, Within, element_of}
+use Rattle.op_core.specs.declared.class.Accessor.{Accessor}
+use Rattle.op_core.specs.declared.class.Accessor.TheVariants.{Field as ByField, Method as ByMethod}
 use Rattle.op_core.specs.declared.class.Binding.TheVariants.{Static, Override}
 use Rattle.op_core.specs.declared.class.Class.{Class as RustClass}
 use Rattle.op_core.specs.declared.class.Interface.{Interface as Face}
 use Rattle.op_core.specs.declared.class.Method.{Method}
+use Rattle.op_core.specs.declared.class.Property.{Property}
 use Rattle.op_core.specs.declared.ids.ClassId.{ClassId}
 use Rattle.op_core.specs.declared.ids.InterfaceId.{InterfaceId}
 use Rattle.op_core.specs.declared.ids.RoutineId.{RoutineId}
@@ -24,6 +27,7 @@ use Rattle.op_core.specs.declared.ids.VariableId.{VariableId}
 use Rattle.op_core.specs.declared.program.Core.{Core}
 use Rattle.op_core.specs.declared.program.ExceptionClasses.{ExceptionClasses}
 use Rattle.op_core.specs.declared.program.Unit.{Unit as RustUnit}
+use Rattle.op_core.specs.declared.routine.Owner.{Owner}
 use Rattle.op_core.specs.declared.routine.Owner.TheVariants.{Unit as OfUnit, Class as OfClass, Interface as OfInterface}
 use Rattle.op_core.specs.declared.routine.Role.{Role}
 use Rattle.op_core.specs.declared.routine.Role.TheVariants.{Plain, Constant}
@@ -119,6 +123,13 @@ pub record IsMethod (core : Core) (n : ℕ) (x : RustClass) (m : Method) (r : Ro
   pub destructor : r.kind ≡ Destructor → IsDestructor x m r
   pub body : m.is_abstract ≡ false → IsSome r.body
 
+abbrev IsAccessor : Core → Accessor → Type 0
+IsAccessor core (ByField f) = Row core.fields f.0
+IsAccessor core (ByMethod r) = Row core.routines r.0
+
+abbrev IsProperty : Core → Property → Type 0
+IsProperty core p = Row core.types p.of.0 × IfSome p.read (IsAccessor core) × IfSome p.write (IsAccessor core)
+
 pub record IsClass (core : Core) (n : ℕ) (x : RustClass) : Type 0 where
   pub of : Kind core x.of (Class (record { 0 = n }))
   pub unit : Row core.units x.unit.0
@@ -127,7 +138,7 @@ pub record IsClass (core : Core) (n : ℕ) (x : RustClass) : Type 0 where
   pub ancestors : EndsWithin 64 (ancestor_of core) n
   pub runs : Fit core.listed x.interfaces × Fit core.fields x.fields × Fit core.methods x.methods × Fit core.properties x.properties
   pub fields : All (λ f. Row core.types f.of.0) (rows core.fields x.fields)
-  pub properties : All (λ p. Row core.types p.of.0) (rows core.properties x.properties)
+  pub properties : All (IsProperty core) (rows core.properties x.properties)
   pub methods : All (λ m. There core.routines m.routine.0 (IsMethod core n x m)) (rows core.methods x.methods)
   pub interfaces : All (λ i. Row core.interfaces i.0) (rows core.listed x.interfaces)
   pub implements : (i : InterfaceId) → Contains (rows core.listed x.interfaces) i → (asked : RoutineId) → AsksFor core i asked → (own : RoutineId) × HasMethod core (record { 0 = n }) own × Matches core own asked
@@ -171,8 +182,14 @@ at_start r = record { result = r.result; handler = false; loop = false; routine 
 abbrev IsBody : Core → Sees → Routine → Type 0
 IsBody core sees r = IfSome r.body (λ b. AreStatements core sees (at_start r) (stmts_of b.statements.items))
 
+abbrev IsOwner : Core → Owner → Type 0
+IsOwner core OfUnit = Unit {0}
+IsOwner core (OfClass c) = Row core.classes c.0
+IsOwner core (OfInterface i) = Row core.interfaces i.0
+
 pub record IsRoutine (core : Core) (r : Routine) : Type 0 where
   pub unit : Row core.units r.unit.0
+  pub owner : IsOwner core r.owner
   pub enclosing : IfSome r.enclosing (λ e. Row core.routines e.0)
   pub runs : Fit core.parameters r.parameters × Fit core.variables r.variables
   pub parameters : All (λ p. Row core.types p.of.0) (rows core.parameters r.parameters)

@@ -8,6 +8,7 @@ use op_tree::Direction;
 #[derive(Drop)]
 pub enum CoreStmt {
     Empty,
+    /// With no statements it is also what `inherited` alone is where there is nothing to call.
     Block(Vec<CoreStmt>),
     If {
         condition: CoreExpr,
