@@ -4,7 +4,7 @@ use Rattle.std.specs.Prelude.{Vec}
 use mathlib.Core.Former.{Count}
 use Rattle.op_core.specs.Expression.{expression, call, construct, set, steps, method, elements, arguments, listed, expressions, expr_of, root_of, action_of, element_of, argument_of, step_row, element_row, argument_row, expr_row, behind, then}
 use Rattle.op_core.specs.Initial.{parts, values, first_value_of, initial_row}
-use Rattle.op_core.specs.Nodes.{ListNodes, steps_of, elements_of, arguments_of, expressions_of, branches_of, handlers_of, values_of}
+use Rattle.op_core.specs.Nodes.{ListNodes, steps_of, elements_of, arguments_of, expressions_of, branches_of, handlers_of, first_values_of}
 use Rattle.op_core.specs.Statement.{block, case_of, repeat_until, try_finally, try_on, try_on_else, branches, handlers, stmt_of, stmts_of, statements, stmt_row, branch_row, handler_row}
 use Rattle.std.specs.declared.alloc.Global.{Global}
 use Rattle.op_core.specs.declared.constant.Initial.{Initial}
@@ -50,7 +50,7 @@ expr_list : (n : _) (row : Row_of-CoreExpr n) → expr_row row ≡ expressions_o
 expr_list n end_of-CoreExpr = refl
 expr_list n (more_of-CoreExpr e rest) = ap (expressions (expr_of e)) (expr_list _ rest)
 
-initial_list : (n : _) (row : Row_of-Initial n) → initial_row row ≡ values_of (items-the_row-Initial n row)
+initial_list : (n : _) (row : Row_of-Initial n) → initial_row row ≡ first_values_of (items-the_row-Initial n row)
 initial_list n end_of-Initial = refl
 initial_list n (more_of-Initial v rest) = ap (values (first_value_of v)) (initial_list _ rest)
 
@@ -157,7 +157,7 @@ list_nodes = record {
   set_says = λ es. ap set (let row = elements_in (Set es) in element_list row.0 row.1 ∙ ap elements_of (items_hidden-the_row-CoreElement-2 es));
   method_says = λ id dispatch given. ap (method id dispatch) (by_arguments (given_in (Method id dispatch given)) given (items_hidden-the_row-CoreArgument-0 given));
   listed_says = λ of es. ap (listed of) (let row = listed_in (Listed of es) in expr_list row.0 row.1 ∙ ap expressions_of (items_hidden-the_row-CoreExpr-1 es));
-  parts_says = λ vs. ap parts (let row = parts_in (Parts vs) in initial_list row.0 row.1 ∙ ap values_of (items_hidden-the_row-Initial-0 vs));
+  parts_says = λ vs. ap parts (let row = parts_in (Parts vs) in initial_list row.0 row.1 ∙ ap first_values_of (items_hidden-the_row-Initial-0 vs));
   block_says = λ ss. ap block (by_statements (first_in (Block ss)) ss (items_hidden-the_row-CoreStmt-0 ss));
   case_says = λ e bs ss. both (case_of (expr_of e)) (let row = branches_in (Case e bs ss) in branch_list row.0 row.1 ∙ ap branches_of (items_hidden-the_row-CoreBranch-1 bs)) (by_statements (first_in (Case e bs ss)) ss (items_hidden-the_row-CoreStmt-0 ss));
   repeat_says = λ ss e. ap (λ x. repeat_until x (expr_of e)) (by_statements (first_in (Repeat ss e)) ss (items_hidden-the_row-CoreStmt-0 ss));

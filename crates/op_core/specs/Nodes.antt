@@ -46,9 +46,9 @@ abbrev pub handlers_of : List CoreHandler → Handlers
 handlers_of [] = no_handlers
 handlers_of (x ∷ xs) = handlers x.variable x.class (stmt_of x.body) (handlers_of xs)
 
-abbrev pub values_of : List Initial → FirstValues
-values_of [] = no_values
-values_of (x ∷ xs) = values (first_value_of x) (values_of xs)
+abbrev pub first_values_of : List Initial → FirstValues
+first_values_of [] = no_values
+first_values_of (x ∷ xs) = values (first_value_of x) (first_values_of xs)
 
 -- what each node with a list says
 pub record ListNodes : Type 0 where
@@ -58,7 +58,7 @@ pub record ListNodes : Type 0 where
   pub set_says : (es : Vec CoreElement Global) → root_of (Set es) ≡ set (elements_of es.items)
   pub method_says : (id : RoutineId) (dispatch : Dispatch) (given : Vec CoreArgument Global) → action_of (Method id dispatch given) ≡ method id dispatch (arguments_of given.items)
   pub listed_says : (of : TypeId) (es : Vec CoreExpr Global) → argument_of (Listed of es) ≡ listed of (expressions_of es.items)
-  pub parts_says : (vs : Vec Initial Global) → first_value_of (Parts vs) ≡ parts (values_of vs.items)
+  pub parts_says : (vs : Vec Initial Global) → first_value_of (Parts vs) ≡ parts (first_values_of vs.items)
   pub block_says : (ss : Vec CoreStmt Global) → stmt_of (Block ss) ≡ block (stmts_of ss.items)
   pub case_says : (e : CoreExpr) (bs : Vec CoreBranch Global) (ss : Vec CoreStmt Global) → stmt_of (Case e bs ss) ≡ case_of (expr_of e) (branches_of bs.items) (stmts_of ss.items)
   pub repeat_says : (ss : Vec CoreStmt Global) (e : CoreExpr) → stmt_of (Repeat ss e) ≡ repeat_until (stmts_of ss.items) (expr_of e)

@@ -60,15 +60,15 @@ abbrev pub aligned : ℕ → ℕ → ℕ
 aligned alignment size = (size + (alignment - 1)) / alignment * alignment
 
 -- parts, and one more behind them
-abbrev pub behind : Extent → Extent → Extent
-behind parts part = record {
+abbrev pub extended : Extent → Extent → Extent
+extended parts part = record {
   size = aligned part.alignment parts.size + part.size;
   alignment = max parts.alignment part.alignment;
 }
 
 -- the parts of a record, in order
 abbrev pub in_order : List Extent → Extent
-in_order parts = fold behind (record { size = 0; alignment = 1 }) parts
+in_order parts = fold extended (record { size = 0; alignment = 1 }) parts
 
 abbrev rounded : Extent → Extent
 rounded parts = record { size = aligned parts.alignment parts.size; alignment = parts.alignment }
