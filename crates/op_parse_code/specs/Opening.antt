@@ -92,6 +92,16 @@ mark_of kind.In_ = Some mark.In_
 mark_of kind.Except = Some mark.Except
 mark_of kind.Finally = Some mark.Finally
 mark_of kind.End = Some mark.End
+mark_of kind.Equal = Some mark.Equal
+mark_of kind.OpenParenthesis = Some mark.OpenParenthesis
+mark_of kind.OpenBracket = Some mark.OpenBracket
+mark_of kind.Array = Some mark.Array
+mark_of kind.Record = Some mark.Record
+mark_of kind.Set = Some mark.Set
+mark_of kind.Case = Some mark.Case
+mark_of kind.Const_ = Some mark.Const_
+mark_of kind.Var = Some mark.Var
+mark_of kind.Inline = Some mark.Inline
 mark_of other = None
 
 -- the token that a mark is
@@ -113,6 +123,16 @@ kind_of mark.In_ = kind.In_
 kind_of mark.Except = kind.Except
 kind_of mark.Finally = kind.Finally
 kind_of mark.End = kind.End
+kind_of mark.Equal = kind.Equal
+kind_of mark.OpenParenthesis = kind.OpenParenthesis
+kind_of mark.OpenBracket = kind.OpenBracket
+kind_of mark.Array = kind.Array
+kind_of mark.Record = kind.Record
+kind_of mark.Set = kind.Set
+kind_of mark.Case = kind.Case
+kind_of mark.Const_ = kind.Const_
+kind_of mark.Var = kind.Var
+kind_of mark.Inline = kind.Inline
 
 abbrev pub is_identifier : TokenKind → Bool
 is_identifier (kind.Identifier text) = true

@@ -31,6 +31,16 @@ pub enum Mark {
     Except,
     Finally,
     End,
+    Equal,
+    OpenParenthesis,
+    OpenBracket,
+    Array,
+    Record,
+    Set,
+    Case,
+    Const_,
+    Var,
+    Inline,
 }
 
 fn mark_of(kind: &TokenKind) -> Option<Mark>
@@ -54,6 +64,16 @@ fn mark_of(kind: &TokenKind) -> Option<Mark>
         TokenKind::Except => Some(Mark::Except),
         TokenKind::Finally => Some(Mark::Finally),
         TokenKind::End => Some(Mark::End),
+        TokenKind::Equal => Some(Mark::Equal),
+        TokenKind::OpenParenthesis => Some(Mark::OpenParenthesis),
+        TokenKind::OpenBracket => Some(Mark::OpenBracket),
+        TokenKind::Array => Some(Mark::Array),
+        TokenKind::Record => Some(Mark::Record),
+        TokenKind::Set => Some(Mark::Set),
+        TokenKind::Case => Some(Mark::Case),
+        TokenKind::Const_ => Some(Mark::Const_),
+        TokenKind::Var => Some(Mark::Var),
+        TokenKind::Inline => Some(Mark::Inline),
         _ => None,
     }
 }

@@ -136,7 +136,7 @@ unique_qualified (is_unqualified is_name) (is_qualified is_name b) h h' = true_f
 unique_qualified (is_qualified is_name b) (is_unqualified is_name) h h' = true_false h'
 unique_qualified (is_qualified is_name is_name) (is_qualified is_name is_name) h h' = (refl, refl)
 
-unique_on : {v v' : Option Name} {c c' : QualifiedName} {ks r r' : List Terminal} → IsOn v c ks r → IsOn v' c' ks r' → (v ≡ v') × (c ≡ c') × (r ≡ r')
+pub unique_on : {v v' : Option Name} {c c' : QualifiedName} {ks r r' : List Terminal} → IsOn v c ks r → IsOn v' c' ks r' → (v ≡ v') × (c ≡ c') × (r ≡ r')
 unique_on (is_on_class h a) (is_on_class h' a') =
     let s = unique_qualified a a' refl refl in
     (refl, s.0, ap behind s.1)
@@ -169,7 +169,7 @@ no_statement is_empty b n = true_false n
 no_statement (is_call (is_designator is_named ss)) b n = no_selectors_before ss b n
 no_statement (is_assignment (is_designator is_named ss) e) b n = no_selectors_before ss b refl
 
-no_statements_at : {A : Type 0} {d : ℕ} {ss : Statements} {text : List ℕ} {p : _} {ks r : List Terminal} → AreStatements d ss (kind.Identifier text at p ∷ ks) r → Begins is_identifier ks → IsNot is_identifier r → A
+pub no_statements_at : {A : Type 0} {d : ℕ} {ss : Statements} {text : List ℕ} {p : _} {ks r : List Terminal} → AreStatements d ss (kind.Identifier text at p ∷ ks) r → Begins is_identifier ks → IsNot is_identifier r → A
 no_statements_at (are_one_statement f) b n = no_statement f b n
 no_statements_at (are_statements f ss) b n = no_statement f b refl
 
@@ -201,7 +201,7 @@ statement_begins (is_assignment (is_designator (is_bracketed f) ss) e) h = true_
 statement_begins other h = true_false h
 
 -- what ends a list of branches or of handlers
-abbrev ends_list : TokenKind → Bool
+abbrev pub ends_list : TokenKind → Bool
 ends_list kind.End = true
 ends_list kind.Else_ = true
 ends_list other = false
@@ -215,7 +215,7 @@ expression_ends_no_list kind.End h = false_true h
 expression_ends_no_list kind.Else_ h = false_true h
 expression_ends_no_list other h = refl
 
-no_elements_at : {A : Type 0} {d : ℕ} {es : Elements} {ks r : List Terminal} → AreElements d es ks r → Begins ends_list ks → A
+pub no_elements_at : {A : Type 0} {d : ℕ} {es : Elements} {ks r : List Terminal} → AreElements d es ks r → Begins ends_list ks → A
 no_elements_at {ks = ks} es h = at_front ks (elements_begin es) h
   where
     at_front : {A : Type 0} (ks : List Terminal) → Begins begins_expression ks → Begins ends_list ks → A
@@ -251,7 +251,7 @@ head_kind (t ∷ ts) = t.kind
 pub same5 : {A B C D E F : Type 0} (f : A → B → C → D → E → F) {a a' : A} {b b' : B} {c c' : C} {d d' : D} {e e' : E} → a ≡ a' → b ≡ b' → c ≡ c' → d ≡ d' → e ≡ e' → f a b c d e ≡ f a' b' c' d' e'
 same5 f {a} {a'} {b} {b'} {c} {c'} {d} {d'} {e} {e'} p q u v w = ap (λ x. f x b c d e) p ∙ same4 (f a') q u v w
 
-direction_stops : (k : TokenKind) (way : Direction) (p : Position) (r : List Terminal) → direction_of k ≡ Some way → Stops (k at p ∷ r)
+pub direction_stops : (k : TokenKind) (way : Direction) (p : Position) (r : List Terminal) → direction_of k ≡ Some way → Stops (k at p ∷ r)
 direction_stops kind.To way p r h = (refl, refl)
 direction_stops kind.Downto way p r h = (refl, refl)
 direction_stops other way p r h = absurd cc
@@ -414,7 +414,7 @@ mutual
       let v = unique_statements ss (subst (λ x. AreStatements y x1 x z) (sym (ap behind u.1)) ss') h h' in
       (same2 statements u.0 v.0, v.1)
 
-  unique_branches : {d d' : ℕ} {bs bs' : Branches} {ks r r' : List Terminal} → AreBranches d bs ks r → AreBranches d' bs' ks r' → Begins ends_list r → Begins ends_list r' → (bs ≡ bs') × (r ≡ r')
+  pub unique_branches : {d d' : ℕ} {bs bs' : Branches} {ks r r' : List Terminal} → AreBranches d bs ks r → AreBranches d' bs' ks r' → Begins ends_list r → Begins ends_list r' → (bs ≡ bs') × (r ≡ r')
   unique_branches are_no_branches are_no_branches h h' = (refl, refl)
   unique_branches are_no_branches (are_branches es f bs) h h' = no_elements_at es h
   unique_branches are_no_branches (is_branch_before_end es f) h h' = no_elements_at es h
@@ -460,7 +460,7 @@ mutual
       let v = unique_statement f (subst (λ x. IsStatement y s1 x (kind.Else_ at q1 ∷ z)) (sym (ap behind u.1)) f') (ends_closed s0 _ refl c) (ends_closed s1 _ refl c') in
       (same2 (λ x y. branches x y no_branches) u.0 v.0, v.1)
 
-  unique_handlers : {d d' : ℕ} {hs hs' : Handlers} {ks r r' : List Terminal} → AreHandlers d hs ks r → AreHandlers d' hs' ks r' → Begins ends_list r → Begins ends_list r' → (hs ≡ hs') × (r ≡ r')
+  pub unique_handlers : {d d' : ℕ} {hs hs' : Handlers} {ks r r' : List Terminal} → AreHandlers d hs ks r → AreHandlers d' hs' ks r' → Begins ends_list r → Begins ends_list r' → (hs ≡ hs') × (r ≡ r')
   unique_handlers are_no_handlers are_no_handlers h h' = (refl, refl)
   unique_handlers are_no_handlers (are_handlers o f hs) h h' = no_on_at o h
   unique_handlers are_no_handlers (is_handler_before_end o f) h h' = no_on_at o h
