@@ -176,9 +176,9 @@ pub sequencing_more : (d : ℕ) (end : Place) (all rest m : List Terminal) (xs :
 sequencing_more d end all rest m xs x p after so_far f is =
     let g : SomeStatement d (stmt_of x) rest (kind.Semicolon at p ∷ after) = subst (λ z. SomeStatement d (stmt_of x) rest z) is f in
     record {
-  completes = λ more r h. subst (λ z. SomeStatements d z all r) (sym (statements_push xs x more)) (so_far.completes _ r (add_statement d (stmt_of x) more p rest after r g h));
-  dies = λ e h. so_far.dies e (open_more SomeStatement SomeStatements SomeStatements mark.Semicolon d end (stmt_of x) rest m after p e statements_split known_statement f is h);
-}
+      completes = λ more r h. subst (λ z. SomeStatements d z all r) (sym (statements_push xs x more)) (so_far.completes _ r (add_statement d (stmt_of x) more p rest after r g h));
+      dies = λ e h. so_far.dies e (open_more SomeStatement SomeStatements SomeStatements mark.Semicolon d end (stmt_of x) rest m after p e statements_split known_statement f is h);
+    }
 
 pub sequencing_ends : (d : ℕ) (end : Place) (all rest m : List Terminal) (xs : List Stmt) (x : Stmt) → Sequencing d end all xs rest → SomeStatement d (stmt_of x) rest m → NoMark mark.Semicolon m → SomeStatements d (stmts_of (xs ++ (x ∷ []))) all m
 sequencing_ends d end all rest m xs x so_far f none = subst (λ z. SomeStatements d z all m) (sym (statements_push xs x no_statements) ∙ statements_none (xs ++ (x ∷ []))) (so_far.completes _ m (are_one_statement f.0, (f.1, no_semicolon m none)))

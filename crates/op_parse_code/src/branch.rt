@@ -10,10 +10,10 @@ ghost use Rattle.op_tree.specs.Terminal.{terminals};
 
 use crate::ParseError;
 use crate::chain::chain;
+use crate::compound::{statement_at, statements};
 use crate::error::syntax;
 use crate::list::elements;
 use crate::mark::{Mark, after_mark, behind_mark};
-use crate::compound::{statement_at, statements};
 use crate::statement_nodes::{case_else_node, case_node};
 use op_base::Place;
 use op_scan::{Token, TokenKind};

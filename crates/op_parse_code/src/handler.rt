@@ -10,9 +10,9 @@ ghost use Rattle.op_tree.specs.Terminal.{terminals};
 
 use crate::ParseError;
 use crate::branch::ends_list;
+use crate::compound::{statement_at, statements};
 use crate::error::syntax;
 use crate::mark::{Mark, after_mark, behind_mark};
-use crate::compound::{statement_at, statements};
 use crate::statement_nodes::try_node;
 use crate::token::{is_identifier, is_word, name};
 use op_base::Place;

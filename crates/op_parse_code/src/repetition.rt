@@ -9,9 +9,9 @@ ghost use Rattle.op_tree.specs.Terminal.{terminals};
 
 use crate::ParseError;
 use crate::chain::chain;
+use crate::compound::{statement_at, statements};
 use crate::error::syntax;
 use crate::mark::{Mark, after_mark, behind_mark};
-use crate::compound::{statement_at, statements};
 use crate::statement_nodes::{for_in_node, for_node, repeat_node, while_node};
 use crate::token::name;
 use op_base::Place;

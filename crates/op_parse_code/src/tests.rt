@@ -208,11 +208,7 @@ fn push_statement(all: &mut String, tree: &Stmt) -> Result<(), AllocError> {
 }
 
 /// The sort of the statement at the front of a text at a depth, and the number of its tokens, or its refusal.
-fn sort(
-    rt: &(impl Abort + AllocGlobal),
-    text: &[u8],
-    depth: u32,
-) -> Result<String, AllocError> {
+fn sort(rt: &(impl Abort + AllocGlobal), text: &[u8], depth: u32) -> Result<String, AllocError> {
     assert!(rt; text.len() < 100_000);
     assert!(rt; depth <= 200);
     let mut all = String::new(rt.alloc());
@@ -264,7 +260,10 @@ fn reads_statements(rt: HostRuntime) -> Result<(), Fail> {
         ("try a finally b end", "try finally 5"),
         ("try a except b end", "try except 5"),
         ("try a except on E do b; end", "try on 1 9"),
-        ("try a except on x: u.E do b; on F do c else d end", "try on 2 else 19"),
+        (
+            "try a except on x: u.E do b; on F do c else d end",
+            "try on 2 else 19",
+        ),
         ("try a except on; b end", "try except 7"),
         ("try a except on E b end", "V9/0 1:19"),
         ("try a end", "V9/0 1:7"),

@@ -102,8 +102,7 @@ fn value_or_list<'a>(
 }
 
 /// The room inside a bracket that stands in front of the tokens.
-fn inside_bracket<'a>(room: Room<'a>, tokens: &'a [Token]) -> Room<'a>
-{
+fn inside_bracket<'a>(room: Room<'a>, tokens: &'a [Token]) -> Room<'a> {
     match room {
         Room::Left(left) => {
             if left < 2 {
@@ -117,8 +116,7 @@ fn inside_bracket<'a>(room: Room<'a>, tokens: &'a [Token]) -> Room<'a>
 }
 
 /// The depth that is left for the items of a list.
-fn listed(room: Room<'_>, end: Place) -> Result<u32, ParseError>
-{
+fn listed(room: Room<'_>, end: Place) -> Result<u32, ParseError> {
     match room {
         Room::Left(left) => Ok(left),
         Room::Spent(tokens) => Err(nested(end, tokens)),
@@ -133,8 +131,7 @@ fn in_list<'a>(
     room: Room<'a>,
     end: Place,
     tokens: &'a [Token],
-) -> Result<(Initializer, u32), ParseError>
-{
+) -> Result<(Initializer, u32), ParseError> {
     let left = listed(room, end)?;
     match item {
         Initializer::Value(_) => {
@@ -170,8 +167,7 @@ fn items<'a>(
 }
 
 /// A name and a colon stand at the front.
-fn names_field(tokens: &[Token]) -> bool
-{
+fn names_field(tokens: &[Token]) -> bool {
     let Some((first, rest)) = tokens.split_first() else {
         return false;
     };
@@ -217,11 +213,11 @@ fn behind_root<'a>(
 {
     let (selectors, rest) = selectors(alloc, left, end, tokens)?;
     let factor = designator_node(Designator { root, selectors });
-    let (operations, rest) = operations(alloc, Level::Multiplicative, left, end, rest)?;
-    let term = chain_node(alloc, factor, operations)?;
-    let (operations, rest) = operations(alloc, Level::Additive, left, end, rest)?;
-    let simple = chain_node(alloc, term, operations)?;
-    let (operations, rest) = operations(alloc, Level::Relational, left, end, rest)?;
-    let expression = chain_node(alloc, simple, operations)?;
+    let (factors, rest) = operations(alloc, Level::Multiplicative, left, end, rest)?;
+    let term = chain_node(alloc, factor, factors)?;
+    let (terms, rest) = operations(alloc, Level::Additive, left, end, rest)?;
+    let simple = chain_node(alloc, term, terms)?;
+    let (bounds, rest) = operations(alloc, Level::Relational, left, end, rest)?;
+    let expression = chain_node(alloc, simple, bounds)?;
     Ok((expression, rest))
 }

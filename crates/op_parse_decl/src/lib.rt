@@ -13,6 +13,5 @@ mod nodes;
 mod opening;
 mod parameter;
 mod stops;
-
 #[cfg(test)]
 mod tests;

@@ -14,7 +14,11 @@ use op_tree::{
 };
 use std::alloc::Global;
 
-pub fn set_node(alloc: Global, position: Position, base: TypeDenoter) -> Result<TypeDenoter, NoMemory>
+pub fn set_node(
+    alloc: Global,
+    position: Position,
+    base: TypeDenoter,
+) -> Result<TypeDenoter, NoMemory>
     ensures { IfOk result (λ t. denoter_of t ≡ set position (denoter_of base)) }
 {
     let base = Box::new(alloc, base)?;
@@ -80,13 +84,12 @@ pub fn denoted(alloc: Global, bound: Expr) -> Result<Option<TypeDenoter>, NoMemo
             if !selectors.is_empty() {
                 return Ok(None);
             }
-            enumeration_of_one(alloc, position, *inside)
+            enumeration_of_one(alloc, position, Box::into_inner(inside))
         }
     }
 }
 
-fn named(first: Name, selectors: Vec<Selector>) -> Option<TypeDenoter>
-{
+fn named(first: Name, selectors: Vec<Selector>) -> Option<TypeDenoter> {
     let mut selectors = selectors;
     match selectors.pop() {
         None => Some(TypeDenoter::Named(QualifiedName {
@@ -98,7 +101,9 @@ fn named(first: Name, selectors: Vec<Selector>) -> Option<TypeDenoter>
                 unit: Some(first),
                 name,
             }))
-        } else { None },
+        } else {
+            None
+        },
         Some(_) => None,
     }
 }
@@ -108,8 +113,7 @@ fn enumeration_of_one(
     alloc: Global,
     position: Position,
     inside: Expr,
-) -> Result<Option<TypeDenoter>, NoMemory>
-{
+) -> Result<Option<TypeDenoter>, NoMemory> {
     let Expr::Designator(designator) = inside else {
         return Ok(None);
     };

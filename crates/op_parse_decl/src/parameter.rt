@@ -117,8 +117,7 @@ fn parameter_mode(tokens: &[Token]) -> (ParameterMode, &[Token])
 }
 
 /// The tokens behind the word `out`, where they begin with it and a name.
-fn behind_out(tokens: &[Token]) -> Option<&[Token]>
-{
+fn behind_out(tokens: &[Token]) -> Option<&[Token]> {
     let (first, rest) = tokens.split_first()?;
     let (second, _) = rest.split_first()?;
     if is_word(b"out", &first.kind) && is_identifier(&second.kind) {
