@@ -102,6 +102,16 @@ mark_of kind.Case = Some mark.Case
 mark_of kind.Const_ = Some mark.Const_
 mark_of kind.Var = Some mark.Var
 mark_of kind.Inline = Some mark.Inline
+mark_of kind.Begin = Some mark.Begin
+mark_of kind.Interface = Some mark.Interface
+mark_of kind.Implementation = Some mark.Implementation
+mark_of kind.Initialization = Some mark.Initialization
+mark_of kind.Finalization = Some mark.Finalization
+mark_of kind.Program = Some mark.Program
+mark_of kind.Uses = Some mark.Uses
+mark_of kind.Class = Some mark.Class
+mark_of kind.Property = Some mark.Property
+mark_of kind.Unit = Some mark.Unit
 mark_of other = None
 
 -- the token that a mark is
@@ -133,6 +143,16 @@ kind_of mark.Case = kind.Case
 kind_of mark.Const_ = kind.Const_
 kind_of mark.Var = kind.Var
 kind_of mark.Inline = kind.Inline
+kind_of mark.Begin = kind.Begin
+kind_of mark.Interface = kind.Interface
+kind_of mark.Implementation = kind.Implementation
+kind_of mark.Initialization = kind.Initialization
+kind_of mark.Finalization = kind.Finalization
+kind_of mark.Program = kind.Program
+kind_of mark.Uses = kind.Uses
+kind_of mark.Class = kind.Class
+kind_of mark.Property = kind.Property
+kind_of mark.Unit = kind.Unit
 
 abbrev pub is_identifier : TokenKind → Bool
 is_identifier (kind.Identifier text) = true

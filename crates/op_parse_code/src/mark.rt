@@ -41,6 +41,16 @@ pub enum Mark {
     Const_,
     Var,
     Inline,
+    Begin,
+    Interface,
+    Implementation,
+    Initialization,
+    Finalization,
+    Program,
+    Uses,
+    Class,
+    Property,
+    Unit,
 }
 
 fn mark_of(kind: &TokenKind) -> Option<Mark>
@@ -74,6 +84,16 @@ fn mark_of(kind: &TokenKind) -> Option<Mark>
         TokenKind::Const_ => Some(Mark::Const_),
         TokenKind::Var => Some(Mark::Var),
         TokenKind::Inline => Some(Mark::Inline),
+        TokenKind::Begin => Some(Mark::Begin),
+        TokenKind::Interface => Some(Mark::Interface),
+        TokenKind::Implementation => Some(Mark::Implementation),
+        TokenKind::Initialization => Some(Mark::Initialization),
+        TokenKind::Finalization => Some(Mark::Finalization),
+        TokenKind::Program => Some(Mark::Program),
+        TokenKind::Uses => Some(Mark::Uses),
+        TokenKind::Class => Some(Mark::Class),
+        TokenKind::Property => Some(Mark::Property),
+        TokenKind::Unit => Some(Mark::Unit),
         _ => None,
     }
 }

@@ -109,7 +109,7 @@ fn directive_at(tokens: &[Token]) -> Option<(Directive, &[Token])>
 }
 
 /// The directive that a word is, in any case of letters.
-fn directive_of(word: &[u8]) -> Option<Directive>
+pub fn directive_of(word: &[u8]) -> Option<Directive>
     ensures { result ≡ directive_of word.now }
 {
     if word.eq_ignore_ascii_case(b"virtual") {

@@ -4,14 +4,25 @@
 //! as those of op_parse_code.
 #![tactic(auto)]
 
+mod class;
+mod declaration;
+mod declared_form;
 mod denoter;
+mod file;
 mod form;
 mod heading;
 mod initializer;
+mod list;
 mod names;
 mod nodes;
 mod opening;
 mod parameter;
+mod routine;
 mod stops;
+
+pub use file::parse;
+
+#[cfg(test)]
+mod file_tests;
 #[cfg(test)]
 mod tests;
