@@ -1,17 +1,18 @@
 -- What is known of phrases that are put together, and what refuses them.
-use Rattle.std.proofs.Common.{◌≡◌, ℕ, Bool, true, List, [], ◌∷◌, ◌++◌, Option, Some, None, map, append_assoc, refl, sym, ap, ◌∙◌, subst}
+use Rattle.std.proofs.Common.{◌≡◌, ℕ, Bool, true, false, List, [], ◌∷◌, ◌++◌, Option, Some, None, map, append_assoc, refl, sym, ap, ◌∙◌, subst}
 use Rattle.op_base.specs.declared.place.Place.{Place}
 use Rattle.op_parse_code.proofs.Cuts.{IsCut, cut_none, cut_one, cut_join, same_not}
 use Rattle.op_parse_code.proofs.Refusing.{Some_, Seq, Known, no_mark_same, refuses_map, refuses_first, refuses_after, refuses_behind}
 use Rattle.op_parse_code.specs.Opening.{kind_of}
 use Rattle.op_parse_code.specs.Refusal.{Phrase, SameHead, Refuses}
 use Rattle.op_parse_code.specs.Whole.{NoMark}
+use Rattle.op_parse_code.specs.WholeStatement.{front_is}
 use Rattle.op_parse_code.specs.declared.error.ParseError.{ParseError}
 use Rattle.op_parse_code.specs.declared.mark.Mark.{Mark}
-use Rattle.op_parse_decl.specs.Combined.{Then, then_, Behind, no_mark, behind_mark, Repeats, no_more, one_more}
+use Rattle.op_parse_decl.specs.Combined.{Both, Then, then_, Behind, no_mark, behind_mark, Repeats, no_more, one_more}
 use Rattle.op_scan.specs.declared.token.TokenKind.{TokenKind}
 use Rattle.op_tree.proofs.ExpressionUnique.{Begins, behind}
-use Rattle.op_tree.proofs.StatementUnique.{both}
+use Rattle.op_tree.proofs.StatementUnique.{both as apart}
 use Rattle.op_tree.specs.Ends.{IsNot}
 use Rattle.op_tree.specs.Terminal.{Terminal, ◌at◌}
 use Rattle.op_tree.specs.declared.position.Position.{Position}
@@ -27,11 +28,13 @@ same_begins test [] x s h = absurd h
 same_begins test (t ∷ r) [] s h = absurd s
 same_begins test (t ∷ r) (u ∷ x) s h = subst (λ (z : Terminal). test z.kind ≡ true) s h
 
-same_sym : (r x : List Terminal) → SameHead r x → SameHead x r
-same_sym [] [] s = tt
-same_sym [] (u ∷ x) s = absurd s
-same_sym (t ∷ r) [] s = absurd s
-same_sym (t ∷ r) (u ∷ x) s = sym s
+pub front_begins : (test : TokenKind → Bool) (ks : List Terminal) → front_is test ks ≡ true → Begins test ks
+front_begins test [] h = absurd cc
+front_begins test (t ∷ ks) h = h
+
+pub front_not : (test : TokenKind → Bool) (ks : List Terminal) → front_is test ks ≡ false → IsNot test ks
+front_not test [] h = tt
+front_not test (t ∷ ks) h = h
 
 -- ---- the same phrase in other words
 
@@ -50,22 +53,22 @@ refuses_as P Q d end ks e as_ h = refuses_map P Q d end ks e (λ d' b ls r s q. 
 
 -- ---- one part, and behind it another
 
-into_seq : {A B : Type 0} {P : Phrase A} {Q : Phrase B} (d : ℕ) (x : A × B) (ks r : List Terminal) → Then P Q d x ks r → Some_ (Seq P Q) d ks
+into_seq : {A B : Type 0} {P : Phrase A} {Q : Phrase B} (d : ℕ) (x : Both A B) (ks r : List Terminal) → Then P Q d x ks r → Some_ (Seq P Q) d ks
 into_seq d x ks r (then_ {a = a} {b = b} {m = m} p q) = ((a, b), r, (m, p, q))
 
-pub then_first : {A B : Type 0} (P : Phrase A) (Q : Phrase B) (d : ℕ) (end : Place) (ks : List Terminal) (e : ParseError) → Refuses P d end ks e → Refuses (Then P Q) d end ks e
-then_first P Q d end ks e h = refuses_map (Seq P Q) (Then P Q) d end ks e (λ d' b ls r s x. into_seq d' b ls r x) (refuses_first P Q d end ks e h)
+pub first : {A B : Type 0} {P : Phrase A} {Q : Phrase B} {d : ℕ} {end : Place} {ks : List Terminal} {e : ParseError} → Refuses P d end ks e → Refuses (Then P Q) d end ks e
+first {P = P} {Q = Q} {d = d} {end = end} {ks = ks} {e = e} h = refuses_map (Seq P Q) (Then P Q) d end ks e (λ d' b ls r s x. into_seq d' b ls r x) (refuses_first P Q d end ks e h)
 
-pub then_after : {A B : Type 0} (P : Phrase A) (Q : Phrase B) (d : ℕ) (end : Place) (a : A) (ks m : List Terminal) (e : ParseError) → Known P → P d a ks m → Refuses Q d end m e → Refuses (Then P Q) d end ks e
-then_after P Q d end a ks m e known p h = refuses_map (Seq P Q) (Then P Q) d end ks e (λ d' b ls r s x. into_seq d' b ls r x) (refuses_after P Q d end a ks m e known p h)
+pub after : {A B : Type 0} {P : Phrase A} {Q : Phrase B} {d : ℕ} {end : Place} {a : A} {ks m : List Terminal} {e : ParseError} → Known P → P d a ks m → Refuses Q d end m e → Refuses (Then P Q) d end ks e
+after {P = P} {Q = Q} {d = d} {end = end} {a = a} {ks = ks} {m = m} {e = e} known p h = refuses_map (Seq P Q) (Then P Q) d end ks e (λ d' b ls r s x. into_seq d' b ls r x) (refuses_after P Q d end a ks m e known p h)
 
-front_then : {A B : Type 0} {P : Phrase A} {Q : Phrase B} → Known P → Known Q → (d : ℕ) (x : A × B) (ks r : List Terminal) → Then P Q d x ks r → (f : List Terminal → List Terminal) × IsCut f × (ks ≡ f r) × ((z : List Terminal) → SameHead r z → Then P Q d x (f z) z)
+front_then : {A B : Type 0} {P : Phrase A} {Q : Phrase B} → Known P → Known Q → (d : ℕ) (x : Both A B) (ks r : List Terminal) → Then P Q d x ks r → (f : List Terminal → List Terminal) × IsCut f × (ks ≡ f r) × ((z : List Terminal) → SameHead r z → Then P Q d x (f z) z)
 front_then one two d x ks r (then_ {a = a} {b = b} {m = m} p q) =
     let f = one.front d a ks m p in
     let g = two.front d b m r q in
     (λ z. f.0 (g.0 z), cut_join f.1 g.1, f.2 ∙ ap f.0 g.2, λ z s. then_ (f.3 (g.0 z) (subst (λ y. SameHead y (g.0 z)) (sym g.2) (same_cut g.1 r z s))) (g.3 z s))
 
-same_then : {A B : Type 0} {P : Phrase A} {Q : Phrase B} → Known P → Known Q → (d d' : ℕ) (x x' : A × B) (ks r r' : List Terminal) → Then P Q d x ks r → Then P Q d' x' ks r' → r ≡ r'
+same_then : {A B : Type 0} {P : Phrase A} {Q : Phrase B} → Known P → Known Q → (d d' : ℕ) (x x' : Both A B) (ks r r' : List Terminal) → Then P Q d x ks r → Then P Q d' x' ks r' → r ≡ r'
 same_then {Q = Q} one two d d' x x' ks r r' (then_ {a = a} {b = b} {m = m} p q) (then_ {a = a'} {b = b'} {m = m'} p' q') =
     let e = one.same d d' a a' ks m m' p p' in
     two.same d d' b b' m r r' q (subst (λ y. Q d' b' y r') (sym e) q')
@@ -110,8 +113,8 @@ front_repeats {test = test} known d (a ∷ as_) ks r (one_more {m = m} h p more)
 
 same_repeats : {A : Type 0} {test : TokenKind → Bool} {P : Phrase A} → Known P → (d d' : ℕ) (as_ as' : List A) (ks r r' : List Terminal) → Repeats test P d as_ ks r → Repeats test P d' as' ks r' → r ≡ r'
 same_repeats known d d' [] [] ks r r' (no_more h) (no_more h') = refl
-same_repeats {test = test} known d d' [] (a' ∷ as') ks r r' (no_more h) (one_more h' p' more') = both test ks h' h
-same_repeats {test = test} known d d' (a ∷ as_) [] ks r r' (one_more h p more) (no_more h') = both test ks h h'
+same_repeats {test = test} known d d' [] (a' ∷ as') ks r r' (no_more h) (one_more h' p' more') = apart test ks h' h
+same_repeats {test = test} known d d' (a ∷ as_) [] ks r r' (one_more h p more) (no_more h') = apart test ks h h'
 same_repeats {test = test} {P = P} known d d' (a ∷ as_) (a' ∷ as') ks r r' (one_more {m = m} h p more) (one_more {m = m'} h' p' more') =
     let e = known.same d d' a a' ks m m' p p' in
     same_repeats known d d' as_ as' m r r' more (subst (λ y. Repeats test P d' as' y r') (sym e) more')
@@ -120,7 +123,7 @@ pub known_repeats : {A : Type 0} {test : TokenKind → Bool} {P : Phrase A} → 
 known_repeats known = record { front = front_repeats known; same = same_repeats known }
 
 into_item : {A : Type 0} (test : TokenKind → Bool) (P : Phrase A) (ks : List Terminal) → Begins test ks → (d : ℕ) (as_ : List A) (ls r : List Terminal) → SameHead ks ls → Repeats test P d as_ ls r → Some_ (Seq P (Repeats test P)) d ls
-into_item test P ks h d [] ls r s (no_more h') = both test ls (same_begins test ks ls s h) h'
+into_item test P ks h d [] ls r s (no_more h') = apart test ls (same_begins test ks ls s h) h'
 into_item test P ks h d (a ∷ as_) ls r s (one_more {m = m} h' p more) = ((a, as_), r, (m, p, more))
 
 -- the parts that are read so far, and what is left

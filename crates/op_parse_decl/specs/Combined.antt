@@ -10,9 +10,12 @@ use Rattle.op_tree.specs.Ends.{IsNot}
 use Rattle.op_tree.specs.Terminal.{Terminal, ◌at◌}
 use Rattle.op_tree.specs.declared.position.Position.{Position}
 
+pub data Both (A B : Type 0) : Type 0 where
+  both : (first : A) (second : B) → Both A B
+
 -- one part, and behind it another
-pub data Then {A B : Type 0} (P : Phrase A) (Q : Phrase B) : ℕ → A × B → List Terminal → List Terminal → Type 0 where
-  then_ : {d : ℕ} {a : A} {b : B} {ks m r : List Terminal} → P d a ks m → Q d b m r → Then P Q d (a, b) ks r
+pub data Then {A B : Type 0} (P : Phrase A) (Q : Phrase B) : ℕ → Both A B → List Terminal → List Terminal → Type 0 where
+  then_ : {d : ℕ} {a : A} {b : B} {ks m r : List Terminal} → P d a ks m → Q d b m r → Then P Q d (both a b) ks r
 
 -- a part behind a mark, if the mark stands there
 pub data Behind {A : Type 0} (m : Mark) (P : Phrase A) : ℕ → Option A → List Terminal → List Terminal → Type 0 where

@@ -1,23 +1,23 @@
 -- Declarations and files that are whole: nothing that follows would belong to them.
-use Rattle.std.specs.Prelude.{◌≡◌, ℕ, Bool, true, false, List, [], ◌∷◌, codes, Option, Some, None}
+use Rattle.std.specs.Prelude.{◌≡◌, ℕ, suc, Bool, true, false, List, [], ◌∷◌, Option, Some, None}
 use Rattle.op_parse_code.specs.Opening.{is_identifier}
 use Rattle.op_parse_code.specs.Refusal.{Phrase}
 use Rattle.op_parse_code.specs.Whole.{NoMark}
 use Rattle.op_parse_code.specs.declared.mark.Mark.TheVariants as mark
+use Rattle.op_parse_decl.specs.Combined.{Behind}
+use Rattle.op_parse_decl.specs.Types.{SomeInitial}
 use Rattle.op_parse_decl.specs.declared.routine.Part.{Part}
 use Rattle.op_parse_decl.specs.declared.routine.Part.TheVariants as part
 use Rattle.op_scan.specs.declared.token.TokenKind.{TokenKind}
 use Rattle.op_scan.specs.declared.token.TokenKind.TheVariants as kind
-use Rattle.op_tree.specs.Declaration.{Declaration, Method, Body, Section, Member, TypeDefinition, Declarations, no_declarations, declarations, heading}
-use Rattle.op_tree.specs.DeclarationGrammar.{IsDefinition, IsDataDeclaration, IsFirstValue, IsRoutine, IsBody}
+use Rattle.op_tree.specs.Declaration.{Declaration, Method, Body, TypeDefinition, Declarations, no_declarations, declarations, heading}
+use Rattle.op_tree.specs.DeclarationGrammar.{IsDefinition, IsDataDeclaration, IsRoutine, IsBody}
 use Rattle.op_tree.specs.Ends.{IsNot}
-use Rattle.op_tree.specs.File.{File, Tail}
-use Rattle.op_tree.specs.FileGrammar.{IsFile, IsProgramHeading, IsUses, IsTail}
-use Rattle.op_tree.specs.HeadingGrammar.{AreDirectives, IsMethod, IsIdentifier, AreMembers, IsClassBody, IsAccessor, directive_of}
+use Rattle.op_tree.specs.File.{File}
+use Rattle.op_tree.specs.FileGrammar.{IsFile, IsProgramHeading, IsUses}
+use Rattle.op_tree.specs.HeadingGrammar.{AreDirectives, IsMethod, IsIdentifier, directive_of}
 use Rattle.op_tree.specs.Initial.{Initial}
 use Rattle.op_tree.specs.NameGrammar.{IsName}
-use Rattle.op_tree.specs.Statement.{Statements}
-use Rattle.op_tree.specs.StatementGrammar.{IsBlock}
 use Rattle.op_tree.specs.Terminal.{Terminal, ◌at◌}
 use Rattle.op_tree.specs.declared.file.ProgramHeading.{ProgramHeading}
 use Rattle.op_tree.specs.declared.heading.Directive.{Directive}
@@ -47,7 +47,7 @@ WholeMethod d a ks r = IsMethod d a ks r × IsNot is_directive r
 
 -- ["=" init]
 abbrev pub SomeFirstValue : Phrase (Option Initial)
-SomeFirstValue d i ks r = IsFirstValue d i ks r × NoMark mark.Equal r
+SomeFirstValue = Behind mark.Equal SomeInitial
 
 -- what a name stands for, and the semicolon behind it
 abbrev pub DefinitionBefore : Phrase TypeDefinition
@@ -65,9 +65,6 @@ pub data SomeAncestor : ℕ → Option Name → List Terminal → List Terminal 
 -- the text in square brackets, if there is one
 abbrev pub SomeIdentifier : Phrase (Option (List ℕ))
 SomeIdentifier d text ks r = IsIdentifier d text ks r × NoMark mark.OpenBracket r
-
-abbrev pub SomeAccessor : List ℕ → Phrase (Option Name)
-SomeAccessor word d n ks r = IsAccessor word n ks r
 
 -- ---- declarations
 
@@ -97,11 +94,15 @@ BodyBefore d b ks r = (q : Position) × IsBody d b ks (kind.Semicolon at q ∷ r
 
 -- ---- files
 
-abbrev pub SomeUses : Phrase (List Name)
-SomeUses d ns ks r = IsUses ns ks r × NoMark mark.Uses r
+-- [uses], none where the word does not stand there
+pub data SomeUses : ℕ → List Name → List Terminal → List Terminal → Type 0 where
+  no_uses : {d : ℕ} {ks : List Terminal} → NoMark mark.Uses ks → SomeUses d [] ks ks
+  some_uses : {d : ℕ} {ns : List Name} {p : Position} {ks r : List Terminal} → IsUses ns (kind.Uses at p ∷ ks) r → SomeUses d ns (kind.Uses at p ∷ ks) r
 
-abbrev pub SomeProgramHeading : Phrase (Option ProgramHeading)
-SomeProgramHeading d h ks r = IsProgramHeading d h ks r × NoMark mark.Program r
+-- the heading of a program, none where the word does not stand there
+pub data SomeProgramHeading : ℕ → Option ProgramHeading → List Terminal → List Terminal → Type 0 where
+  no_heading : {d : ℕ} {ks : List Terminal} → NoMark mark.Program ks → SomeProgramHeading d None ks ks
+  some_program_heading : {d : ℕ} {h : ProgramHeading} {ks r : List Terminal} → IsProgramHeading d (Some h) ks r → SomeProgramHeading d (Some h) ks r
 
 -- a file, and no token behind it
 abbrev pub WholeFile : Phrase File

@@ -1,10 +1,9 @@
 //! Classes and interfaces (Free Pascal Reference Guide, "Classes", "Interfaces").
 ghost use Rattle.std.specs.Prelude.{◌≡◌, ◌≤◌, ◌<◌, IfOk, IfErr, length};
 ghost use Rattle.op_parse_code.specs.Refusal.{Refuses};
-ghost use Rattle.op_parse_decl.specs.Declarations.{DefinitionBehind, SomeAccessor, SomeAncestor, SomeIdentifier, WholeMethod};
+ghost use Rattle.op_parse_decl.specs.Declarations.{DefinitionBehind, SomeAncestor, SomeIdentifier};
 ghost use Rattle.op_scan.specs.declared.token.TokenKind.TheVariants as kind;
-ghost use Rattle.op_tree.specs.Declaration.{definition_of, method_of, property_of};
-ghost use Rattle.op_tree.specs.HeadingGrammar.{IsProperty};
+ghost use Rattle.op_tree.specs.Declaration.{definition_of};
 ghost use Rattle.op_tree.specs.Terminal.{terminals};
 
 use crate::denoter::{denoter, fields_of_one_type};

@@ -2,11 +2,13 @@
 ghost use Rattle.std.specs.Prelude.{◌≡◌, ◌≤◌, ◌<◌, IfOk, IfErr, length};
 ghost use Rattle.std.specs.Option.{option_map};
 ghost use Rattle.op_parse_code.specs.Opening.{is_identifier};
-ghost use Rattle.op_parse_code.specs.Refusal.{Refuses};
+ghost use Rattle.op_parse_code.specs.Refusal.{Refuses, refused_at};
 ghost use Rattle.op_parse_code.specs.WholeStatement.{front_is};
 ghost use Rattle.op_parse_decl.specs.Declarations.{DefinitionBefore, SomeData, SomeFirstValue};
 ghost use Rattle.op_tree.specs.Declaration.{constant_of, declaration_of, definition_of, type_of, variables_of};
 ghost use Rattle.op_tree.specs.DeclarationGrammar.{AreVariablesOfOneType, IsConstant, IsTypeDeclaration};
+ghost use Rattle.op_tree.proofs.ExpressionUnique.{Begins};
+ghost use Rattle.op_tree.specs.Ends.{IsNot};
 ghost use Rattle.op_tree.specs.Initial.{initial_of};
 ghost use Rattle.op_tree.specs.Terminal.{terminals};
 
@@ -129,15 +131,15 @@ fn constant<'a>(
 {
     let (name, rest) = name(alloc, end, tokens)?;
     let (denoter, rest) = optional_type(alloc, left, end, rest)?;
-    let rest = after_mark(Mark::Equal, end, rest)?;
-    let (value, rest) = initial(alloc, left, end, rest)?;
-    let rest = after_mark(Mark::Semicolon, end, rest)?;
+    let after = after_mark(Mark::Equal, end, rest)?;
+    let (value, rest) = initial(alloc, left, end, after)?;
+    let behind = after_mark(Mark::Semicolon, end, rest)?;
     let constant = Constant {
         name,
         denoter,
         value,
     };
-    Ok((constant, rest))
+    Ok((constant, behind))
 }
 
 /// Variables of one type, and the semicolon behind them.
@@ -152,16 +154,16 @@ fn variables<'a>(
     ensures shorter { IfOk result (λ f. length f.1.now < length tokens.now) }
 {
     let (names, rest) = names(alloc, end, tokens)?;
-    let rest = after_mark(Mark::Colon, end, rest)?;
-    let (denoter, rest) = denoter(alloc, left, end, rest)?;
+    let after = after_mark(Mark::Colon, end, rest)?;
+    let (denoter, rest) = denoter(alloc, left, end, after)?;
     let (value, rest) = first_value(alloc, left, end, rest)?;
-    let rest = after_mark(Mark::Semicolon, end, rest)?;
+    let behind = after_mark(Mark::Semicolon, end, rest)?;
     let variables = Variables {
         names,
         denoter,
         value,
     };
-    Ok((variables, rest))
+    Ok((variables, behind))
 }
 
 /// What stands behind `=`, if that stands there.
@@ -199,8 +201,8 @@ fn type_declaration<'a>(
         return Err(left_out(feature, end, tokens));
     }
     let (name, rest) = name(alloc, end, tokens)?;
-    let rest = after_mark(Mark::Equal, end, rest)?;
-    let (definition, rest) = definition(alloc, left, end, rest)?;
+    let after = after_mark(Mark::Equal, end, rest)?;
+    let (definition, rest) = definition(alloc, left, end, after)?;
     Ok((TypeDeclaration { name, definition }, rest))
 }
 
@@ -225,8 +227,8 @@ fn definition<'a>(
         return interface_behind(alloc, left, end, rest);
     }
     let (denoter, rest) = denoter(alloc, left, end, tokens)?;
-    let rest = after_mark(Mark::Semicolon, end, rest)?;
-    Ok((TypeDefinition::Denoter(denoter), rest))
+    let behind = after_mark(Mark::Semicolon, end, rest)?;
+    Ok((TypeDefinition::Denoter(denoter), behind))
 }
 
 /// Constants, types or variables, with the word before them.
@@ -264,7 +266,10 @@ pub fn data_declaration<'a>(
 }
 
 /// An identifier must stand at the front.
-fn expect_name(end: Place, tokens: &[Token]) -> Result<(), ParseError> {
+fn expect_name(end: Place, tokens: &[Token]) -> Result<(), ParseError>
+    ensures name { IfOk result (λ _. Begins is_identifier (terminals tokens.now)) }
+    ensures refused { IfErr result (λ e. IsNot is_identifier (terminals tokens.now) × (e ≡ refused_at 9 0 end (terminals tokens.now))) }
+{
     if begins_name(tokens) {
         Ok(())
     } else {

@@ -1,5 +1,5 @@
 //! Forms that are left out and show among declarations, classes and files.
-ghost use Rattle.std.specs.Prelude.{ℕ, ◌×◌, ◌<◌, IfOk, IfErr, IfSome, IsTrue, length};
+ghost use Rattle.std.specs.Prelude.{ℕ, ◌<◌, IfOk, IfErr, IfSome, IsTrue, length};
 ghost use Rattle.op_parse_code.specs.Form.{HasForm};
 ghost use Rattle.op_parse_code.specs.Refusal.{Refuses};
 ghost use Rattle.op_parse_code.specs.Whole.{Marked};
@@ -62,6 +62,7 @@ fn form_of_part(tokens: &[Token]) -> Option<u8>
         TokenKind::Operator => Some(OPERATOR),
         TokenKind::Label => Some(LABEL),
         TokenKind::Asm => Some(ASSEMBLY),
+        TokenKind::Inline => Some(ASSEMBLY),
         TokenKind::Resourcestring => Some(RESOURCE_STRING),
         TokenKind::Threadvar => Some(THREAD_VARIABLE),
         TokenKind::Exports => Some(LIBRARY_OR_EXPORTS),
