@@ -80,22 +80,22 @@ known_then one two = record { front = front_then one two; same = same_then one t
 
 front_behind : {A : Type 0} {m : Mark} {P : Phrase A} → Known P → (d : ℕ) (x : Option A) (ks r : List Terminal) → Behind m P d x ks r → (f : List Terminal → List Terminal) × IsCut f × (ks ≡ f r) × ((z : List Terminal) → SameHead r z → Behind m P d x (f z) z)
 front_behind {m = m} known d None ks r (no_mark none) = (λ z. z, cut_none, refl, λ z s. no_mark (no_mark_same m ks z s none))
-front_behind {m = m} known d (Some a) (t ∷ ks) r (behind_mark {p = p} q) =
-    let f = known.front d a ks r q in
-    (λ z. kind_of m at p ∷ f.0 z, cut_one (kind_of m at p) f.1, ap (λ z. kind_of m at p ∷ z) f.2, λ z s. behind_mark (f.3 z s))
+front_behind {m = m} known d (Some a) ks r (behind_mark {p = p} {z = z} e q) =
+    let f = known.front d a z r q in
+    (λ x. kind_of m at p ∷ f.0 x, cut_one (kind_of m at p) f.1, e ∙ ap (λ y. kind_of m at p ∷ y) f.2, λ x s. behind_mark refl (f.3 x s))
 
 same_optional : {A : Type 0} {m : Mark} {P : Phrase A} → Known P → (d d' : ℕ) (x x' : Option A) (ks r r' : List Terminal) → Behind m P d x ks r → Behind m P d' x' ks r' → r ≡ r'
 same_optional known d d' None None ks r r' (no_mark none) (no_mark none') = refl
-same_optional known d d' None (Some a') ks r r' (no_mark none) (behind_mark {p = p} {ks = z} q) = absurd (none p z refl)
-same_optional known d d' (Some a) None ks r r' (behind_mark {p = p} {ks = z} q) (no_mark none) = absurd (none p z refl)
-same_optional known d d' (Some a) (Some a') (t ∷ ks) r r' (behind_mark q) (behind_mark q') = known.same d d' a a' ks r r' q q'
+same_optional known d d' None (Some a') ks r r' (no_mark none) (behind_mark {p = p} {z = z} e q) = absurd (none p z e)
+same_optional known d d' (Some a) None ks r r' (behind_mark {p = p} {z = z} e q) (no_mark none) = absurd (none p z e)
+same_optional {P = P} known d d' (Some a) (Some a') ks r r' (behind_mark {z = z} e q) (behind_mark e' q') = known.same d d' a a' z r r' q (subst (λ y. P d' a' y r') (ap behind (sym e' ∙ e)) q')
 
 pub known_behind : {A : Type 0} {m : Mark} {P : Phrase A} → Known P → Known (Behind m P)
 known_behind known = record { front = front_behind known; same = same_optional known }
 
 into_behind : {A : Type 0} (m : Mark) (P : Phrase A) (p : Position) (d : ℕ) (x : Option A) (ls r : List Terminal) → Behind m P d x (kind_of m at p ∷ ls) r → Some_ P d ls
 into_behind m P p d None ls r (no_mark none) = absurd (none p ls refl)
-into_behind m P p d (Some a) ls r (behind_mark q) = (a, r, q)
+into_behind m P p d (Some a) ls r (behind_mark e q) = (a, r, subst (λ y. P d a y r) (sym (ap behind e)) q)
 
 -- the mark stands there, and what is behind it is refused
 pub behind_refused : {A : Type 0} (m : Mark) (P : Phrase A) (d : ℕ) (end : Place) (p : Position) (ks after : List Terminal) (e : ParseError) → ks ≡ kind_of m at p ∷ after → Refuses P d end after e → Refuses (Behind m P) d end ks e
