@@ -6,8 +6,10 @@ ghost use Rattle.op_scan.specs.declared.token.TokenKind.TheVariants as kind;
 ghost use Rattle.op_tree.specs.Declaration.{definition_of};
 ghost use Rattle.op_tree.specs.Terminal.{terminals};
 
+use crate::declared_form::{
+    PROPERTY, form_of_class, form_of_interface, form_of_member, form_of_property,
+};
 use crate::denoter::{denoter, fields_of_one_type};
-use crate::declared_form::{PROPERTY, form_of_class, form_of_interface, form_of_member, form_of_property};
 use crate::heading::method;
 use crate::list::list;
 use crate::names::bracketed_names;
@@ -40,18 +42,27 @@ pub fn class_behind<'a>(
         let (sections, rest) = sections(alloc, left, end, tokens)?;
         let rest = after_mark(Mark::Semicolon, end, rest)?;
         let ancestors = Names::from(Vec::new(alloc));
-        let class = Class { ancestors, sections };
+        let class = Class {
+            ancestors,
+            sections,
+        };
         return Ok((TypeDefinition::Class(class), rest));
     }
     let (ancestors, behind) = bracketed_names(alloc, left, end, tokens)?;
     if let Some(rest) = behind_mark(Mark::Semicolon, behind) {
         let sections = Vec::new(alloc);
-        let class = Class { ancestors, sections };
+        let class = Class {
+            ancestors,
+            sections,
+        };
         return Ok((TypeDefinition::Class(class), rest));
     }
     let (sections, rest) = sections(alloc, left, end, behind)?;
     let rest = after_mark(Mark::Semicolon, end, rest)?;
-    let class = Class { ancestors, sections };
+    let class = Class {
+        ancestors,
+        sections,
+    };
     Ok((TypeDefinition::Class(class), rest))
 }
 
@@ -216,11 +227,7 @@ fn property<'a>(
 }
 
 /// The tokens behind a mark of a property, or the form that stands there instead.
-fn property_mark<'a>(
-    mark: Mark,
-    end: Place,
-    tokens: &'a [Token],
-) -> Result<&'a [Token], ParseError>
+fn property_mark<'a>(mark: Mark, end: Place, tokens: &'a [Token]) -> Result<&'a [Token], ParseError>
     ensures shorter { IfOk result (λ rest. length rest.now < length tokens.now) }
 {
     if form_of_property(tokens) {

@@ -13,16 +13,14 @@ ghost use Rattle.op_tree.specs.Initial.{initial_of};
 ghost use Rattle.op_tree.specs.Terminal.{terminals};
 
 use crate::class::{class_behind, interface_behind};
-use crate::denoter::{denoter, optional_type};
 use crate::declared_form::{form_of_definition, form_of_type};
+use crate::denoter::{denoter, optional_type};
 use crate::initializer::initial;
 use crate::list::{Item, list};
 use crate::names::names;
 use op_base::Place;
 use op_parse_code::ParseError;
-use op_parse_code::shared::{
-    Mark, after_mark, behind_mark, is_identifier, left_out, name, syntax,
-};
+use op_parse_code::shared::{Mark, after_mark, behind_mark, is_identifier, left_out, name, syntax};
 use op_scan::{Token, TokenKind};
 use op_tree::{Constant, Declaration, Initializer, TypeDeclaration, TypeDefinition, Variables};
 use std::alloc::Global;

@@ -38,11 +38,7 @@ const LIBRARY_OR_EXPORTS: u8 = 30;
 const INTERFACE_PROPERTY: u8 = 36;
 
 /// The tokens behind a mark, with which they must begin where no other declaration follows, or the form that stands there.
-pub fn part_mark<'a>(
-    mark: Mark,
-    end: Place,
-    tokens: &'a [Token],
-) -> Result<&'a [Token], ParseError>
+pub fn part_mark<'a>(mark: Mark, end: Place, tokens: &'a [Token]) -> Result<&'a [Token], ParseError>
     ensures mark { IfOk result (λ rest. (p : Position) × Marked mark 0 p (terminals tokens.now) (terminals rest.now)) }
     ensures refused { IfErr result (λ e. (d : ℕ) → Refuses (Marked mark) d end (terminals tokens.now) e) }
     ensures shorter { IfOk result (λ rest. length rest.now < length tokens.now) }

@@ -138,24 +138,75 @@ fn reads_files(rt: HostRuntime) -> Result<(), Fail> {
     let rows = [
         ("begin end.", "program 0 1"),
         ("program p; begin end.", "program 0 1"),
-        ("program p(input, output); uses a, b; begin x; y end.", "program 2 2"),
-        ("const a = 1; b: Integer = 2; var c, d: Char; e: T = (1, 2); begin end.", "program 0 const 2 var 2 1"),
-        ("type a = 1..2; b = class; c = interface; begin end.", "program 0 type class interface false 1"),
+        (
+            "program p(input, output); uses a, b; begin x; y end.",
+            "program 2 2",
+        ),
+        (
+            "const a = 1; b: Integer = 2; var c, d: Char; e: T = (1, 2); begin end.",
+            "program 0 const 2 var 2 1",
+        ),
+        (
+            "type a = 1..2; b = class; c = interface; begin end.",
+            "program 0 type class interface false 1",
+        ),
         ("type a = class(b, c); begin end.", "program 0 class(2) 1"),
-        ("type a = class x, y: T; procedure z; virtual; abstract; end; begin end.", "program 0 class(0) : 2 method 2 1"),
-        ("type a = class private x: T; public: T; public, y: T; end; begin end.", "program 0 class(0) Private: 1 1 2 1"),
-        ("type a = class procedure x; virtual: T; protected published end; begin end.", "program 0 class(0) : method 0 1 Protected: Published: 1"),
-        ("type a = class(b) property x: T read y write z; property w: T; end; begin end.", "program 0 class(1) : property true true property false false 1"),
-        ("type a = interface ['x'] end; b = interface(a) ['y']; begin end.", "program 0 interface(false) of 0 interface(true) of 0 1"),
-        ("type a = interface(b) procedure c; function d: T; stdcall; end; begin end.", "program 0 interface(true) of 2 1"),
-        ("type a = interface ['x']; begin end.", "program 0 interface true 1"),
-        ("procedure a; forward; procedure a; var b: T; procedure c; begin end; begin x; y end; begin end.", "program 0 forward routine 2 2 1"),
-        ("function a.b(c: T): T; cdecl; begin end; begin end.", "program 0 routine 0 1 1"),
-        ("unit u; interface implementation end.", "unit 0 implementation 0 false false"),
-        ("unit u; interface uses a; const b = 1; procedure c; overload; implementation uses d, e; procedure c; begin end; begin end.", "unit 1 const 1 heading 1 implementation 2 routine 0 1 true false"),
-        ("unit u; interface implementation initialization a finalization b end.", "unit 0 implementation 0 true true"),
-        ("unit u; interface implementation initialization a end.", "unit 0 implementation 0 true false"),
-        ("unit u; interface implementation finalization b end.", "unit 0 implementation 0 false true"),
+        (
+            "type a = class x, y: T; procedure z; virtual; abstract; end; begin end.",
+            "program 0 class(0) : 2 method 2 1",
+        ),
+        (
+            "type a = class private x: T; public: T; public, y: T; end; begin end.",
+            "program 0 class(0) Private: 1 1 2 1",
+        ),
+        (
+            "type a = class procedure x; virtual: T; protected published end; begin end.",
+            "program 0 class(0) : method 0 1 Protected: Published: 1",
+        ),
+        (
+            "type a = class(b) property x: T read y write z; property w: T; end; begin end.",
+            "program 0 class(1) : property true true property false false 1",
+        ),
+        (
+            "type a = interface ['x'] end; b = interface(a) ['y']; begin end.",
+            "program 0 interface(false) of 0 interface(true) of 0 1",
+        ),
+        (
+            "type a = interface(b) procedure c; function d: T; stdcall; end; begin end.",
+            "program 0 interface(true) of 2 1",
+        ),
+        (
+            "type a = interface ['x']; begin end.",
+            "program 0 interface true 1",
+        ),
+        (
+            "procedure a; forward; procedure a; var b: T; procedure c; begin end; begin x; y end; begin end.",
+            "program 0 forward routine 2 2 1",
+        ),
+        (
+            "function a.b(c: T): T; cdecl; begin end; begin end.",
+            "program 0 routine 0 1 1",
+        ),
+        (
+            "unit u; interface implementation end.",
+            "unit 0 implementation 0 false false",
+        ),
+        (
+            "unit u; interface uses a; const b = 1; procedure c; overload; implementation uses d, e; procedure c; begin end; begin end.",
+            "unit 1 const 1 heading 1 implementation 2 routine 0 1 true false",
+        ),
+        (
+            "unit u; interface implementation initialization a finalization b end.",
+            "unit 0 implementation 0 true true",
+        ),
+        (
+            "unit u; interface implementation initialization a end.",
+            "unit 0 implementation 0 true false",
+        ),
+        (
+            "unit u; interface implementation finalization b end.",
+            "unit 0 implementation 0 false true",
+        ),
     ];
     for (text, wanted) in rows.iter() {
         let found = shape(&rt, text.as_bytes())?;
@@ -195,7 +246,10 @@ fn refuses_files(rt: HostRuntime) -> Result<(), Fail> {
         ("procedure a; begin end; x begin end.", "V9/0 25"),
         ("unit u; implementation", "V9/0 9"),
         ("unit u; interface procedure a; begin", "V9/0 32"),
-        ("unit u; interface implementation initialization a; end", "V9/0 55"),
+        (
+            "unit u; interface implementation initialization a; end",
+            "V9/0 55",
+        ),
         ("library l; begin end.", "V13/30 1"),
         ("exports a; begin end.", "V13/30 1"),
         ("label 1; begin end.", "V13/16 1"),
@@ -210,7 +264,10 @@ fn refuses_files(rt: HostRuntime) -> Result<(), Fail> {
         ("type a = class class procedure b; end;", "V13/19 16"),
         ("type a = class strict private b: T; end;", "V13/21 16"),
         ("type a = class property b[c: T]: T; end;", "V13/20 26"),
-        ("type a = class property b: T index 1 read c; end;", "V13/20 30"),
+        (
+            "type a = class property b: T index 1 read c; end;",
+            "V13/20 30",
+        ),
         ("type a = class procedure b.c = d; end;", "V13/22 30"),
         ("type a = interface property b: T; end;", "V13/36 20"),
         ("procedure a; asm end;", "V13/17 14"),
