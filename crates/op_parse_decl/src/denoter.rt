@@ -2,7 +2,7 @@
 ghost use Rattle.std.specs.Option.{option_map};
 ghost use Rattle.std.specs.Prelude.{◌≡◌, ◌∷◌, ◌≤◌, ◌<◌, ℕ, true, false, IfOk, IfErr, length};
 ghost use Rattle.op_parse_code.specs.Refusal.{Refuses};
-ghost use Rattle.op_parse_decl.specs.Types.{DenoterBehind, DenotersBefore, FieldsBefore, RecordFields, SomeBounded, SomeDenoter, SomeFields, SomeIndices, SomeOptionalType, SomeStructure, StructureBehind};
+ghost use Rattle.op_parse_decl.specs.Types.{DenoterBehind, DenotersBefore, FieldsBefore, RecordFields, SomeBounded, SomeDenoter, SomeFields, SomeIndices, SomeOptionalType, SomeStructure};
 ghost use Rattle.op_scan.specs.declared.token.TokenKind.TheVariants as kind;
 ghost use Rattle.op_tree.specs.Denoter.{denoter_of};
 ghost use Rattle.op_tree.specs.Lists.{denoters_of, field_lists_of};
@@ -124,8 +124,8 @@ fn array<'a>(
     end: Place,
     tokens: &'a [Token],
 ) -> Result<(TypeDenoter, &'a [Token]), ParseError>
-    ensures whole { IfOk result (λ f. StructureBehind kind.Array position packed left (denoter_of f.0) (terminals tokens.now) (terminals f.1.now)) }
-    ensures refused { IfErr result (Refuses (StructureBehind kind.Array position packed) left end (terminals tokens.now)) }
+    ensures whole { IfOk result (λ f. (q : Position) → SomeStructure position packed left (denoter_of f.0) (kind.Array at q ∷ terminals tokens.now) (terminals f.1.now)) }
+    ensures refused { IfErr result (λ e. (q : Position) → Refuses (SomeStructure position packed) left end (kind.Array at q ∷ terminals tokens.now) e) }
     ensures shorter { IfOk result (λ f. length f.1.now < length tokens.now) }
 {
     let (indices, rest) = indices(alloc, left, end, tokens)?;
@@ -197,7 +197,7 @@ fn record<'a>(
     end: Place,
     tokens: &'a [Token],
 ) -> Result<(TypeDenoter, &'a [Token]), ParseError>
-    ensures whole { IfOk result (λ f. StructureBehind kind.Record position packed left (denoter_of f.0) (terminals tokens.now) (terminals f.1.now)) }
+    ensures whole { IfOk result (λ f. (q : Position) → SomeStructure position packed left (denoter_of f.0) (kind.Record at q ∷ terminals tokens.now) (terminals f.1.now)) }
     ensures refused { IfErr result (λ e. (q : Position) → Refuses (SomeStructure position packed) left end (kind.Record at q ∷ terminals tokens.now) e) }
     ensures shorter { IfOk result (λ f. length f.1.now < length tokens.now) }
 {
@@ -258,7 +258,6 @@ pub fn fields_of_one_type<'a>(
 }
 
 /// A type that begins as a bound of a subrange does: an enumeration, a subrange or a name.
-#[cycle(denoter)]
 fn bounded<'a>(
     alloc: Global,
     left: u32,
