@@ -84,12 +84,8 @@ procedural_none other h = elim h [ ]
 pub denoter_no_procedural : (d : ℕ) (end : Place) (k : TokenKind) (p : Position) (ks : List Terminal) (e : ParseError) → BeginsProcedural k → e ≡ refused_at 9 0 end (k at p ∷ ks) → Refuses SomeDenoter d end (k at p ∷ ks) e
 denoter_no_procedural d end k p ks e h x = denoter_none d end (k at p ∷ ks) e (procedural_none k h) x
 
-tail_of : List Terminal → List Terminal
-tail_of [] = []
-tail_of (t ∷ ts) = ts
-
 pub denoter_procedural : (d : ℕ) (end : Place) (k : TokenKind) (p : Position) (ks : List Terminal) (e : ParseError) → BeginsProcedural k → IsProcedural (k at p ∷ ks) → e ≡ refused_at 13 6 end (k at p ∷ ks) → Refuses SomeDenoter d end (k at p ∷ ks) e
-denoter_procedural d end k p ks e h (t, k', q, r, is, none) x = left_out 6 (k at p ∷ ks) x ([], k at p ∷ ks, refl, subst (λ z. Form 6 (k at p ∷ z) (k at p ∷ z)) (sym (ap tail_of is)) (is_procedural h none))
+denoter_procedural d end k p ks e h (t, k', q, r, is, none) x = left_out 6 (k at p ∷ ks) x ([], k at p ∷ ks, refl, subst (λ z. Form 6 (k at p ∷ z) (k at p ∷ z)) (sym (ap behind is)) (is_procedural h none))
 
 -- ---- the rest of a type behind its first token
 

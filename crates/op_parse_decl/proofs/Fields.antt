@@ -26,7 +26,7 @@ use Rattle.op_tree.specs.declared.position.Position.{Position}
 -- ---- fields of one type
 
 no_comma_there : {p u : Position} {r z : List Terminal} → kind.Colon at p ∷ r ≡ kind.Comma at u ∷ z → ⊥
-no_comma_there h = differ is_comma h refl refl
+no_comma_there h = differ is_comma (sym h) refl refl
 
 into_fields : (d : ℕ) (x : List Name × Denoter) (ls r : List Terminal) → SomeFields d x ls r → Some_ (Seq SomeNames (Seq (Marked mark.Colon) SomeDenoter)) d ls
 into_fields d x ls r (p, m, f, g) = ((x.0, (p, x.1)), r, (kind.Colon at p ∷ m, (f, λ u z h. no_comma_there h), (m, refl, g)))
@@ -112,7 +112,7 @@ no_semicolon_end m none d fs ls r s (behind_end {p = p}) = (p, r, refl)
 no_semicolon_end m none d fs ls r s (behind_semicolon {p = p} f) = absurd (no_mark_same mark.Semicolon m ls s none p _ refl)
 
 pub fielding_unclosed : (d : ℕ) (end : Place) (all rest m : List Terminal) (xs : List Fields) (x : List Name × Denoter) (e : ParseError) → Fielding d end all xs rest → NoMark mark.End rest → SomeFields d x rest m → NoMark mark.Semicolon m → Refuses (Marked mark.End) d end m e → (q : Position) → Refuses RecordFields d end (kind.Record at q ∷ all) e
-fielding_unclosed d end all rest m xs x e so_far none f no h = in_record d end all e (so_far.dies e (behind_dies d end rest m x e none f (refuses_map (Marked mark.End) Behind d end m e (no_semicolon_end m no) h)))
+fielding_unclosed d end all rest m xs x e so_far none f open_end h = in_record d end all e (so_far.dies e (behind_dies d end rest m x e none f (refuses_map (Marked mark.End) Behind d end m e (no_semicolon_end m open_end) h)))
 
 pub fielding_closes : (d : ℕ) (end : Place) (all rest m : List Terminal) (xs : List Fields) (x : Fields) (p : Position) (r : List Terminal) → Fielding d end all xs rest → SomeFields d (x.names, denoter_of x.denoter) rest m → m ≡ kind.End at p ∷ r → FieldsBefore d (field_lists_of (xs ++ (x ∷ []))) all r
 fielding_closes d end all rest m xs x p r so_far f is =
@@ -121,12 +121,12 @@ fielding_closes d end all rest m xs x p r so_far f is =
 
 -- ---- a record
 
-into_record : (p q : Position) (b : Bool) (d : ℕ) (t : Denoter) (ls r : List Terminal) → SameHead (kind.Record at q ∷ []) ls → SomeStructure p b d t ls r → Some_ (Seq RecordFields NoMoreType) d ls
-into_record p q b d t ls r s (is_record {fs = fs} {u = u} {ks = ks} f, st) = ((fs, []), r, (r, record_fields (u, f), (refl, st)))
+into_record : (p q : Position) (b : Bool) (d : ℕ) (t : Denoter) (ls r : List Terminal) → SomeStructure p b d t (kind.Record at q ∷ ls) r → Some_ (Seq RecordFields NoMoreType) d (kind.Record at q ∷ ls)
+into_record p q b d t ls r (is_record {fs = fs} {u = u} f, st) = ((fs, []), r, (r, record_fields (u, f), (refl, st)))
 
 into_record_at : (p q : Position) (b : Bool) (ks : List Terminal) (d : ℕ) (t : Denoter) (ls r : List Terminal) → SameHead (kind.Record at q ∷ ks) ls → SomeStructure p b d t ls r → Some_ (Seq RecordFields NoMoreType) d ls
 into_record_at p q b ks d t [] r s f = absurd s
-into_record_at p q b ks d t (u ∷ ls) r s f = into_record p q b d t (u ∷ ls) r s f
+into_record_at p q b ks d t (u ∷ ls) r s f = subst (λ (z : Terminal). Some_ (Seq RecordFields NoMoreType) d (z ∷ ls)) s (into_record p q b d t ls r (subst (λ (z : Terminal). SomeStructure p b d t (z ∷ ls) r) (sym s) f))
 
 pub record_refuses : (p : Position) (b : Bool) (d : ℕ) (end : Place) (ks : List Terminal) (e : ParseError) → ((q : Position) → Refuses RecordFields d end (kind.Record at q ∷ ks) e) → (q : Position) → Refuses (SomeStructure p b) d end (kind.Record at q ∷ ks) e
 record_refuses p b d end ks e h q = refuses_map (Seq RecordFields NoMoreType) (SomeStructure p b) d end (kind.Record at q ∷ ks) e (into_record_at p q b ks) (refuses_first RecordFields NoMoreType d end (kind.Record at q ∷ ks) e (h q))

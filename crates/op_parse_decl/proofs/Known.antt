@@ -1,7 +1,7 @@
 -- The sorts of names and types: each stands whatever follows that begins so, and ends at one place.
 use Rattle.std.proofs.Common.{◌≡◌, ℕ, Bool, false, List, [], ◌∷◌, refl, sym, ap, ◌∙◌, subst}
 use Rattle.op_parse_code.proofs.Cuts.{IsCut, cut_none, cut_one, cut_join, Front, same_not}
-use Rattle.op_parse_code.proofs.Refusing.{Known, no_mark_same}
+use Rattle.op_parse_code.proofs.Refusing.{Known, Seq, no_mark_same}
 use Rattle.op_parse_code.proofs.StatementFronts.{front_qualified}
 use Rattle.op_parse_code.specs.Refusal.{Phrase, SameHead}
 use Rattle.op_parse_code.specs.Whole.{NoMark}
@@ -40,6 +40,21 @@ not_dot (t ∷ r) h = at_kind t.kind t.position h
     at_kind : (k : TokenKind) (p : Position) → NoMark mark.Dot (k at p ∷ r) → is_dot k ≡ false
     at_kind kind.Dot p h = absurd (h p r refl)
     at_kind other p h = refl
+
+-- ---- two parts
+
+same_cut : {f : List Terminal → List Terminal} (r x : List Terminal) → IsCut f → SameHead r x → SameHead (f r) (f x)
+same_cut r x cut_none s = s
+same_cut r x (cut_one t k) s = refl
+
+pub known_seq : {A B : Type 0} (P : Phrase A) (Q : Phrase B) → Known P → Known Q → Known (Seq P Q)
+known_seq P Q p q = record {
+  front = λ d a ks m f.
+      let s = p.front d a.0 ks f.0 f.1 in
+      let u = q.front d a.1 f.0 m f.2 in
+      (λ x. s.0 (u.0 x), cut_join s.1 u.1, s.2 ∙ ap s.0 u.2, λ x h. (u.0 x, s.3 (u.0 x) (subst (λ z. SameHead z (u.0 x)) (sym u.2) (same_cut m x u.1 h)), u.3 x h));
+  same = λ d d' a a' ks m m' f f'. q.same d d' a.1 a'.1 f.0 m m' f.2 (subst (λ z. Q d' a'.1 z m') (sym (p.same d d' a.0 a'.0 ks f.0 f'.0 f.1 f'.1)) f'.2);
+}
 
 -- ---- names
 

@@ -3,3 +3,8 @@ pub mod Known
 pub mod NameLists
 pub mod Denoters
 pub mod Fields
+pub mod Bounds
+pub mod HeadingFronts
+pub mod HeadingKnown
+pub mod HeadingParts
+pub mod Methods

@@ -12,7 +12,7 @@ use Rattle.op_parse_code.specs.declared.mark.Mark.TheVariants as mark
 use Rattle.op_parse_decl.proofs.Known.{known_names}
 use Rattle.op_parse_decl.specs.Types.{NoDot, SomeBracketedNames, SomeNames, SomeQualified}
 use Rattle.op_scan.specs.declared.token.TokenKind.TheVariants as kind
-use Rattle.op_tree.proofs.ExpressionUnique.{is_comma}
+use Rattle.op_tree.proofs.ExpressionUnique.{behind, is_comma}
 use Rattle.op_tree.proofs.StatementUnique.{differ}
 use Rattle.op_tree.specs.NameGrammar.{IsName, AreNames, are_one_name, are_names, is_unqualified, is_qualified, are_bracketed_names}
 use Rattle.op_tree.specs.Terminal.{Terminal, ◌at◌}
@@ -56,7 +56,7 @@ into_brackets : (p : Position) (d : ℕ) (b : List Name) (ls r : List Terminal) 
 into_brackets p d b ls r (are_bracketed_names {d = i} {q = q} f) = (i, refl, ((b, q), r, (kind.CloseParenthesis at q ∷ r, (f, λ u z h. no_close h), refl)))
   where
     no_close : {q u : Position} {r z : List Terminal} → kind.CloseParenthesis at q ∷ r ≡ kind.Comma at u ∷ z → ⊥
-    no_close h = differ is_comma h refl refl
+    no_close h = differ is_comma (sym h) refl refl
 
 into_open : (d : ℕ) (b : List Name) (ls r : List Terminal) → SomeBracketedNames d b ls r → Some_ (Marked mark.OpenParenthesis) d ls
 into_open d b ls r (are_bracketed_names {p = p} {ks = ks} f) = (p, ks, refl)
@@ -98,11 +98,7 @@ qualified_first d end ks e h = refuses_map (Seq SomeName Behind) SomeQualified d
 
 behind_dot : (p : Position) (d : ℕ) (x : Option Name) (ls r : List Terminal) → Behind d x (kind.Dot at p ∷ ls) r → Some_ (Seq SomeName NoDot) d ls
 behind_dot p d None ls r none = absurd (none p ls refl)
-behind_dot p d (Some n) ls r (q, m, e, f, none) = ((n, []), r, (r, subst (λ z. IsName n z r) (sym (ap tail_of e)) f, (refl, none)))
-  where
-    tail_of : List Terminal → List Terminal
-    tail_of [] = []
-    tail_of (t ∷ ts) = ts
+behind_dot p d (Some n) ls r (q, m, e, f, none) = ((n, []), r, (r, subst (λ z. IsName n z r) (sym (ap behind e)) f, (refl, none)))
 
 qualified_behind : (d : ℕ) (end : Place) (n : Name) (ks m : List Terminal) (p : Position) (after : List Terminal) (e : ParseError) → IsName n ks m → m ≡ kind.Dot at p ∷ after → Refuses (Seq SomeName NoDot) d end after e → Refuses SomeQualified d end ks e
 qualified_behind d end n ks m p after e f is h = refuses_map (Seq SomeName Behind) SomeQualified d end ks e (λ d' b ls r s x. into_qualified d' b ls r x) (refuses_after SomeName Behind d end n ks m e known_name f (subst (λ z. Refuses Behind d end z e) (sym is) (refuses_behind (Seq SomeName NoDot) Behind d end (kind.Dot at p) after e (behind_dot p) h)))

@@ -20,9 +20,6 @@ begins_denoter kind.Record = true
 begins_denoter kind.Packed = true
 begins_denoter k = begins_expression k
 
-abbrev pub begins_structure : TokenKind → Bool
-begins_structure k = begins_denoter k && not (begins_expression k)
-
 abbrev pub is_open : TokenKind → Bool
 is_open kind.OpenParenthesis = true
 is_open other = false

@@ -2,9 +2,12 @@
 ghost use Rattle.std.specs.Option.{option_map};
 ghost use Rattle.std.specs.Prelude.{◌≡◌, ◌∷◌, ◌≤◌, ◌<◌, ℕ, true, false, IfOk, IfErr, length};
 ghost use Rattle.op_parse_code.specs.Refusal.{Refuses};
+ghost use Rattle.op_parse_decl.specs.Opening.{lists_names};
 ghost use Rattle.op_parse_decl.specs.Types.{DenoterBehind, DenotersBefore, FieldsBefore, RecordFields, SomeBounded, SomeDenoter, SomeFields, SomeIndices, SomeOptionalType, SomeStructure};
 ghost use Rattle.op_scan.specs.declared.token.TokenKind.TheVariants as kind;
+ghost use Rattle.op_tree.proofs.ExpressionUnique.{Begins};
 ghost use Rattle.op_tree.specs.Denoter.{denoter_of};
+ghost use Rattle.op_tree.specs.Ends.{begins_expression};
 ghost use Rattle.op_tree.specs.Lists.{denoters_of, field_lists_of};
 ghost use Rattle.op_tree.specs.Terminal.{◌at◌, terminals};
 ghost use Rattle.op_tree.specs.declared.position.Position.{Position};
@@ -264,7 +267,7 @@ fn bounded<'a>(
     end: Place,
     tokens: &'a [Token],
 ) -> Result<(TypeDenoter, &'a [Token]), ParseError>
-    requires { IsNot begins_structure (terminals tokens.now) }
+    requires { Begins begins_expression (terminals tokens.now) }
     ensures whole { IfOk result (λ f. SomeBounded left (denoter_of f.0) (terminals tokens.now) (terminals f.1.now)) }
     ensures refused { IfErr result (Refuses SomeBounded left end (terminals tokens.now)) }
     ensures shorter { IfOk result (λ f. length f.1.now < length tokens.now) }
@@ -324,7 +327,8 @@ fn subrange_or_name<'a>(
     end: Place,
     tokens: &'a [Token],
 ) -> Result<(TypeDenoter, &'a [Token]), ParseError>
-    requires { lists_names (terminals tokens.now) ≡ false }
+    requires begins { Begins begins_expression (terminals tokens.now) }
+    requires lists { lists_names (terminals tokens.now) ≡ false }
     ensures whole { IfOk result (λ f. SomeBounded left (denoter_of f.0) (terminals tokens.now) (terminals f.1.now)) }
     ensures refused { IfErr result (Refuses SomeBounded left end (terminals tokens.now)) }
     ensures shorter { IfOk result (λ f. length f.1.now < length tokens.now) }
