@@ -163,7 +163,7 @@ bounds_whole d a c ks m p after r f is g st = (is_subrange (subst (λ z. IsChain
 
 -- an expression that is no type, and no other bound behind it
 pub bound_no_type : (d : ℕ) (end : Place) (a : Expression) (ks m : List Terminal) (e : ParseError) → Begins begins_expression ks → Chain Additive d a ks m → NoMark mark.DotDot m → denoted a ≡ None → e ≡ refused_at 9 0 end m → Refuses SomeBounded d end ks e
-bound_no_type d end a ks m e b p none no x =
+bound_no_type d end a ks m e b p none untyped x =
     let w = (known_chain Additive).front d a ks m p in
     let s = cut_seen w.1 in
     syntax m x (λ d'. (s.0, w.2 ∙ s.1 m, λ ls t r h f.
@@ -175,6 +175,6 @@ bound_no_type d end a ks m e b p none no x =
     none_some h = absurd cc
 
     dies : (d' : ℕ) (ls : List Terminal) (t : Denoter) (r front : List Terminal) → SameHead m ls → Chain Additive d a front ls → Reading d' t front r → ⊥
-    dies d' ls t r front s whole (reads_name x1 f h st) = none_some (sym no ∙ ap denoted (unique_chain whole.0 f.0 whole.1 f.1).0 ∙ h)
+    dies d' ls t r front s whole (reads_name x1 f h st) = none_some (sym untyped ∙ ap denoted (unique_chain whole.0 f.0 whole.1 f.1).0 ∙ h)
     dies d' ls t r front s whole (reads_bounds x1 c p1 m1 f g st) = no_mark_same mark.DotDot m ls s none p1 m1 (unique_chain whole.0 f.0 whole.1 f.1).1
     dies d' ls t r front s whole (reads_list i text p1 u w m1 z is) = no_list text p1 u w m1 front ls whole.0 is

@@ -8,3 +8,6 @@ pub mod HeadingFronts
 pub mod HeadingKnown
 pub mod HeadingParts
 pub mod Methods
+pub mod Enumerations
+pub mod Denoted
+pub mod Forms

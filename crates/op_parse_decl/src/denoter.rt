@@ -291,7 +291,13 @@ fn lists_names(tokens: &[Token]) -> bool
     let Some((first, rest)) = inside.split_first() else {
         return false;
     };
-    is_identifier(&first.kind) && behind_mark(Mark::Comma, rest).is_some()
+    if !is_identifier(&first.kind) {
+        return false;
+    }
+    match behind_mark(Mark::Comma, rest) {
+        Some(_) => true,
+        None => false,
+    }
 }
 
 /// Names in brackets, before what belongs to no type.

@@ -2,7 +2,7 @@ use Rattle.std.proofs.Common.{[], refl, arith}
 use Rattle.op_parse_code.proofs.Errors.{passed, ok_weaker, err_weaker}
 use Rattle.op_parse_code.proofs.Names.{empty_not}
 use Rattle.op_parse_code.specs.Refusal.{left_out, out_of_memory}
-use Rattle.op_parse_decl.proofs.Denoters.{denoter_none, denoter_procedural, denoter_no_procedural, denoter_too_deep, denoter_bounded, denoter_bounded_whole, denoter_behind, denoter_behind_whole, denoter_unpacked, denoter_unpacked_whole, denoter_packed, denoter_packed_whole, set_of_missing, set_base, set_whole, structure_there, structure_there_whole, packed_none, array_indices, array_element, array_whole, indices_none, indices_none_whole, indices_too_deep, indices_types, indices_of_missing, indices_whole, indexing_item, indexing_more, indexing_close, indexing_ends}
+use Rattle.op_parse_decl.proofs.Denoters.{denoter_none, denoter_form, denoter_procedural, denoter_no_procedural, denoter_too_deep, denoter_bounded, denoter_bounded_whole, denoter_behind, denoter_behind_whole, denoter_unpacked, denoter_unpacked_whole, denoter_packed, denoter_packed_whole, set_of_missing, set_base, set_whole, structure_there, structure_there_whole, packed_none, array_indices, array_element, array_whole, indices_none, indices_none_whole, indices_too_deep, indices_types, indices_of_missing, indices_whole, indexing_item, indexing_more, indexing_close, indexing_ends}
 use Rattle.op_parse_decl.proofs.Fields.{fields_names, fields_colon, fields_type, fields_whole, fielding_ends, fielding_form, fielding_fields, fielding_more, fielding_unclosed, fielding_closes, record_refuses, record_goes_on, record_whole}
 use Rattle.op_parse_decl.specs.Opening.{begins_denoter}
 use Rattle.op_scan.specs.declared.token.TokenKind.TheVariants as kind
@@ -15,13 +15,13 @@ pub denoter-returns-in-Nothing-clause-refused : goal.denoter-returns-in-Nothing-
 denoter-returns-in-Nothing-clause-refused t c = denoter_none c.args.left c.args.end _ _ (rw c.in-Some.ensures.cases.0 c.in-Nothing.ensures) c.syntax-in-Nothing.ensures
 
 pub denoter-returns-in-LeftOut-clause-refused : goal.denoter-returns-in-LeftOut-clause-refused
-denoter-returns-in-LeftOut-clause-refused t c = left_out _ _ c.left_out.ensures ([], _, refl, rw c.in-Some.ensures.cases.0 (c.in-LeftOut.ensures _ _))
+denoter-returns-in-LeftOut-clause-refused t c = rw c.in-Some.ensures.cases.0 (denoter_form c.args.left c.args.end _ _ _ _ _ c.in-LeftOut.ensures (rw c.in-Some.ensures.cases.0 at c.left_out.ensures))
 
 pub denoter-returns-then-is_procedural-clause-refused : goal.denoter-returns-then-is_procedural-clause-refused
 denoter-returns-then-is_procedural-clause-refused t c = rw c.in-Some.ensures.cases.0 (denoter_procedural c.args.left c.args.end _ _ _ _ c.in-Procedural.ensures (rw c.in-Some.ensures.cases.0 at (c.is_procedural.ensures c.if-is_procedural.true)) (rw c.in-Some.ensures.cases.0 at c.left_out-then-is_procedural.ensures))
 
 pub denoter-returns-else-is_procedural-clause-refused : goal.denoter-returns-else-is_procedural-clause-refused
-denoter-returns-else-is_procedural-clause-refused t c = rw c.in-Some.ensures.cases.0 (denoter_no_procedural c.args.left c.args.end _ _ _ _ c.in-Procedural.ensures (rw c.in-Some.ensures.cases.0 at c.syntax-else-is_procedural.ensures))
+denoter-returns-else-is_procedural-clause-refused t c = rw c.in-Some.ensures.cases.0 (denoter_no_procedural c.args.left c.args.end _ _ _ _ c.in-Procedural.ensures (rw c.in-Some.ensures.cases.0 at c.syntax-in-Procedural.ensures))
 
 pub denoter-returns-in_err-inner-in-Bound-clause-refused : goal.denoter-returns-in_err-inner-in-Bound-clause-refused
 denoter-returns-in_err-inner-in-Bound-clause-refused t c = passed c.from_residual.result c.from_residual.ensures.1 (λ y e. rw e (denoter_too_deep c.args.left c.args.end _ _ c.in_err-inner-in-Bound.ensures.refused.0 c.in_err-inner-in-Bound.ensures.refused.1))
@@ -51,13 +51,13 @@ pub denoter-returns-in_ok-inner-in-Set-clause-refused : goal.denoter-returns-in_
 denoter-returns-in_ok-inner-in-Set-clause-refused t c = err_weaker c.set.result c.set.ensures.refused (λ e h. rw c.in-Some.ensures.cases.0 (denoter_behind _ _ _ _ kind.Set _ _ _ c.in-Set.ensures c.in_ok-inner-in-Set.ensures.inside (rw c.position_of-position.ensures at h)))
 
 pub denoter-returns-in_ok-inner-in-Array-clause-whole : goal.denoter-returns-in_ok-inner-in-Array-clause-whole
-denoter-returns-in_ok-inner-in-Array-clause-whole t c = ok_weaker c.array.result c.array.ensures.whole (λ f h. rw c.in-Some.ensures.cases.0 (denoter_unpacked_whole _ _ _ _ kind.Array _ _ _ c.in-Array.ensures c.in_ok-inner-in-Array.ensures.inside (rw c.position_of-position.ensures at (h _))))
+denoter-returns-in_ok-inner-in-Array-clause-whole t c = ok_weaker c.array.result c.array.ensures.whole (λ f h. rw c.in-Some.ensures.cases.0 (denoter_unpacked_whole _ _ _ _ kind.Array _ _ _ c.in-Array.ensures c.in_ok-inner-in-Array.ensures.inside ((rw c.position_of-position.ensures at h) _)))
 
 pub denoter-returns-in_ok-inner-in-Array-clause-refused : goal.denoter-returns-in_ok-inner-in-Array-clause-refused
 denoter-returns-in_ok-inner-in-Array-clause-refused t c = err_weaker c.array.result c.array.ensures.refused (λ e h. rw c.in-Some.ensures.cases.0 (denoter_unpacked _ _ _ _ kind.Array _ _ _ c.in-Array.ensures refl c.in_ok-inner-in-Array.ensures.inside (rw c.position_of-position.ensures at h)))
 
 pub denoter-returns-in_ok-inner-in-Record-clause-whole : goal.denoter-returns-in_ok-inner-in-Record-clause-whole
-denoter-returns-in_ok-inner-in-Record-clause-whole t c = ok_weaker c.record.result c.record.ensures.whole (λ f h. rw c.in-Some.ensures.cases.0 (denoter_unpacked_whole _ _ _ _ kind.Record _ _ _ c.in-Record.ensures c.in_ok-inner-in-Record.ensures.inside (rw c.position_of-position.ensures at (h _))))
+denoter-returns-in_ok-inner-in-Record-clause-whole t c = ok_weaker c.record.result c.record.ensures.whole (λ f h. rw c.in-Some.ensures.cases.0 (denoter_unpacked_whole _ _ _ _ kind.Record _ _ _ c.in-Record.ensures c.in_ok-inner-in-Record.ensures.inside ((rw c.position_of-position.ensures at h) _)))
 
 pub denoter-returns-in_ok-inner-in-Record-clause-refused : goal.denoter-returns-in_ok-inner-in-Record-clause-refused
 denoter-returns-in_ok-inner-in-Record-clause-refused t c = err_weaker c.record.result c.record.ensures.refused (λ e h. rw c.in-Some.ensures.cases.0 (denoter_unpacked _ _ _ _ kind.Record _ _ _ c.in-Record.ensures refl c.in_ok-inner-in-Record.ensures.inside (rw c.position_of-position.ensures at h)))
@@ -156,31 +156,31 @@ pub field_lists-returns-in-Some-form_of_record-clause-refused : goal.field_lists
 field_lists-returns-in-Some-form_of_record-clause-refused t c = fielding_form c.args.left c.args.end _ _ _ _ _ c.loop-after.invariant.0 c.in-Some-form_of_record.ensures c.left_out.ensures
 
 pub field_lists-returns-in_err-fields-clause-refused : goal.field_lists-returns-in_err-fields-clause-refused
-field_lists-returns-in_err-fields-clause-refused t c = passed c.from_residual.result c.from_residual.ensures.1 (λ y e. rw e (fielding_fields c.args.left c.args.end _ _ _ _ c.loop-after.invariant.0 c.in-None.ensures.mark c.in_err-fields.ensures.refused))
+field_lists-returns-in_err-fields-clause-refused t c = passed c.from_residual.result c.from_residual.ensures.1 (λ y e. rw e (fielding_fields c.args.left c.args.end _ _ _ _ c.loop-after.invariant.0 c.in_default.ensures.mark c.in_err-fields.ensures.refused))
 
 pub field_lists-returns-in_err-push-clause-refused : goal.field_lists-returns-in_err-push-clause-refused
 field_lists-returns-in_err-push-clause-refused t c = passed c.from_residual-in_err-push.result c.from_residual-in_err-push.ensures.1 (λ y e. λ q. out_of_memory e)
 
 pub field_lists-loop-after-preserved : goal.field_lists-loop-after-preserved
-field_lists-loop-after-preserved t c = (rw c.in_ok-push.ensures.items (fielding_more c.args.left c.args.end _ _ _ _ _ _ _ c.loop-after.invariant.0 c.in-None.ensures.mark c.in_ok-fields.ensures.whole c.in-Some-behind_mark.ensures.mark.1), omega (arith, c.loop-after.invariant.1, c.in-Some-behind_mark.ensures.shorter, c.in_ok-fields.ensures.shorter))
+field_lists-loop-after-preserved t c = (rw c.in_ok-push.ensures.items (fielding_more c.args.left c.args.end _ _ _ _ _ _ _ c.loop-after.invariant.0 c.in_default.ensures.mark c.in_ok-fields.ensures.whole c.in-Some-behind_mark.ensures.mark.1), omega (arith, c.loop-after.invariant.1, c.in-Some-behind_mark.ensures.shorter, c.in_ok-fields.ensures.shorter))
 
-pub field_lists-returns-in_err-rest-in-None-behind_mark-clause-refused : goal.field_lists-returns-in_err-rest-in-None-behind_mark-clause-refused
-field_lists-returns-in_err-rest-in-None-behind_mark-clause-refused t c = passed c.from_residual-in_err-rest-in-None-behind_mark.result c.from_residual-in_err-rest-in-None-behind_mark.ensures.1 (λ y e. rw e (fielding_unclosed c.args.left c.args.end _ _ _ _ _ _ c.loop-after.invariant.0 c.in-None.ensures.mark c.in_ok-fields.ensures.whole c.in-None-behind_mark.ensures.mark (c.in_err-rest-in-None-behind_mark.ensures.refused _)))
+pub field_lists-returns-in_err-rest-in-None-clause-refused : goal.field_lists-returns-in_err-rest-in-None-clause-refused
+field_lists-returns-in_err-rest-in-None-clause-refused t c = passed c.from_residual-in_err-rest-in-None.result c.from_residual-in_err-rest-in-None.ensures.1 (λ y e. rw e (fielding_unclosed c.args.left c.args.end _ _ _ _ _ _ c.loop-after.invariant.0 c.in_default.ensures.mark c.in_ok-fields.ensures.whole c.in-None.ensures.mark (c.in_err-rest-in-None.ensures.refused _)))
 
-pub field_lists-returns-in-None-behind_mark-clause-whole : goal.field_lists-returns-in-None-behind_mark-clause-whole
-field_lists-returns-in-None-behind_mark-clause-whole t c = rw c.in_ok-push.ensures.items (fielding_closes c.args.left c.args.end _ _ _ _ _ _ _ c.loop-after.invariant.0 c.in_ok-fields.ensures.whole c.in_ok-rest-in-None-behind_mark.ensures.mark.1)
+pub field_lists-returns-in-None-clause-whole : goal.field_lists-returns-in-None-clause-whole
+field_lists-returns-in-None-clause-whole t c = rw c.in_ok-push.ensures.items (fielding_closes c.args.left c.args.end _ _ _ _ _ _ _ c.loop-after.invariant.0 c.in_ok-fields.ensures.whole c.in_ok-rest-in-None.ensures.mark.1)
 
 pub fields_of_one_type-returns-in_err-names-clause-refused : goal.fields_of_one_type-returns-in_err-names-clause-refused
 fields_of_one_type-returns-in_err-names-clause-refused t c = passed c.from_residual.result c.from_residual.ensures.1 (λ y e. rw e (fields_names c.args.left c.args.end _ _ (c.in_err-names.ensures.refused _)))
 
 pub fields_of_one_type-returns-in_err-rest-clause-refused : goal.fields_of_one_type-returns-in_err-rest-clause-refused
-fields_of_one_type-returns-in_err-rest-clause-refused t c = passed c.from_residual-in_err-rest.result c.from_residual-in_err-rest.ensures.1 (λ y e. rw e (fields_colon c.args.left c.args.end _ _ _ _ (c.in_ok-names.ensures.whole _) (c.in_err-rest.ensures.refused _)))
+fields_of_one_type-returns-in_err-rest-clause-refused t c = passed c.from_residual-in_err-rest.result c.from_residual-in_err-rest.ensures.1 (λ y e. rw e (fields_colon c.args.left c.args.end _ _ _ _ (c.in_ok-names.ensures.whole 0) (c.in_err-rest.ensures.refused _)))
 
 pub fields_of_one_type-returns-in_err-denoter-clause-refused : goal.fields_of_one_type-returns-in_err-denoter-clause-refused
-fields_of_one_type-returns-in_err-denoter-clause-refused t c = passed c.from_residual-in_err-denoter.result c.from_residual-in_err-denoter.ensures.1 (λ y e. rw e (fields_type c.args.left c.args.end _ _ _ _ _ _ (c.in_ok-names.ensures.whole _) c.in_ok-rest.ensures.mark.1 c.in_err-denoter.ensures.refused))
+fields_of_one_type-returns-in_err-denoter-clause-refused t c = passed c.from_residual-in_err-denoter.result c.from_residual-in_err-denoter.ensures.1 (λ y e. rw e (fields_type c.args.left c.args.end _ _ _ _ _ _ (c.in_ok-names.ensures.whole 0) c.in_ok-rest.ensures.mark.1 c.in_err-denoter.ensures.refused))
 
 pub fields_of_one_type-returns-clause-whole : goal.fields_of_one_type-returns-clause-whole
-fields_of_one_type-returns-clause-whole t c = fields_whole c.args.left _ _ _ _ _ _ _ (c.in_ok-names.ensures.whole _) c.in_ok-rest.ensures.mark.1 c.in_ok-denoter.ensures.whole
+fields_of_one_type-returns-clause-whole t c = fields_whole c.args.left _ _ _ _ _ _ _ (c.in_ok-names.ensures.whole 0) c.in_ok-rest.ensures.mark.1 c.in_ok-denoter.ensures.whole
 
 pub denoter-bounded-requires : goal.denoter-bounded-requires
 denoter-bounded-requires t c = rw c.in-Some.ensures.cases.0 c.in-Bound.ensures

@@ -6,11 +6,11 @@ use Rattle.op_parse_decl.proofs.denoter.subrange_or_name.Goals as goal
 pub returns-in_err-first-clause-refused : goal.returns-in_err-first-clause-refused
 returns-in_err-first-clause-refused c = passed c.from_residual.result c.from_residual.ensures.1 (λ y e. rw e (bound_first c.args.left c.args.end _ _ c.requires.begins c.requires.lists c.in_err-first.ensures.refused))
 
-pub returns-in_err-last-in-Some-clause-refused : goal.returns-in_err-last-in-Some-clause-refused
-returns-in_err-last-in-Some-clause-refused c = passed c.from_residual-in_err-last-in-Some.result c.from_residual-in_err-last-in-Some.ensures.1 (λ y e. rw e (bound_last c.args.left c.args.end _ _ _ _ _ _ c.requires.begins c.in_ok-first.ensures.whole c.in-Some.ensures.mark.1 c.in_err-last-in-Some.ensures.refused))
+pub returns-in_err-last-clause-refused : goal.returns-in_err-last-clause-refused
+returns-in_err-last-clause-refused c = passed c.from_residual-in_err-last.result c.from_residual-in_err-last.ensures.1 (λ y e. rw e (bound_last c.args.left c.args.end _ _ _ _ _ _ c.requires.begins c.in_ok-first.ensures.whole c.in-Some.ensures.mark.1 c.in_err-last.ensures.refused))
 
-pub returns-in_err-stop_type-in-Some-clause-refused : goal.returns-in_err-stop_type-in-Some-clause-refused
-returns-in_err-stop_type-in-Some-clause-refused c = passed c.from_residual-in_err-stop_type-in-Some.result c.from_residual-in_err-stop_type-in-Some.ensures.1 (λ y e. rw e (bound_goes_on c.args.left c.args.end _ _ _ _ _ _ _ _ c.requires.begins c.in_ok-first.ensures.whole c.in-Some.ensures.mark.1 c.in_ok-last-in-Some.ensures.whole (c.in_err-stop_type-in-Some.ensures.refused _)))
+pub returns-in_err-stop_type-clause-refused : goal.returns-in_err-stop_type-clause-refused
+returns-in_err-stop_type-clause-refused c = passed c.from_residual-in_err-stop_type.result c.from_residual-in_err-stop_type.ensures.1 (λ y e. rw e (bound_goes_on c.args.left c.args.end _ _ _ _ _ _ _ _ c.requires.begins c.in_ok-first.ensures.whole c.in-Some.ensures.mark.1 c.in_ok-last.ensures.whole (c.in_err-stop_type.ensures.refused _)))
 
-pub returns-in_ok-stop_type-in-Some-clause-whole : goal.returns-in_ok-stop_type-in-Some-clause-whole
-returns-in_ok-stop_type-in-Some-clause-whole c = bounds_whole c.args.left _ _ _ _ _ _ _ c.in_ok-first.ensures.whole c.in-Some.ensures.mark.1 c.in_ok-last-in-Some.ensures.whole c.in_ok-stop_type-in-Some.ensures.stops
+pub returns-in-Some-clause-whole : goal.returns-in-Some-clause-whole
+returns-in-Some-clause-whole c = bounds_whole c.args.left _ _ _ _ _ _ _ c.in_ok-first.ensures.whole c.in-Some.ensures.mark.1 c.in_ok-last.ensures.whole c.in_ok-stop_type.ensures.stops

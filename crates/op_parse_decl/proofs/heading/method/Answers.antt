@@ -9,4 +9,4 @@ pub returns-in_err-directives-clause-refused : goal.returns-in_err-directives-cl
 returns-in_err-directives-clause-refused c = passed c.from_residual-in_err-directives.result c.from_residual-in_err-directives.ensures.1 (λ y e. rw e (method_directives c.args.left c.args.end _ _ _ _ c.in_ok-heading.ensures.whole (c.in_err-directives.ensures.refused _)))
 
 pub returns-clause-whole : goal.returns-clause-whole
-returns-clause-whole c = method_whole c.args.left _ _ _ _ _ c.in_ok-heading.ensures.whole (c.in_ok-directives.ensures.whole _)
+returns-clause-whole c = method_whole c.args.left _ _ _ _ _ c.in_ok-heading.ensures.whole (c.in_ok-directives.ensures.whole 0)
