@@ -114,7 +114,7 @@ bound_first d end ks e b n (left_out feature q x f) = left_out feature q x f
 -- ---- behind the first bound
 
 -- what reads as an expression is no list of names
-no_list : {A : Type 0} {d : ℕ} {a : Expression} (text : List ℕ) (p u w : Position) (m ks r : List Terminal) → IsChain Additive d a ks r → ks ≡ kind.OpenParenthesis at p ∷ kind.Identifier text at u ∷ kind.Comma at w ∷ m → A
+pub no_list : {A : Type 0} {d : ℕ} {a : Expression} (text : List ℕ) (p u w : Position) (m ks r : List Terminal) → IsChain Additive d a ks r → ks ≡ kind.OpenParenthesis at p ∷ kind.Identifier text at u ∷ kind.Comma at w ∷ m → A
 no_list {A} {d} {a} text p u w m ks r f is =
     let i = opened (subst (λ z. IsChain Additive d a z r) is f) in
     differ is_comma (unique_expr (as_expr {d = 1} (is_designated (is_designator is_named_root are_no_selectors))) i.is_inside (refl, refl) (refl, refl)).1 refl refl

@@ -1,5 +1,5 @@
 -- Refusals of enumerations of several values.
-use Rattle.std.proofs.Common.{◌≡◌, ℕ, suc, Bool, true, false, List, [], ◌∷◌, ◌++◌, append_assoc, refl, sym, ap, ◌∙◌, subst}
+use Rattle.std.proofs.Common.{◌≡◌, ℕ, suc, Bool, true, false, List, [], ◌∷◌, ◌++◌, append_assoc, refl, sym, ap, ◌∙◌, subst, arith}
 use Rattle.op_base.specs.declared.place.Place.{Place}
 use Rattle.op_parse_code.proofs.Cuts.{cut_seen, same_behind}
 use Rattle.op_parse_code.proofs.Factors.{same_begins}
@@ -80,7 +80,7 @@ no_depth : (t : Denoter) (p : Position) (ks r : List Terminal) → SomeBounded 0
 no_depth t p ks r f = none (bracketed 0 t p ks r f)
   where
     no_zero : {i : ℕ} → 0 ≡ suc i → ⊥
-    no_zero h = absurd (omega h)
+    no_zero h = absurd (omega (arith, h))
 
     none : Bracketed 0 t p ks r → ⊥
     none (lists i ns q z e g st) = no_zero z
@@ -164,7 +164,7 @@ dead_close d d' p ns rest m q h f (seen, e, never) =
     no_names g = elim g [ ]
 
     several : {ns : List Name} {rest m : List Terminal} → lists_names (kind.OpenParenthesis at p ∷ rest) ≡ true → AreNames ns rest m → NoMark mark.Comma m → (n n' : Name) × (more : List Name) × (ns ≡ n ∷ n' ∷ more)
-    several h (are_one_name is_name) none = let i = listing _ h in absurd (none i.comma_at i.after (ap behind (ap behind i.is)))
+    several {rest = rest} h (are_one_name is_name) none = let i = listing (kind.OpenParenthesis at p ∷ rest) h in absurd (none i.comma_at i.after (ap behind (ap behind i.is)))
     several h (are_names {n = n} a (are_one_name {n = n'} b)) none = (n, n', [], refl)
     several h (are_names {n = n} a (are_names {n = n'} {ns = more} b g)) none = (n, n', more, refl)
 

@@ -32,7 +32,10 @@ pub fn form_of_bound(tokens: &[Token]) -> Option<(u8, &[Token])>
     }
     let inside = behind_mark(Mark::OpenParenthesis, tokens)?;
     let (first, rest) = inside.split_first()?;
-    if is_identifier(&first.kind) && gives_value(rest) {
+    if !is_identifier(&first.kind) {
+        return None;
+    }
+    if gives_value(rest) {
         Some((GIVEN_VALUE, rest))
     } else {
         None
@@ -77,7 +80,12 @@ pub fn is_procedural(tokens: &[Token]) -> bool
     };
     match rest.split_first() {
         None => false,
-        Some((second, _)) => !is_identifier(&second.kind),
+        Some((second, _)) => {
+            if is_identifier(&second.kind) {
+                return false;
+            }
+            true
+        }
     }
 }
 
