@@ -128,11 +128,14 @@ dead_tail : (d d' : ℕ) (a : Expression) (ks m q : List Terminal) → Begins be
 dead_tail d d' a ks m q b p (seen, e, never) =
     let w = (known_chain Additive).front d a ks m p in
     let s = cut_seen w.1 in
-    let all : ks ≡ (s.0 ++ seen) ++ q = w.2 ∙ s.1 m ∙ ap (λ z. s.0 ++ z) e ∙ sym (append_assoc s.0 seen q) in
-    (s.0 ++ seen, all, λ ls t r h f.
-        let whole : Chain Additive d a (s.0 ++ (seen ++ ls)) (seen ++ ls) = subst (λ z. Chain Additive d a z (seen ++ ls)) (s.1 (seen ++ ls)) (w.3 (seen ++ ls) (subst (λ z. SameHead z (seen ++ ls)) (sym e) (same_behind seen q ls h))) in
-        let begin : Begins begins_expression ((s.0 ++ seen) ++ ls) = same_begins begins_expression ks ((s.0 ++ seen) ++ ls) (subst (λ z. SameHead z ((s.0 ++ seen) ++ ls)) (sym all) (same_behind (s.0 ++ seen) q ls h)) b in
-        dies ls t r (s.0 ++ (seen ++ ls)) h whole (subst (λ z. Reading d' t z r) (append_assoc s.0 seen ls) (reading d' t ((s.0 ++ seen) ++ ls) r f begin)))
+    let all : ks ≡ (s.0 ++ seen) ++ q = w.2 ∙ s.1 m ∙ ap (λ z. s.0 ++ z) e ∙ sym (append_assoc s.0 seen q) in (
+      s.0 ++ seen,
+      all,
+      λ ls t r h f.
+          let whole : Chain Additive d a (s.0 ++ (seen ++ ls)) (seen ++ ls) = subst (λ z. Chain Additive d a z (seen ++ ls)) (s.1 (seen ++ ls)) (w.3 (seen ++ ls) (subst (λ z. SameHead z (seen ++ ls)) (sym e) (same_behind seen q ls h))) in
+          let begin : Begins begins_expression ((s.0 ++ seen) ++ ls) = same_begins begins_expression ks ((s.0 ++ seen) ++ ls) (subst (λ z. SameHead z ((s.0 ++ seen) ++ ls)) (sym all) (same_behind (s.0 ++ seen) q ls h)) b in
+          dies ls t r (s.0 ++ (seen ++ ls)) h whole (subst (λ z. Reading d' t z r) (append_assoc s.0 seen ls) (reading d' t ((s.0 ++ seen) ++ ls) r f begin)),
+    )
   where
     dies : (ls : List Terminal) (t : Denoter) (r front : List Terminal) → SameHead q ls → Chain Additive d a front (seen ++ ls) → Reading d' t front r → ⊥
     dies ls t r front s whole (reads_name x f h st) = never ls None r s (subst (λ z. NoMoreType d' [] z r) (sym (unique_chain whole.0 f.0 whole.1 f.1).1) (refl, st))
@@ -166,10 +169,14 @@ pub bound_no_type : (d : ℕ) (end : Place) (a : Expression) (ks m : List Termin
 bound_no_type d end a ks m e b p none untyped x =
     let w = (known_chain Additive).front d a ks m p in
     let s = cut_seen w.1 in
-    syntax m x (λ d'. (s.0, w.2 ∙ s.1 m, λ ls t r h f.
-        let whole : Chain Additive d a (s.0 ++ ls) ls = subst (λ z. Chain Additive d a z ls) (s.1 ls) (w.3 ls h) in
-        let begin : Begins begins_expression (s.0 ++ ls) = same_begins begins_expression ks (s.0 ++ ls) (subst (λ z. SameHead z (s.0 ++ ls)) (sym (w.2 ∙ s.1 m)) (same_behind s.0 m ls h)) b in
-        dies d' ls t r (s.0 ++ ls) h whole (reading d' t (s.0 ++ ls) r f begin)))
+    syntax m x (λ d'. (
+      s.0,
+      w.2 ∙ s.1 m,
+      λ ls t r h f.
+          let whole : Chain Additive d a (s.0 ++ ls) ls = subst (λ z. Chain Additive d a z ls) (s.1 ls) (w.3 ls h) in
+          let begin : Begins begins_expression (s.0 ++ ls) = same_begins begins_expression ks (s.0 ++ ls) (subst (λ z. SameHead z (s.0 ++ ls)) (sym (w.2 ∙ s.1 m)) (same_behind s.0 m ls h)) b in
+          dies d' ls t r (s.0 ++ ls) h whole (reading d' t (s.0 ++ ls) r f begin),
+    ))
   where
     none_some : {A : Type 0} {t : Denoter} → None ≡ Some t → A
     none_some h = absurd cc

@@ -61,14 +61,14 @@ inside_brackets (is_designator is_named_root are_no_selectors) = is_enumeration 
 of_brackets : {d : ℕ} {n : Name} {p : Position} {ks m : List Terminal} → IsDesignator d (designator (bracketed p (designated (designator (named_root n) no_selectors))) no_selectors) ks m → IsDenoter (suc d) (enumeration p (n ∷ [])) ks m
 of_brackets (is_designator (is_bracketed g) are_no_selectors) = inside_brackets (by_expr refl g)
 
-ends_type : {e : Designator} {m : List Terminal} → EndsChain Additive (designated e) m → NoMark mark.DotDot m → StopsDenoter m
-ends_type {m = m} f none = record { operator = f.0; selector = f.1; range = no_range m none }
+ends_type : (e : Designator) {m : List Terminal} → EndsChain Additive (designated e) m → NoMark mark.DotDot m → StopsDenoter m
+ends_type e {m = m} f none = record { operator = f.0; selector = f.1; range = no_range m none }
 
 pub denoted_whole : (d : ℕ) (a : Expression) (t : Denoter) (ks m : List Terminal) → Chain Additive d a ks m → NoMark mark.DotDot m → denoted a ≡ Some t → SomeBounded d t ks m
-denoted_whole d (designated (designator (named_root n) no_selectors)) t ks m f none h = subst (λ z. SomeBounded d z ks m) (some_same h) (of_name (by_simple refl f.0), ends_type f.1 none)
-denoted_whole d (designated (designator (named_root u) (selectors (member n) no_selectors))) t ks m f none h = subst (λ z. SomeBounded d z ks m) (some_same h) (of_member (by_simple refl f.0), ends_type f.1 none)
-denoted_whole d (designated (designator (string_root p) no_selectors)) t ks m f none h = subst (λ z. SomeBounded d z ks m) (some_same h) (of_word (by_simple refl f.0), ends_type f.1 none)
-denoted_whole d (designated (designator (bracketed p (designated (designator (named_root n) no_selectors))) no_selectors)) t ks m f none h = subst (λ z. SomeBounded d z ks m) (some_same h) (of_brackets (by_simple refl f.0), ends_type f.1 none)
+denoted_whole d (designated (designator (named_root n) no_selectors)) t ks m f none h = subst (λ z. SomeBounded d z ks m) (some_same h) (of_name (by_simple refl f.0), ends_type (designator (named_root n) no_selectors) f.1 none)
+denoted_whole d (designated (designator (named_root u) (selectors (member n) no_selectors))) t ks m f none h = subst (λ z. SomeBounded d z ks m) (some_same h) (of_member (by_simple refl f.0), ends_type (designator (named_root u) (selectors (member n) no_selectors)) f.1 none)
+denoted_whole d (designated (designator (string_root p) no_selectors)) t ks m f none h = subst (λ z. SomeBounded d z ks m) (some_same h) (of_word (by_simple refl f.0), ends_type (designator (string_root p) no_selectors) f.1 none)
+denoted_whole d (designated (designator (bracketed p (designated (designator (named_root n) no_selectors))) no_selectors)) t ks m f none h = subst (λ z. SomeBounded d z ks m) (some_same h) (of_brackets (by_simple refl f.0), ends_type (designator (bracketed p (designated (designator (named_root n) no_selectors))) no_selectors) f.1 none)
 denoted_whole d other t ks m f none h = absurd cc
 
 -- ---- the same of trees
@@ -107,3 +107,7 @@ bracketed_more p other (x ∷ xs) h = refl
 pub none_selected : (xs : List Selector) → length xs ≡ 0 → selectors_of xs ≡ no_selectors
 none_selected [] h = refl
 none_selected (x ∷ xs) h = absurd (omega (arith, h))
+
+pub one_more : (p : Position) (n : Name) (xs : List Selector) → 0 < length xs → denoted (designated (designator (bracketed p (designated (designator (named_root n) (selectors_of xs)))) no_selectors)) ≡ None
+one_more p n [] h = absurd (omega (arith, h))
+one_more p n (x ∷ xs) h = refl

@@ -155,10 +155,13 @@ Close = Seq (Marked mark.CloseParenthesis) NoMoreType
 dead_close : (d d' : ℕ) (p : Position) (ns : List Name) (rest m q : List Terminal) → lists_names (kind.OpenParenthesis at p ∷ rest) ≡ true → SomeNames d ns rest m → Dead (Close d') m q → Dead (SomeBounded d') (kind.OpenParenthesis at p ∷ rest) q
 dead_close d d' p ns rest m q h f (seen, e, never) =
     let w = known_names.front d ns rest m f in
-    let s = cut_seen w.1 in
-    (kind.OpenParenthesis at p ∷ (s.0 ++ seen), ap (λ z. kind.OpenParenthesis at p ∷ z) (w.2 ∙ s.1 m ∙ ap (λ z. s.0 ++ z) e ∙ sym (append_assoc s.0 seen q)), λ ls t r g x.
-        let whole : SomeNames d ns (s.0 ++ (seen ++ ls)) (seen ++ ls) = subst (λ z. SomeNames d ns z (seen ++ ls)) (s.1 (seen ++ ls)) (w.3 (seen ++ ls) (subst (λ z. SameHead z (seen ++ ls)) (sym e) (same_behind seen q ls g))) in
-        none ls t r (s.0 ++ (seen ++ ls)) g whole (subst (λ z. Bracketed d' t p z r) (append_assoc s.0 seen ls) (bracketed d' t p ((s.0 ++ seen) ++ ls) r x)))
+    let s = cut_seen w.1 in (
+      kind.OpenParenthesis at p ∷ (s.0 ++ seen),
+      ap (λ z. kind.OpenParenthesis at p ∷ z) (w.2 ∙ s.1 m ∙ ap (λ z. s.0 ++ z) e ∙ sym (append_assoc s.0 seen q)),
+      λ ls t r g x.
+          let whole : SomeNames d ns (s.0 ++ (seen ++ ls)) (seen ++ ls) = subst (λ z. SomeNames d ns z (seen ++ ls)) (s.1 (seen ++ ls)) (w.3 (seen ++ ls) (subst (λ z. SameHead z (seen ++ ls)) (sym e) (same_behind seen q ls g))) in
+          none ls t r (s.0 ++ (seen ++ ls)) g whole (subst (λ z. Bracketed d' t p z r) (append_assoc s.0 seen ls) (bracketed d' t p ((s.0 ++ seen) ++ ls) r x)),
+    )
   where
     no_names : {r z : List Terminal} → AreNames [] r z → ⊥
     no_names g = elim g [ ]
