@@ -1,5 +1,5 @@
 -- What the first token of a type tells.
-use Rattle.std.specs.Prelude.{◌≡◌, ℕ, Bool, true, false, ◌&&◌, List, ◌∷◌}
+use Rattle.std.specs.Prelude.{◌≡◌, ℕ, Bool, true, false, ◌&&◌, ◌||◌, List, ◌∷◌}
 use Rattle.op_parse_code.specs.Form.{BeginsProcedural, Form, GivesValue}
 use Rattle.op_parse_code.specs.Opening.{is_identifier}
 use Rattle.op_parse_decl.specs.declared.opening.DenoterOpening.{DenoterOpening}
@@ -8,8 +8,9 @@ use Rattle.op_scan.specs.declared.token.TokenKind.{TokenKind}
 use Rattle.op_scan.specs.declared.token.TokenKind.TheVariants as kind
 use Rattle.op_tree.specs.Denoter.{FieldLists}
 use Rattle.op_tree.specs.DenoterGrammar.{AreFieldLists}
-use Rattle.op_tree.specs.Ends.{begins_expression}
+use Rattle.op_tree.specs.Ends.{begins_expression, begins_selector, binds, is_dot_dot}
 use Rattle.op_tree.specs.Terminal.{Terminal, ◌at◌}
+use Rattle.op_tree.specs.declared.operator.Level.TheVariants.{Additive, Relational}
 use Rattle.op_tree.specs.declared.position.Position.{Position}
 
 -- the kind begins a type
@@ -19,9 +20,6 @@ begins_denoter kind.Array = true
 begins_denoter kind.Record = true
 begins_denoter kind.Packed = true
 begins_denoter k = begins_expression k
-
-abbrev pub begins_structure : TokenKind → Bool
-begins_structure k = begins_denoter k && not (begins_expression k)
 
 abbrev pub is_open : TokenKind → Bool
 is_open kind.OpenParenthesis = true
@@ -58,3 +56,11 @@ IsFormOfRecord feature q = (d : ℕ) (fs : FieldLists) (p : Position) (ks : List
 abbrev pub lists_names : List Terminal → Bool
 lists_names (t ∷ u ∷ w ∷ ks) = is_open t.kind && (is_identifier u.kind && is_comma w.kind)
 lists_names other = false
+
+-- what follows a type or a bound of a subrange would belong to it
+abbrev pub continues_type : TokenKind → Bool
+continues_type k = binds Additive k || begins_selector k || is_dot_dot k
+
+-- what follows an expression would belong to it
+abbrev pub continues_expression : TokenKind → Bool
+continues_expression k = binds Relational k || begins_selector k

@@ -40,9 +40,6 @@ DenoterBehind k p d t ks r = SomeDenoter (suc d) t (k at p ∷ ks) r
 abbrev pub SomeStructure : Position → Bool → Phrase Denoter
 SomeStructure p packed d t ks r = IsStructure d p packed t ks r × StopsDenoter r
 
-abbrev pub StructureBehind : TokenKind → Position → Bool → Phrase Denoter
-StructureBehind k p packed d t ks r = (q : Position) × SomeStructure p packed d t (k at q ∷ ks) r
-
 -- a type that begins as a bound of a subrange does, with the depth inside it
 abbrev pub SomeBounded : Phrase Denoter
 SomeBounded d t ks r = SomeDenoter (suc d) t ks r

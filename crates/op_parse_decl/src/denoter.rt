@@ -2,9 +2,12 @@
 ghost use Rattle.std.specs.Option.{option_map};
 ghost use Rattle.std.specs.Prelude.{◌≡◌, ◌∷◌, ◌≤◌, ◌<◌, ℕ, true, false, IfOk, IfErr, length};
 ghost use Rattle.op_parse_code.specs.Refusal.{Refuses};
-ghost use Rattle.op_parse_decl.specs.Types.{DenoterBehind, DenotersBefore, FieldsBefore, RecordFields, SomeBounded, SomeDenoter, SomeFields, SomeIndices, SomeOptionalType, SomeStructure, StructureBehind};
+ghost use Rattle.op_parse_decl.specs.Opening.{lists_names};
+ghost use Rattle.op_parse_decl.specs.Types.{DenoterBehind, DenotersBefore, FieldsBefore, RecordFields, SomeBounded, SomeDenoter, SomeFields, SomeIndices, SomeOptionalType, SomeStructure};
 ghost use Rattle.op_scan.specs.declared.token.TokenKind.TheVariants as kind;
+ghost use Rattle.op_tree.proofs.ExpressionUnique.{Begins};
 ghost use Rattle.op_tree.specs.Denoter.{denoter_of};
+ghost use Rattle.op_tree.specs.Ends.{begins_expression};
 ghost use Rattle.op_tree.specs.Lists.{denoters_of, field_lists_of};
 ghost use Rattle.op_tree.specs.Terminal.{◌at◌, terminals};
 ghost use Rattle.op_tree.specs.declared.position.Position.{Position};
@@ -124,8 +127,8 @@ fn array<'a>(
     end: Place,
     tokens: &'a [Token],
 ) -> Result<(TypeDenoter, &'a [Token]), ParseError>
-    ensures whole { IfOk result (λ f. StructureBehind kind.Array position packed left (denoter_of f.0) (terminals tokens.now) (terminals f.1.now)) }
-    ensures refused { IfErr result (Refuses (StructureBehind kind.Array position packed) left end (terminals tokens.now)) }
+    ensures whole { IfOk result (λ f. (q : Position) → SomeStructure position packed left (denoter_of f.0) (kind.Array at q ∷ terminals tokens.now) (terminals f.1.now)) }
+    ensures refused { IfErr result (λ e. (q : Position) → Refuses (SomeStructure position packed) left end (kind.Array at q ∷ terminals tokens.now) e) }
     ensures shorter { IfOk result (λ f. length f.1.now < length tokens.now) }
 {
     let (indices, rest) = indices(alloc, left, end, tokens)?;
@@ -197,7 +200,7 @@ fn record<'a>(
     end: Place,
     tokens: &'a [Token],
 ) -> Result<(TypeDenoter, &'a [Token]), ParseError>
-    ensures whole { IfOk result (λ f. StructureBehind kind.Record position packed left (denoter_of f.0) (terminals tokens.now) (terminals f.1.now)) }
+    ensures whole { IfOk result (λ f. (q : Position) → SomeStructure position packed left (denoter_of f.0) (kind.Record at q ∷ terminals tokens.now) (terminals f.1.now)) }
     ensures refused { IfErr result (λ e. (q : Position) → Refuses (SomeStructure position packed) left end (kind.Record at q ∷ terminals tokens.now) e) }
     ensures shorter { IfOk result (λ f. length f.1.now < length tokens.now) }
 {
@@ -258,14 +261,13 @@ pub fn fields_of_one_type<'a>(
 }
 
 /// A type that begins as a bound of a subrange does: an enumeration, a subrange or a name.
-#[cycle(denoter)]
 fn bounded<'a>(
     alloc: Global,
     left: u32,
     end: Place,
     tokens: &'a [Token],
 ) -> Result<(TypeDenoter, &'a [Token]), ParseError>
-    requires { IsNot begins_structure (terminals tokens.now) }
+    requires { Begins begins_expression (terminals tokens.now) }
     ensures whole { IfOk result (λ f. SomeBounded left (denoter_of f.0) (terminals tokens.now) (terminals f.1.now)) }
     ensures refused { IfErr result (Refuses SomeBounded left end (terminals tokens.now)) }
     ensures shorter { IfOk result (λ f. length f.1.now < length tokens.now) }
@@ -289,7 +291,13 @@ fn lists_names(tokens: &[Token]) -> bool
     let Some((first, rest)) = inside.split_first() else {
         return false;
     };
-    is_identifier(&first.kind) && behind_mark(Mark::Comma, rest).is_some()
+    if !is_identifier(&first.kind) {
+        return false;
+    }
+    match behind_mark(Mark::Comma, rest) {
+        Some(_) => true,
+        None => false,
+    }
 }
 
 /// Names in brackets, before what belongs to no type.
@@ -325,7 +333,8 @@ fn subrange_or_name<'a>(
     end: Place,
     tokens: &'a [Token],
 ) -> Result<(TypeDenoter, &'a [Token]), ParseError>
-    requires { lists_names (terminals tokens.now) ≡ false }
+    requires begins { Begins begins_expression (terminals tokens.now) }
+    requires lists { lists_names (terminals tokens.now) ≡ false }
     ensures whole { IfOk result (λ f. SomeBounded left (denoter_of f.0) (terminals tokens.now) (terminals f.1.now)) }
     ensures refused { IfErr result (Refuses SomeBounded left end (terminals tokens.now)) }
     ensures shorter { IfOk result (λ f. length f.1.now < length tokens.now) }

@@ -32,7 +32,10 @@ pub fn form_of_bound(tokens: &[Token]) -> Option<(u8, &[Token])>
     }
     let inside = behind_mark(Mark::OpenParenthesis, tokens)?;
     let (first, rest) = inside.split_first()?;
-    if is_identifier(&first.kind) && gives_value(rest) {
+    if !is_identifier(&first.kind) {
+        return None;
+    }
+    if gives_value(rest) {
         Some((GIVEN_VALUE, rest))
     } else {
         None
@@ -46,17 +49,29 @@ fn is_short_string(tokens: &[Token]) -> bool
     let Some((first, rest)) = tokens.split_first() else {
         return false;
     };
-    matches!(&first.kind, TokenKind::String) && behind_mark(Mark::OpenBracket, rest).is_some()
+    let TokenKind::String = &first.kind else {
+        return false;
+    };
+    match behind_mark(Mark::OpenBracket, rest) {
+        Some(_) => true,
+        None => false,
+    }
 }
 
 /// `=` or `:=` stands at the front, as between an enumeration's value and its number.
 pub fn gives_value(tokens: &[Token]) -> bool
     ensures { IsTrue result → GivesAValue (terminals tokens.now) }
 {
-    behind_mark(Mark::Equal, tokens).is_some() || behind_mark(Mark::Assign, tokens).is_some()
+    if let Some(_) = behind_mark(Mark::Equal, tokens) {
+        return true;
+    }
+    match behind_mark(Mark::Assign, tokens) {
+        Some(_) => true,
+        None => false,
+    }
 }
 
-/// A word that a procedural type begins with stands at the front, and no name behind it.
+/// A token stands at the front, and one that is no name behind it.
 pub fn is_procedural(tokens: &[Token]) -> bool
     ensures { IsTrue result → IsProcedural (terminals tokens.now) }
 {
@@ -65,7 +80,12 @@ pub fn is_procedural(tokens: &[Token]) -> bool
     };
     match rest.split_first() {
         None => false,
-        Some((second, _)) => !is_identifier(&second.kind),
+        Some((second, _)) => {
+            if is_identifier(&second.kind) {
+                return false;
+            }
+            true
+        }
     }
 }
 

@@ -3,9 +3,10 @@ ghost use Rattle.std.specs.Prelude.{◌≡◌, IfOk};
 ghost use Rattle.std.specs.Option.{option_map};
 ghost use Rattle.op_parse_decl.specs.Types.{denoted};
 ghost use Rattle.op_tree.specs.Denoter.{array, denoter_of, record_, set};
-ghost use Rattle.op_tree.specs.Expression.{expr_of};
+ghost use Rattle.op_tree.specs.Expression.{bracketed, designated, designator, expr_of, named as named_root, no_selectors};
 ghost use Rattle.op_tree.specs.Initial.{initial_of, list, record_ as record_value};
 ghost use Rattle.op_tree.specs.Lists.{denoters_of, field_initials_of, field_lists_of, initials_of};
+ghost use Rattle.op_tree.specs.Statement.{selectors_of};
 
 use op_base::NoMemory;
 use op_tree::{
@@ -89,22 +90,27 @@ pub fn denoted(alloc: Global, bound: Expr) -> Result<Option<TypeDenoter>, NoMemo
     }
 }
 
-fn named(first: Name, selectors: Vec<Selector>) -> Option<TypeDenoter> {
+/// The type of a name and what is selected of it.
+fn named(first: Name, selectors: Vec<Selector>) -> Option<TypeDenoter>
+    ensures { option_map denoter_of result ≡ denoted (designated (designator (named_root first) (selectors_of selectors.items))) }
+{
     let mut selectors = selectors;
-    match selectors.pop() {
-        None => Some(TypeDenoter::Named(QualifiedName {
+    let Some(last) = selectors.pop() else {
+        return Some(TypeDenoter::Named(QualifiedName {
             unit: None,
             name: first,
+        }));
+    };
+    if !selectors.is_empty() {
+        return None;
+    }
+    match last {
+        Selector::Member(name) => Some(TypeDenoter::Named(QualifiedName {
+            unit: Some(first),
+            name,
         })),
-        Some(Selector::Member(name)) => if selectors.is_empty() {
-            Some(TypeDenoter::Named(QualifiedName {
-                unit: Some(first),
-                name,
-            }))
-        } else {
-            None
-        },
-        Some(_) => None,
+        Selector::Index { .. } => None,
+        Selector::Call { .. } => None,
     }
 }
 
@@ -113,7 +119,9 @@ fn enumeration_of_one(
     alloc: Global,
     position: Position,
     inside: Expr,
-) -> Result<Option<TypeDenoter>, NoMemory> {
+) -> Result<Option<TypeDenoter>, NoMemory>
+    ensures { IfOk result (λ t. option_map denoter_of t ≡ denoted (designated (designator (bracketed position (expr_of inside)) no_selectors))) }
+{
     let Expr::Designator(designator) = inside else {
         return Ok(None);
     };

@@ -3,6 +3,7 @@ ghost use Rattle.std.specs.Prelude.{◌≡◌, ℕ, IfOk, IfErr};
 ghost use Rattle.op_parse_code.specs.Refusal.{Refuses};
 ghost use Rattle.op_parse_code.specs.Whole.{NoMark};
 ghost use Rattle.op_parse_code.specs.declared.mark.Mark.TheVariants as mark;
+ghost use Rattle.op_parse_decl.specs.Opening.{continues_expression, continues_type};
 ghost use Rattle.op_parse_decl.specs.Types.{NoDot, NoMoreExpression, NoMoreType};
 ghost use Rattle.op_tree.specs.Ends.{Stops, StopsDenoter, begins_selector, binds, is_dot_dot};
 ghost use Rattle.op_tree.specs.Terminal.{terminals};
@@ -22,7 +23,7 @@ pub fn stop_type(end: Place, tokens: &[Token]) -> Result<(), ParseError>
     let Some((first, _)) = tokens.split_first() else {
         return Ok(());
     };
-    if is_additive(&first.kind) || begins_selector(&first.kind) || is_dot_dot(&first.kind) {
+    if continues_type(&first.kind) {
         return Err(syntax(end, tokens));
     }
     Ok(())
@@ -36,7 +37,7 @@ pub fn stop_expression(end: Place, tokens: &[Token]) -> Result<(), ParseError>
     let Some((first, _)) = tokens.split_first() else {
         return Ok(());
     };
-    if is_operator(&first.kind) || begins_selector(&first.kind) {
+    if continues_expression(&first.kind) {
         return Err(syntax(end, tokens));
     }
     Ok(())
@@ -51,6 +52,18 @@ pub fn no_dot(end: Place, tokens: &[Token]) -> Result<(), ParseError>
         None => Ok(()),
         Some(_) => Err(syntax(end, tokens)),
     }
+}
+
+fn continues_type(kind: &TokenKind) -> bool
+    ensures { result ≡ continues_type kind.now }
+{
+    is_additive(kind) || begins_selector(kind) || is_dot_dot(kind)
+}
+
+fn continues_expression(kind: &TokenKind) -> bool
+    ensures { result ≡ continues_expression kind.now }
+{
+    is_operator(kind) || begins_selector(kind)
 }
 
 fn is_operator(kind: &TokenKind) -> bool
