@@ -11,3 +11,6 @@ pub mod Methods
 pub mod Enumerations
 pub mod Denoted
 pub mod Forms
+pub mod Combining
+pub mod DeclarationKnown
+pub mod Later
