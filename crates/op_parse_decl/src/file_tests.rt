@@ -134,7 +134,7 @@ fn shape(rt: &(impl Abort + AllocGlobal), text: &[u8]) -> Result<String, AllocEr
 
 // Files of the Reference Guide's chapters "Programs, units, blocks", "Classes" and "Interfaces".
 #[test]
-fn reads_files(rt: HostRuntime) -> Result<(), Fail> {
+fn reads_declarations(rt: HostRuntime) -> Result<(), Fail> {
     let rows = [
         ("begin end.", "program 0 1"),
         ("program p; begin end.", "program 0 1"),
@@ -150,6 +150,17 @@ fn reads_files(rt: HostRuntime) -> Result<(), Fail> {
             "type a = 1..2; b = class; c = interface; begin end.",
             "program 0 type class interface false 1",
         ),
+    ];
+    for (text, wanted) in rows.iter() {
+        let found = shape(&rt, text.as_bytes())?;
+        assert_eq!(rt; found.as_str(), *wanted);
+    }
+    Ok(())
+}
+
+#[test]
+fn reads_classes(rt: HostRuntime) -> Result<(), Fail> {
+    let rows = [
         ("type a = class(b, c); begin end.", "program 0 class(2) 1"),
         (
             "type a = class x, y: T; procedure z; virtual; abstract; end; begin end.",
@@ -179,6 +190,17 @@ fn reads_files(rt: HostRuntime) -> Result<(), Fail> {
             "type a = interface ['x']; begin end.",
             "program 0 interface true 1",
         ),
+    ];
+    for (text, wanted) in rows.iter() {
+        let found = shape(&rt, text.as_bytes())?;
+        assert_eq!(rt; found.as_str(), *wanted);
+    }
+    Ok(())
+}
+
+#[test]
+fn reads_routines_and_units(rt: HostRuntime) -> Result<(), Fail> {
+    let rows = [
         (
             "procedure a; forward; procedure a; var b: T; procedure c; begin end; begin x; y end; begin end.",
             "program 0 forward routine 2 2 1",
