@@ -1,0 +1,16 @@
+pub mod Fronts
+pub mod Known
+pub mod NameLists
+pub mod Denoters
+pub mod Fields
+pub mod Bounds
+pub mod HeadingFronts
+pub mod HeadingKnown
+pub mod HeadingParts
+pub mod Methods
+pub mod Enumerations
+pub mod Denoted
+pub mod Forms
+pub mod Combining
+pub mod DeclarationKnown
+pub mod Later

@@ -1,0 +1,28 @@
+-- Phrases that are put together.
+use Rattle.std.specs.Prelude.{◌≡◌, ℕ, Bool, List, [], ◌∷◌, Option, Some, None}
+use Rattle.op_parse_code.specs.Opening.{kind_of}
+use Rattle.op_parse_code.specs.Refusal.{Phrase}
+use Rattle.op_parse_code.specs.Whole.{NoMark}
+use Rattle.op_parse_code.specs.declared.mark.Mark.{Mark}
+use Rattle.op_scan.specs.declared.token.TokenKind.{TokenKind}
+use Rattle.op_tree.proofs.ExpressionUnique.{Begins}
+use Rattle.op_tree.specs.Ends.{IsNot}
+use Rattle.op_tree.specs.Terminal.{Terminal, ◌at◌}
+use Rattle.op_tree.specs.declared.position.Position.{Position}
+
+pub data Both (A B : Type 0) : Type 0 where
+  both : (first : A) (second : B) → Both A B
+
+-- one part, and behind it another
+pub data Then {A B : Type 0} (P : Phrase A) (Q : Phrase B) : ℕ → Both A B → List Terminal → List Terminal → Type 0 where
+  then_ : {d : ℕ} {a : A} {b : B} {ks m r : List Terminal} → P d a ks m → Q d b m r → Then P Q d (both a b) ks r
+
+-- a part behind a mark, if the mark stands there
+pub data Behind {A : Type 0} (m : Mark) (P : Phrase A) : ℕ → Option A → List Terminal → List Terminal → Type 0 where
+  no_mark : {d : ℕ} {ks : List Terminal} → NoMark m ks → Behind m P d None ks ks
+  behind_mark : {d : ℕ} {a : A} {p : Position} {ks z r : List Terminal} → ks ≡ kind_of m at p ∷ z → P d a z r → Behind m P d (Some a) ks r
+
+-- parts, as long as the next token passes the test
+pub data Repeats {A : Type 0} (test : TokenKind → Bool) (P : Phrase A) : ℕ → List A → List Terminal → List Terminal → Type 0 where
+  no_more : {d : ℕ} {ks : List Terminal} → IsNot test ks → Repeats test P d [] ks ks
+  one_more : {d : ℕ} {a : A} {as_ : List A} {ks m r : List Terminal} → Begins test ks → P d a ks m → Repeats test P d as_ m r → Repeats test P d (a ∷ as_) ks r

@@ -1,0 +1,5 @@
+pub mod Combined
+pub mod Declarations
+pub mod Types
+pub mod Headings
+pub mod Opening

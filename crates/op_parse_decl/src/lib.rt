@@ -1,0 +1,28 @@
+//! The parser of declarations and files: from tokens to trees.
+//!
+//! Each reader answers the one part that is whole at the front of the tokens, and what stands behind it, or why none does,
+//! as those of op_parse_code.
+#![tactic(auto)]
+
+mod class;
+mod declaration;
+mod declared_form;
+mod denoter;
+mod file;
+mod form;
+mod heading;
+mod initializer;
+mod list;
+mod names;
+mod nodes;
+mod opening;
+mod parameter;
+mod routine;
+mod stops;
+
+pub use file::parse;
+
+#[cfg(test)]
+mod file_tests;
+#[cfg(test)]
+mod tests;
