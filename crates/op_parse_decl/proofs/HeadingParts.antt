@@ -89,10 +89,13 @@ type_part : {d : ℕ} {t : Option Denoter} {p : Position} {ks r : List Terminal}
 type_part has_no_type = (refl, λ q z e. differ is_colon (sym e) refl refl)
 type_part (has_type {p = p} {ks = ks} t) = (p, ks, refl, (t, record { operator = refl; selector = refl; range = refl }))
 
-pub into_heading : (k : TokenKind) (p : Position) (d : ℕ) (h : Heading) (ls r : List Terminal) → SomeHeading d h (k at p ∷ ls) r → Some_ (Seq SomeRoutineName Rest) d ls
-into_heading k p d h ls r (u, is_heading {c = c} {n = n} {as_ = as_} {t = t} {m = m} {m1 = m1} e f a g) =
+pub heading_seq : (d : ℕ) {c : Option Name} {n : Name} {as_ : List Parameter} {t : Option Denoter} (u : Position) {ls m m1 : List Terminal} (r : List Terminal) → IsRoutineName c n ls m → IsParameterPart d as_ m m1 → IsOptionalType d t m1 (kind.Semicolon at u ∷ r) → Seq SomeRoutineName Rest d ((c, n), (as_, (t, u))) ls r
+heading_seq d u {m = m} {m1 = m1} r f a g =
     let s = type_part_no_selector g in
-    (((c, n), (as_, (t, u))), r, (m, name_part d f (no_mark_dot m (part_no_dot a (no_dot m1 s))), (m1, parameter_part a (no_open m1 s), (kind.Semicolon at u ∷ r, type_part g, refl))))
+    (m, name_part d f (no_mark_dot m (part_no_dot a (no_dot m1 s))), (m1, parameter_part a (no_open m1 s), (kind.Semicolon at u ∷ r, type_part g, refl)))
+
+into_heading : (k : TokenKind) (p : Position) (d : ℕ) (h : Heading) (ls r : List Terminal) → SomeHeading d h (k at p ∷ ls) r → Some_ (Seq SomeRoutineName Rest) d ls
+into_heading k p d h ls r (u, is_heading {c = c} {n = n} {as_ = as_} {t = t} e f a g) = (((c, n), (as_, (t, u))), r, heading_seq d u r f a g)
 
 pub heading_none : (d : ℕ) (end : Place) (ks : List Terminal) (e : ParseError) → IsNot begins_heading ks → e ≡ refused_at 9 0 end ks → Refuses SomeHeading d end ks e
 heading_none d end ks e h x = syntax ks x (λ d'. dead_here (SomeHeading d') ks (λ a ls r s f. both begins_heading ls (heading_begins f.1) (same_not begins_heading ks ls s h)))

@@ -13,5 +13,5 @@ loop-directive-preserved c = (rw c.in_ok-push.ensures.items (directing_more _ _ 
 pub returns-in-Some-behind_mark-clause-refused : goal.returns-in-Some-behind_mark-clause-refused
 returns-in-Some-behind_mark-clause-refused c = λ d. directing_inline d c.args.end _ _ _ _ _ _ c.loop-directive.invariant.0 c.in-Some-behind_mark.ensures.mark.1 c.left_out.ensures
 
-pub returns-in-None-clause-whole : goal.returns-in-None-clause-whole
-returns-in-None-clause-whole c = λ d. rw c.from.ensures (directing_ends d _ _ _ c.loop-directive.invariant.0 c.in_default.ensures.stands)
+pub returns-clause-whole : goal.returns-clause-whole
+returns-clause-whole c = λ d. rw c.from.ensures (directing_ends d _ _ _ c.loop-directive.invariant.0 c.in_default.ensures.stands)
