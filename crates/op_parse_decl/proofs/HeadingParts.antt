@@ -76,9 +76,9 @@ no_mark_dot r h p z e = differ is_dot (sym e) refl h
 no_open : (r : List Terminal) → IsNot begins_selector r → NoMark mark.OpenParenthesis r
 no_open r h p z e = differ begins_selector (sym e) refl h
 
-name_part : {d : ℕ} {c : Option Name} {n : Name} {ks m : List Terminal} → IsRoutineName c n ks m → NoMark mark.Dot m → SomeRoutineName d (c, n) ks m
-name_part (is_of_no_class f) none = (f, none)
-name_part (is_of_class {p = p} {m = m} f g) none = (p, m, f, g)
+name_part : (d : ℕ) {c : Option Name} {n : Name} {ks m : List Terminal} → IsRoutineName c n ks m → NoMark mark.Dot m → SomeRoutineName d (c, n) ks m
+name_part d (is_of_no_class f) none = (f, none)
+name_part d (is_of_class {p = p} {m = m} f g) none = (p, m, f, g)
 
 parameter_part : {d : ℕ} {as_ : List Parameter} {ks m : List Terminal} → IsParameterPart d as_ ks m → NoMark mark.OpenParenthesis m → SomeParameterPart d as_ ks m
 parameter_part has_no_brackets none = part_missing none
@@ -89,10 +89,13 @@ type_part : {d : ℕ} {t : Option Denoter} {p : Position} {ks r : List Terminal}
 type_part has_no_type = (refl, λ q z e. differ is_colon (sym e) refl refl)
 type_part (has_type {p = p} {ks = ks} t) = (p, ks, refl, (t, record { operator = refl; selector = refl; range = refl }))
 
-pub into_heading : (k : TokenKind) (p : Position) (d : ℕ) (h : Heading) (ls r : List Terminal) → SomeHeading d h (k at p ∷ ls) r → Some_ (Seq SomeRoutineName Rest) d ls
-into_heading k p d h ls r (u, is_heading {c = c} {n = n} {as_ = as_} {t = t} {m = m} {m1 = m1} e f a g) =
+pub heading_seq : (d : ℕ) {c : Option Name} {n : Name} {as_ : List Parameter} {t : Option Denoter} (u : Position) {ls m m1 : List Terminal} (r : List Terminal) → IsRoutineName c n ls m → IsParameterPart d as_ m m1 → IsOptionalType d t m1 (kind.Semicolon at u ∷ r) → Seq SomeRoutineName Rest d ((c, n), (as_, (t, u))) ls r
+heading_seq d u {m = m} {m1 = m1} r f a g =
     let s = type_part_no_selector g in
-    (((c, n), (as_, (t, u))), r, (m, name_part f (no_mark_dot m (part_no_dot a (no_dot m1 s))), (m1, parameter_part a (no_open m1 s), (kind.Semicolon at u ∷ r, type_part g, refl))))
+    (m, name_part d f (no_mark_dot m (part_no_dot a (no_dot m1 s))), (m1, parameter_part a (no_open m1 s), (kind.Semicolon at u ∷ r, type_part g, refl)))
+
+into_heading : (k : TokenKind) (p : Position) (d : ℕ) (h : Heading) (ls r : List Terminal) → SomeHeading d h (k at p ∷ ls) r → Some_ (Seq SomeRoutineName Rest) d ls
+into_heading k p d h ls r (u, is_heading {c = c} {n = n} {as_ = as_} {t = t} e f a g) = (((c, n), (as_, (t, u))), r, heading_seq d u r f a g)
 
 pub heading_none : (d : ℕ) (end : Place) (ks : List Terminal) (e : ParseError) → IsNot begins_heading ks → e ≡ refused_at 9 0 end ks → Refuses SomeHeading d end ks e
 heading_none d end ks e h x = syntax ks x (λ d'. dead_here (SomeHeading d') ks (λ a ls r s f. both begins_heading ls (heading_begins f.1) (same_not begins_heading ks ls s h)))
@@ -115,9 +118,9 @@ heading_result d end k p a as_ ks m n e f g h = heading_rest d end k p a ks m e 
 pub heading_unclosed : (d : ℕ) (end : Place) (k : TokenKind) (p : Position) (a : Option Name × Name) (as_ : List Parameter) (t : Option Denoter) (ks m n l : List Terminal) (e : ParseError) → SomeRoutineName d a ks m → SomeParameterPart d as_ m n → SomeOptionalType d t n l → Refuses (Marked mark.Semicolon) d end l e → Refuses SomeHeading d end (k at p ∷ ks) e
 heading_unclosed d end k p a as_ t ks m n l e f g i h = heading_rest d end k p a ks m e f (refuses_after SomeParameterPart Result d end as_ m n e known_part g (refuses_after SomeOptionalType (Marked mark.Semicolon) d end t n l e known_optional_type i h))
 
-is_name_part : {d : ℕ} {c : Option Name} {n : Name} {ks m : List Terminal} → SomeRoutineName d (c, n) ks m → IsRoutineName c n ks m
-is_name_part {c = None} f = is_of_no_class f.0
-is_name_part {c = Some c} f = is_of_class f.2 f.3
+is_name_part : (d : ℕ) {c : Option Name} {n : Name} {ks m : List Terminal} → SomeRoutineName d (c, n) ks m → IsRoutineName c n ks m
+is_name_part d {c = None} f = is_of_no_class f.0
+is_name_part d {c = Some c} f = is_of_class f.2 f.3
 
 is_parameter_part : {d : ℕ} {as_ : List Parameter} {ks m : List Terminal} → SomeParameterPart d as_ ks m → IsParameterPart d as_ ks m
 is_parameter_part (part_missing none) = has_no_brackets
@@ -129,4 +132,4 @@ is_type_part {d = d} {t = None} {ks = ks} f = subst (λ z. IsOptionalType d None
 is_type_part {d = d} {t = Some t} {m = m} f = subst (λ z. IsOptionalType d (Some t) z m) (sym f.2) (has_type f.3.0)
 
 pub heading_whole : (d : ℕ) (k : TokenKind) (sort : RoutineKind) (p q : Position) (c : Option Name) (n : Name) (as_ : List Parameter) (t : Option Denoter) (ks m m1 m2 r : List Terminal) → routine_kind_of k ≡ Some sort → SomeRoutineName d (c, n) ks m → SomeParameterPart d as_ m m1 → SomeOptionalType d t m1 m2 → m2 ≡ kind.Semicolon at q ∷ r → SomeHeading d (record { kind = sort; class = c; name = n; parameters = as_; result = t }) (k at p ∷ ks) r
-heading_whole d k sort p q c n as_ t ks m m1 m2 r e f a g is = (q, is_heading e (is_name_part f) (is_parameter_part a) (subst (λ z. IsOptionalType d t m1 z) is (is_type_part g)))
+heading_whole d k sort p q c n as_ t ks m m1 m2 r e f a g is = (q, is_heading e (is_name_part d f) (is_parameter_part a) (subst (λ z. IsOptionalType d t m1 z) is (is_type_part g)))

@@ -1,5 +1,5 @@
 -- Refusals of methods, and the directives behind a heading.
-use Rattle.std.proofs.Common.{◌≡◌, ℕ, List, [], ◌∷◌, ◌++◌, append_assoc, Option, refl, sym, ap, ◌∙◌, subst}
+use Rattle.std.proofs.Common.{◌≡◌, ℕ, List, [], ◌∷◌, ◌++◌, append_assoc, Option, Some, refl, sym, ap, ◌∙◌, subst}
 use Rattle.op_base.specs.declared.place.Place.{Place}
 use Rattle.op_parse_code.proofs.Cuts.{IsCut, cut_one}
 use Rattle.op_parse_code.proofs.ExpressionKnown.{known_mark}
@@ -10,15 +10,16 @@ use Rattle.op_parse_code.specs.Whole.{Marked}
 use Rattle.op_parse_code.specs.declared.error.ParseError.{ParseError}
 use Rattle.op_parse_code.specs.declared.mark.Mark.TheVariants as mark
 use Rattle.op_parse_decl.proofs.HeadingKnown.{known_part, known_routine_name, known_optional_type}
-use Rattle.op_parse_decl.proofs.HeadingParts.{Rest, Result, into_heading, heading_whole}
+use Rattle.op_parse_decl.proofs.HeadingParts.{Rest, Result, heading_seq, heading_whole}
 use Rattle.op_parse_decl.proofs.Known.{known_seq}
 use Rattle.op_parse_decl.specs.Headings.{SomeHeading, SomeDirectives, SomeMethod, IsDirective, SomeParameterPart, SomeRoutineName}
 use Rattle.op_parse_decl.specs.Types.{SomeOptionalType}
+use Rattle.op_scan.specs.declared.token.TokenKind.{TokenKind}
 use Rattle.op_scan.specs.declared.token.TokenKind.TheVariants as kind
 use Rattle.op_tree.proofs.HeadingUnique.{unique_heading}
 use Rattle.op_tree.specs.Declaration.{Heading, Method}
 use Rattle.op_tree.specs.Ends.{NoDirective}
-use Rattle.op_tree.specs.HeadingGrammar.{is_heading, AreDirectives, are_no_directives, are_directives, IsMethod, is_method}
+use Rattle.op_tree.specs.HeadingGrammar.{directive_of, is_heading, AreDirectives, are_no_directives, are_directives, IsMethod, is_method}
 use Rattle.op_tree.specs.Terminal.{Terminal, ◌at◌}
 use Rattle.op_tree.specs.declared.heading.Directive.{Directive}
 use Rattle.op_tree.specs.declared.position.Position.{Position}
@@ -27,8 +28,7 @@ use Rattle.op_tree.specs.declared.position.Position.{Position}
 
 front_heading : (d : ℕ) (h : Heading) (ks m : List Terminal) → SomeHeading d h ks m → (f : List Terminal → List Terminal) × IsCut f × (ks ≡ f m) × ((x : List Terminal) → SameHead m x → SomeHeading d h (f x) x)
 front_heading d h ks m (u, is_heading {k = k} {sort = sort} {c = c} {n = n} {as_ = as_} {t = t} {p = p} {ks = ls} e f a g) =
-    let i = into_heading k p d h ls m (u, is_heading e f a g) in
-    let w = (known_seq SomeRoutineName Rest known_routine_name (known_seq SomeParameterPart Result known_part (known_seq SomeOptionalType (Marked mark.Semicolon) known_optional_type (known_mark mark.Semicolon)))).front d i.0 ls m i.2 in
+    let w = (known_seq SomeRoutineName Rest known_routine_name (known_seq SomeParameterPart Result known_part (known_seq SomeOptionalType (Marked mark.Semicolon) known_optional_type (known_mark mark.Semicolon)))).front d ((c, n), (as_, (t, u))) ls m (heading_seq d u m f a g) in
     (λ x. k at p ∷ w.0 x, cut_one (k at p) w.1, ap (λ z. k at p ∷ z) w.2, λ x s. let v = w.3 x s in heading_whole d k sort p u c n as_ t (w.0 x) v.0 v.2.0 v.2.2.0 x e v.1 v.2.1 v.2.2.1 v.2.2.2)
 
 pub known_heading : Known SomeHeading
@@ -82,3 +82,6 @@ method_directives d end h ks m e f g = refuses_map (Seq SomeHeading SomeDirectiv
 
 pub method_whole : (d : ℕ) (h : Heading) (ws : List Directive) (ks m r : List Terminal) → SomeHeading d h ks m → SomeDirectives d ws m r → SomeMethod d (record { heading = h; directives = ws }) ks r
 method_whole d h ws ks m r (p, f) (g, none) = (is_method f g, none)
+
+pub directive_stands : (k : TokenKind) (word : List ℕ) (w : Directive) (p q : Position) (ks m r : List Terminal) → ks ≡ k at p ∷ m → k ≡ kind.Identifier word → m ≡ kind.Semicolon at q ∷ r → directive_of word ≡ Some w → IsDirective w ks r
+directive_stands k word w p q ks m r e h e1 d = subst (λ z. IsDirective w z r) (sym (e ∙ ap (λ z. z at p ∷ m) h ∙ ap (λ z. kind.Identifier word at p ∷ z) e1)) (are_directives d are_no_directives)

@@ -88,10 +88,10 @@ pub fn directives<'a>(
         directives.push(directive)?;
         rest = behind;
     }
-    if behind_mark(Mark::Inline, rest).is_some() {
-        return Err(left_out(ASSEMBLY, end, rest));
+    match behind_mark(Mark::Inline, rest) {
+        Some(_) => Err(left_out(ASSEMBLY, end, rest)),
+        None => Ok((Directives::from(directives), rest)),
     }
-    Ok((Directives::from(directives), rest))
 }
 
 /// The directive at the front, and what stands behind its semicolon.
@@ -109,6 +109,7 @@ fn directive_at(tokens: &[Token]) -> Option<(Directive, &[Token])>
 }
 
 /// The directive that a word is, in any case of letters.
+#[tactic(auto, unfolding(op_tree::specs::HeadingGrammar::directive_of))]
 pub fn directive_of(word: &[u8]) -> Option<Directive>
     ensures { result ≡ directive_of word.now }
 {

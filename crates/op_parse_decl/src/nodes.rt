@@ -75,11 +75,12 @@ pub fn denoted(alloc: Global, bound: Expr) -> Result<Option<TypeDenoter>, NoMemo
     };
     let Designator { root, selectors } = designator;
     match root {
-        Root::String { position } => Ok(if selectors.is_empty() {
-            Some(TypeDenoter::String { position })
-        } else {
-            None
-        }),
+        Root::String { position } => {
+            if selectors.is_empty() {
+                return Ok(Some(TypeDenoter::String { position }));
+            }
+            Ok(None)
+        }
         Root::Named(name) => Ok(named(name, selectors)),
         Root::Bracketed { position, inside } => {
             if !selectors.is_empty() {
@@ -132,7 +133,8 @@ fn enumeration_of_one(
     if !selectors.is_empty() {
         return Ok(None);
     }
-    let names = vec![in alloc; name]?;
+    let mut names = Vec::new(alloc);
+    names.push(name)?;
     Ok(Some(TypeDenoter::Enumeration {
         position,
         values: Names::from(names),

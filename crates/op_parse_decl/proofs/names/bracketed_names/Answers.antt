@@ -11,8 +11,8 @@ returns-in_err-enter-clause-refused c = passed c.from_residual-in_err-enter.resu
 pub returns-in_err-names-clause-refused : goal.returns-in_err-names-clause-refused
 returns-in_err-names-clause-refused c = passed c.from_residual-in_err-names.result c.from_residual-in_err-names.ensures.1 (λ y e. rw e (brackets_names c.args.left _ c.args.end _ _ _ _ c.in_ok-rest.ensures.mark.1 c.in_ok-enter.ensures.inside (c.in_err-names.ensures.refused _)))
 
-pub returns-in_err-rest-in_ok-names-clause-refused : goal.returns-in_err-rest-in_ok-names-clause-refused
-returns-in_err-rest-in_ok-names-clause-refused c = passed c.from_residual-in_err-rest-in_ok-names.result c.from_residual-in_err-rest-in_ok-names.ensures.1 (λ y e. rw e (brackets_open c.args.left _ c.args.end _ _ _ _ _ _ c.in_ok-rest.ensures.mark.1 c.in_ok-enter.ensures.inside (c.in_ok-names.ensures.whole 0) (c.in_err-rest-in_ok-names.ensures.refused _)))
+pub returns-in_err-rest-2-clause-refused : goal.returns-in_err-rest-2-clause-refused
+returns-in_err-rest-2-clause-refused c = passed c.from_residual-in_err-rest-2.result c.from_residual-in_err-rest-2.ensures.1 (λ y e. rw e (brackets_open c.args.left _ c.args.end _ _ _ _ _ _ c.in_ok-rest.ensures.mark.1 c.in_ok-enter.ensures.inside (c.in_ok-names.ensures.whole 0) (c.in_err-rest-2.ensures.refused _)))
 
 pub returns-clause-whole : goal.returns-clause-whole
-returns-clause-whole c = brackets_whole c.args.left _ _ _ _ _ _ _ _ c.in_ok-rest.ensures.mark.1 c.in_ok-enter.ensures.inside (c.in_ok-names.ensures.whole 0) c.in_ok-rest-in_ok-names.ensures.mark.1
+returns-clause-whole c = brackets_whole c.args.left _ _ _ _ _ _ _ _ c.in_ok-rest.ensures.mark.1 c.in_ok-enter.ensures.inside (c.in_ok-names.ensures.whole 0) c.in_ok-rest-2.ensures.mark.1
