@@ -10,7 +10,7 @@ use Rattle.op_parse_code.specs.Refusal.{SameHead, Refuses, syntax, nested, left_
 use Rattle.op_parse_code.specs.Whole.{Marked, NoMark}
 use Rattle.op_parse_code.specs.declared.error.ParseError.{ParseError}
 use Rattle.op_parse_code.specs.declared.mark.Mark.TheVariants as mark
-use Rattle.op_parse_decl.proofs.Known.{known_names, known_denoter, known_denoters, known_indices}
+use Rattle.op_parse_decl.specs.KnownTypes.{known_names, known_denoter, known_denoters, known_indices}
 use Rattle.op_parse_decl.specs.Opening.{begins_denoter, IsProcedural}
 use Rattle.op_parse_decl.specs.Types.{SomeNames, SomeDenoter, DenoterBehind, SomeStructure, SomeBounded, DenotersBefore, SomeIndices, no_indices, some_indices, SomeFields}
 use Rattle.op_scan.specs.declared.token.TokenKind.{TokenKind}

@@ -11,7 +11,7 @@ use Rattle.op_parse_code.specs.Whole.{Marked, NoMark}
 use Rattle.op_parse_code.specs.declared.error.ParseError.{ParseError}
 use Rattle.op_parse_code.specs.declared.mark.Mark.TheVariants as mark
 use Rattle.op_parse_decl.proofs.Bounds.{no_list}
-use Rattle.op_parse_decl.proofs.Known.{known_names}
+use Rattle.op_parse_decl.specs.KnownTypes.{known_names}
 use Rattle.op_parse_decl.specs.Opening.{GivesAValue, lists_names}
 use Rattle.op_parse_decl.specs.Types.{SomeNames, SomeBounded, NoMoreType}
 use Rattle.op_scan.specs.declared.token.TokenKind.{TokenKind}

@@ -7,7 +7,7 @@ use Rattle.op_parse_code.specs.Refusal.{SameHead, Refuses, syntax, left_out, ref
 use Rattle.op_parse_code.specs.Whole.{Marked, NoMark}
 use Rattle.op_parse_code.specs.declared.error.ParseError.{ParseError}
 use Rattle.op_parse_code.specs.declared.mark.Mark.TheVariants as mark
-use Rattle.op_parse_decl.proofs.Known.{known_names, known_fields, known_record}
+use Rattle.op_parse_decl.specs.KnownTypes.{known_names, known_fields, known_record}
 use Rattle.op_parse_decl.specs.Opening.{IsFormOfRecord}
 use Rattle.op_parse_decl.specs.Types.{SomeNames, SomeDenoter, SomeStructure, FieldsBefore, RecordFields, record_fields, SomeFields, NoMoreType}
 use Rattle.op_scan.specs.declared.token.TokenKind.TheVariants as kind

@@ -2,7 +2,7 @@
 use Rattle.std.proofs.Common.{◌≡◌, ℕ, Bool, List, [], ◌∷◌, Option, refl, ap, ◌∙◌}
 use Rattle.op_parse_code.proofs.Cuts.{IsCut, cut_none, cut_one, cut_join, Front}
 use Rattle.op_parse_code.proofs.StatementFronts.{front_name, front_qualified}
-use Rattle.op_parse_decl.proofs.Fronts.{front_names, front_denoter}
+use Rattle.op_parse_decl.specs.Fronts.{front_names, front_denoter}
 use Rattle.op_scan.specs.declared.token.TokenKind.TheVariants as kind
 use Rattle.op_tree.specs.HeadingGrammar.{IsMode, by_value, by_var, by_const, by_out, IsOpenArray, is_no_array, is_open_array, IsParameterType, is_named, is_string, IsParameter, is_parameter, AreParameters, is_one_parameter, are_parameters}
 use Rattle.op_tree.specs.Terminal.{Terminal, ◌at◌}

@@ -1,5 +1,3 @@
-pub mod Fronts
-pub mod Known
 pub mod NameLists
 pub mod Denoters
 pub mod Fields
@@ -13,4 +11,3 @@ pub mod Denoted
 pub mod Forms
 pub mod Combining
 pub mod DeclarationKnown
-pub mod Later

@@ -11,7 +11,7 @@ use Rattle.op_parse_code.specs.declared.error.ParseError.{ParseError}
 use Rattle.op_parse_code.specs.declared.mark.Mark.TheVariants as mark
 use Rattle.op_parse_decl.proofs.HeadingKnown.{known_part, known_routine_name, known_optional_type}
 use Rattle.op_parse_decl.proofs.HeadingParts.{Rest, Result, heading_seq, heading_whole}
-use Rattle.op_parse_decl.proofs.Known.{known_seq}
+use Rattle.op_parse_decl.specs.KnownTypes.{known_seq}
 use Rattle.op_parse_decl.specs.Headings.{SomeHeading, SomeDirectives, SomeMethod, IsDirective, SomeParameterPart, SomeRoutineName}
 use Rattle.op_parse_decl.specs.Types.{SomeOptionalType}
 use Rattle.op_scan.specs.declared.token.TokenKind.{TokenKind}

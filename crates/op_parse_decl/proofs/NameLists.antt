@@ -9,7 +9,7 @@ use Rattle.op_parse_code.specs.Refusal.{SameHead, Refuses, syntax, nested, decid
 use Rattle.op_parse_code.specs.Whole.{Marked, NoMark, SomeName}
 use Rattle.op_parse_code.specs.declared.error.ParseError.{ParseError}
 use Rattle.op_parse_code.specs.declared.mark.Mark.TheVariants as mark
-use Rattle.op_parse_decl.proofs.Known.{known_names}
+use Rattle.op_parse_decl.specs.KnownTypes.{known_names}
 use Rattle.op_parse_decl.specs.Types.{NoDot, SomeBracketedNames, SomeNames, SomeQualified}
 use Rattle.op_scan.specs.declared.token.TokenKind.TheVariants as kind
 use Rattle.op_tree.proofs.ExpressionUnique.{behind, is_comma}

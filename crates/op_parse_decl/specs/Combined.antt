@@ -17,10 +17,14 @@ pub data Both (A B : Type 0) : Type 0 where
 pub data Then {A B : Type 0} (P : Phrase A) (Q : Phrase B) : ℕ → Both A B → List Terminal → List Terminal → Type 0 where
   then_ : {d : ℕ} {a : A} {b : B} {ks m r : List Terminal} → P d a ks m → Q d b m r → Then P Q d (both a b) ks r
 
+-- a mark, which says nothing
+pub data Stands (m : Mark) : ℕ → Unit {0} → List Terminal → List Terminal → Type 0 where
+  stands : {d : ℕ} {p : Position} {r : List Terminal} → Stands m d tt (kind_of m at p ∷ r) r
+
 -- a part behind a mark, if the mark stands there
 pub data Behind {A : Type 0} (m : Mark) (P : Phrase A) : ℕ → Option A → List Terminal → List Terminal → Type 0 where
   no_mark : {d : ℕ} {ks : List Terminal} → NoMark m ks → Behind m P d None ks ks
-  behind_mark : {d : ℕ} {a : A} {p : Position} {ks z r : List Terminal} → ks ≡ kind_of m at p ∷ z → P d a z r → Behind m P d (Some a) ks r
+  behind_mark : {d : ℕ} {a : A} {p : Position} {ks r : List Terminal} → P d a ks r → Behind m P d (Some a) (kind_of m at p ∷ ks) r
 
 -- parts, as long as the next token passes the test
 pub data Repeats {A : Type 0} (test : TokenKind → Bool) (P : Phrase A) : ℕ → List A → List Terminal → List Terminal → Type 0 where

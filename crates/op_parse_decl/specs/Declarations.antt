@@ -14,10 +14,10 @@ use Rattle.op_tree.specs.Declaration.{Declaration, Method, Body, TypeDefinition,
 use Rattle.op_tree.specs.DeclarationGrammar.{IsDefinition, IsDataDeclaration, IsRoutine, IsBody}
 use Rattle.op_tree.specs.Ends.{IsNot}
 use Rattle.op_tree.specs.File.{File}
-use Rattle.op_tree.specs.FileGrammar.{IsFile, IsProgramHeading, IsUses}
+use Rattle.op_tree.specs.FileGrammar.{IsFile, IsProgramHeading}
 use Rattle.op_tree.specs.HeadingGrammar.{AreDirectives, IsMethod, IsIdentifier, directive_of}
 use Rattle.op_tree.specs.Initial.{Initial}
-use Rattle.op_tree.specs.NameGrammar.{IsName}
+use Rattle.op_tree.specs.NameGrammar.{IsName, AreNames}
 use Rattle.op_tree.specs.Terminal.{Terminal, ◌at◌}
 use Rattle.op_tree.specs.declared.file.ProgramHeading.{ProgramHeading}
 use Rattle.op_tree.specs.declared.heading.Directive.{Directive}
@@ -97,7 +97,7 @@ BodyBefore d b ks r = (q : Position) × IsBody d b ks (kind.Semicolon at q ∷ r
 -- [uses], none where the word does not stand there
 pub data SomeUses : ℕ → List Name → List Terminal → List Terminal → Type 0 where
   no_uses : {d : ℕ} {ks : List Terminal} → NoMark mark.Uses ks → SomeUses d [] ks ks
-  some_uses : {d : ℕ} {ns : List Name} {p : Position} {ks r : List Terminal} → IsUses ns (kind.Uses at p ∷ ks) r → SomeUses d ns (kind.Uses at p ∷ ks) r
+  some_uses : {d : ℕ} {ns : List Name} {p q : Position} {ks r : List Terminal} → AreNames ns ks (kind.Semicolon at q ∷ r) → SomeUses d ns (kind.Uses at p ∷ ks) r
 
 -- the heading of a program, none where the word does not stand there
 pub data SomeProgramHeading : ℕ → Option ProgramHeading → List Terminal → List Terminal → Type 0 where

@@ -1,5 +1,10 @@
 pub mod Combined
+pub mod Known
 pub mod Declarations
 pub mod Types
 pub mod Headings
 pub mod Opening
+pub mod Fronts
+pub mod KnownTypes
+pub mod Later
+pub mod Produced

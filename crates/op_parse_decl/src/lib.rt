@@ -12,12 +12,16 @@ mod file;
 mod form;
 mod heading;
 mod initializer;
+mod leaf;
 mod list;
 mod names;
 mod nodes;
 mod opening;
 mod parameter;
+mod part;
+mod produced;
 mod routine;
+mod sign;
 mod stops;
 
 pub use file::parse;

@@ -5,7 +5,7 @@ use Rattle.op_parse_code.specs.declared.mark.Mark.TheVariants as mark
 use Rattle.op_parse_decl.proofs.Combining.{first, after}
 use Rattle.op_parse_decl.proofs.DeclarationKnown.{constant_refused, constant_whole}
 use Rattle.op_parse_decl.proofs.HeadingKnown.{known_optional_type}
-use Rattle.op_parse_decl.proofs.Later.{known_initial}
+use Rattle.op_parse_decl.specs.Later.{known_initial}
 use Rattle.op_parse_decl.proofs.declaration.constant.Goals as goal
 
 pub returns-in_err-name-clause-refused : goal.returns-in_err-name-clause-refused

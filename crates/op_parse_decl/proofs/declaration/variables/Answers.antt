@@ -3,7 +3,7 @@ use Rattle.op_parse_code.proofs.ExpressionKnown.{known_mark}
 use Rattle.op_parse_code.specs.declared.mark.Mark.TheVariants as mark
 use Rattle.op_parse_decl.proofs.Combining.{first, after}
 use Rattle.op_parse_decl.proofs.DeclarationKnown.{known_first_value, variables_refused, variables_whole}
-use Rattle.op_parse_decl.proofs.Known.{known_denoter, known_names}
+use Rattle.op_parse_decl.specs.KnownTypes.{known_denoter, known_names}
 use Rattle.op_parse_decl.proofs.declaration.variables.Goals as goal
 
 pub returns-in_err-names-clause-refused : goal.returns-in_err-names-clause-refused

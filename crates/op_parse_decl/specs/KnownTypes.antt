@@ -6,7 +6,8 @@ use Rattle.op_parse_code.proofs.StatementFronts.{front_qualified}
 use Rattle.op_parse_code.specs.Refusal.{Phrase, SameHead}
 use Rattle.op_parse_code.specs.Whole.{NoMark}
 use Rattle.op_parse_code.specs.declared.mark.Mark.TheVariants as mark
-use Rattle.op_parse_decl.proofs.Fronts.{front_names, front_bracketed_names, front_denoter, front_denoters, front_field_lists}
+use Rattle.op_parse_decl.specs.Known.{same_cut}
+use Rattle.op_parse_decl.specs.Fronts.{front_names, front_bracketed_names, front_denoter, front_denoters, front_field_lists}
 use Rattle.op_parse_decl.specs.Types.{SomeNames, SomeBracketedNames, SomeQualified, SomeDenoter, DenotersBefore, FieldsBefore, RecordFields, record_fields, SomeIndices, no_indices, some_indices, SomeFields}
 use Rattle.op_scan.specs.declared.token.TokenKind.{TokenKind}
 use Rattle.op_scan.specs.declared.token.TokenKind.TheVariants as kind
@@ -43,16 +44,12 @@ not_dot (t ∷ r) h = at_kind t.kind t.position h
 
 -- ---- two parts
 
-same_cut : {f : List Terminal → List Terminal} (r x : List Terminal) → IsCut f → SameHead r x → SameHead (f r) (f x)
-same_cut r x cut_none s = s
-same_cut r x (cut_one t k) s = refl
-
 pub known_seq : {A B : Type 0} (P : Phrase A) (Q : Phrase B) → Known P → Known Q → Known (Seq P Q)
 known_seq P Q p q = record {
   front = λ d a ks m f.
       let s = p.front d a.0 ks f.0 f.1 in
       let u = q.front d a.1 f.0 m f.2 in
-      (λ x. s.0 (u.0 x), cut_join s.1 u.1, s.2 ∙ ap s.0 u.2, λ x h. (u.0 x, s.3 (u.0 x) (subst (λ z. SameHead z (u.0 x)) (sym u.2) (same_cut m x u.1 h)), u.3 x h));
+      (λ x. s.0 (u.0 x), cut_join s.1 u.1, s.2 ∙ ap s.0 u.2, λ x h. (u.0 x, s.3 (u.0 x) (subst (λ z. SameHead z (u.0 x)) (sym u.2) (same_cut u.1 m x h)), u.3 x h));
   same = λ d d' a a' ks m m' f f'. q.same d d' a.1 a'.1 f.0 m m' f.2 (subst (λ z. Q d' a'.1 z m') (sym (p.same d d' a.0 a'.0 ks f.0 f'.0 f.1 f'.1)) f'.2);
 }
 

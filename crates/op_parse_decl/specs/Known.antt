@@ -1,0 +1,100 @@
+-- What is known of phrases that are put together: they stand whatever follows that begins so, and end at one place.
+use Rattle.std.proofs.Common.{◌≡◌, ℕ, Bool, true, List, [], ◌∷◌, Option, Some, None, refl, sym, ap, ◌∙◌, subst}
+use Rattle.op_parse_code.proofs.Cuts.{IsCut, cut_none, cut_one, cut_join, same_not}
+use Rattle.op_parse_code.proofs.Factors.{same_begins}
+use Rattle.op_parse_code.proofs.Refusing.{Known, no_mark_same}
+use Rattle.op_parse_code.specs.Opening.{kind_of}
+use Rattle.op_parse_code.specs.Refusal.{Phrase, SameHead}
+use Rattle.op_parse_code.specs.Whole.{NoMark}
+use Rattle.op_parse_code.specs.declared.mark.Mark.{Mark}
+use Rattle.op_parse_decl.specs.Combined.{Both, Stands, stands, Then, then_, Behind, no_mark, behind_mark, Repeats, no_more, one_more}
+use Rattle.op_scan.specs.declared.token.TokenKind.{TokenKind}
+use Rattle.op_tree.proofs.ExpressionUnique.{Begins, behind}
+use Rattle.op_tree.proofs.StatementUnique.{both as apart, differ}
+use Rattle.op_tree.specs.Ends.{IsNot}
+use Rattle.op_tree.specs.Terminal.{Terminal, ◌at◌}
+use Rattle.op_tree.specs.declared.position.Position.{Position}
+
+pub same_cut : {f : List Terminal → List Terminal} → IsCut f → (r x : List Terminal) → SameHead r x → SameHead (f r) (f x)
+same_cut cut_none r x s = s
+same_cut (cut_one t k) r x s = refl
+
+-- Each part of Q is one of P, at the same tokens, and stands wherever that does.
+abbrev pub As : {A B : Type 0} → Phrase A → Phrase B → Type 0
+As {A} {B} P Q = (d : ℕ) (b : B) (ks r : List Terminal) → Q d b ks r → (a : A) × P d a ks r × ((ls s : List Terminal) → P d a ls s → Q d b ls s)
+
+pub known_as : {A B : Type 0} {P : Phrase A} {Q : Phrase B} → As P Q → Known P → Known Q
+known_as as_ known = record {
+  front = λ d b ks m q. let w = as_ d b ks m q in let f = known.front d w.0 ks m w.1 in (f.0, f.1, f.2, λ x s. w.2 (f.0 x) x (f.3 x s));
+  same = λ d d' b b' ks m m' q q'. let w = as_ d b ks m q in let w' = as_ d' b' ks m' q' in known.same d d' w.0 w'.0 ks m m' w.1 w'.1;
+}
+
+-- a mark that passes a test does not stand where the first token fails it
+pub no_mark_by : (m : Mark) (test : TokenKind → Bool) {ks : List Terminal} → test (kind_of m) ≡ true → IsNot test ks → NoMark m ks
+no_mark_by m test yes_ not_ p r h = differ test (sym h) yes_ not_
+
+pub mark_stands : {m : Mark} {d : ℕ} {u : Unit {0}} {ks r : List Terminal} → Stands m d u ks r → (p : Position) × (ks ≡ kind_of m at p ∷ r)
+mark_stands (stands {p = p}) = (p, refl)
+
+front_stands : {m : Mark} (d : ℕ) (u : Unit {0}) (ks r : List Terminal) → Stands m d u ks r → (f : List Terminal → List Terminal) × IsCut f × (ks ≡ f r) × ((z : List Terminal) → SameHead r z → Stands m d u (f z) z)
+front_stands {m = m} d u ks r (stands {p = p}) = (λ x. kind_of m at p ∷ x, cut_one (kind_of m at p) cut_none, refl, λ x h. stands)
+
+pub known_stands : (m : Mark) → Known (Stands m)
+known_stands m = record { front = front_stands; same = λ d d' u u' ks r r' p p'. ap behind (sym (mark_stands p).1 ∙ (mark_stands p').1) }
+
+front_then : {A B : Type 0} {P : Phrase A} {Q : Phrase B} → Known P → Known Q → (d : ℕ) (x : Both A B) (ks r : List Terminal) → Then P Q d x ks r → (f : List Terminal → List Terminal) × IsCut f × (ks ≡ f r) × ((z : List Terminal) → SameHead r z → Then P Q d x (f z) z)
+front_then one two d x ks r (then_ {a = a} {b = b} {m = m} p q) =
+    let f = one.front d a ks m p in
+    let g = two.front d b m r q in
+    (λ z. f.0 (g.0 z), cut_join f.1 g.1, f.2 ∙ ap f.0 g.2, λ z s. then_ (f.3 (g.0 z) (subst (λ y. SameHead y (g.0 z)) (sym g.2) (same_cut g.1 r z s))) (g.3 z s))
+
+same_then : {A B : Type 0} {P : Phrase A} {Q : Phrase B} → Known P → Known Q → (d d' : ℕ) (x x' : Both A B) (ks r r' : List Terminal) → Then P Q d x ks r → Then P Q d' x' ks r' → r ≡ r'
+same_then {Q = Q} one two d d' x x' ks r r' (then_ {a = a} {b = b} {m = m} p q) (then_ {a = a'} {b = b'} {m = m'} p' q') =
+    let e = one.same d d' a a' ks m m' p p' in
+    two.same d d' b b' m r r' q (subst (λ y. Q d' b' y r') (sym e) q')
+
+pub known_then : {A B : Type 0} {P : Phrase A} {Q : Phrase B} → Known P → Known Q → Known (Then P Q)
+known_then one two = record { front = front_then one two; same = same_then one two }
+
+front_behind : {A : Type 0} {m : Mark} {P : Phrase A} → Known P → (d : ℕ) (x : Option A) (ks r : List Terminal) → Behind m P d x ks r → (f : List Terminal → List Terminal) × IsCut f × (ks ≡ f r) × ((z : List Terminal) → SameHead r z → Behind m P d x (f z) z)
+front_behind {m = m} known d None ks r (no_mark none) = (λ z. z, cut_none, refl, λ z s. no_mark (no_mark_same m ks z s none))
+front_behind {m = m} known d (Some a) ks r (behind_mark {p = p} {ks = z} q) =
+    let f = known.front d a z r q in
+    (λ x. kind_of m at p ∷ f.0 x, cut_one (kind_of m at p) f.1, ap (λ y. kind_of m at p ∷ y) f.2, λ x s. behind_mark (f.3 x s))
+
+-- the mark stands there, with the part behind it, or it does not
+abbrev pub MayStand : {A : Type 0} → Mark → Phrase A → Phrase (Option A)
+MayStand m P d None ks r = NoMark m ks × (ks ≡ r)
+MayStand m P d (Some a) ks r = (p : Position) × (z : List Terminal) × (ks ≡ kind_of m at p ∷ z) × P d a z r
+
+pub may_stand : {A : Type 0} {m : Mark} {P : Phrase A} {d : ℕ} (x : Option A) {ks r : List Terminal} → Behind m P d x ks r → MayStand m P d x ks r
+may_stand None (no_mark none) = (none, refl)
+may_stand (Some a) (behind_mark {p = p} {ks = z} q) = (p, z, refl, q)
+
+same_optional : {A : Type 0} (m : Mark) {P : Phrase A} → Known P → (d d' : ℕ) (x x' : Option A) (ks r r' : List Terminal) → MayStand m P d x ks r → MayStand m P d' x' ks r' → r ≡ r'
+same_optional m known d d' None None ks r r' (none, e) (none', e') = sym e ∙ e'
+same_optional m known d d' None (Some a') ks r r' (none, e) (p, z, e', q) = absurd (none p z e')
+same_optional m known d d' (Some a) None ks r r' (p, z, e, q) (none, e') = absurd (none p z e)
+same_optional m {P = P} known d d' (Some a) (Some a') ks r r' (p, z, e, q) (p', z', e', q') = known.same d d' a a' z r r' q (subst (λ y. P d' a' y r') (ap behind (sym e' ∙ e)) q')
+
+pub known_behind : {A : Type 0} {m : Mark} {P : Phrase A} → Known P → Known (Behind m P)
+known_behind {m = m} known = record { front = front_behind known; same = λ d d' x x' ks r r' p p'. same_optional m known d d' x x' ks r r' (may_stand x p) (may_stand x' p') }
+
+front_repeats : {A : Type 0} {test : TokenKind → Bool} {P : Phrase A} → Known P → (d : ℕ) (as_ : List A) (ks r : List Terminal) → Repeats test P d as_ ks r → (f : List Terminal → List Terminal) × IsCut f × (ks ≡ f r) × ((z : List Terminal) → SameHead r z → Repeats test P d as_ (f z) z)
+front_repeats {test = test} known d [] ks r (no_more h) = (λ z. z, cut_none, refl, λ z s. no_more (same_not test ks z s h))
+front_repeats {test = test} known d (a ∷ as_) ks r (one_more {m = m} h p more) =
+    let f = known.front d a ks m p in
+    let g = front_repeats known d as_ m r more in
+    let whole : ks ≡ f.0 (g.0 r) = f.2 ∙ ap f.0 g.2 in
+    (λ z. f.0 (g.0 z), cut_join f.1 g.1, whole, λ z s. one_more (same_begins test ks (f.0 (g.0 z)) (subst (λ y. SameHead y (f.0 (g.0 z))) (sym whole) (same_cut (cut_join f.1 g.1) r z s)) h) (f.3 (g.0 z) (subst (λ y. SameHead y (g.0 z)) (sym g.2) (same_cut g.1 r z s))) (g.3 z s))
+
+same_repeats : {A : Type 0} {test : TokenKind → Bool} {P : Phrase A} → Known P → (d d' : ℕ) (as_ as' : List A) (ks r r' : List Terminal) → Repeats test P d as_ ks r → Repeats test P d' as' ks r' → r ≡ r'
+same_repeats known d d' [] [] ks r r' (no_more h) (no_more h') = refl
+same_repeats {test = test} known d d' [] (a' ∷ as') ks r r' (no_more h) (one_more h' p' more') = apart test ks h' h
+same_repeats {test = test} known d d' (a ∷ as_) [] ks r r' (one_more h p more) (no_more h') = apart test ks h h'
+same_repeats {test = test} {P = P} known d d' (a ∷ as_) (a' ∷ as') ks r r' (one_more {m = m} h p more) (one_more {m = m'} h' p' more') =
+    let e = known.same d d' a a' ks m m' p p' in
+    same_repeats known d d' as_ as' m r r' more (subst (λ y. Repeats test P d' as' y r') (sym e) more')
+
+pub known_repeats : {A : Type 0} {test : TokenKind → Bool} {P : Phrase A} → Known P → Known (Repeats test P)
+known_repeats known = record { front = front_repeats known; same = same_repeats known }
