@@ -1,16 +1,17 @@
 -- What is known of phrases that are put together, and what refuses them.
-use Rattle.std.proofs.Common.{◌≡◌, ℕ, Bool, true, false, List, [], ◌∷◌, ◌++◌, Option, Some, None, map, append_assoc, refl, sym, ap, ◌∙◌, subst}
+use Rattle.std.proofs.Common.{◌≡◌, ℕ, suc, Bool, true, false, List, [], ◌∷◌, ◌++◌, Option, Some, None, map, append_assoc, refl, sym, ap, ◌∙◌, subst}
 use Rattle.op_base.specs.declared.place.Place.{Place}
+use Rattle.op_parse_code.proofs.Cuts.{same_not}
 use Rattle.op_parse_code.proofs.Factors.{same_begins}
-use Rattle.op_parse_code.proofs.Refusing.{Some_, Seq, Known, no_mark_same, refuses_map, refuses_first, refuses_after, refuses_behind}
+use Rattle.op_parse_code.proofs.Refusing.{Some_, Seq, Known, no_mark_same, refuses_map, refuses_first, refuses_after, refuses_behind, refuses_deeper, dead_here}
 use Rattle.op_parse_code.specs.Opening.{kind_of}
-use Rattle.op_parse_code.specs.Refusal.{Phrase, SameHead, Refuses}
+use Rattle.op_parse_code.specs.Refusal.{Phrase, SameHead, Refuses, nested, decides_there, refused_at}
 use Rattle.op_parse_code.specs.Whole.{Marked, NoMark}
 use Rattle.op_parse_code.specs.WholeStatement.{front_is}
 use Rattle.op_parse_code.specs.declared.error.ParseError.{ParseError}
 use Rattle.op_parse_code.specs.declared.mark.Mark.{Mark}
 use Rattle.op_parse_decl.specs.Known.{As, MayStand, may_stand, mark_stands}
-use Rattle.op_parse_decl.specs.Combined.{Both, Stands, stands, Then, then_, Behind, no_mark, behind_mark, Repeats, no_more, one_more}
+use Rattle.op_parse_decl.specs.Combined.{Both, Stands, stands, Then, then_, Behind, no_mark, behind_mark, Repeats, no_more, one_more, Or, this, that, Choice, chosen, otherwise, Deeper, deeper}
 use Rattle.op_scan.specs.declared.token.TokenKind.{TokenKind}
 use Rattle.op_tree.proofs.ExpressionUnique.{Begins, behind}
 use Rattle.op_tree.proofs.StatementUnique.{both as apart}
@@ -98,3 +99,36 @@ append_none (x ∷ xs) = ap (λ z. x ∷ z) (append_none xs)
 
 pub repeating_ends : {A X : Type 0} (test : TokenKind → Bool) (P : Phrase A) (says : X → A) (d : ℕ) (end : Place) (all rest : List Terminal) (xs : List X) → Repeating test P says d end all xs rest → IsNot test rest → Repeats test P d (map says xs) all rest
 repeating_ends test P says d end all rest xs so_far h = subst (λ z. Repeats test P d z all rest) (append_none (map says xs)) (so_far.completes [] rest (no_more h))
+
+-- ---- a choice
+
+into_chosen : {A B : Type 0} {test : TokenKind → Bool} {P : Phrase A} {Q : Phrase B} (ks : List Terminal) → Begins test ks → (d : ℕ) (x : Or A B) (ls r : List Terminal) → SameHead ks ls → Choice test P Q d x ls r → Some_ P d ls
+into_chosen ks h d (this a) ls r s (chosen h' p) = (a, r, p)
+into_chosen {test = test} ks h d (that b) ls r s (otherwise h' p) = apart test ls (same_begins test ks ls s h) h'
+
+into_other : {A B : Type 0} {test : TokenKind → Bool} {P : Phrase A} {Q : Phrase B} (ks : List Terminal) → IsNot test ks → (d : ℕ) (x : Or A B) (ls r : List Terminal) → SameHead ks ls → Choice test P Q d x ls r → Some_ Q d ls
+into_other {test = test} ks h d (this a) ls r s (chosen h' p) = apart test ls h' (same_not test ks ls s h)
+into_other ks h d (that b) ls r s (otherwise h' p) = (b, r, p)
+
+pub chosen_refused : {A B : Type 0} {test : TokenKind → Bool} {P : Phrase A} {Q : Phrase B} {d : ℕ} {end : Place} {ks : List Terminal} {e : ParseError} → Begins test ks → Refuses P d end ks e → Refuses (Choice test P Q) d end ks e
+chosen_refused {P = P} {ks = ks} h f = refuses_map P _ _ _ ks _ (into_chosen ks h) f
+
+pub otherwise_refused : {A B : Type 0} {test : TokenKind → Bool} {P : Phrase A} {Q : Phrase B} {d : ℕ} {end : Place} {ks : List Terminal} {e : ParseError} → IsNot test ks → Refuses Q d end ks e → Refuses (Choice test P Q) d end ks e
+otherwise_refused {Q = Q} {ks = ks} h f = refuses_map Q _ _ _ ks _ (into_other ks h) f
+
+-- ---- one deeper
+
+into_deeper : {A : Type 0} {P : Phrase A} (d : ℕ) (b : A) (ls r : List Terminal) → Deeper P d b ls r → (i : ℕ) × (d ≡ suc i) × Some_ P i ls
+into_deeper d b ls r (deeper {d = i} p) = (i, refl, (b, r, p))
+
+no_room : {A : Type 0} {P : Phrase A} (b : A) (ls r : List Terminal) → Deeper P 0 b ls r → ⊥
+no_room b ls r h = elim h [ ]
+
+pub too_deep : {A : Type 0} {P : Phrase A} {d : ℕ} {end : Place} {ks : List Terminal} {e : ParseError} → d ≡ 0 → e ≡ refused_at 61 0 end ks → Refuses (Deeper P) d end ks e
+too_deep {P = P} {end = end} {ks = ks} {e = e} z x = subst (λ (w : ℕ). Refuses (Deeper P) w end ks e) (sym z) (nested ks ks x decides_there (dead_here (Deeper P 0) ks (λ b ls r s f. no_room b ls r f)))
+
+pub deeper_refused : {A : Type 0} {P : Phrase A} {d i : ℕ} {end : Place} {ks : List Terminal} {e : ParseError} → d ≡ suc i → Refuses P i end ks e → Refuses (Deeper P) d end ks e
+deeper_refused {P = P} {i = i} {end = end} {ks = ks} {e = e} z h = subst (λ (w : ℕ). Refuses (Deeper P) w end ks e) (sym z) (refuses_deeper P (Deeper P) i end ks e (λ d' b ls r s x. into_deeper d' b ls r x) h)
+
+pub deeper_whole : {A : Type 0} {P : Phrase A} {d i : ℕ} {a : A} {ks r : List Terminal} → d ≡ suc i → P i a ks r → Deeper P d a ks r
+deeper_whole {P = P} {a = a} {ks = ks} {r = r} z h = subst (λ (w : ℕ). Deeper P w a ks r) (sym z) (deeper h)

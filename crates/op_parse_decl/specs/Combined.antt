@@ -1,5 +1,5 @@
 -- Phrases that are put together.
-use Rattle.std.specs.Prelude.{◌≡◌, ℕ, Bool, List, [], ◌∷◌, Option, Some, None}
+use Rattle.std.specs.Prelude.{◌≡◌, ℕ, suc, Bool, List, [], ◌∷◌, Option, Some, None}
 use Rattle.op_parse_code.specs.Opening.{kind_of}
 use Rattle.op_parse_code.specs.Refusal.{Phrase}
 use Rattle.op_parse_code.specs.Whole.{NoMark}
@@ -30,3 +30,20 @@ pub data Behind {A : Type 0} (m : Mark) (P : Phrase A) : ℕ → Option A → Li
 pub data Repeats {A : Type 0} (test : TokenKind → Bool) (P : Phrase A) : ℕ → List A → List Terminal → List Terminal → Type 0 where
   no_more : {d : ℕ} {ks : List Terminal} → IsNot test ks → Repeats test P d [] ks ks
   one_more : {d : ℕ} {a : A} {as_ : List A} {ks m r : List Terminal} → Begins test ks → P d a ks m → Repeats test P d as_ m r → Repeats test P d (a ∷ as_) ks r
+
+pub data Or (A B : Type 0) : Type 0 where
+  this : (this : A) → Or A B
+  that : (that : B) → Or A B
+
+-- one part where the first token passes the test, else another
+pub data Choice {A B : Type 0} (test : TokenKind → Bool) (P : Phrase A) (Q : Phrase B) : ℕ → Or A B → List Terminal → List Terminal → Type 0 where
+  chosen : {d : ℕ} {a : A} {ks r : List Terminal} → Begins test ks → P d a ks r → Choice test P Q d (this a) ks r
+  otherwise : {d : ℕ} {b : B} {ks r : List Terminal} → IsNot test ks → Q d b ks r → Choice test P Q d (that b) ks r
+
+-- a part that is counted, one deeper
+pub data Deeper {A : Type 0} (P : Phrase A) : ℕ → A → List Terminal → List Terminal → Type 0 where
+  deeper : {d : ℕ} {a : A} {ks r : List Terminal} → P d a ks r → Deeper P (suc d) a ks r
+
+-- nothing
+pub data Nothing : ℕ → Unit {0} → List Terminal → List Terminal → Type 0 where
+  nothing : {d : ℕ} {ks : List Terminal} → Nothing d tt ks ks

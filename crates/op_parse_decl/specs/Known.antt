@@ -7,7 +7,7 @@ use Rattle.op_parse_code.specs.Opening.{kind_of}
 use Rattle.op_parse_code.specs.Refusal.{Phrase, SameHead}
 use Rattle.op_parse_code.specs.Whole.{NoMark}
 use Rattle.op_parse_code.specs.declared.mark.Mark.{Mark}
-use Rattle.op_parse_decl.specs.Combined.{Both, Stands, stands, Then, then_, Behind, no_mark, behind_mark, Repeats, no_more, one_more}
+use Rattle.op_parse_decl.specs.Combined.{Both, Stands, stands, Then, then_, Behind, no_mark, behind_mark, Repeats, no_more, one_more, Or, this, that, Choice, chosen, otherwise, Deeper, deeper, Nothing, nothing}
 use Rattle.op_scan.specs.declared.token.TokenKind.{TokenKind}
 use Rattle.op_tree.proofs.ExpressionUnique.{Begins, behind}
 use Rattle.op_tree.proofs.StatementUnique.{both as apart, differ}
@@ -98,3 +98,38 @@ same_repeats {test = test} {P = P} known d d' (a ∷ as_) (a' ∷ as') ks r r' (
 
 pub known_repeats : {A : Type 0} {test : TokenKind → Bool} {P : Phrase A} → Known P → Known (Repeats test P)
 known_repeats known = record { front = front_repeats known; same = same_repeats known }
+
+front_choice : {A B : Type 0} {test : TokenKind → Bool} {P : Phrase A} {Q : Phrase B} → Known P → Known Q → (d : ℕ) (x : Or A B) (ks r : List Terminal) → Choice test P Q d x ks r → (f : List Terminal → List Terminal) × IsCut f × (ks ≡ f r) × ((z : List Terminal) → SameHead r z → Choice test P Q d x (f z) z)
+front_choice {test = test} known known' d (this a) ks r (chosen h p) =
+    let f = known.front d a ks r p in
+    (f.0, f.1, f.2, λ z s. chosen (same_begins test ks (f.0 z) (subst (λ y. SameHead y (f.0 z)) (sym f.2) (same_cut f.1 r z s)) h) (f.3 z s))
+front_choice {test = test} known known' d (that b) ks r (otherwise h p) =
+    let f = known'.front d b ks r p in
+    (f.0, f.1, f.2, λ z s. otherwise (same_not test ks (f.0 z) (subst (λ y. SameHead y (f.0 z)) (sym f.2) (same_cut f.1 r z s)) h) (f.3 z s))
+
+same_choice : {A B : Type 0} {test : TokenKind → Bool} {P : Phrase A} {Q : Phrase B} → Known P → Known Q → (d d' : ℕ) (x x' : Or A B) (ks r r' : List Terminal) → Choice test P Q d x ks r → Choice test P Q d' x' ks r' → r ≡ r'
+same_choice known known' d d' (this a) (this a') ks r r' (chosen h p) (chosen h' p') = known.same d d' a a' ks r r' p p'
+same_choice {test = test} known known' d d' (this a) (that b) ks r r' (chosen h p) (otherwise h' p') = apart test ks h h'
+same_choice {test = test} known known' d d' (that b) (this a) ks r r' (otherwise h p) (chosen h' p') = apart test ks h' h
+same_choice known known' d d' (that b) (that b') ks r r' (otherwise h p) (otherwise h' p') = known'.same d d' b b' ks r r' p p'
+
+pub known_choice : {A B : Type 0} {test : TokenKind → Bool} {P : Phrase A} {Q : Phrase B} → Known P → Known Q → Known (Choice test P Q)
+known_choice known known' = record { front = front_choice known known'; same = same_choice known known' }
+
+front_deeper : {A : Type 0} {P : Phrase A} → Known P → (d : ℕ) (x : A) (ks r : List Terminal) → Deeper P d x ks r → (f : List Terminal → List Terminal) × IsCut f × (ks ≡ f r) × ((z : List Terminal) → SameHead r z → Deeper P d x (f z) z)
+front_deeper known d x ks r (deeper {d = i} p) = let f = known.front i x ks r p in (f.0, f.1, f.2, λ z s. deeper (f.3 z s))
+
+same_deeper : {A : Type 0} {P : Phrase A} → Known P → (d d' : ℕ) (x x' : A) (ks r r' : List Terminal) → Deeper P d x ks r → Deeper P d' x' ks r' → r ≡ r'
+same_deeper known d d' x x' ks r r' (deeper {d = i} p) (deeper {d = i'} p') = known.same i i' x x' ks r r' p p'
+
+pub known_deeper : {A : Type 0} {P : Phrase A} → Known P → Known (Deeper P)
+known_deeper known = record { front = front_deeper known; same = same_deeper known }
+
+front_nothing : (d : ℕ) (x : Unit {0}) (ks r : List Terminal) → Nothing d x ks r → (f : List Terminal → List Terminal) × IsCut f × (ks ≡ f r) × ((z : List Terminal) → SameHead r z → Nothing d x (f z) z)
+front_nothing d x ks r nothing = (λ z. z, cut_none, refl, λ z s. nothing)
+
+same_nothing : (d d' : ℕ) (x x' : Unit {0}) (ks r r' : List Terminal) → Nothing d x ks r → Nothing d' x' ks r' → r ≡ r'
+same_nothing d d' x x' ks r r' nothing nothing = refl
+
+pub known_nothing : Known Nothing
+known_nothing = record { front = front_nothing; same = same_nothing }

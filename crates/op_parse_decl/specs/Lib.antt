@@ -8,3 +8,4 @@ pub mod Fronts
 pub mod KnownTypes
 pub mod Later
 pub mod Produced
+pub mod Either

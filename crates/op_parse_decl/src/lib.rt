@@ -4,6 +4,7 @@
 //! as those of op_parse_code.
 #![tactic(auto)]
 
+mod choice;
 mod class;
 mod declaration;
 mod declared_form;

@@ -1,0 +1,8 @@
+-- What a choice of two parts says.
+use Rattle.op_parse_decl.specs.Combined.{Or, this, that}
+use Rattle.op_parse_decl.specs.declared.choice.Either.{Either}
+use Rattle.op_parse_decl.specs.declared.choice.Either.TheVariants as either
+
+abbrev pub either_of : {X Y A B : Type 0} → (X → A) → (Y → B) → Either X Y → Or A B
+either_of f g (either.First x) = this (f x)
+either_of f g (either.Second y) = that (g y)
