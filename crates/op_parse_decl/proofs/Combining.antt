@@ -10,8 +10,8 @@ use Rattle.op_parse_code.specs.Whole.{Marked, NoMark}
 use Rattle.op_parse_code.specs.WholeStatement.{front_is}
 use Rattle.op_parse_code.specs.declared.error.ParseError.{ParseError}
 use Rattle.op_parse_code.specs.declared.mark.Mark.{Mark}
-use Rattle.op_parse_decl.specs.Known.{As, MayStand, may_stand, mark_stands}
-use Rattle.op_parse_decl.specs.Combined.{Both, Stands, stands, Then, then_, Behind, no_mark, behind_mark, Repeats, no_more, one_more, Or, this, that, Choice, chosen, otherwise, Deeper, deeper}
+use Rattle.op_parse_decl.specs.Known.{As, Forked, forked, MayStand, may_stand, mark_stands}
+use Rattle.op_parse_decl.specs.Combined.{Both, Stands, stands, Then, then_, Behind, no_mark, behind_mark, Repeats, no_more, one_more, Or, this, that, Choice, chosen, otherwise, Deeper, deeper, Fork, marked}
 use Rattle.op_scan.specs.declared.token.TokenKind.{TokenKind}
 use Rattle.op_tree.proofs.ExpressionUnique.{Begins, behind}
 use Rattle.op_tree.proofs.StatementUnique.{both as apart}
@@ -132,3 +132,22 @@ deeper_refused {P = P} {i = i} {end = end} {ks = ks} {e = e} z h = subst (λ (w 
 
 pub deeper_whole : {A : Type 0} {P : Phrase A} {d i : ℕ} {a : A} {ks r : List Terminal} → d ≡ suc i → P i a ks r → Deeper P d a ks r
 deeper_whole {P = P} {a = a} {ks = ks} {r = r} z h = subst (λ (w : ℕ). Deeper P w a ks r) (sym z) (deeper h)
+
+-- ---- a mark that may stand there
+
+into_marked : {A B : Type 0} (m : Mark) (P : Phrase A) (Q : Phrase B) (p : Position) (d : ℕ) (x : Or A B) (ls r : List Terminal) → Forked m P Q d x (kind_of m at p ∷ ls) r → Some_ P d ls
+into_marked m P Q p d (this a) ls r (q, z, e, f) = (a, r, subst (λ y. P d a y r) (sym (ap behind e)) f)
+into_marked m P Q p d (that b) ls r (none, f) = absurd (none p ls refl)
+
+pub marked_refused : {A B : Type 0} (m : Mark) (P : Phrase A) (Q : Phrase B) (d : ℕ) (end : Place) (p : Position) (ks after : List Terminal) (e : ParseError) → ks ≡ kind_of m at p ∷ after → Refuses P d end after e → Refuses (Fork m P Q) d end ks e
+marked_refused m P Q d end p ks after e is h = subst (λ z. Refuses (Fork m P Q) d end z e) (sym is) (refuses_behind P (Fork m P Q) d end (kind_of m at p) after e (λ d' x ls r q. into_marked m P Q p d' x ls r (forked x q)) h)
+
+pub marked_is : {A B : Type 0} (m : Mark) (P : Phrase A) (Q : Phrase B) (d : ℕ) (a : A) (p : Position) (ks after r : List Terminal) → ks ≡ kind_of m at p ∷ after → P d a after r → Fork m P Q d (this a) ks r
+marked_is m P Q d a p ks after r e f = subst (λ z. Fork m P Q d (this a) z r) (sym e) (marked f)
+
+into_unmarked : {A B : Type 0} (m : Mark) (P : Phrase A) (Q : Phrase B) (ks : List Terminal) → NoMark m ks → (d : ℕ) (x : Or A B) (ls r : List Terminal) → SameHead ks ls → Forked m P Q d x ls r → Some_ Q d ls
+into_unmarked m P Q ks none d (this a) ls r s (q, z, e, f) = absurd (no_mark_same m ks ls s none q z e)
+into_unmarked m P Q ks none d (that b) ls r s (none', f) = (b, r, f)
+
+pub unmarked_refused : {A B : Type 0} (m : Mark) (P : Phrase A) (Q : Phrase B) (d : ℕ) (end : Place) (ks : List Terminal) (e : ParseError) → NoMark m ks → Refuses Q d end ks e → Refuses (Fork m P Q) d end ks e
+unmarked_refused m P Q d end ks e none h = refuses_map Q (Fork m P Q) d end ks e (λ d' x ls r s q. into_unmarked m P Q ks none d' x ls r s (forked x q)) h

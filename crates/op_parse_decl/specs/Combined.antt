@@ -47,3 +47,8 @@ pub data Deeper {A : Type 0} (P : Phrase A) : ℕ → A → List Terminal → Li
 -- nothing
 pub data Nothing : ℕ → Unit {0} → List Terminal → List Terminal → Type 0 where
   nothing : {d : ℕ} {ks : List Terminal} → Nothing d tt ks ks
+
+-- one part behind a mark, or another where the mark does not stand
+pub data Fork {A B : Type 0} (m : Mark) (P : Phrase A) (Q : Phrase B) : ℕ → Or A B → List Terminal → List Terminal → Type 0 where
+  marked : {d : ℕ} {a : A} {p : Position} {ks r : List Terminal} → P d a ks r → Fork m P Q d (this a) (kind_of m at p ∷ ks) r
+  unmarked : {d : ℕ} {b : B} {ks r : List Terminal} → NoMark m ks → Q d b ks r → Fork m P Q d (that b) ks r

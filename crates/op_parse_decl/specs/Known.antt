@@ -7,7 +7,7 @@ use Rattle.op_parse_code.specs.Opening.{kind_of}
 use Rattle.op_parse_code.specs.Refusal.{Phrase, SameHead}
 use Rattle.op_parse_code.specs.Whole.{NoMark}
 use Rattle.op_parse_code.specs.declared.mark.Mark.{Mark}
-use Rattle.op_parse_decl.specs.Combined.{Both, Stands, stands, Then, then_, Behind, no_mark, behind_mark, Repeats, no_more, one_more, Or, this, that, Choice, chosen, otherwise, Deeper, deeper, Nothing, nothing}
+use Rattle.op_parse_decl.specs.Combined.{Both, Stands, stands, Then, then_, Behind, no_mark, behind_mark, Repeats, no_more, one_more, Or, this, that, Choice, chosen, otherwise, Deeper, deeper, Nothing, nothing, Fork, marked, unmarked}
 use Rattle.op_scan.specs.declared.token.TokenKind.{TokenKind}
 use Rattle.op_tree.proofs.ExpressionUnique.{Begins, behind}
 use Rattle.op_tree.proofs.StatementUnique.{both as apart, differ}
@@ -133,3 +133,29 @@ same_nothing d d' x x' ks r r' nothing nothing = refl
 
 pub known_nothing : Known Nothing
 known_nothing = record { front = front_nothing; same = same_nothing }
+
+-- the mark with the part behind it, or no mark and the other part
+abbrev pub Forked : {A B : Type 0} → Mark → Phrase A → Phrase B → Phrase (Or A B)
+Forked m P Q d (this a) ks r = (p : Position) × (z : List Terminal) × (ks ≡ kind_of m at p ∷ z) × P d a z r
+Forked m P Q d (that b) ks r = NoMark m ks × Q d b ks r
+
+pub forked : {A B : Type 0} {m : Mark} {P : Phrase A} {Q : Phrase B} {d : ℕ} (x : Or A B) {ks r : List Terminal} → Fork m P Q d x ks r → Forked m P Q d x ks r
+forked (this a) (marked {p = p} {ks = z} q) = (p, z, refl, q)
+forked (that b) (unmarked none q) = (none, q)
+
+front_fork : {A B : Type 0} {m : Mark} {P : Phrase A} {Q : Phrase B} → Known P → Known Q → (d : ℕ) (x : Or A B) (ks r : List Terminal) → Fork m P Q d x ks r → (f : List Terminal → List Terminal) × IsCut f × (ks ≡ f r) × ((z : List Terminal) → SameHead r z → Fork m P Q d x (f z) z)
+front_fork {m = m} known known' d (this a) ks r (marked {p = p} {ks = z} q) =
+    let f = known.front d a z r q in
+    (λ x. kind_of m at p ∷ f.0 x, cut_one (kind_of m at p) f.1, ap (λ y. kind_of m at p ∷ y) f.2, λ x s. marked (f.3 x s))
+front_fork {m = m} known known' d (that b) ks r (unmarked none q) =
+    let f = known'.front d b ks r q in
+    (f.0, f.1, f.2, λ z s. unmarked (no_mark_same m ks (f.0 z) (subst (λ y. SameHead y (f.0 z)) (sym f.2) (same_cut f.1 r z s)) none) (f.3 z s))
+
+same_fork : {A B : Type 0} (m : Mark) (P : Phrase A) (Q : Phrase B) → Known P → Known Q → (d d' : ℕ) (x x' : Or A B) (ks r r' : List Terminal) → Forked m P Q d x ks r → Forked m P Q d' x' ks r' → r ≡ r'
+same_fork m P Q known known' d d' (this a) (this a') ks r r' (p, z, e, q) (p', z', e', q') = known.same d d' a a' z r r' q (subst (λ y. P d' a' y r') (ap behind (sym e' ∙ e)) q')
+same_fork m P Q known known' d d' (this a) (that b) ks r r' (p, z, e, q) (none, q') = absurd (none p z e)
+same_fork m P Q known known' d d' (that b) (this a) ks r r' (none, q) (p, z, e, q') = absurd (none p z e)
+same_fork m P Q known known' d d' (that b) (that b') ks r r' (none, q) (none', q') = known'.same d d' b b' ks r r' q q'
+
+pub known_fork : {A B : Type 0} {m : Mark} {P : Phrase A} {Q : Phrase B} → Known P → Known Q → Known (Fork m P Q)
+known_fork {m = m} {P = P} {Q = Q} known known' = record { front = front_fork known known'; same = λ d d' x x' ks r r' p p'. same_fork m P Q known known' d d' x x' ks r r' (forked x p) (forked x' p') }

@@ -1,13 +1,14 @@
 //! Choices by the first token, parts one deeper, and forms that are left out.
 ghost use Rattle.std.specs.Prelude.{◌≡◌, IfSome};
 ghost use Rattle.op_parse_code.specs.Form.{HasForm};
-ghost use Rattle.op_parse_decl.specs.Combined.{Choice, Deeper, Nothing, Or};
-ghost use Rattle.op_parse_decl.specs.Either.{either_of};
-ghost use Rattle.op_parse_decl.specs.Known.{known_choice, known_deeper, known_nothing};
+ghost use Rattle.op_parse_decl.specs.Combined.{Choice, Deeper, Fork, Nothing, Or};
+ghost use Rattle.op_parse_decl.specs.Either.{either_of, fork_of};
+ghost use Rattle.op_parse_decl.specs.Known.{known_choice, known_deeper, known_fork, known_nothing};
 ghost use Rattle.op_tree.specs.Terminal.{terminals};
 
 use crate::part::{Answer, Item, Part, Setting};
-use op_parse_code::shared::{enter, left_out};
+use crate::sign::Sign;
+use op_parse_code::shared::{behind_mark, enter, left_out};
 use op_scan::Token;
 use std::marker::PhantomData;
 
@@ -37,6 +38,38 @@ impl<A: Item, B: Part> Part for Either<A, B> {
     }
 
     ghost known = { known_choice A.known B.known };
+}
+
+/// One part behind a mark, or another where the mark does not stand.
+#[derive(Drop)]
+pub enum Fork<S: Sign, A, B> {
+    Marked(A, PhantomData<S>),
+    Unmarked(B),
+}
+
+impl<S: Sign, A: Part, B: Part> Part for Fork<S, A, B> {
+    ghost Said = { Or A.Said B.Said };
+
+    ghost says = { fork_of A.says B.says };
+
+    ghost phrase = { Fork S.sign A.phrase B.phrase };
+
+    ghost least = { 0 };
+
+    fn read<'a>(setting: Setting, tokens: &'a [Token]) -> Answer<'a, Fork<S, A, B>> {
+        match behind_mark(S::sign(), tokens) {
+            Some(after) => {
+                let (part, rest) = A::read(setting, after)?;
+                Ok((Fork::Marked(part, PhantomData), rest))
+            }
+            None => {
+                let (part, rest) = B::read(setting, tokens)?;
+                Ok((Fork::Unmarked(part), rest))
+            }
+        }
+    }
+
+    ghost known = { known_fork A.known B.known };
 }
 
 /// No part.
