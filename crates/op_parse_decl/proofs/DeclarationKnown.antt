@@ -11,7 +11,7 @@ use Rattle.op_parse_code.specs.declared.error.ParseError.{ParseError}
 use Rattle.op_parse_code.specs.declared.mark.Mark.TheVariants as mark
 use Rattle.op_parse_decl.proofs.Combining.{As, known_as, refuses_as, first, after, known_then, known_behind}
 use Rattle.op_parse_decl.specs.KnownTypes.{known_denoter, known_names}
-use Rattle.op_parse_decl.proofs.HeadingKnown.{known_optional_type}
+use Rattle.op_parse_decl.specs.HeadingKnown.{known_optional_type}
 use Rattle.op_parse_decl.specs.Later.{known_initial}
 use Rattle.op_parse_decl.specs.Combined.{Both, both, Then, then_, Behind, no_mark, behind_mark}
 use Rattle.op_parse_decl.specs.Declarations.{DefinitionBefore, SomeFirstValue}

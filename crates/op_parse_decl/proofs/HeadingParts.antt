@@ -8,7 +8,7 @@ use Rattle.op_parse_code.specs.Refusal.{Phrase, SameHead, Refuses, syntax, refus
 use Rattle.op_parse_code.specs.Whole.{Marked, NoMark, SomeName}
 use Rattle.op_parse_code.specs.declared.error.ParseError.{ParseError}
 use Rattle.op_parse_code.specs.declared.mark.Mark.TheVariants as mark
-use Rattle.op_parse_decl.proofs.HeadingKnown.{known_part, known_routine_name, known_optional_type}
+use Rattle.op_parse_decl.specs.HeadingKnown.{known_part, known_routine_name, known_optional_type}
 use Rattle.op_parse_decl.specs.Headings.{SomeHeading, SomeParameterPart, part_missing, part_empty, part_given, SomeRoutineName}
 use Rattle.op_parse_decl.specs.Types.{SomeDenoter, SomeOptionalType}
 use Rattle.op_scan.specs.declared.token.TokenKind.{TokenKind}

@@ -2,8 +2,6 @@ pub mod NameLists
 pub mod Denoters
 pub mod Fields
 pub mod Bounds
-pub mod HeadingFronts
-pub mod HeadingKnown
 pub mod HeadingParts
 pub mod Methods
 pub mod Enumerations

@@ -9,7 +9,7 @@ use Rattle.op_parse_code.specs.Refusal.{Phrase, SameHead, Refuses, left_out, ref
 use Rattle.op_parse_code.specs.Whole.{Marked}
 use Rattle.op_parse_code.specs.declared.error.ParseError.{ParseError}
 use Rattle.op_parse_code.specs.declared.mark.Mark.TheVariants as mark
-use Rattle.op_parse_decl.proofs.HeadingKnown.{known_part, known_routine_name, known_optional_type}
+use Rattle.op_parse_decl.specs.HeadingKnown.{known_part, known_routine_name, known_optional_type}
 use Rattle.op_parse_decl.proofs.HeadingParts.{Rest, Result, heading_seq, heading_whole}
 use Rattle.op_parse_decl.specs.KnownTypes.{known_seq}
 use Rattle.op_parse_decl.specs.Headings.{SomeHeading, SomeDirectives, SomeMethod, IsDirective, SomeParameterPart, SomeRoutineName}

@@ -52,3 +52,7 @@ pub data Nothing : ℕ → Unit {0} → List Terminal → List Terminal → Type
 pub data Fork {A B : Type 0} (m : Mark) (P : Phrase A) (Q : Phrase B) : ℕ → Or A B → List Terminal → List Terminal → Type 0 where
   marked : {d : ℕ} {a : A} {p : Position} {ks r : List Terminal} → P d a ks r → Fork m P Q d (this a) (kind_of m at p ∷ ks) r
   unmarked : {d : ℕ} {b : B} {ks r : List Terminal} → NoMark m ks → Q d b ks r → Fork m P Q d (that b) ks r
+
+-- nothing, where the first token passes the test
+pub data Ahead (test : TokenKind → Bool) : ℕ → Unit {0} → List Terminal → List Terminal → Type 0 where
+  ahead : {d : ℕ} {ks : List Terminal} → Begins test ks → Ahead test d tt ks ks

@@ -10,11 +10,11 @@ use Rattle.op_parse_decl.specs.declared.routine.Part.{Part}
 use Rattle.op_parse_decl.specs.declared.routine.Part.TheVariants as part
 use Rattle.op_scan.specs.declared.token.TokenKind.{TokenKind}
 use Rattle.op_scan.specs.declared.token.TokenKind.TheVariants as kind
-use Rattle.op_tree.specs.Declaration.{Declaration, Method, Body, TypeDefinition, Declarations, no_declarations, declarations, heading}
+use Rattle.op_tree.specs.Declaration.{Declaration, Heading, Method, Body, TypeDefinition, Declarations, no_declarations, declarations, heading, routine}
 use Rattle.op_tree.specs.DeclarationGrammar.{IsDefinition, IsDataDeclaration, IsRoutine, IsBody}
 use Rattle.op_tree.specs.Ends.{IsNot}
 use Rattle.op_tree.specs.File.{File}
-use Rattle.op_tree.specs.FileGrammar.{IsFile, IsProgramHeading}
+use Rattle.op_tree.specs.FileGrammar.{BeginAt, IsFile, IsProgramHeading}
 use Rattle.op_tree.specs.HeadingGrammar.{AreDirectives, IsMethod, IsIdentifier, directive_of}
 use Rattle.op_tree.specs.Initial.{Initial}
 use Rattle.op_tree.specs.NameGrammar.{IsName, AreNames}
@@ -68,6 +68,13 @@ SomeIdentifier d text ks r = IsIdentifier d text ks r × NoMark mark.OpenBracket
 
 -- ---- declarations
 
+-- the kind begins constants, types or variables
+abbrev pub begins_data : TokenKind → Bool
+begins_data kind.Const_ = true
+begins_data kind.Type_ = true
+begins_data kind.Var = true
+begins_data other = false
+
 -- the kind begins a declaration
 abbrev pub begins_declaration : TokenKind → Bool
 begins_declaration kind.Const_ = true
@@ -92,7 +99,19 @@ pub data SomeDeclaration : Part → ℕ → Declaration → List Terminal → Li
 abbrev pub BodyBefore : Phrase Body
 BodyBefore d b ks r = (q : Position) × IsBody d b ks (kind.Semicolon at q ∷ r)
 
+-- the word `type`
+pub data IsTypeWord : ℕ → Unit {0} → List Terminal → List Terminal → Type 0 where
+  is_type_word : {d : ℕ} {p : Position} {r : List Terminal} → IsTypeWord d tt (kind.Type_ at p ∷ r) r
+
+-- the heading, the directives and the body of a routine, and the semicolon behind it
+abbrev pub RoutineBehind : Phrase (Heading × List Directive × Body)
+RoutineBehind d x ks r = IsRoutine (suc d) (routine x.0 x.1 x.2) ks r
+
 -- ---- files
+
+-- nothing, where the first of the tokens stands there
+abbrev pub StandsHere : Phrase Position
+StandsHere d p ks r = BeginAt p ks × (ks ≡ r)
 
 -- [uses], none where the word does not stand there
 pub data SomeUses : ℕ → List Name → List Terminal → List Terminal → Type 0 where

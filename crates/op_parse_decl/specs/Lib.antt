@@ -7,5 +7,7 @@ pub mod Opening
 pub mod Fronts
 pub mod KnownTypes
 pub mod Later
-pub mod Produced
+pub mod DeclarationParts
 pub mod Either
+pub mod HeadingFronts
+pub mod HeadingKnown

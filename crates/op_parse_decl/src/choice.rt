@@ -1,14 +1,14 @@
 //! Choices by the first token, parts one deeper, and forms that are left out.
 ghost use Rattle.std.specs.Prelude.{◌≡◌, IfSome};
 ghost use Rattle.op_parse_code.specs.Form.{HasForm};
-ghost use Rattle.op_parse_decl.specs.Combined.{Choice, Deeper, Fork, Nothing, Or};
+ghost use Rattle.op_parse_decl.specs.Combined.{Ahead, Choice, Deeper, Fork, Nothing, Or};
 ghost use Rattle.op_parse_decl.specs.Either.{either_of, fork_of};
-ghost use Rattle.op_parse_decl.specs.Known.{known_choice, known_deeper, known_fork, known_nothing};
+ghost use Rattle.op_parse_decl.specs.Known.{known_ahead, known_choice, known_deeper, known_fork, known_nothing};
 ghost use Rattle.op_tree.specs.Terminal.{terminals};
 
 use crate::part::{Answer, Item, Part, Setting};
 use crate::sign::Sign;
-use op_parse_code::shared::{behind_mark, enter, left_out};
+use op_parse_code::shared::{behind_mark, enter, left_out, syntax};
 use op_scan::Token;
 use std::marker::PhantomData;
 
@@ -90,6 +90,31 @@ impl Part for Empty {
     }
 
     ghost known = { known_nothing };
+}
+
+/// Nothing, where the next token begins such a part.
+#[derive(Drop)]
+pub struct Ahead<A> {
+    of: PhantomData<A>,
+}
+
+impl<A: Item> Part for Ahead<A> {
+    ghost Said = { Unit {0} };
+
+    ghost says = { λ _. tt };
+
+    ghost phrase = { Ahead A.test };
+
+    ghost least = { 0 };
+
+    fn read<'a>(setting: Setting, tokens: &'a [Token]) -> Answer<'a, Ahead<A>> {
+        if A::begins(tokens) {
+            return Ok((Ahead { of: PhantomData }, tokens));
+        }
+        Err(syntax(setting.end, tokens))
+    }
+
+    ghost known = { known_ahead };
 }
 
 /// A part that is counted.

@@ -11,8 +11,8 @@ use crate::declared_form::{
 };
 use crate::denoter::{denoter, fields_of_one_type};
 use crate::heading::method;
-use crate::list::list;
 use crate::names::bracketed_names;
+use crate::part::{Answer, Part, Repeated, Setting};
 use op_base::{Place, Text};
 use op_parse_code::ParseError;
 use op_parse_code::shared::{
@@ -20,12 +20,69 @@ use op_parse_code::shared::{
 };
 use op_scan::{Token, TokenKind};
 use op_tree::{
-    Class, Interface, Member, Name, Names, Property, Section, TypeDefinition, Visibility,
+    Class, Interface, Member, Method, Name, Names, Property, Section, TypeDefinition, Visibility,
 };
 use std::alloc::Global;
 
 /// What stands behind `class`, and the semicolon behind it.
-pub fn class_behind<'a>(
+#[derive(Drop)]
+pub struct ClassBehind {
+    pub definition: TypeDefinition,
+}
+
+impl Part for ClassBehind {
+    ghost use Rattle.op_parse_decl.specs.Later.{known_definition};
+    ghost use Rattle.op_tree.specs.Declaration.{TypeDefinition};
+
+    ghost Said = { TypeDefinition };
+
+    ghost says = { λ x. definition_of x.definition };
+
+    ghost phrase = { DefinitionBehind kind.Class };
+
+    ghost least = { 1 };
+
+    fn read<'a>(setting: Setting, tokens: &'a [Token]) -> Answer<'a, ClassBehind> {
+        let (definition, rest) = class_behind(setting.alloc, setting.left, setting.end, tokens)?;
+        Ok((ClassBehind { definition }, rest))
+    }
+
+    ghost known = { known_definition kind.Class };
+}
+
+/// What stands behind `interface`, and the semicolon behind it.
+#[derive(Drop)]
+pub struct InterfaceBehind {
+    pub definition: TypeDefinition,
+}
+
+impl Part for InterfaceBehind {
+    ghost use Rattle.op_parse_decl.specs.Later.{known_definition};
+    ghost use Rattle.op_tree.specs.Declaration.{TypeDefinition};
+
+    ghost Said = { TypeDefinition };
+
+    ghost says = { λ x. definition_of x.definition };
+
+    ghost phrase = { DefinitionBehind kind.Interface };
+
+    ghost least = { 1 };
+
+    fn read<'a>(setting: Setting, tokens: &'a [Token]) -> Answer<'a, InterfaceBehind> {
+        let (definition, rest) = interface_behind(
+            setting.alloc,
+            setting.left,
+            setting.end,
+            tokens,
+        )?;
+        Ok((InterfaceBehind { definition }, rest))
+    }
+
+    ghost known = { known_definition kind.Interface };
+}
+
+/// What stands behind `class`, and the semicolon behind it.
+fn class_behind<'a>(
     alloc: Global,
     left: u32,
     end: Place,
@@ -256,7 +313,7 @@ fn accessor<'a>(
 }
 
 /// What stands behind `interface`, and the semicolon behind it.
-pub fn interface_behind<'a>(
+fn interface_behind<'a>(
     alloc: Global,
     left: u32,
     end: Place,
@@ -271,7 +328,9 @@ pub fn interface_behind<'a>(
     if let Some(rest) = behind_mark(Mark::Semicolon, behind) {
         return Ok((bodiless(alloc, ancestor, identifier), rest));
     }
-    let (methods, behind) = list(alloc, left, end, behind)?;
+    let setting = Setting { alloc, left, end };
+    let (methods, behind) = Repeated::<Method>::read(setting, behind)?;
+    let methods = methods.items;
     if let Some(feature) = form_of_interface(behind) {
         return Err(left_out(feature, end, behind));
     }

@@ -1,28 +1,21 @@
 //! Constants, types and variables (Free Pascal Reference Guide, "Constants", "Types", "Variables").
-ghost use Rattle.std.specs.Prelude.{◌≡◌, ◌≤◌, ◌<◌, IfOk, IfErr, length};
-ghost use Rattle.std.specs.Option.{option_map};
+ghost use Rattle.std.specs.Prelude.{◌≡◌, ℕ, List};
 ghost use Rattle.op_parse_code.specs.Opening.{is_identifier};
-ghost use Rattle.op_parse_code.specs.Refusal.{Refuses, refused_at};
 ghost use Rattle.op_parse_code.specs.WholeStatement.{front_is};
-ghost use Rattle.op_parse_decl.specs.Declarations.{DefinitionBefore, SomeData, SomeFirstValue};
-ghost use Rattle.op_tree.specs.Declaration.{constant_of, declaration_of, definition_of, type_of, variables_of};
-ghost use Rattle.op_tree.specs.DeclarationGrammar.{AreVariablesOfOneType, IsConstant, IsTypeDeclaration};
-ghost use Rattle.op_tree.proofs.ExpressionUnique.{Begins};
-ghost use Rattle.op_tree.specs.Ends.{IsNot};
-ghost use Rattle.op_tree.specs.Initial.{initial_of};
 ghost use Rattle.op_tree.specs.Terminal.{terminals};
 
-use crate::class::{class_behind, interface_behind};
+use crate::choice::{Ahead, Fork, Form, Unless};
+use crate::class::{ClassBehind, InterfaceBehind};
 use crate::declared_form::{form_of_definition, form_of_type};
-use crate::denoter::{denoter, optional_type};
-use crate::initializer::initial;
-use crate::list::{Item, list};
-use crate::names::names;
-use op_base::Place;
-use op_parse_code::ParseError;
-use op_parse_code::shared::{Mark, after_mark, behind_mark, is_identifier, left_out, name, syntax};
-use op_scan::{Token, TokenKind};
-use op_tree::{Constant, Declaration, Initializer, TypeDeclaration, TypeDefinition, Variables};
+use crate::leaf::TypeWord;
+use crate::part::{Behind, Item, Made, Repeated, Stands};
+use crate::sign;
+use op_parse_code::shared::is_identifier;
+use op_scan::Token;
+use op_tree::{
+    Constant, Declaration, Initializer, Name, Names, TypeDeclaration, TypeDefinition, TypeDenoter,
+    Variables,
+};
 use std::alloc::Global;
 
 /// An identifier stands at the front.
@@ -35,10 +28,19 @@ fn begins_name(tokens: &[Token]) -> bool
     }
 }
 
-impl Item for Constant {
-    ghost use Rattle.op_parse_code.specs.Opening.{is_identifier};
+/// A constant, and the semicolon behind it.
+impl Made for Constant {
+    ghost use Rattle.op_parse_decl.specs.DeclarationParts.{made_constant};
     ghost use Rattle.op_tree.specs.Declaration.{Constant, constant_of};
     ghost use Rattle.op_tree.specs.DeclarationGrammar.{IsConstant};
+
+    type Parts = (
+        Name,
+        (
+            Behind<sign::Colon, TypeDenoter>,
+            (Stands<sign::Equal>, (Initializer, Stands<sign::Semicolon>)),
+        ),
+    );
 
     ghost Said = { Constant };
 
@@ -46,32 +48,21 @@ impl Item for Constant {
 
     ghost phrase = { IsConstant };
 
-    ghost test = { is_identifier };
-
-    fn begins(tokens: &[Token]) -> bool {
-        begins_name(tokens)
+    #[tactic(auto, using(crate::specs::DeclarationParts::constant_of_parts))]
+    fn of(_alloc: Global, (name, (denoter, (_, (value, _)))): Self::Parts) -> Constant {
+        Constant {
+            name,
+            denoter: denoter.part,
+            value,
+        }
     }
 
-    fn read<'a>(
-        alloc: Global,
-        left: u32,
-        end: Place,
-        tokens: &'a [Token],
-    ) -> Result<(Constant, &'a [Token]), ParseError> {
-        constant(alloc, left, end, tokens)
-    }
+    ghost made = { made_constant };
 }
 
-impl Item for TypeDeclaration {
+impl Item for Constant {
+    ghost use Rattle.std.specs.Prelude.{suc-le-suc, zero-le};
     ghost use Rattle.op_parse_code.specs.Opening.{is_identifier};
-    ghost use Rattle.op_tree.specs.Declaration.{TypeDeclaration, type_of};
-    ghost use Rattle.op_tree.specs.DeclarationGrammar.{IsTypeDeclaration};
-
-    ghost Said = { TypeDeclaration };
-
-    ghost says = { type_of };
-
-    ghost phrase = { IsTypeDeclaration };
 
     ghost test = { is_identifier };
 
@@ -79,20 +70,25 @@ impl Item for TypeDeclaration {
         begins_name(tokens)
     }
 
-    fn read<'a>(
-        alloc: Global,
-        left: u32,
-        end: Place,
-        tokens: &'a [Token],
-    ) -> Result<(TypeDeclaration, &'a [Token]), ParseError> {
-        type_declaration(alloc, left, end, tokens)
-    }
+    ghost moves = { suc-le-suc zero-le };
 }
 
-impl Item for Variables {
-    ghost use Rattle.op_parse_code.specs.Opening.{is_identifier};
+/// Variables of one type, and the semicolon behind them.
+impl Made for Variables {
+    ghost use Rattle.op_parse_decl.specs.DeclarationParts.{made_variables};
     ghost use Rattle.op_tree.specs.Declaration.{Variables, variables_of};
     ghost use Rattle.op_tree.specs.DeclarationGrammar.{AreVariablesOfOneType};
+
+    type Parts = (
+        Names,
+        (
+            Stands<sign::Colon>,
+            (
+                TypeDenoter,
+                (Behind<sign::Equal, Initializer>, Stands<sign::Semicolon>),
+            ),
+        ),
+    );
 
     ghost Said = { Variables };
 
@@ -100,177 +96,159 @@ impl Item for Variables {
 
     ghost phrase = { AreVariablesOfOneType };
 
+    #[tactic(auto, using(crate::specs::DeclarationParts::variables_of_parts))]
+    fn of(_alloc: Global, (names, (_, (denoter, (value, _)))): Self::Parts) -> Variables {
+        Variables {
+            names,
+            denoter,
+            value: value.part,
+        }
+    }
+
+    ghost made = { made_variables };
+}
+
+impl Item for Variables {
+    ghost use Rattle.std.specs.Prelude.{suc-le-suc, zero-le};
+    ghost use Rattle.op_parse_code.specs.Opening.{is_identifier};
+
     ghost test = { is_identifier };
 
     fn begins(tokens: &[Token]) -> bool {
         begins_name(tokens)
     }
 
-    fn read<'a>(
-        alloc: Global,
-        left: u32,
-        end: Place,
-        tokens: &'a [Token],
-    ) -> Result<(Variables, &'a [Token]), ParseError> {
-        variables(alloc, left, end, tokens)
-    }
+    ghost moves = { suc-le-suc zero-le };
 }
 
-/// A constant, and the semicolon behind it.
-fn constant<'a>(
-    alloc: Global,
-    left: u32,
-    end: Place,
-    tokens: &'a [Token],
-) -> Result<(Constant, &'a [Token]), ParseError>
-    ensures whole { IfOk result (λ f. IsConstant left (constant_of f.0) (terminals tokens.now) (terminals f.1.now)) }
-    ensures refused { IfErr result (Refuses IsConstant left end (terminals tokens.now)) }
-    ensures shorter { IfOk result (λ f. length f.1.now < length tokens.now) }
-{
-    let (name, rest) = name(alloc, end, tokens)?;
-    let (denoter, rest) = optional_type(alloc, left, end, rest)?;
-    let after = after_mark(Mark::Equal, end, rest)?;
-    let (value, rest) = initial(alloc, left, end, after)?;
-    let behind = after_mark(Mark::Semicolon, end, rest)?;
-    let constant = Constant {
-        name,
-        denoter,
-        value,
-    };
-    Ok((constant, behind))
-}
+/// The word `generic` before a type.
+pub struct GenericType;
 
-/// Variables of one type, and the semicolon behind them.
-fn variables<'a>(
-    alloc: Global,
-    left: u32,
-    end: Place,
-    tokens: &'a [Token],
-) -> Result<(Variables, &'a [Token]), ParseError>
-    ensures whole { IfOk result (λ f. AreVariablesOfOneType left (variables_of f.0) (terminals tokens.now) (terminals f.1.now)) }
-    ensures refused { IfErr result (Refuses AreVariablesOfOneType left end (terminals tokens.now)) }
-    ensures shorter { IfOk result (λ f. length f.1.now < length tokens.now) }
-{
-    let (names, rest) = names(alloc, end, tokens)?;
-    let after = after_mark(Mark::Colon, end, rest)?;
-    let (denoter, rest) = denoter(alloc, left, end, after)?;
-    let (value, rest) = first_value(alloc, left, end, rest)?;
-    let behind = after_mark(Mark::Semicolon, end, rest)?;
-    let variables = Variables {
-        names,
-        denoter,
-        value,
-    };
-    Ok((variables, behind))
-}
-
-/// What stands behind `=`, if that stands there.
-fn first_value<'a>(
-    alloc: Global,
-    left: u32,
-    end: Place,
-    tokens: &'a [Token],
-) -> Result<(Option<Initializer>, &'a [Token]), ParseError>
-    ensures whole { IfOk result (λ f. SomeFirstValue left (option_map initial_of f.0) (terminals tokens.now) (terminals f.1.now)) }
-    ensures refused { IfErr result (Refuses SomeFirstValue left end (terminals tokens.now)) }
-    ensures shorter { IfOk result (λ f. length f.1.now ≤ length tokens.now) }
-{
-    match behind_mark(Mark::Equal, tokens) {
-        None => Ok((None, tokens)),
-        Some(after) => {
-            let (value, rest) = initial(alloc, left, end, after)?;
-            Ok((Some(value), rest))
-        }
+impl Form for GenericType {
+    fn feature(tokens: &[Token]) -> Option<u8> {
+        form_of_type(tokens)
     }
 }
 
 /// A type's name and what it stands for, and the semicolon behind them.
-fn type_declaration<'a>(
-    alloc: Global,
-    left: u32,
-    end: Place,
-    tokens: &'a [Token],
-) -> Result<(TypeDeclaration, &'a [Token]), ParseError>
-    ensures whole { IfOk result (λ f. IsTypeDeclaration left (type_of f.0) (terminals tokens.now) (terminals f.1.now)) }
-    ensures refused { IfErr result (Refuses IsTypeDeclaration left end (terminals tokens.now)) }
-    ensures shorter { IfOk result (λ f. length f.1.now < length tokens.now) }
-{
-    if let Some(feature) = form_of_type(tokens) {
-        return Err(left_out(feature, end, tokens));
+impl Made for TypeDeclaration {
+    ghost use Rattle.op_parse_decl.specs.DeclarationParts.{made_type};
+    ghost use Rattle.op_tree.specs.Declaration.{TypeDeclaration, type_of};
+    ghost use Rattle.op_tree.specs.DeclarationGrammar.{IsTypeDeclaration};
+
+    type Parts = Unless<GenericType, (Name, (Stands<sign::Equal>, TypeDefinition))>;
+
+    ghost Said = { TypeDeclaration };
+
+    ghost says = { type_of };
+
+    ghost phrase = { IsTypeDeclaration };
+
+    #[tactic(auto, using(crate::specs::DeclarationParts::type_of_parts))]
+    fn of(_alloc: Global, parts: Self::Parts) -> TypeDeclaration {
+        let (name, (_, definition)) = parts.part;
+        TypeDeclaration { name, definition }
     }
-    let (name, rest) = name(alloc, end, tokens)?;
-    let after = after_mark(Mark::Equal, end, rest)?;
-    let (definition, rest) = definition(alloc, left, end, after)?;
-    Ok((TypeDeclaration { name, definition }, rest))
+
+    ghost made = { made_type };
+}
+
+impl Item for TypeDeclaration {
+    ghost use Rattle.std.specs.Prelude.{suc-le-suc, zero-le};
+    ghost use Rattle.op_parse_code.specs.Opening.{is_identifier};
+
+    ghost test = { is_identifier };
+
+    fn begins(tokens: &[Token]) -> bool {
+        begins_name(tokens)
+    }
+
+    ghost moves = { suc-le-suc zero-le };
+}
+
+/// A class of classes.
+pub struct Metaclass;
+
+impl Form for Metaclass {
+    fn feature(tokens: &[Token]) -> Option<u8> {
+        form_of_definition(tokens)
+    }
 }
 
 /// A type, a class or an interface, and the semicolon behind it.
-fn definition<'a>(
-    alloc: Global,
-    left: u32,
-    end: Place,
-    tokens: &'a [Token],
-) -> Result<(TypeDefinition, &'a [Token]), ParseError>
-    ensures whole { IfOk result (λ f. DefinitionBefore left (definition_of f.0) (terminals tokens.now) (terminals f.1.now)) }
-    ensures refused { IfErr result (Refuses DefinitionBefore left end (terminals tokens.now)) }
-    ensures shorter { IfOk result (λ f. length f.1.now < length tokens.now) }
-{
-    if let Some(feature) = form_of_definition(tokens) {
-        return Err(left_out(feature, end, tokens));
+impl Made for TypeDefinition {
+    ghost use Rattle.op_parse_decl.specs.Declarations.{DefinitionBefore};
+    ghost use Rattle.op_parse_decl.specs.DeclarationParts.{made_definition};
+    ghost use Rattle.op_tree.specs.Declaration.{TypeDefinition, definition_of};
+
+    type Parts = Unless<
+        Metaclass,
+        Fork<
+            sign::Class,
+            ClassBehind,
+            Fork<sign::Interface, InterfaceBehind, (TypeDenoter, Stands<sign::Semicolon>)>,
+        >,
+    >;
+
+    ghost Said = { TypeDefinition };
+
+    ghost says = { definition_of };
+
+    ghost phrase = { DefinitionBefore };
+
+    #[tactic(auto, using(crate::specs::DeclarationParts::class_of_parts, crate::specs::DeclarationParts::interface_of_parts, crate::specs::DeclarationParts::denoter_of_parts))]
+    fn of(_alloc: Global, parts: Self::Parts) -> TypeDefinition {
+        match parts.part {
+            Fork::Marked(class, _) => class.definition,
+            Fork::Unmarked(Fork::Marked(interface, _)) => interface.definition,
+            Fork::Unmarked(Fork::Unmarked((denoter, _))) => TypeDefinition::Denoter(denoter),
+        }
     }
-    if let Some(rest) = behind_mark(Mark::Class, tokens) {
-        return class_behind(alloc, left, end, rest);
-    }
-    if let Some(rest) = behind_mark(Mark::Interface, tokens) {
-        return interface_behind(alloc, left, end, rest);
-    }
-    let (denoter, rest) = denoter(alloc, left, end, tokens)?;
-    let behind = after_mark(Mark::Semicolon, end, rest)?;
-    Ok((TypeDefinition::Denoter(denoter), behind))
+
+    ghost made = { made_definition };
 }
 
 /// Constants, types or variables, with the word before them.
-pub fn data_declaration<'a>(
-    alloc: Global,
-    left: u32,
-    end: Place,
-    tokens: &'a [Token],
-) -> Result<(Declaration, &'a [Token]), ParseError>
-    ensures whole { IfOk result (λ f. SomeData left (declaration_of f.0) (terminals tokens.now) (terminals f.1.now)) }
-    ensures refused { IfErr result (Refuses SomeData left end (terminals tokens.now)) }
-    ensures shorter { IfOk result (λ f. length f.1.now < length tokens.now) }
-{
-    let Some((first, rest)) = tokens.split_first() else {
-        return Err(syntax(end, tokens));
-    };
-    match &first.kind {
-        TokenKind::Const_ => {
-            expect_name(end, rest)?;
-            let (constants, rest) = list(alloc, left, end, rest)?;
-            Ok((Declaration::Constants(constants), rest))
-        }
-        TokenKind::Type_ => {
-            expect_name(end, rest)?;
-            let (types, rest) = list(alloc, left, end, rest)?;
-            Ok((Declaration::Types(types), rest))
-        }
-        TokenKind::Var => {
-            expect_name(end, rest)?;
-            let (variables, rest) = list(alloc, left, end, rest)?;
-            Ok((Declaration::Variables(variables), rest))
-        }
-        _ => Err(syntax(end, tokens)),
-    }
+#[derive(Drop)]
+pub struct Data {
+    pub declaration: Declaration,
 }
 
-/// An identifier must stand at the front.
-fn expect_name(end: Place, tokens: &[Token]) -> Result<(), ParseError>
-    ensures name { IfOk result (λ _. Begins is_identifier (terminals tokens.now)) }
-    ensures refused { IfErr result (λ e. IsNot is_identifier (terminals tokens.now) × (e ≡ refused_at 9 0 end (terminals tokens.now))) }
-{
-    if begins_name(tokens) {
-        Ok(())
-    } else {
-        Err(syntax(end, tokens))
+impl Made for Data {
+    ghost use Rattle.op_parse_decl.specs.Declarations.{SomeData};
+    ghost use Rattle.op_parse_decl.specs.DeclarationParts.{made_data};
+    ghost use Rattle.op_tree.specs.Declaration.{Declaration, declaration_of};
+
+    type Parts = Fork<
+        sign::Const_,
+        (Ahead<Constant>, Repeated<Constant>),
+        Fork<
+            sign::Var,
+            (Ahead<Variables>, Repeated<Variables>),
+            (
+                TypeWord,
+                (Ahead<TypeDeclaration>, Repeated<TypeDeclaration>),
+            ),
+        >,
+    >;
+
+    ghost Said = { Declaration };
+
+    ghost says = { λ x. declaration_of x.declaration };
+
+    ghost phrase = { SomeData };
+
+    #[tactic(auto, using(crate::specs::DeclarationParts::constants_of_parts, crate::specs::DeclarationParts::variable_list_of_parts, crate::specs::DeclarationParts::types_of_parts))]
+    fn of(_alloc: Global, parts: Self::Parts) -> Data {
+        let declaration = match parts {
+            Fork::Marked((_, constants), _) => Declaration::Constants(constants.items),
+            Fork::Unmarked(Fork::Marked((_, variables), _)) => Declaration::Variables(
+                variables.items,
+            ),
+            Fork::Unmarked(Fork::Unmarked((_, (_, types)))) => Declaration::Types(types.items),
+        };
+        Data { declaration }
     }
+
+    ghost made = { made_data };
 }

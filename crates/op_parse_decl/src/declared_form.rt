@@ -1,16 +1,9 @@
 //! Forms that are left out and show among declarations, classes and files.
-ghost use Rattle.std.specs.Prelude.{ℕ, ◌<◌, IfOk, IfErr, IfSome, IsTrue, length};
+ghost use Rattle.std.specs.Prelude.{ℕ, IfSome};
 ghost use Rattle.op_parse_code.specs.Form.{HasForm};
-ghost use Rattle.op_parse_code.specs.Refusal.{Refuses};
-ghost use Rattle.op_parse_code.specs.Whole.{Marked};
 ghost use Rattle.op_tree.specs.Terminal.{terminals};
-ghost use Rattle.op_tree.specs.declared.position.Position.{Position};
 
-use op_base::Place;
-use op_parse_code::ParseError;
-use op_parse_code::shared::{
-    GENERIC, Mark, after_mark, behind_mark, is_identifier, is_word, left_out,
-};
+use op_parse_code::shared::{GENERIC, Mark, behind_mark, is_identifier, is_word};
 use op_scan::{Token, TokenKind};
 
 const METACLASS: u8 = 7;
@@ -37,20 +30,8 @@ const LIBRARY_OR_EXPORTS: u8 = 30;
 
 const INTERFACE_PROPERTY: u8 = 36;
 
-/// The tokens behind a mark, with which they must begin where no other declaration follows, or the form that stands there.
-pub fn part_mark<'a>(mark: Mark, end: Place, tokens: &'a [Token]) -> Result<&'a [Token], ParseError>
-    ensures mark { IfOk result (λ rest. (p : Position) × Marked mark 0 p (terminals tokens.now) (terminals rest.now)) }
-    ensures refused { IfErr result (λ e. (d : ℕ) → Refuses (Marked mark) d end (terminals tokens.now) e) }
-    ensures shorter { IfOk result (λ rest. length rest.now < length tokens.now) }
-{
-    if let Some(feature) = form_of_part(tokens) {
-        return Err(left_out(feature, end, tokens));
-    }
-    after_mark(mark, end, tokens)
-}
-
 /// The feature of a declaration that stands at the front.
-fn form_of_part(tokens: &[Token]) -> Option<u8>
+pub fn form_of_part(tokens: &[Token]) -> Option<u8>
     ensures { IfSome result (λ feature. HasForm feature (terminals tokens.now) (terminals tokens.now)) }
 {
     let (first, rest) = tokens.split_first()?;

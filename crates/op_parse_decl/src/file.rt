@@ -1,21 +1,25 @@
 //! Whole files (Free Pascal Reference Guide, "Programs, units, blocks").
-ghost use Rattle.std.specs.Prelude.{◌≡◌, ℕ, ◌≤◌, ◌<◌, IfOk, IfErr, MatchResult, length};
+ghost use Rattle.std.specs.Prelude.{◌≡◌, ℕ, IfOk, IfErr, List, MatchResult, Option, map};
 ghost use Rattle.op_parse_code.specs.Refusal.{IsFree, Refuses};
-ghost use Rattle.op_parse_decl.specs.Declarations.{SomeProgramHeading, SomeUses, WholeFile};
+ghost use Rattle.op_parse_decl.specs.Combined.{Repeats};
+ghost use Rattle.op_parse_decl.specs.Declarations.{SomeDeclaration, WholeFile, begins_declaration};
+ghost use Rattle.op_parse_decl.specs.Later.{known_declarations};
+ghost use Rattle.op_parse_decl.specs.declared.routine.Part.TheVariants as part;
+ghost use Rattle.op_tree.specs.Declaration.{Declaration, declaration_of};
 ghost use Rattle.op_tree.specs.File.{File, file_of};
-ghost use Rattle.op_tree.specs.FileGrammar.{IsFile, Spells};
+ghost use Rattle.op_tree.specs.FileGrammar.{Spells};
 ghost use Rattle.op_tree.specs.Terminal.{terminals};
 
-use crate::declared_form::{form_of_file, part_mark};
-use crate::names::{bracketed_names, names};
-use crate::routine::{Part, block, declarations};
-use op_base::Place;
+use crate::choice::{Either, Empty, Fork, Form, Unless};
+use crate::declared_form::form_of_file;
+use crate::leaf::{BracketedNames, Here, Statements};
+use crate::part::{Answer, Behind, Made, Part, Setting, Stands};
+use crate::routine::{self, Block, LeftOut, declarations};
+use crate::sign;
 use op_parse_code::ParseError;
-use op_parse_code::shared::{
-    Mark, after_mark, behind_mark, left_out, name, position_of, statements, syntax,
-};
+use op_parse_code::shared::syntax;
 use op_scan::{Token, Tokens};
-use op_tree::{Names, Position, Program, ProgramHeading, Stmt, Tree, Unit};
+use op_tree::{Declaration, Name, Names, Program, ProgramHeading, Stmt, Tree, Unit};
 use std::alloc::Global;
 
 /// How deep parts may be nested.
@@ -34,7 +38,12 @@ pub fn parse(alloc: Global, tokens: &Tokens) -> Result<Tree, ParseError>
     ensures only { (file : File) → Spells file (terminals tokens.now.list) → MatchResult result (λ tree. file_of tree ≡ file) IsFree }
 {
     let list = tokens.list.as_slice();
-    let (tree, rest) = file(alloc, DEEPEST, tokens.end, list)?;
+    let setting = Setting {
+        alloc,
+        left: DEEPEST,
+        end: tokens.end,
+    };
+    let (tree, rest) = Tree::read(setting, list)?;
     if rest.is_empty() {
         Ok(tree)
     } else {
@@ -42,161 +51,252 @@ pub fn parse(alloc: Global, tokens: &Tokens) -> Result<Tree, ParseError>
     }
 }
 
-/// A program or a unit, up to its dot.
-fn file<'a>(
-    alloc: Global,
-    left: u32,
-    end: Place,
-    tokens: &'a [Token],
-) -> Result<(Tree, &'a [Token]), ParseError>
-    ensures whole { IfOk result (λ f. IsFile left (file_of f.0) (terminals tokens.now) (terminals f.1.now)) }
-    ensures refused { IfErr result (Refuses IsFile left end (terminals tokens.now)) }
-{
-    if let Some(feature) = form_of_file(tokens) {
-        return Err(left_out(feature, end, tokens));
-    }
-    let Some((first, rest)) = tokens.split_first() else {
-        return Err(syntax(end, tokens));
-    };
-    let position = position_of(first);
-    if behind_mark(Mark::Unit, tokens).is_some() {
-        return unit(alloc, position, left, end, rest);
-    }
-    program(alloc, position, left, end, tokens)
+/// The declarations of a block, as many as stand there.
+#[derive(Drop)]
+pub struct InBlock {
+    pub items: Vec<Declaration>,
 }
 
-/// A program.
-fn program<'a>(
-    alloc: Global,
-    position: Position,
-    left: u32,
-    end: Place,
-    tokens: &'a [Token],
-) -> Result<(Tree, &'a [Token]), ParseError> {
-    let (heading, rest) = program_heading(alloc, left, end, tokens)?;
-    let (uses, rest) = uses(alloc, end, rest)?;
-    let (declarations, rest) = declarations(alloc, Part::Block, left, end, rest)?;
-    let (statements, rest) = block(alloc, left, end, rest)?;
-    let rest = after_mark(Mark::Dot, end, rest)?;
-    let program = Program {
-        position,
-        heading,
-        uses,
-        declarations,
-        statements,
-    };
-    Ok((Tree::Program(program), rest))
-}
+impl Part for InBlock {
+    ghost Said = { List Declaration };
 
-/// The heading of a program, if there is one.
-fn program_heading<'a>(
-    alloc: Global,
-    left: u32,
-    end: Place,
-    tokens: &'a [Token],
-) -> Result<(Option<ProgramHeading>, &'a [Token]), ParseError>
-    ensures whole { IfOk result (λ f. SomeProgramHeading left f.0 (terminals tokens.now) (terminals f.1.now)) }
-    ensures refused { IfErr result (Refuses SomeProgramHeading left end (terminals tokens.now)) }
-    ensures shorter { IfOk result (λ f. length f.1.now ≤ length tokens.now) }
-{
-    let Some(after) = behind_mark(Mark::Program, tokens) else {
-        return Ok((None, tokens));
-    };
-    let (name, rest) = name(alloc, end, after)?;
-    let (parameters, rest) = file_names(alloc, left, end, rest)?;
-    let rest = after_mark(Mark::Semicolon, end, rest)?;
-    Ok((Some(ProgramHeading { name, parameters }), rest))
-}
+    ghost says = { λ x. map declaration_of x.items.items };
 
-/// Names in brackets, if there are brackets.
-fn file_names<'a>(
-    alloc: Global,
-    left: u32,
-    end: Place,
-    tokens: &'a [Token],
-) -> Result<(Names, &'a [Token]), ParseError>
-    ensures shorter { IfOk result (λ f. length f.1.now ≤ length tokens.now) }
-{
-    if behind_mark(Mark::OpenParenthesis, tokens).is_none() {
-        return Ok((Names::from(Vec::new(alloc)), tokens));
+    ghost phrase = { Repeats begins_declaration (SomeDeclaration part.Block) };
+
+    ghost least = { 0 };
+
+    fn read<'a>(setting: Setting, tokens: &'a [Token]) -> Answer<'a, InBlock> {
+        let (items, rest) = declarations(routine::Part::Block, setting, tokens)?;
+        Ok((InBlock { items }, rest))
     }
-    bracketed_names(alloc, left, end, tokens)
+
+    ghost known = { known_declarations part.Block };
+}
+
+/// The declarations of an interface part, as many as stand there.
+#[derive(Drop)]
+pub struct InInterface {
+    pub items: Vec<Declaration>,
+}
+
+impl Part for InInterface {
+    ghost Said = { List Declaration };
+
+    ghost says = { λ x. map declaration_of x.items.items };
+
+    ghost phrase = { Repeats begins_declaration (SomeDeclaration part.Interface) };
+
+    ghost least = { 0 };
+
+    fn read<'a>(setting: Setting, tokens: &'a [Token]) -> Answer<'a, InInterface> {
+        let (items, rest) = declarations(routine::Part::Interface, setting, tokens)?;
+        Ok((InInterface { items }, rest))
+    }
+
+    ghost known = { known_declarations part.Interface };
 }
 
 /// The units that are used, if there are any.
-fn uses<'a>(
-    alloc: Global,
-    end: Place,
-    tokens: &'a [Token],
-) -> Result<(Names, &'a [Token]), ParseError>
-    ensures whole { IfOk result (λ f. (d : ℕ) → SomeUses d f.0 (terminals tokens.now) (terminals f.1.now)) }
-    ensures refused { IfErr result (λ e. (d : ℕ) → Refuses SomeUses d end (terminals tokens.now) e) }
-    ensures shorter { IfOk result (λ f. length f.1.now ≤ length tokens.now) }
-{
-    let Some(after) = behind_mark(Mark::Uses, tokens) else {
-        return Ok((Names::from(Vec::new(alloc)), tokens));
-    };
-    let (names, rest) = names(alloc, end, after)?;
-    let rest = after_mark(Mark::Semicolon, end, rest)?;
-    Ok((names, rest))
+#[derive(Drop)]
+pub struct Used {
+    pub names: Names,
 }
 
-/// What stands behind `unit`.
-fn unit<'a>(
-    alloc: Global,
-    position: Position,
-    left: u32,
-    end: Place,
-    tokens: &'a [Token],
-) -> Result<(Tree, &'a [Token]), ParseError> {
-    let (name, rest) = name(alloc, end, tokens)?;
-    let rest = after_mark(Mark::Semicolon, end, rest)?;
-    let rest = after_mark(Mark::Interface, end, rest)?;
-    let (interface_uses, rest) = uses(alloc, end, rest)?;
-    let (interface_declarations, rest) = declarations(alloc, Part::Interface, left, end, rest)?;
-    let rest = part_mark(Mark::Implementation, end, rest)?;
-    let (uses, rest) = uses(alloc, end, rest)?;
-    let (declarations, rest) = declarations(alloc, Part::Block, left, end, rest)?;
-    let (initialization, finalization, rest) = tail(alloc, left, end, rest)?;
-    let rest = after_mark(Mark::Dot, end, rest)?;
-    let unit = Unit {
-        position,
-        name,
-        interface_uses,
-        interface_declarations,
-        uses,
-        declarations,
-        initialization,
-        finalization,
-    };
-    Ok((Tree::Unit(unit), rest))
+impl Made for Used {
+    ghost use Rattle.op_parse_decl.specs.Declarations.{SomeUses};
+    ghost use Rattle.op_parse_decl.specs.FileParts.{made_uses};
+    ghost use Rattle.op_tree.specs.declared.position.Name.{Name};
+
+    type Parts = Behind<sign::Uses, (Names, Stands<sign::Semicolon>)>;
+
+    ghost Said = { List Name };
+
+    ghost says = { λ x. x.names };
+
+    ghost phrase = { SomeUses };
+
+    #[tactic(auto, using(crate::specs::FileParts::uses_of_parts, crate::specs::FileParts::no_uses_of_parts))]
+    fn of(alloc: Global, parts: Self::Parts) -> Used {
+        match parts.part {
+            None => Used {
+                names: Names::from(Vec::new(alloc)),
+            },
+            Some((names, _)) => Used { names },
+        }
+    }
+
+    ghost made = { made_uses };
 }
+
+/// The heading of a program, if there is one.
+#[derive(Drop)]
+pub struct FileHeading {
+    pub heading: Option<ProgramHeading>,
+}
+
+impl Made for FileHeading {
+    ghost use Rattle.op_parse_decl.specs.Declarations.{SomeProgramHeading};
+    ghost use Rattle.op_parse_decl.specs.FileParts.{made_heading};
+    ghost use Rattle.op_tree.specs.declared.file.ProgramHeading.{ProgramHeading};
+
+    type Parts = Behind<
+        sign::Program,
+        (
+            Name,
+            (Either<BracketedNames, Empty>, Stands<sign::Semicolon>),
+        ),
+    >;
+
+    ghost Said = { Option ProgramHeading };
+
+    ghost says = { λ x. x.heading };
+
+    ghost phrase = { SomeProgramHeading };
+
+    #[tactic(auto, using(crate::specs::FileParts::no_heading_of_parts, crate::specs::FileParts::name_of_parts, crate::specs::FileParts::names_of_parts))]
+    fn of(alloc: Global, parts: Self::Parts) -> FileHeading {
+        let Some((name, (given, _))) = parts.part else {
+            return FileHeading { heading: None };
+        };
+        let parameters = match given {
+            Either::First(given) => given.names,
+            Either::Second(_) => Names::from(Vec::new(alloc)),
+        };
+        FileHeading {
+            heading: Some(ProgramHeading { name, parameters }),
+        }
+    }
+
+    ghost made = { made_heading };
+}
+
+/// Statements up to `end`.
+type Last = (Statements, Stands<sign::End>);
 
 /// What a unit does at the beginning and at the end, up to its `end`.
-fn tail<'a>(
-    alloc: Global,
-    left: u32,
-    end: Place,
-    tokens: &'a [Token],
-) -> Result<(Option<Vec<Stmt>>, Option<Vec<Stmt>>, &'a [Token]), ParseError> {
-    if let Some(rest) = behind_mark(Mark::End, tokens) {
-        return Ok((None, None, rest));
+#[derive(Drop)]
+pub struct Tail {
+    pub initialization: Option<Vec<Stmt>>,
+    pub finalization: Option<Vec<Stmt>>,
+}
+
+impl Made for Tail {
+    ghost use Rattle.op_parse_decl.specs.FileParts.{made_tail, tail_of};
+    ghost use Rattle.op_tree.specs.File.{Tail};
+    ghost use Rattle.op_tree.specs.FileGrammar.{IsTail};
+
+    type Parts = Fork<
+        sign::End,
+        Empty,
+        Fork<
+            sign::Finalization,
+            Last,
+            Fork<
+                sign::Initialization,
+                (
+                    Statements,
+                    Fork<sign::Finalization, Last, Stands<sign::End>>,
+                ),
+                Block,
+            >,
+        >,
+    >;
+
+    ghost Said = { Tail };
+
+    ghost says = { tail_of };
+
+    ghost phrase = { IsTail };
+
+    #[tactic(auto, using(crate::specs::FileParts::end_of_parts, crate::specs::FileParts::finalization_of_parts, crate::specs::FileParts::both_of_parts, crate::specs::FileParts::initialization_of_parts, crate::specs::FileParts::block_of_parts))]
+    fn of(_alloc: Global, parts: Self::Parts) -> Tail {
+        let (first, last) = match parts {
+            Fork::Marked(_, _) => (None, None),
+            Fork::Unmarked(Fork::Marked((last, _), _)) => (None, Some(last.items)),
+            Fork::Unmarked(Fork::Unmarked(Fork::Marked((first, Fork::Marked((last, _), _)), _))) =>
+                { (Some(first.items), Some(last.items)) }
+            Fork::Unmarked(Fork::Unmarked(Fork::Marked((first, Fork::Unmarked(_)), _))) => {
+                (Some(first.items), None)
+            }
+            Fork::Unmarked(Fork::Unmarked(Fork::Unmarked((_, (first, _))))) => {
+                (Some(first.items), None)
+            }
+        };
+        Tail {
+            initialization: first,
+            finalization: last,
+        }
     }
-    if let Some(after) = behind_mark(Mark::Finalization, tokens) {
-        let (last, rest) = statements(alloc, left, end, after)?;
-        let rest = after_mark(Mark::End, end, rest)?;
-        return Ok((None, Some(last), rest));
+
+    ghost made = { made_tail };
+}
+
+/// A library.
+pub struct Library;
+
+impl Form for Library {
+    fn feature(tokens: &[Token]) -> Option<u8> {
+        form_of_file(tokens)
     }
-    let Some(after) = behind_mark(Mark::Initialization, tokens) else {
-        let (first, rest) = block(alloc, left, end, tokens)?;
-        return Ok((Some(first), None, rest));
-    };
-    let (first, rest) = statements(alloc, left, end, after)?;
-    let Some(after) = behind_mark(Mark::Finalization, rest) else {
-        let rest = after_mark(Mark::End, end, rest)?;
-        return Ok((Some(first), None, rest));
-    };
-    let (last, rest) = statements(alloc, left, end, after)?;
-    let rest = after_mark(Mark::End, end, rest)?;
-    Ok((Some(first), Some(last), rest))
+}
+
+/// What stands behind the word `unit`.
+type UnitParts = (
+    (Name, (Stands<sign::Semicolon>, Stands<sign::Interface>)),
+    (
+        (
+            Used,
+            (InInterface, Unless<LeftOut, Stands<sign::Implementation>>),
+        ),
+        ((Used, InBlock), (Tail, Stands<sign::Dot>)),
+    ),
+);
+
+/// A program.
+type ProgramParts = ((FileHeading, (Used, InBlock)), (Block, Stands<sign::Dot>));
+
+/// A program or a unit, up to its dot.
+impl Made for Tree {
+    ghost use Rattle.op_parse_decl.specs.FileParts.{made_file};
+    ghost use Rattle.op_tree.specs.FileGrammar.{IsFile};
+
+    type Parts = Unless<Library, (Here, Fork<sign::Unit, UnitParts, ProgramParts>)>;
+
+    ghost Said = { File };
+
+    ghost says = { file_of };
+
+    ghost phrase = { IsFile };
+
+    #[tactic(auto, using(crate::specs::FileParts::unit_of_parts, crate::specs::FileParts::program_of_parts))]
+    fn of(_alloc: Global, parts: Self::Parts) -> Tree {
+        let (here, parts) = parts.part;
+        let position = here.position;
+        match parts {
+            Fork::Marked(((name, _), ((above, (interface, _)), ((used, block), (tail, _)))), _) => {
+                Tree::Unit(Unit {
+                    position,
+                    name,
+                    interface_uses: above.names,
+                    interface_declarations: interface.items,
+                    uses: used.names,
+                    declarations: block.items,
+                    initialization: tail.initialization,
+                    finalization: tail.finalization,
+                })
+            }
+            Fork::Unmarked(((heading, (used, block)), ((_, (statements, _)), _))) => {
+                Tree::Program(Program {
+                    position,
+                    heading: heading.heading,
+                    uses: used.names,
+                    declarations: block.items,
+                    statements: statements.items,
+                })
+            }
+        }
+    }
+
+    ghost made = { made_file };
 }

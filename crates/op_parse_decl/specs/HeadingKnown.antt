@@ -8,7 +8,7 @@ use Rattle.op_parse_code.specs.Refusal.{SameHead}
 use Rattle.op_parse_code.specs.Whole.{NoMark}
 use Rattle.op_parse_code.specs.declared.mark.Mark.{Mark}
 use Rattle.op_parse_code.specs.declared.mark.Mark.TheVariants as mark
-use Rattle.op_parse_decl.proofs.HeadingFronts.{front_parameter, front_parameter_type, front_parameters}
+use Rattle.op_parse_decl.specs.HeadingFronts.{front_parameter, front_parameter_type, front_parameters}
 use Rattle.op_parse_decl.specs.KnownTypes.{known_denoter, not_dot}
 use Rattle.op_parse_decl.specs.Headings.{SomeParameterType, SomeParameter, ParametersBefore, SomeParameterPart, part_missing, part_empty, part_given, SomeRoutineName}
 use Rattle.op_parse_decl.specs.Types.{SomeDenoter, SomeOptionalType}
