@@ -5,13 +5,13 @@ use Rattle.op_parse_code.proofs.Cuts.{same_not}
 use Rattle.op_parse_code.proofs.Factors.{same_begins}
 use Rattle.op_parse_code.proofs.Refusing.{Some_, Seq, Known, no_mark_same, refuses_map, refuses_first, refuses_after, refuses_behind, refuses_deeper, dead_here}
 use Rattle.op_parse_code.specs.Opening.{kind_of}
-use Rattle.op_parse_code.specs.Refusal.{Phrase, SameHead, Refuses, nested, decides_there, refused_at}
+use Rattle.op_parse_code.specs.Refusal.{Phrase, SameHead, Refuses, syntax, nested, decides_there, refused_at}
 use Rattle.op_parse_code.specs.Whole.{Marked, NoMark}
 use Rattle.op_parse_code.specs.WholeStatement.{front_is}
 use Rattle.op_parse_code.specs.declared.error.ParseError.{ParseError}
 use Rattle.op_parse_code.specs.declared.mark.Mark.{Mark}
 use Rattle.op_parse_decl.specs.Known.{As, Forked, forked, MayStand, may_stand, mark_stands}
-use Rattle.op_parse_decl.specs.Combined.{Both, Stands, stands, Then, then_, Behind, no_mark, behind_mark, Repeats, no_more, one_more, Or, this, that, Choice, chosen, otherwise, Deeper, deeper, Fork, marked}
+use Rattle.op_parse_decl.specs.Combined.{Both, Stands, stands, Then, then_, Behind, no_mark, behind_mark, Repeats, no_more, one_more, Or, this, that, Choice, chosen, otherwise, Deeper, deeper, Fork, marked, Several}
 use Rattle.op_scan.specs.declared.token.TokenKind.{TokenKind}
 use Rattle.op_tree.proofs.ExpressionUnique.{Begins, behind}
 use Rattle.op_tree.proofs.StatementUnique.{both as apart}
@@ -151,3 +151,14 @@ into_unmarked m P Q ks none d (that b) ls r s (none', f) = (b, r, f)
 
 pub unmarked_refused : {A B : Type 0} (m : Mark) (P : Phrase A) (Q : Phrase B) (d : ℕ) (end : Place) (ks : List Terminal) (e : ParseError) → NoMark m ks → Refuses Q d end ks e → Refuses (Fork m P Q) d end ks e
 unmarked_refused m P Q d end ks e none h = refuses_map Q (Fork m P Q) d end ks e (λ d' x ls r s q. into_unmarked m P Q ks none d' x ls r s (forked x q)) h
+
+-- ---- at least one
+
+into_several : {A : Type 0} {test : TokenKind → Bool} {P : Phrase A} (d : ℕ) (b : List A) (ls r : List Terminal) → Several test P d b ls r → Some_ (Repeats test P) d ls
+into_several d b ls r p = (b, r, p.1)
+
+pub several_refused : {A : Type 0} {test : TokenKind → Bool} {P : Phrase A} {d : ℕ} {end : Place} {ks : List Terminal} {e : ParseError} → Refuses (Repeats test P) d end ks e → Refuses (Several test P) d end ks e
+several_refused {test = test} {P = P} h = refuses_map (Repeats test P) (Several test P) _ _ _ _ (λ d' b ls r s p. into_several d' b ls r p) h
+
+pub none_begins : {A : Type 0} {test : TokenKind → Bool} {P : Phrase A} {d : ℕ} {end : Place} {ks : List Terminal} {e : ParseError} → IsNot test ks → e ≡ refused_at 9 0 end ks → Refuses (Several test P) d end ks e
+none_begins {test = test} {P = P} {ks = ks} h x = syntax ks x (λ d'. dead_here (Several test P d') ks (λ b ls r s p. apart test ls p.0 (same_not test ks ls s h)))

@@ -53,6 +53,6 @@ pub data Fork {A B : Type 0} (m : Mark) (P : Phrase A) (Q : Phrase B) : ℕ → 
   marked : {d : ℕ} {a : A} {p : Position} {ks r : List Terminal} → P d a ks r → Fork m P Q d (this a) (kind_of m at p ∷ ks) r
   unmarked : {d : ℕ} {b : B} {ks r : List Terminal} → NoMark m ks → Q d b ks r → Fork m P Q d (that b) ks r
 
--- nothing, where the first token passes the test
-pub data Ahead (test : TokenKind → Bool) : ℕ → Unit {0} → List Terminal → List Terminal → Type 0 where
-  ahead : {d : ℕ} {ks : List Terminal} → Begins test ks → Ahead test d tt ks ks
+-- at least one
+abbrev pub Several : {A : Type 0} → (TokenKind → Bool) → Phrase A → Phrase (List A)
+Several test P d as_ ks r = Begins test ks × Repeats test P d as_ ks r

@@ -1,24 +1,30 @@
 -- What each production is made of.
-use Rattle.std.proofs.Common.{◌≡◌, ℕ, Bool, true, false, List, [], ◌∷◌, Option, Some, None, refl, sym, subst}
+use Rattle.std.proofs.Common.{◌≡◌, ℕ, Bool, true, false, List, [], ◌∷◌, Option, Some, None, refl, ap}
 use Rattle.op_parse_code.proofs.Lists.{kind_same}
 use Rattle.op_parse_code.specs.Refusal.{Phrase}
 use Rattle.op_parse_code.specs.Whole.{NoMark, SomeName}
 use Rattle.op_parse_code.specs.declared.mark.Mark.TheVariants as mark
-use Rattle.op_parse_decl.specs.Combined.{Both, both, Stands, stands, Then, then_, Behind, no_mark, behind_mark}
-use Rattle.op_parse_decl.specs.Declarations.{SomeUses, no_uses, some_uses}
+use Rattle.op_parse_decl.specs.Combined.{Both, both, Stands, stands, Then, then_, Behind, no_mark, behind_mark, Repeats, no_more, one_more, Or, this, that, Fork, marked, unmarked, Several}
+use Rattle.op_parse_decl.specs.Declarations.{DefinitionBefore, DefinitionBehind, IsTypeWord, is_type_word, OneDirective, SomeData, WholeMethod, is_directive, is_some}
+use Rattle.op_parse_decl.specs.Headings.{SomeHeading}
 use Rattle.op_parse_decl.specs.Known.{As, no_mark_by}
 use Rattle.op_parse_decl.specs.Types.{SomeDenoter, SomeInitial, SomeNames}
 use Rattle.op_scan.specs.declared.token.TokenKind.{TokenKind}
 use Rattle.op_scan.specs.declared.token.TokenKind.TheVariants as kind
-use Rattle.op_tree.proofs.ExpressionUnique.{is_colon, is_comma}
-use Rattle.op_tree.specs.Declaration.{Constant, Variables}
-use Rattle.op_tree.specs.DeclarationGrammar.{IsConstant, is_constant, AreVariablesOfOneType, are_variables_of_one_type, IsFirstValue, has_no_first_value, has_first_value}
+use Rattle.op_tree.proofs.ExpressionUnique.{Begins, chain_begins, false_true, is_colon, is_comma}
+use Rattle.op_tree.proofs.DenoterUnique.{is_structure, structure_begins}
+use Rattle.op_tree.proofs.MethodUnique.{apart}
+use Rattle.op_tree.proofs.StatementUnique.{both as apart_by}
+use Rattle.op_parse_code.specs.Opening.{is_identifier}
+use Rattle.op_tree.specs.declared.heading.Directive.{Directive}
+use Rattle.op_tree.specs.Declaration.{Constant, Variables, TypeDefinition, denotes, TypeDeclaration, Declaration, constants, types, variables, Heading, Method}
+use Rattle.op_tree.specs.DeclarationGrammar.{IsConstant, is_constant, AreVariablesOfOneType, are_variables_of_one_type, IsFirstValue, has_no_first_value, has_first_value, IsTypeDeclaration, is_type_declaration, denotes_type, is_forward_class, is_class, is_forward_interface, is_interface, AreConstants, is_one_constant, are_constants, AreTypes, is_one_type, are_types, AreVariables, is_one_variables, are_variables, declares_constants, declares_types, declares_variables}
 use Rattle.op_tree.specs.Denoter.{Denoter}
-use Rattle.op_tree.specs.DenoterGrammar.{IsInitial}
-use Rattle.op_tree.specs.Ends.{StopsDenoter}
-use Rattle.op_tree.specs.HeadingGrammar.{IsOptionalType, has_no_type, has_type}
+use Rattle.op_tree.specs.DenoterGrammar.{IsInitial, IsDenoter, is_named, is_string, is_subrange, is_enumeration, is_set, is_unpacked, is_packed}
+use Rattle.op_tree.specs.Ends.{IsNot, StopsDenoter, begins_expression}
+use Rattle.op_tree.specs.HeadingGrammar.{IsOptionalType, has_no_type, has_type, has_body_alone, has_list_alone, has_list_and_body, has_methods_alone, has_ancestor_alone, has_ancestor_and_methods, AreDirectives, are_no_directives, are_directives, is_method}
 use Rattle.op_tree.specs.Initial.{Initial}
-use Rattle.op_tree.specs.NameGrammar.{AreNames, IsName}
+use Rattle.op_tree.specs.NameGrammar.{is_name, is_unqualified, is_qualified, are_one_name, are_names}
 use Rattle.op_tree.specs.Terminal.{Terminal, ◌at◌}
 use Rattle.op_tree.specs.declared.position.Name.{Name}
 use Rattle.op_tree.specs.declared.position.Position.{Position}
@@ -71,17 +77,159 @@ variables_of_parts (then_ n (then_ stands (then_ t (then_ i stands)))) = are_var
 pub made_variables : As VariablesParts AreVariablesOfOneType
 made_variables d v ks r (are_variables_of_one_type {ns = ns} {t = t} {i = i} {p = p} {q = q} f g h) = (both ns (both tt (both t (both i tt))), then_ (f, no_mark_by mark.Comma is_comma refl refl) (then_ stands (then_ (g, value_stops h) (then_ (value_in h) stands))), λ ls s x. variables_of_parts x)
 
--- ---- the units that are used
+-- ---- types
 
-abbrev pub UsesParts : Phrase (Option (Both (List Name) (Unit {0})))
-UsesParts = Behind mark.Uses (Then SomeNames (Stands mark.Semicolon))
+abbrev pub TypeParts : Phrase (Both Name (Both (Unit {0}) TypeDefinition))
+TypeParts = Then SomeName (Then (Stands mark.Equal) DefinitionBefore)
 
-pub uses_of_parts : {d : ℕ} {ns : List Name} {ks r : List Terminal} → UsesParts d (Some (both ns tt)) ks r → SomeUses d ns ks r
-uses_of_parts (behind_mark (then_ n stands)) = some_uses n.0
+pub type_of_parts : {d : ℕ} {n : Name} {t : TypeDefinition} {ks r : List Terminal} → TypeParts d (both n (both tt t)) ks r → IsTypeDeclaration d (record { name = n; definition = t }) ks r
+type_of_parts (then_ n (then_ stands t)) = is_type_declaration n t.1
 
-pub no_uses_of_parts : {d : ℕ} {ks r : List Terminal} → UsesParts d None ks r → SomeUses d [] ks r
-no_uses_of_parts (no_mark none) = no_uses none
+pub made_type : As TypeParts IsTypeDeclaration
+made_type d c ks r (is_type_declaration {n = n} {t = t} {q = q} f g) = (both n (both tt t), then_ f (then_ stands (q, g)), λ ls s x. type_of_parts x)
 
-pub made_uses : As UsesParts SomeUses
-made_uses d ns ks r (no_uses none) = (None, no_mark none, λ ls s x. no_uses_of_parts x)
-made_uses d ns ks r (some_uses {q = q} n) = (Some (both ns tt), behind_mark (then_ (n, no_mark_by mark.Comma is_comma refl refl) stands), λ ls s x. uses_of_parts x)
+abbrev pub DefinitionParts : Phrase (Or TypeDefinition (Or TypeDefinition (Both Denoter (Unit {0}))))
+DefinitionParts = Fork mark.Class (DefinitionBehind kind.Class) (Fork mark.Interface (DefinitionBehind kind.Interface) (Then SomeDenoter (Stands mark.Semicolon)))
+
+pub class_of_parts : {d : ℕ} {t : TypeDefinition} {ks r : List Terminal} → DefinitionParts d (this t) ks r → DefinitionBefore d t ks r
+class_of_parts (marked {p = p} f) = f p
+
+pub interface_of_parts : {d : ℕ} {t : TypeDefinition} {ks r : List Terminal} → DefinitionParts d (that (this t)) ks r → DefinitionBefore d t ks r
+interface_of_parts (unmarked none (marked {p = p} f)) = f p
+
+pub denoter_of_parts : {d : ℕ} {t : Denoter} {ks r : List Terminal} → DefinitionParts d (that (that (both t tt))) ks r → DefinitionBefore d (denotes t) ks r
+denoter_of_parts (unmarked none (unmarked none' (then_ t (stands {p = p})))) = (p, denotes_type t.0)
+
+-- the kind begins a class or an interface
+abbrev is_class_word : TokenKind → Bool
+is_class_word kind.Class = true
+is_class_word other = false
+
+abbrev is_interface_word : TokenKind → Bool
+is_interface_word kind.Interface = true
+is_interface_word other = false
+
+abbrev begins_object : TokenKind → Bool
+begins_object kind.Class = true
+begins_object kind.Interface = true
+begins_object other = false
+
+expression_no_object : (k : TokenKind) → begins_expression k ≡ true → begins_object k ≡ false
+expression_no_object kind.Class h = false_true h
+expression_no_object kind.Interface h = false_true h
+expression_no_object other h = refl
+
+structure_no_object : (k : TokenKind) → is_structure k ≡ true → begins_object k ≡ false
+structure_no_object kind.Class h = false_true h
+structure_no_object kind.Interface h = false_true h
+structure_no_object other h = refl
+
+denoter_no_object : {d : ℕ} {t : Denoter} {ks r : List Terminal} → IsDenoter d t ks r → IsNot begins_object ks
+denoter_no_object (is_named (is_unqualified is_name)) = refl
+denoter_no_object (is_named (is_qualified is_name b)) = refl
+denoter_no_object is_string = refl
+denoter_no_object {ks = ks} (is_subrange a b) = apart expression_no_object ks (chain_begins a)
+denoter_no_object (is_enumeration ns) = refl
+denoter_no_object (is_set t) = refl
+denoter_no_object (is_unpacked {k = k} s) = structure_no_object k (structure_begins s)
+denoter_no_object (is_packed s) = refl
+
+class_in : {d : ℕ} {t : TypeDefinition} {ks r : List Terminal} → DefinitionParts d (this t) ks r → (a : _) × DefinitionParts d a ks r × ((ls s : List Terminal) → DefinitionParts d a ls s → DefinitionBefore d t ls s)
+class_in {t = t} f = (this t, f, λ ls s x. class_of_parts x)
+
+interface_in : {d : ℕ} {t : TypeDefinition} {p : Position} {ks r : List Terminal} → DefinitionBehind kind.Interface d t ks r → (a : _) × DefinitionParts d a (kind.Interface at p ∷ ks) r × ((ls s : List Terminal) → DefinitionParts d a ls s → DefinitionBefore d t ls s)
+interface_in {t = t} f = (that (this t), unmarked (no_mark_by mark.Class is_class_word refl refl) (marked f), λ ls s x. interface_of_parts x)
+
+pub made_definition : As DefinitionParts DefinitionBefore
+made_definition d t ks r (q, denotes_type {t = x} f) = (that (that (both x tt)), unmarked (no_mark_by mark.Class begins_object refl (denoter_no_object f)) (unmarked (no_mark_by mark.Interface begins_object refl (denoter_no_object f)) (then_ (f, record { operator = refl; selector = refl; range = refl }) stands)), λ ls s x. denoter_of_parts x)
+made_definition d t ks r (q, is_forward_class) = class_in (marked (λ p. (q, is_forward_class)))
+made_definition d t ks r (q, is_class (has_body_alone b)) = class_in (marked (λ p. (q, is_class (has_body_alone b))))
+made_definition d t ks r (q, is_class (has_list_alone a)) = class_in (marked (λ p. (q, is_class (has_list_alone a))))
+made_definition d t ks r (q, is_class (has_list_and_body a b)) = class_in (marked (λ p. (q, is_class (has_list_and_body a b))))
+made_definition d t ks r (q, is_forward_interface i) = interface_in (λ p. (q, is_forward_interface i))
+made_definition d t ks r (q, is_interface (has_methods_alone i a)) = interface_in (λ p. (q, is_interface (has_methods_alone i a)))
+made_definition d t ks r (q, is_interface (has_ancestor_alone n i)) = interface_in (λ p. (q, is_interface (has_ancestor_alone n i)))
+made_definition d t ks r (q, is_interface (has_ancestor_and_methods n i a)) = interface_in (λ p. (q, is_interface (has_ancestor_and_methods n i a)))
+
+-- ---- constants, types or variables in a row
+
+constant_begins : {d : ℕ} {c : Constant} {ks r : List Terminal} → IsConstant d c ks r → Begins is_identifier ks
+constant_begins (is_constant is_name g h) = refl
+
+constants_in : {d : ℕ} {cs : List Constant} {ks r : List Terminal} → AreConstants d cs ks r → IsNot is_identifier r → Several is_identifier IsConstant d cs ks r
+constants_in (is_one_constant c) n = (constant_begins c, one_more (constant_begins c) c (no_more n))
+constants_in (are_constants c cs) n = (constant_begins c, one_more (constant_begins c) c (constants_in cs n).1)
+
+type_begins : {d : ℕ} {c : TypeDeclaration} {ks r : List Terminal} → IsTypeDeclaration d c ks r → Begins is_identifier ks
+type_begins (is_type_declaration is_name g) = refl
+
+types_in : {d : ℕ} {cs : List TypeDeclaration} {ks r : List Terminal} → AreTypes d cs ks r → IsNot is_identifier r → Several is_identifier IsTypeDeclaration d cs ks r
+types_in (is_one_type c) n = (type_begins c, one_more (type_begins c) c (no_more n))
+types_in (are_types c cs) n = (type_begins c, one_more (type_begins c) c (types_in cs n).1)
+
+variables_begin : {d : ℕ} {c : Variables} {ks r : List Terminal} → AreVariablesOfOneType d c ks r → Begins is_identifier ks
+variables_begin (are_variables_of_one_type (are_one_name is_name) g h) = refl
+variables_begin (are_variables_of_one_type (are_names is_name ns) g h) = refl
+
+variables_in : {d : ℕ} {cs : List Variables} {ks r : List Terminal} → AreVariables d cs ks r → IsNot is_identifier r → Several is_identifier AreVariablesOfOneType d cs ks r
+variables_in (is_one_variables c) n = (variables_begin c, one_more (variables_begin c) c (no_more n))
+variables_in (are_variables c cs) n = (variables_begin c, one_more (variables_begin c) c (variables_in cs n).1)
+
+constants_out : {d : ℕ} {cs : List Constant} {ks r : List Terminal} → Begins is_identifier ks → Repeats is_identifier IsConstant d cs ks r → AreConstants d cs ks r × IsNot is_identifier r
+constants_out {ks = ks} b (no_more n) = apart_by is_identifier ks b n
+constants_out b (one_more h c (no_more n)) = (is_one_constant c, n)
+constants_out b (one_more h c (one_more h' c' more)) = let w = constants_out h' (one_more h' c' more) in (are_constants c w.0, w.1)
+
+types_out : {d : ℕ} {cs : List TypeDeclaration} {ks r : List Terminal} → Begins is_identifier ks → Repeats is_identifier IsTypeDeclaration d cs ks r → AreTypes d cs ks r × IsNot is_identifier r
+types_out {ks = ks} b (no_more n) = apart_by is_identifier ks b n
+types_out b (one_more h c (no_more n)) = (is_one_type c, n)
+types_out b (one_more h c (one_more h' c' more)) = let w = types_out h' (one_more h' c' more) in (are_types c w.0, w.1)
+
+variables_out : {d : ℕ} {cs : List Variables} {ks r : List Terminal} → Begins is_identifier ks → Repeats is_identifier AreVariablesOfOneType d cs ks r → AreVariables d cs ks r × IsNot is_identifier r
+variables_out {ks = ks} b (no_more n) = apart_by is_identifier ks b n
+variables_out b (one_more h c (no_more n)) = (is_one_variables c, n)
+variables_out b (one_more h c (one_more h' c' more)) = let w = variables_out h' (one_more h' c' more) in (are_variables c w.0, w.1)
+
+abbrev pub DataParts : Phrase (Or (List Constant) (Or (List Variables) (Both (Unit {0}) (List TypeDeclaration))))
+DataParts = Fork mark.Const_ (Several is_identifier IsConstant) (Fork mark.Var (Several is_identifier AreVariablesOfOneType) (Then IsTypeWord (Several is_identifier IsTypeDeclaration)))
+
+pub constants_of_parts : {d : ℕ} {cs : List Constant} {ks r : List Terminal} → DataParts d (this cs) ks r → SomeData d (constants cs) ks r
+constants_of_parts (marked (h, cs)) = let w = constants_out h cs in (declares_constants w.0, w.1)
+
+pub variable_list_of_parts : {d : ℕ} {cs : List Variables} {ks r : List Terminal} → DataParts d (that (this cs)) ks r → SomeData d (variables cs) ks r
+variable_list_of_parts (unmarked none (marked (h, cs))) = let w = variables_out h cs in (declares_variables w.0, w.1)
+
+pub types_of_parts : {d : ℕ} {cs : List TypeDeclaration} {ks r : List Terminal} → DataParts d (that (that (both tt cs))) ks r → SomeData d (types cs) ks r
+types_of_parts (unmarked none (unmarked none' (then_ is_type_word (h, cs)))) = let w = types_out h cs in (declares_types w.0, w.1)
+
+abbrev is_const_word : TokenKind → Bool
+is_const_word kind.Const_ = true
+is_const_word other = false
+
+abbrev is_var_word : TokenKind → Bool
+is_var_word kind.Var = true
+is_var_word other = false
+
+pub made_data : As DataParts SomeData
+made_data d e ks r (declares_constants {cs = cs} f, n) = (this cs, marked (constants_in f n), λ ls s x. constants_of_parts x)
+made_data d e ks r (declares_variables {vs = cs} f, n) = (that (this cs), unmarked (no_mark_by mark.Const_ is_const_word refl refl) (marked (variables_in f n)), λ ls s x. variable_list_of_parts x)
+made_data d e ks r (declares_types {ts = cs} f, n) = (that (that (both tt cs)), unmarked (no_mark_by mark.Const_ is_const_word refl refl) (unmarked (no_mark_by mark.Var is_var_word refl refl) (then_ is_type_word (types_in f n))), λ ls s x. types_of_parts x)
+
+-- ---- headings with their directives
+
+abbrev pub MethodParts : Phrase (Both Heading (List Directive))
+MethodParts = Then SomeHeading (Repeats is_directive OneDirective)
+
+directives_in : {d : ℕ} {ws : List Directive} {ks r : List Terminal} → AreDirectives ws ks r → IsNot is_directive r → Repeats is_directive OneDirective d ws ks r
+directives_in are_no_directives n = no_more n
+directives_in (are_directives e ws) n = one_more (ap is_some e) (are_directives e are_no_directives) (directives_in ws n)
+
+directives_out : {d : ℕ} {ws : List Directive} {ks r : List Terminal} → Repeats is_directive OneDirective d ws ks r → AreDirectives ws ks r × IsNot is_directive r
+directives_out (no_more n) = (are_no_directives, n)
+directives_out (one_more h (are_directives e are_no_directives) more) = let w = directives_out more in (are_directives e w.0, w.1)
+
+pub method_of_parts : {d : ℕ} {h : Heading} {ws : List Directive} {ks r : List Terminal} → MethodParts d (both h ws) ks r → WholeMethod d (record { heading = h; directives = ws }) ks r
+method_of_parts (then_ h ws) = let w = directives_out ws in (is_method h.1 w.0, w.1)
+
+pub made_method : As MethodParts WholeMethod
+made_method d a ks r (is_method {h = h} {ws = ws} {p = p} f g, n) = (both h ws, then_ (p, f) (directives_in g n), λ ls s x. method_of_parts x)

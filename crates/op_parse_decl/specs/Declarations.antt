@@ -11,8 +11,8 @@ use Rattle.op_parse_decl.specs.declared.routine.Part.TheVariants as part
 use Rattle.op_scan.specs.declared.token.TokenKind.{TokenKind}
 use Rattle.op_scan.specs.declared.token.TokenKind.TheVariants as kind
 use Rattle.op_tree.specs.Declaration.{Declaration, Heading, Method, Body, TypeDefinition, Declarations, no_declarations, declarations, heading, routine}
-use Rattle.op_tree.specs.DeclarationGrammar.{IsDefinition, IsDataDeclaration, IsRoutine, IsBody}
-use Rattle.op_tree.specs.Ends.{IsNot}
+use Rattle.op_tree.specs.DeclarationGrammar.{IsDefinition, IsDataDeclaration, AreInterfaceDeclarations, AreDeclarations, IsRoutine, IsBody}
+use Rattle.op_tree.specs.Ends.{EndsDeclarations, IsNot}
 use Rattle.op_tree.specs.File.{File}
 use Rattle.op_tree.specs.FileGrammar.{BeginAt, IsFile, IsProgramHeading}
 use Rattle.op_tree.specs.HeadingGrammar.{AreDirectives, IsMethod, IsIdentifier, directive_of}
@@ -68,13 +68,6 @@ SomeIdentifier d text ks r = IsIdentifier d text ks r × NoMark mark.OpenBracket
 
 -- ---- declarations
 
--- the kind begins constants, types or variables
-abbrev pub begins_data : TokenKind → Bool
-begins_data kind.Const_ = true
-begins_data kind.Type_ = true
-begins_data kind.Var = true
-begins_data other = false
-
 -- the kind begins a declaration
 abbrev pub begins_declaration : TokenKind → Bool
 begins_declaration kind.Const_ = true
@@ -89,7 +82,12 @@ begins_declaration other = false
 abbrev pub SomeData : Phrase Declaration
 SomeData d e ks r = IsDataDeclaration d e ks r × IsNot is_identifier r
 
--- a declaration of an interface part, or of any other one
+-- declarations in a row, where no other one follows: of an interface part, or of any other one
+abbrev pub SomeDeclarations : Part → Phrase Declarations
+SomeDeclarations part.Interface d es ks r = AreInterfaceDeclarations d es ks r × EndsDeclarations r
+SomeDeclarations part.Block d es ks r = AreDeclarations d es ks r × EndsDeclarations r
+
+-- one of these declarations
 pub data SomeDeclaration : Part → ℕ → Declaration → List Terminal → List Terminal → Type 0 where
   some_data : {x : Part} {d : ℕ} {e : Declaration} {ks r : List Terminal} → SomeData d e ks r → SomeDeclaration x d e ks r
   some_heading : {d : ℕ} {a : Method} {ks r : List Terminal} → WholeMethod d a ks r → SomeDeclaration part.Interface d (heading a) ks r
@@ -110,8 +108,8 @@ RoutineBehind d x ks r = IsRoutine (suc d) (routine x.0 x.1 x.2) ks r
 -- ---- files
 
 -- nothing, where the first of the tokens stands there
-abbrev pub StandsHere : Phrase Position
-StandsHere d p ks r = BeginAt p ks × (ks ≡ r)
+pub data StandsHere : ℕ → Position → List Terminal → List Terminal → Type 0 where
+  stands_here : {d : ℕ} {p : Position} {ks : List Terminal} → BeginAt p ks → StandsHere d p ks ks
 
 -- [uses], none where the word does not stand there
 pub data SomeUses : ℕ → List Name → List Terminal → List Terminal → Type 0 where
@@ -126,8 +124,3 @@ pub data SomeProgramHeading : ℕ → Option ProgramHeading → List Terminal �
 -- a file, and no token behind it
 abbrev pub WholeFile : Phrase File
 WholeFile d file ks r = IsFile d file ks r × (r ≡ [])
-
--- declarations in a row
-abbrev pub row : List Declaration → Declarations
-row [] = no_declarations
-row (e ∷ es) = declarations e (row es)

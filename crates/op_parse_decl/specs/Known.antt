@@ -7,7 +7,7 @@ use Rattle.op_parse_code.specs.Opening.{kind_of}
 use Rattle.op_parse_code.specs.Refusal.{Phrase, SameHead}
 use Rattle.op_parse_code.specs.Whole.{NoMark}
 use Rattle.op_parse_code.specs.declared.mark.Mark.{Mark}
-use Rattle.op_parse_decl.specs.Combined.{Both, Stands, stands, Then, then_, Behind, no_mark, behind_mark, Repeats, no_more, one_more, Or, this, that, Choice, chosen, otherwise, Deeper, deeper, Nothing, nothing, Fork, marked, unmarked, Ahead, ahead}
+use Rattle.op_parse_decl.specs.Combined.{Both, Stands, stands, Then, then_, Behind, no_mark, behind_mark, Repeats, no_more, one_more, Or, this, that, Choice, chosen, otherwise, Deeper, deeper, Nothing, nothing, Fork, marked, unmarked, Several}
 use Rattle.op_scan.specs.declared.token.TokenKind.{TokenKind}
 use Rattle.op_tree.proofs.ExpressionUnique.{Begins, behind}
 use Rattle.op_tree.proofs.StatementUnique.{both as apart, differ}
@@ -160,11 +160,8 @@ same_fork m P Q known known' d d' (that b) (that b') ks r r' (none, q) (none', q
 pub known_fork : {A B : Type 0} {m : Mark} {P : Phrase A} {Q : Phrase B} → Known P → Known Q → Known (Fork m P Q)
 known_fork {m = m} {P = P} {Q = Q} known known' = record { front = front_fork known known'; same = λ d d' x x' ks r r' p p'. same_fork m P Q known known' d d' x x' ks r r' (forked x p) (forked x' p') }
 
-front_ahead : {test : TokenKind → Bool} (d : ℕ) (x : Unit {0}) (ks r : List Terminal) → Ahead test d x ks r → (f : List Terminal → List Terminal) × IsCut f × (ks ≡ f r) × ((z : List Terminal) → SameHead r z → Ahead test d x (f z) z)
-front_ahead {test = test} d x ks r (ahead h) = (λ z. z, cut_none, refl, λ z s. ahead (same_begins test ks z s h))
-
-same_ahead : {test : TokenKind → Bool} (d d' : ℕ) (x x' : Unit {0}) (ks r r' : List Terminal) → Ahead test d x ks r → Ahead test d' x' ks r' → r ≡ r'
-same_ahead d d' x x' ks r r' (ahead h) (ahead h') = refl
-
-pub known_ahead : {test : TokenKind → Bool} → Known (Ahead test)
-known_ahead = record { front = front_ahead; same = same_ahead }
+pub known_several : {A : Type 0} {test : TokenKind → Bool} {P : Phrase A} → Known P → Known (Several test P)
+known_several {test = test} known = record {
+  front = λ d as_ ks r p. let f = front_repeats known d as_ ks r p.1 in (f.0, f.1, f.2, λ x s. (same_begins test ks (f.0 x) (subst (λ y. SameHead y (f.0 x)) (sym f.2) (same_cut f.1 r x s)) p.0, f.3 x s));
+  same = λ d d' as_ as' ks r r' p p'. same_repeats known d d' as_ as' ks r r' p.1 p'.1;
+}

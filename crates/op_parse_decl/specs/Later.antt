@@ -1,7 +1,6 @@
 -- What is not proved yet: a part stands whatever follows that begins so, and ends at one place.
 use Rattle.op_parse_code.proofs.Refusing.{Known}
-use Rattle.op_parse_decl.specs.Combined.{Repeats}
-use Rattle.op_parse_decl.specs.Declarations.{DefinitionBehind, OneDirective, StandsHere, IsTypeWord, SomeDeclaration, begins_declaration}
+use Rattle.op_parse_decl.specs.Declarations.{DefinitionBehind, OneDirective, StandsHere, IsTypeWord, SomeDeclarations}
 use Rattle.op_parse_decl.specs.Headings.{SomeHeading}
 use Rattle.op_parse_decl.specs.Types.{SomeInitial}
 use Rattle.op_parse_decl.specs.declared.routine.Part.{Part}
@@ -25,5 +24,5 @@ known_type_word = ?
 pub known_definition : (k : TokenKind) → Known (DefinitionBehind k)
 known_definition k = ?
 
-pub known_declarations : (part : Part) → Known (Repeats begins_declaration (SomeDeclaration part))
+pub known_declarations : (part : Part) → Known (SomeDeclarations part)
 known_declarations part = ?

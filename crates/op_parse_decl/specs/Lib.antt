@@ -11,3 +11,4 @@ pub mod DeclarationParts
 pub mod Either
 pub mod HeadingFronts
 pub mod HeadingKnown
+pub mod FileParts

@@ -1,12 +1,12 @@
 //! Choices by the first token, parts one deeper, and forms that are left out.
-ghost use Rattle.std.specs.Prelude.{◌≡◌, IfSome};
+ghost use Rattle.std.specs.Prelude.{◌≡◌, IfSome, List, map};
 ghost use Rattle.op_parse_code.specs.Form.{HasForm};
-ghost use Rattle.op_parse_decl.specs.Combined.{Ahead, Choice, Deeper, Fork, Nothing, Or};
+ghost use Rattle.op_parse_decl.specs.Combined.{Choice, Deeper, Fork, Nothing, Or, Several};
 ghost use Rattle.op_parse_decl.specs.Either.{either_of, fork_of};
-ghost use Rattle.op_parse_decl.specs.Known.{known_ahead, known_choice, known_deeper, known_fork, known_nothing};
+ghost use Rattle.op_parse_decl.specs.Known.{known_choice, known_deeper, known_fork, known_nothing, known_several};
 ghost use Rattle.op_tree.specs.Terminal.{terminals};
 
-use crate::part::{Answer, Item, Part, Setting};
+use crate::part::{Answer, Item, Part, Repeated, Setting};
 use crate::sign::Sign;
 use op_parse_code::shared::{behind_mark, enter, left_out, syntax};
 use op_scan::Token;
@@ -92,29 +92,30 @@ impl Part for Empty {
     ghost known = { known_nothing };
 }
 
-/// Nothing, where the next token begins such a part.
+/// All parts at the front, at least one.
 #[derive(Drop)]
-pub struct Ahead<A> {
-    of: PhantomData<A>,
+pub struct Several<A> {
+    pub items: Vec<A>,
 }
 
-impl<A: Item> Part for Ahead<A> {
-    ghost Said = { Unit {0} };
+impl<A: Item> Part for Several<A> {
+    ghost Said = { List A.Said };
 
-    ghost says = { λ _. tt };
+    ghost says = { λ x. map A.says x.items.items };
 
-    ghost phrase = { Ahead A.test };
+    ghost phrase = { Several A.test A.phrase };
 
     ghost least = { 0 };
 
-    fn read<'a>(setting: Setting, tokens: &'a [Token]) -> Answer<'a, Ahead<A>> {
+    fn read<'a>(setting: Setting, tokens: &'a [Token]) -> Answer<'a, Several<A>> {
         if A::begins(tokens) {
-            return Ok((Ahead { of: PhantomData }, tokens));
+            let (all, rest) = Repeated::<A>::read(setting, tokens)?;
+            return Ok((Several { items: all.items }, rest));
         }
         Err(syntax(setting.end, tokens))
     }
 
-    ghost known = { known_ahead };
+    ghost known = { known_several A.known };
 }
 
 /// A part that is counted.

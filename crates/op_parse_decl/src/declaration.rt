@@ -4,11 +4,11 @@ ghost use Rattle.op_parse_code.specs.Opening.{is_identifier};
 ghost use Rattle.op_parse_code.specs.WholeStatement.{front_is};
 ghost use Rattle.op_tree.specs.Terminal.{terminals};
 
-use crate::choice::{Ahead, Fork, Form, Unless};
+use crate::choice::{Fork, Form, Several, Unless};
 use crate::class::{ClassBehind, InterfaceBehind};
 use crate::declared_form::{form_of_definition, form_of_type};
 use crate::leaf::TypeWord;
-use crate::part::{Behind, Item, Made, Repeated, Stands};
+use crate::part::{Behind, Item, Made, Stands};
 use crate::sign;
 use op_parse_code::shared::is_identifier;
 use op_scan::Token;
@@ -61,7 +61,7 @@ impl Made for Constant {
 }
 
 impl Item for Constant {
-    ghost use Rattle.std.specs.Prelude.{suc-le-suc, zero-le};
+    ghost use Rattle.std.proofs.Common.{suc-le-suc, zero-le};
     ghost use Rattle.op_parse_code.specs.Opening.{is_identifier};
 
     ghost test = { is_identifier };
@@ -109,7 +109,7 @@ impl Made for Variables {
 }
 
 impl Item for Variables {
-    ghost use Rattle.std.specs.Prelude.{suc-le-suc, zero-le};
+    ghost use Rattle.std.proofs.Common.{suc-le-suc, zero-le};
     ghost use Rattle.op_parse_code.specs.Opening.{is_identifier};
 
     ghost test = { is_identifier };
@@ -154,7 +154,7 @@ impl Made for TypeDeclaration {
 }
 
 impl Item for TypeDeclaration {
-    ghost use Rattle.std.specs.Prelude.{suc-le-suc, zero-le};
+    ghost use Rattle.std.proofs.Common.{suc-le-suc, zero-le};
     ghost use Rattle.op_parse_code.specs.Opening.{is_identifier};
 
     ghost test = { is_identifier };
@@ -221,15 +221,8 @@ impl Made for Data {
 
     type Parts = Fork<
         sign::Const_,
-        (Ahead<Constant>, Repeated<Constant>),
-        Fork<
-            sign::Var,
-            (Ahead<Variables>, Repeated<Variables>),
-            (
-                TypeWord,
-                (Ahead<TypeDeclaration>, Repeated<TypeDeclaration>),
-            ),
-        >,
+        Several<Constant>,
+        Fork<sign::Var, Several<Variables>, (TypeWord, Several<TypeDeclaration>)>,
     >;
 
     ghost Said = { Declaration };
@@ -238,16 +231,18 @@ impl Made for Data {
 
     ghost phrase = { SomeData };
 
-    #[tactic(auto, using(crate::specs::DeclarationParts::constants_of_parts, crate::specs::DeclarationParts::variable_list_of_parts, crate::specs::DeclarationParts::types_of_parts))]
     fn of(_alloc: Global, parts: Self::Parts) -> Data {
-        let declaration = match parts {
-            Fork::Marked((_, constants), _) => Declaration::Constants(constants.items),
-            Fork::Unmarked(Fork::Marked((_, variables), _)) => Declaration::Variables(
-                variables.items,
-            ),
-            Fork::Unmarked(Fork::Unmarked((_, (_, types)))) => Declaration::Types(types.items),
-        };
-        Data { declaration }
+        match parts {
+            Fork::Marked(constants, _) => Data {
+                declaration: Declaration::Constants(constants.items),
+            },
+            Fork::Unmarked(Fork::Marked(variables, _)) => Data {
+                declaration: Declaration::Variables(variables.items),
+            },
+            Fork::Unmarked(Fork::Unmarked((_, types))) => Data {
+                declaration: Declaration::Types(types.items),
+            },
+        }
     }
 
     ghost made = { made_data };

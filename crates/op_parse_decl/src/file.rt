@@ -1,11 +1,10 @@
 //! Whole files (Free Pascal Reference Guide, "Programs, units, blocks").
-ghost use Rattle.std.specs.Prelude.{◌≡◌, ℕ, IfOk, IfErr, List, MatchResult, Option, map};
+ghost use Rattle.std.specs.Prelude.{◌≡◌, ℕ, IfOk, IfErr, List, MatchResult, Option};
 ghost use Rattle.op_parse_code.specs.Refusal.{IsFree, Refuses};
-ghost use Rattle.op_parse_decl.specs.Combined.{Repeats};
-ghost use Rattle.op_parse_decl.specs.Declarations.{SomeDeclaration, WholeFile, begins_declaration};
+ghost use Rattle.op_parse_decl.specs.Declarations.{SomeDeclarations, WholeFile};
 ghost use Rattle.op_parse_decl.specs.Later.{known_declarations};
 ghost use Rattle.op_parse_decl.specs.declared.routine.Part.TheVariants as part;
-ghost use Rattle.op_tree.specs.Declaration.{Declaration, declaration_of};
+ghost use Rattle.op_tree.specs.Declaration.{Declarations, declarations_of};
 ghost use Rattle.op_tree.specs.File.{File, file_of};
 ghost use Rattle.op_tree.specs.FileGrammar.{Spells};
 ghost use Rattle.op_tree.specs.Terminal.{terminals};
@@ -58,11 +57,11 @@ pub struct InBlock {
 }
 
 impl Part for InBlock {
-    ghost Said = { List Declaration };
+    ghost Said = { Declarations };
 
-    ghost says = { λ x. map declaration_of x.items.items };
+    ghost says = { λ x. declarations_of x.items.items };
 
-    ghost phrase = { Repeats begins_declaration (SomeDeclaration part.Block) };
+    ghost phrase = { SomeDeclarations part.Block };
 
     ghost least = { 0 };
 
@@ -81,11 +80,11 @@ pub struct InInterface {
 }
 
 impl Part for InInterface {
-    ghost Said = { List Declaration };
+    ghost Said = { Declarations };
 
-    ghost says = { λ x. map declaration_of x.items.items };
+    ghost says = { λ x. declarations_of x.items.items };
 
-    ghost phrase = { Repeats begins_declaration (SomeDeclaration part.Interface) };
+    ghost phrase = { SomeDeclarations part.Interface };
 
     ghost least = { 0 };
 

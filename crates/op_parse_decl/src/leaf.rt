@@ -120,7 +120,7 @@ impl Part for BracketedNames {
 }
 
 impl Item for BracketedNames {
-    ghost use Rattle.std.specs.Prelude.{suc-le-suc, zero-le};
+    ghost use Rattle.std.proofs.Common.{suc-le-suc, zero-le};
     ghost use Rattle.op_parse_decl.specs.Opening.{is_open};
 
     ghost test = { is_open };
@@ -215,7 +215,7 @@ impl Part for Directive {
 }
 
 impl Item for Directive {
-    ghost use Rattle.std.specs.Prelude.{suc-le-suc, zero-le};
+    ghost use Rattle.std.proofs.Common.{suc-le-suc, zero-le};
     ghost use Rattle.op_parse_decl.specs.Declarations.{is_directive};
 
     ghost test = { is_directive };

@@ -1,11 +1,11 @@
 //! Declarations in a row, and routines with what is declared in them (Free Pascal Reference Guide, "Using functions and
 //! procedures").
-ghost use Rattle.std.specs.Prelude.{◌≡◌, ℕ, ◌≤◌, ◌<◌, IfOk, IfErr, length, map};
+ghost use Rattle.std.specs.Prelude.{◌≡◌, ℕ, ◌≤◌, ◌<◌, IfOk, IfErr, length};
 ghost use Rattle.op_parse_code.specs.Refusal.{Refuses};
 ghost use Rattle.op_parse_code.specs.WholeStatement.{front_is};
-ghost use Rattle.op_parse_decl.specs.Combined.{Repeats};
-ghost use Rattle.op_parse_decl.specs.Declarations.{BodyBefore, RoutineBehind, SomeDeclaration, begins_declaration};
-ghost use Rattle.op_tree.specs.Declaration.{body_of, declaration_of, heading_of};
+ghost use Rattle.op_parse_decl.specs.Declarations.{BodyBefore, RoutineBehind, SomeDeclaration, SomeDeclarations, begins_declaration};
+ghost use Rattle.op_tree.proofs.DeclarationUnique.{begins_data};
+ghost use Rattle.op_tree.specs.Declaration.{body_of, declaration_of, declarations_of, heading_of};
 ghost use Rattle.op_tree.specs.Terminal.{terminals};
 
 use crate::choice::{Form, Nested, Unless};
@@ -69,7 +69,7 @@ impl Made for Method {
 }
 
 impl Item for Method {
-    ghost use Rattle.std.specs.Prelude.{suc-le-suc, zero-le};
+    ghost use Rattle.std.proofs.Common.{suc-le-suc, zero-le};
     ghost use Rattle.op_tree.proofs.MethodUnique.{begins_heading};
 
     ghost test = { begins_heading };
@@ -97,8 +97,8 @@ pub fn declarations<'a>(
     setting: Setting,
     tokens: &'a [Token],
 ) -> Answer<'a, Vec<Declaration>>
-    ensures whole { IfOk result (λ f. Repeats begins_declaration (SomeDeclaration part) setting.left (map declaration_of f.0.items) (terminals tokens.now) (terminals f.1.now)) }
-    ensures refused { IfErr result (Refuses (Repeats begins_declaration (SomeDeclaration part)) setting.left setting.end (terminals tokens.now)) }
+    ensures whole { IfOk result (λ f. SomeDeclarations part setting.left (declarations_of f.0.items) (terminals tokens.now) (terminals f.1.now)) }
+    ensures refused { IfErr result (Refuses (SomeDeclarations part) setting.left setting.end (terminals tokens.now)) }
     ensures shorter { IfOk result (λ f. length f.1.now ≤ length tokens.now) }
 {
     let mut declarations = Vec::new(setting.alloc);
