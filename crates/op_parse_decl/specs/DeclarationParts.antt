@@ -1,5 +1,5 @@
 -- What each production is made of.
-use Rattle.std.proofs.Common.{◌≡◌, ℕ, Bool, true, false, List, [], ◌∷◌, Option, Some, None, refl, ap}
+use Rattle.std.proofs.Common.{◌≡◌, ℕ, Bool, true, false, List, [], ◌∷◌, Option, Some, None, map, refl, ap, subst}
 use Rattle.op_parse_code.proofs.Lists.{kind_same}
 use Rattle.op_parse_code.specs.Refusal.{Phrase}
 use Rattle.op_parse_code.specs.Whole.{NoMark, SomeName}
@@ -233,3 +233,10 @@ method_of_parts (then_ h ws) = let w = directives_out ws in (is_method h.1 w.0, 
 
 pub made_method : As MethodParts WholeMethod
 made_method d a ks r (is_method {h = h} {ws = ws} {p = p} f g, n) = (both h ws, then_ (p, f) (directives_in g n), λ ls s x. method_of_parts x)
+
+map_same : (ws : List Directive) → map (λ w. w) ws ≡ ws
+map_same [] = refl
+map_same (w ∷ ws) = ap (λ z. w ∷ z) (map_same ws)
+
+pub method_of_list : {d : ℕ} {h : Heading} (ws : List Directive) {ks r : List Terminal} → MethodParts d (both h (map (λ w. w) ws)) ks r → WholeMethod d (record { heading = h; directives = ws }) ks r
+method_of_list {d = d} {h = h} ws {ks = ks} {r = r} x = method_of_parts (subst (λ z. MethodParts d (both h z) ks r) (map_same ws) x)

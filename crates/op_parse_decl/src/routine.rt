@@ -57,7 +57,6 @@ impl Made for Method {
 
     ghost phrase = { WholeMethod };
 
-    #[tactic(auto, using(crate::specs::DeclarationParts::method_of_parts))]
     fn of(_alloc: Global, (heading, directives): Self::Parts) -> Method {
         Method {
             heading,
