@@ -1,6 +1,6 @@
 -- What is not proved yet: a part stands whatever follows that begins so, and ends at one place.
 use Rattle.op_parse_code.proofs.Refusing.{Known}
-use Rattle.op_parse_decl.specs.Declarations.{DefinitionBehind, OneDirective, StandsHere, IsTypeWord, SomeDeclarations}
+use Rattle.op_parse_decl.specs.Declarations.{DefinitionBehind, SomeDeclarations}
 use Rattle.op_parse_decl.specs.Headings.{SomeHeading}
 use Rattle.op_parse_decl.specs.Types.{SomeInitial}
 use Rattle.op_parse_decl.specs.declared.routine.Part.{Part}
@@ -11,15 +11,6 @@ known_initial = ?
 
 pub known_heading : Known SomeHeading
 known_heading = ?
-
-pub known_directive : Known OneDirective
-known_directive = ?
-
-pub known_here : Known StandsHere
-known_here = ?
-
-pub known_type_word : Known IsTypeWord
-known_type_word = ?
 
 pub known_definition : (k : TokenKind) → Known (DefinitionBehind k)
 known_definition k = ?

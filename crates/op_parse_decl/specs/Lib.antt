@@ -12,3 +12,4 @@ pub mod Either
 pub mod HeadingFronts
 pub mod HeadingKnown
 pub mod FileParts
+pub mod KnownLeaves

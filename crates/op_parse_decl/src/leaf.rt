@@ -46,7 +46,8 @@ impl Part for Names {
     ghost least = { 1 };
 
     fn read<'a>(setting: Setting, tokens: &'a [Token]) -> Answer<'a, Names> {
-        names(setting.alloc, setting.end, tokens)
+        let (names, rest) = names(setting.alloc, setting.end, tokens)?;
+        Ok((names, rest))
     }
 
     ghost known = { known_names };
@@ -189,7 +190,7 @@ fn word_directive(kind: &TokenKind) -> Option<Directive> {
 
 impl Part for Directive {
     ghost use Rattle.op_parse_decl.specs.Declarations.{OneDirective};
-    ghost use Rattle.op_parse_decl.specs.Later.{known_directive};
+    ghost use Rattle.op_parse_decl.specs.KnownLeaves.{known_directive};
     ghost use Rattle.op_tree.specs.declared.heading.Directive.{Directive};
 
     ghost Said = { Directive };
@@ -238,7 +239,7 @@ pub struct Here {
 
 impl Part for Here {
     ghost use Rattle.op_parse_decl.specs.Declarations.{StandsHere};
-    ghost use Rattle.op_parse_decl.specs.Later.{known_here};
+    ghost use Rattle.op_parse_decl.specs.KnownLeaves.{known_here};
     ghost use Rattle.op_tree.specs.declared.position.Position.{Position};
 
     ghost Said = { Position };
@@ -266,7 +267,7 @@ pub struct TypeWord;
 
 impl Part for TypeWord {
     ghost use Rattle.op_parse_decl.specs.Declarations.{IsTypeWord};
-    ghost use Rattle.op_parse_decl.specs.Later.{known_type_word};
+    ghost use Rattle.op_parse_decl.specs.KnownLeaves.{known_type_word};
 
     ghost Said = { Unit {0} };
 
