@@ -8,4 +8,3 @@ pub mod Enumerations
 pub mod Denoted
 pub mod Forms
 pub mod Combining
-pub mod DeclarationKnown
