@@ -8,7 +8,7 @@ use crate::heading::{directive_of, heading};
 use crate::initializer::initial;
 use crate::names::{bracketed_names, names};
 use crate::part::{Answer, Item, Part, Setting};
-use op_parse_code::shared::{Mark, after_mark, behind_mark, name, position_of, statements, syntax};
+use op_parse_code::shared::{Mark, after_mark, name, position_of, statements, syntax};
 use op_scan::{Token, TokenKind};
 use op_tree::{Directive, Heading, Initializer, Name, Names, Position, Stmt, TypeDenoter};
 
@@ -127,7 +127,10 @@ impl Item for BracketedNames {
     ghost test = { is_open };
 
     fn begins(tokens: &[Token]) -> bool {
-        behind_mark(Mark::OpenParenthesis, tokens).is_some()
+        match tokens.split_first() {
+            None => false,
+            Some((first, _)) => matches!(&first.kind, TokenKind::OpenParenthesis),
+        }
     }
 
     ghost moves = { suc-le-suc zero-le };
