@@ -39,7 +39,7 @@ pub fn chain<'a>(
 
 /// The operators of a level and operands at the front. Before them stands an operand of the level.
 #[cycle(expression)]
-fn operations<'a>(
+pub fn operations<'a>(
     alloc: Global,
     level: Level,
     left: u32,

@@ -78,7 +78,7 @@ fn root<'a>(
 }
 
 /// The word `specialize` and a name stand at the front.
-fn is_specialized(tokens: &[Token]) -> bool
+pub fn is_specialized(tokens: &[Token]) -> bool
     ensures { IsTrue result → HasForm 29 (terminals tokens.now) (terminals tokens.now) }
 {
     let Some((first, rest)) = tokens.split_first() else {

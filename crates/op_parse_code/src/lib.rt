@@ -19,6 +19,7 @@ mod nodes;
 mod opening;
 mod part;
 mod repetition;
+pub mod shared;
 mod statement_nodes;
 mod token;
 

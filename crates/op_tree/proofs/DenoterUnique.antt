@@ -46,7 +46,7 @@ unique_bracketed_names (are_bracketed_names a) (are_bracketed_names a') =
 
 -- ---- names as expressions
 
-stop_simple : (e : Expression) (r : List Terminal) → StopsDenoter r → EndsChain Additive e r
+pub stop_simple : (e : Expression) (r : List Terminal) → StopsDenoter r → EndsChain Additive e r
 stop_simple e r h = (h.operator, ends_operand e r h.selector)
 
 pub no_dot : (r : List Terminal) → IsNot begins_selector r → IsNot is_dot r
@@ -58,20 +58,20 @@ no_dot (t ∷ r) h = at_kind t.kind h
     at_kind other h = refl
 
 -- an expression of one factor, at a level
-as_simple : {d : ℕ} {e : Expression} {ks r : List Terminal} → IsFactor d e ks r → IsChain Additive d e ks r
+pub as_simple : {d : ℕ} {e : Expression} {ks r : List Terminal} → IsFactor d e ks r → IsChain Additive d e ks r
 as_simple f = is_chain (is_term (is_chain (is_factor f) are_no_operations refl)) are_no_operations refl
 
-as_expr : {d : ℕ} {e : Expression} {ks r : List Terminal} → IsFactor d e ks r → IsChain Relational d e ks r
+pub as_expr : {d : ℕ} {e : Expression} {ks r : List Terminal} → IsFactor d e ks r → IsChain Relational d e ks r
 as_expr f = is_chain (is_simple (as_simple f)) are_no_operations refl
 
 abbrev Reads : (List Terminal → Expression → Type 0) → List Terminal → Type 0
 Reads P r = (e : Expression) × P r e
 
-qualified_factor : {q : QualifiedName} {ks r : List Terminal} → IsQualified q ks r → (e : Expression) × IsFactor 1 e ks r
+pub qualified_factor : {q : QualifiedName} {ks r : List Terminal} → IsQualified q ks r → (e : Expression) × IsFactor 1 e ks r
 qualified_factor (is_unqualified is_name) = (_, is_designated (is_designator is_named_root are_no_selectors))
 qualified_factor (is_qualified is_name is_name) = (_, is_designated (is_designator is_named_root (are_selectors is_member are_no_selectors)))
 
-name_factor : {n : Name} {ks r : List Terminal} → IsName n ks r → (e : Expression) × IsFactor 1 e ks r
+pub name_factor : {n : Name} {ks r : List Terminal} → IsName n ks r → (e : Expression) × IsFactor 1 e ks r
 name_factor is_name = (_, is_designated (is_designator is_named_root are_no_selectors))
 
 -- a type that a factor spells is no bound of a subrange
@@ -81,15 +81,15 @@ no_bound {e = e} {e' = e'} f a h =
     true_false (subst (IsNot is_dot_dot) u.1 h.range)
 
 -- an expression that begins with a bracket begins with one in brackets
-record Opened (ks : List Terminal) : Type 0 where
-  depth : ℕ
-  inside : Expression
-  close : Position
-  after : List Terminal
-  is_inside : IsChain Relational depth inside ks (kind.CloseParenthesis at close ∷ after)
+pub record Opened (ks : List Terminal) : Type 0 where
+  pub depth : ℕ
+  pub inside : Expression
+  pub close : Position
+  pub after : List Terminal
+  pub is_inside : IsChain Relational depth inside ks (kind.CloseParenthesis at close ∷ after)
 
 mutual
-  opened : {l : Level} {d : ℕ} {e : Expression} {p : Position} {ks r : List Terminal} → IsChain l d e (kind.OpenParenthesis at p ∷ ks) r → Opened ks
+  pub opened : {l : Level} {d : ℕ} {e : Expression} {p : Position} {ks r : List Terminal} → IsChain l d e (kind.OpenParenthesis at p ∷ ks) r → Opened ks
   opened (is_chain a os q) = opened_operand a
 
   opened_operand : {l : Level} {d : ℕ} {e : Expression} {p : Position} {ks r : List Terminal} → IsOperand l d e (kind.OpenParenthesis at p ∷ ks) r → Opened ks
@@ -98,7 +98,7 @@ mutual
   opened_operand (is_factor (is_prefixed h f)) = absurd cc
   opened_operand (is_factor (is_designated (is_designator (is_bracketed f) ss))) = record { depth = _; inside = _; close = _; after = _; is_inside = f }
 
-no_enumeration : {A : Type 0} {d d' : ℕ} {ns : List Name} {e : Expression} {p : Position} {ks m r : List Terminal} → AreBracketedNames d ns ks r → IsChain Additive d' e ks (kind.DotDot at p ∷ m) → StopsDenoter r → A
+pub no_enumeration : {A : Type 0} {d d' : ℕ} {ns : List Name} {e : Expression} {p : Position} {ks m r : List Terminal} → AreBracketedNames d ns ks r → IsChain Additive d' e ks (kind.DotDot at p ∷ m) → StopsDenoter r → A
 no_enumeration (are_bracketed_names (are_one_name is_name)) a h = no_bound (is_designated (is_designator (is_bracketed (as_expr {d = 1} (is_designated (is_designator is_named_root are_no_selectors)))) are_no_selectors)) a h
 no_enumeration (are_bracketed_names (are_names n b)) a h =
     let i = opened a in
@@ -198,7 +198,7 @@ mutual
       let u = unique_field_lists fs fs' refl refl in
       (ap (record_ p b) u.0, ap behind u.1)
 
-  unique_denoters : {d d' : ℕ} {ts ts' : Denoters} {ks r r' : List Terminal} → AreDenoters d ts ks r → AreDenoters d' ts' ks r' → StopsDenoter r → StopsDenoter r' → IsNot is_comma r → IsNot is_comma r' → (ts ≡ ts') × (r ≡ r')
+  pub unique_denoters : {d d' : ℕ} {ts ts' : Denoters} {ks r r' : List Terminal} → AreDenoters d ts ks r → AreDenoters d' ts' ks r' → StopsDenoter r → StopsDenoter r' → IsNot is_comma r → IsNot is_comma r' → (ts ≡ ts') × (r ≡ r')
   unique_denoters (are_one_denoter t) (are_one_denoter t') h h' c c' =
       let u = unique_denoter t t' h h' in
       (ap (λ x. denoters x no_denoters) u.0, u.1)
@@ -213,7 +213,7 @@ mutual
       let v = unique_denoters ts (subst (λ x. AreDenoters y t1 x z) (sym (ap behind u.1)) ts') h h' c c' in
       (same2 denoters u.0 v.0, v.1)
 
-  unique_field_lists : {d d' : ℕ} {fs fs' : FieldLists} {ks r r' : List Terminal} → AreFieldLists d fs ks r → AreFieldLists d' fs' ks r' → Begins is_end r → Begins is_end r' → (fs ≡ fs') × (r ≡ r')
+  pub unique_field_lists : {d d' : ℕ} {fs fs' : FieldLists} {ks r r' : List Terminal} → AreFieldLists d fs ks r → AreFieldLists d' fs' ks r' → Begins is_end r → Begins is_end r' → (fs ≡ fs') × (r ≡ r')
   unique_field_lists are_no_fields are_no_fields h h' = (refl, refl)
   unique_field_lists are_no_fields (are_last_fields ns t) h h' = no_names_at_end ns h
   unique_field_lists are_no_fields (are_fields ns t fs) h h' = no_names_at_end ns h
@@ -240,12 +240,12 @@ mutual
 -- ---- first values
 
 -- what begins as a record is no expression
-no_expression_record : {A : Type 0} {d d' : ℕ} {fs : FieldInitials} {e : Expression} {q : Position} {ks m r : List Terminal} → AreFieldInitials d fs ks r → IsChain Relational d' e ks (kind.CloseParenthesis at q ∷ m) → A
+pub no_expression_record : {A : Type 0} {d d' : ℕ} {fs : FieldInitials} {e : Expression} {q : Position} {ks m r : List Terminal} → AreFieldInitials d fs ks r → IsChain Relational d' e ks (kind.CloseParenthesis at q ∷ m) → A
 no_expression_record (are_one_field_initial n i) f = differ is_colon (unique_expr (as_expr (name_factor n).1) f (refl, refl) (refl, refl)).1 refl refl
 no_expression_record (are_field_initials n i fs) f = differ is_colon (unique_expr (as_expr (name_factor n).1) f (refl, refl) (refl, refl)).1 refl refl
 
 -- nor is what begins as a list
-no_expression_list : {A : Type 0} {d d' : ℕ} {is : Initials} {e : Expression} {q : Position} {ks m r : List Terminal} → AreInitials d is ks r → IsNoExpression is → IsChain Relational d' e ks (kind.CloseParenthesis at q ∷ m) → A
+pub no_expression_list : {A : Type 0} {d d' : ℕ} {is : Initials} {e : Expression} {q : Position} {ks m r : List Terminal} → AreInitials d is ks r → IsNoExpression is → IsChain Relational d' e ks (kind.CloseParenthesis at q ∷ m) → A
 no_expression_list (are_one_initial (is_value f0)) n f = absurd n
 no_expression_list (are_one_initial (is_list is k)) n f = no_expression_list is k (opened f).is_inside
 no_expression_list (are_one_initial (is_record_value fs)) n f = no_expression_record fs (opened f).is_inside
@@ -286,7 +286,7 @@ mutual
       let u = unique_field_initials fs fs' (refl, refl) (refl, refl) refl refl in
       (ap (record_value p) u.0, ap behind u.1)
 
-  unique_initials : {d d' : ℕ} {is is' : Initials} {ks r r' : List Terminal} → AreInitials d is ks r → AreInitials d' is' ks r' → Stops r → Stops r' → IsNot is_comma r → IsNot is_comma r' → (is ≡ is') × (r ≡ r')
+  pub unique_initials : {d d' : ℕ} {is is' : Initials} {ks r r' : List Terminal} → AreInitials d is ks r → AreInitials d' is' ks r' → Stops r → Stops r' → IsNot is_comma r → IsNot is_comma r' → (is ≡ is') × (r ≡ r')
   unique_initials (are_one_initial i) (are_one_initial i') h h' c c' =
       let u = unique_initial i i' h h' in
       (ap (λ x. initials x no_initials) u.0, u.1)
@@ -301,7 +301,7 @@ mutual
       let v = unique_initials is (subst (λ x. AreInitials y i1 x z) (sym (ap behind u.1)) is') h h' c c' in
       (same2 initials u.0 v.0, v.1)
 
-  unique_field_initials : {d d' : ℕ} {fs fs' : FieldInitials} {ks r r' : List Terminal} → AreFieldInitials d fs ks r → AreFieldInitials d' fs' ks r' → Stops r → Stops r' → IsNot is_semicolon r → IsNot is_semicolon r' → (fs ≡ fs') × (r ≡ r')
+  pub unique_field_initials : {d d' : ℕ} {fs fs' : FieldInitials} {ks r r' : List Terminal} → AreFieldInitials d fs ks r → AreFieldInitials d' fs' ks r' → Stops r → Stops r' → IsNot is_semicolon r → IsNot is_semicolon r' → (fs ≡ fs') × (r ≡ r')
   unique_field_initials (are_one_field_initial n i) (are_one_field_initial {d = y} {i = i1} {r = z} n' i') h h' c c' =
       let u = unique_name n n' in
       let v = unique_initial i (subst (λ x. IsInitial y i1 x z) (sym (ap behind u.1)) i') h h' in

@@ -28,7 +28,7 @@ out_is_no_name : {A : Type 0} {ns ns' : List Name} {text : List ℕ} {p q : Posi
 out_is_no_name (are_one_name is_name) b = false_true (names_begin b)
 out_is_no_name (are_names is_name a) b = false_true (names_begin b)
 
-unique_moded : {m m' : ParameterMode} {ns ns' : List Name} {ks k k' r r' : List Terminal} {p p' : Position} → IsMode m ks k → AreNames ns k (kind.Colon at p ∷ r) → IsMode m' ks k' → AreNames ns' k' (kind.Colon at p' ∷ r') → (m ≡ m') × (ns ≡ ns') × (r ≡ r')
+pub unique_moded : {m m' : ParameterMode} {ns ns' : List Name} {ks k k' r r' : List Terminal} {p p' : Position} → IsMode m ks k → AreNames ns k (kind.Colon at p ∷ r) → IsMode m' ks k' → AreNames ns' k' (kind.Colon at p' ∷ r') → (m ≡ m') × (ns ≡ ns') × (r ≡ r')
 unique_moded by_value a by_value a' =
     let u = unique_names a a' refl refl in
     (refl, u.0, ap behind u.1)
@@ -48,7 +48,7 @@ unique_moded (by_out w) a (by_out w') a' =
     let u = unique_names a a' refl refl in
     (refl, u.0, ap behind u.1)
 
-unique_parameter_type : {t t' : ParameterType} {ks r r' : List Terminal} → IsParameterType t ks r → IsParameterType t' ks r' → IsNot is_dot r → IsNot is_dot r' → (t ≡ t') × (r ≡ r')
+pub unique_parameter_type : {t t' : ParameterType} {ks r r' : List Terminal} → IsParameterType t ks r → IsParameterType t' ks r' → IsNot is_dot r → IsNot is_dot r' → (t ≡ t') × (r ≡ r')
 unique_parameter_type (is_named q) (is_named q') h h' =
     let u = unique_qualified q q' h h' in
     (ap Named u.0, u.1)
@@ -56,7 +56,7 @@ unique_parameter_type (is_named q) is_string h h' = false_true (qualified_begins
 unique_parameter_type is_string (is_named q) h h' = false_true (qualified_begins q)
 unique_parameter_type is_string is_string h h' = (refl, refl)
 
-unique_open : {b b' : Bool} {t t' : ParameterType} {ks k k' r r' : List Terminal} → IsOpenArray b ks k → IsParameterType t k r → IsOpenArray b' ks k' → IsParameterType t' k' r' → IsNot is_dot r → IsNot is_dot r' → (b ≡ b') × (t ≡ t') × (r ≡ r')
+pub unique_open : {b b' : Bool} {t t' : ParameterType} {ks k k' r r' : List Terminal} → IsOpenArray b ks k → IsParameterType t k r → IsOpenArray b' ks k' → IsParameterType t' k' r' → IsNot is_dot r → IsNot is_dot r' → (b ≡ b') × (t ≡ t') × (r ≡ r')
 unique_open is_no_array t is_no_array t' h h' =
     let u = unique_parameter_type t t' h h' in
     (refl, u.0, u.1)
@@ -66,13 +66,13 @@ unique_open is_open_array t is_open_array t' h h' =
     let u = unique_parameter_type t t' h h' in
     (refl, u.0, u.1)
 
-unique_parameter : {a a' : Parameter} {ks r r' : List Terminal} → IsParameter a ks r → IsParameter a' ks r' → IsNot is_dot r → IsNot is_dot r' → (a ≡ a') × (r ≡ r')
+pub unique_parameter : {a a' : Parameter} {ks r r' : List Terminal} → IsParameter a ks r → IsParameter a' ks r' → IsNot is_dot r → IsNot is_dot r' → (a ≡ a') × (r ≡ r')
 unique_parameter (is_parameter m n b t) (is_parameter {b = b1} {m2 = z} m' n' b' t') h h' =
     let u = unique_moded m n m' n' in
     let v = unique_open b t (subst (λ x. IsOpenArray b1 x z) (sym u.2) b') t' h h' in
     (same4 parameter u.0 u.1 v.0 v.1, v.2)
 
-unique_parameters : {as_ as' : List Parameter} {ks r r' : List Terminal} → AreParameters as_ ks r → AreParameters as' ks r' → IsNot is_dot r → IsNot is_dot r' → IsNot is_semicolon r → IsNot is_semicolon r' → (as_ ≡ as') × (r ≡ r')
+pub unique_parameters : {as_ as' : List Parameter} {ks r r' : List Terminal} → AreParameters as_ ks r → AreParameters as' ks r' → IsNot is_dot r → IsNot is_dot r' → IsNot is_semicolon r → IsNot is_semicolon r' → (as_ ≡ as') × (r ≡ r')
 unique_parameters (is_one_parameter a) (is_one_parameter a') h h' c c' =
     let u = unique_parameter a a' h h' in
     (ap (λ x. x ∷ []) u.0, u.1)
@@ -83,11 +83,11 @@ unique_parameters (are_parameters a b) (are_parameters {as_ = as1} {r = z} a' b'
     let v = unique_parameters b (subst (λ x. AreParameters as1 x z) (sym (ap behind u.1)) b') h h' c c' in
     (same2 (λ x y. x ∷ y) u.0 v.0, v.1)
 
-no_parameters : {A : Type 0} {as_ : List Parameter} {p : Position} {ks r : List Terminal} → AreParameters as_ (kind.CloseParenthesis at p ∷ ks) r → A
+pub no_parameters : {A : Type 0} {as_ : List Parameter} {p : Position} {ks r : List Terminal} → AreParameters as_ (kind.CloseParenthesis at p ∷ ks) r → A
 no_parameters (is_one_parameter (is_parameter by_value n b t)) = false_true (names_begin n)
 no_parameters (are_parameters (is_parameter by_value n b t) more) = false_true (names_begin n)
 
-unique_parameter_part : {d d' : ℕ} {as_ as' : List Parameter} {ks r r' : List Terminal} → IsParameterPart d as_ ks r → IsParameterPart d' as' ks r' → IsNot begins_selector r → IsNot begins_selector r' → (as_ ≡ as') × (r ≡ r')
+pub unique_parameter_part : {d d' : ℕ} {as_ as' : List Parameter} {ks r r' : List Terminal} → IsParameterPart d as_ ks r → IsParameterPart d' as' ks r' → IsNot begins_selector r → IsNot begins_selector r' → (as_ ≡ as') × (r ≡ r')
 unique_parameter_part has_no_brackets has_no_brackets h h' = (refl, refl)
 unique_parameter_part has_no_brackets has_empty_brackets h h' = true_false h
 unique_parameter_part has_no_brackets (has_parameters a) h h' = true_false h
@@ -121,11 +121,11 @@ unique_routine_name (is_of_class a b) (is_of_class {n = n1} {r = z} a' b') h h' 
     let v = unique_name b (subst (λ x. IsName n1 x z) (sym (ap behind u.1)) b') in
     (ap Some u.0, v.0, v.1)
 
-type_part_no_selector : {d : ℕ} {t : Option Denoter} {p : Position} {ks r : List Terminal} → IsOptionalType d t ks (kind.Semicolon at p ∷ r) → IsNot begins_selector ks
+pub type_part_no_selector : {d : ℕ} {t : Option Denoter} {p : Position} {ks r : List Terminal} → IsOptionalType d t ks (kind.Semicolon at p ∷ r) → IsNot begins_selector ks
 type_part_no_selector has_no_type = refl
 type_part_no_selector (has_type t) = refl
 
-part_no_dot : {d : ℕ} {as_ : List Parameter} {ks r : List Terminal} → IsParameterPart d as_ ks r → IsNot is_dot r → IsNot is_dot ks
+pub part_no_dot : {d : ℕ} {as_ : List Parameter} {ks r : List Terminal} → IsParameterPart d as_ ks r → IsNot is_dot r → IsNot is_dot ks
 part_no_dot has_no_brackets h = h
 part_no_dot has_empty_brackets h = refl
 part_no_dot (has_parameters a) h = refl

@@ -1,0 +1,151 @@
+-- Refusals of the items and the fields of a first value.
+use Rattle.std.proofs.Common.{◌≡◌, ℕ, List, [], ◌∷◌, ◌++◌, Some, None, refl, sym, ap, ◌∙◌, subst}
+use Rattle.op_base.specs.declared.place.Place.{Place}
+use Rattle.op_parse_code.proofs.Cuts.{IsCut, cut_none, cut_one, cut_join}
+use Rattle.op_parse_code.proofs.ExpressionKnown.{known_mark}
+use Rattle.op_parse_code.proofs.Lists.{Splits, Listed, Reading, reading_ends, reading_more}
+use Rattle.op_parse_code.proofs.Refusing.{Some_, Seq, Known, refuses_map, refuses_first, refuses_after, refuses_behind, no_mark_same}
+use Rattle.op_parse_code.proofs.StatementFronts.{front_name}
+use Rattle.op_parse_code.proofs.StatementKnown.{known_name}
+use Rattle.op_parse_code.specs.Refusal.{Phrase, SameHead, Refuses}
+use Rattle.op_parse_code.specs.Whole.{Marked, NoMark, SomeName}
+use Rattle.op_parse_code.specs.declared.error.ParseError.{ParseError}
+use Rattle.op_parse_code.specs.declared.mark.Mark.TheVariants as mark
+use Rattle.op_parse_decl.specs.InitialKnown.{known_initial, front_initials}
+use Rattle.op_parse_decl.specs.Initials.{InitialsBefore, FieldsBehind, no_fields_behind, fields_behind, RecordBehind}
+use Rattle.op_parse_decl.specs.Types.{SomeInitial, NoMoreExpression}
+use Rattle.op_scan.specs.declared.token.TokenKind.TheVariants as kind
+use Rattle.op_tree.proofs.DenoterUnique.{unique_initials}
+use Rattle.op_tree.proofs.ExpressionUnique.{behind}
+use Rattle.op_tree.proofs.StatementUnique.{unique_name}
+use Rattle.op_parse_decl.specs.Known.{same_cut}
+use Rattle.op_tree.specs.DenoterGrammar.{AreFieldInitials, are_one_initial, are_initials, are_one_field_initial, are_field_initials}
+use Rattle.op_tree.specs.Ends.{Stops}
+use Rattle.op_tree.specs.Initial.{Initial, initial_of, Initials, no_initials, initials, FieldInitials, no_field_initials, field_initials}
+use Rattle.op_tree.specs.Lists.{initials_of, field_initials_of}
+use Rattle.op_tree.specs.NameGrammar.{IsName, is_name}
+use Rattle.op_tree.specs.Terminal.{Terminal, ◌at◌}
+use Rattle.op_tree.specs.declared.initializer.FieldInitializer.{FieldInitializer}
+use Rattle.op_tree.specs.declared.initializer.Initializer.{Initializer}
+use Rattle.op_tree.specs.declared.position.Name.{Name}
+use Rattle.op_tree.specs.declared.position.Position.{Position}
+
+-- ---- items
+
+abbrev pub add_item : Initializer → Initials → Initials
+add_item i more = initials (initial_of i) more
+
+items_split : Splits SomeInitial InitialsBefore mark.Comma mark.CloseParenthesis
+items_split d x ls r (p, are_one_initial {i = i} f) = ((i, None), r, (kind.CloseParenthesis at p ∷ r, (f, (refl, refl)), (p, refl)))
+items_split d x ls r (p, are_initials {i = i} {is = is} {p = q} {m = m} f g) = ((i, Some is), r, (kind.Comma at q ∷ m, (f, (refl, refl)), (q, m, refl, (p, g))))
+
+pub items_listed : Listed SomeInitial InitialsBefore mark.Comma mark.CloseParenthesis initial_of add_item initials_of
+items_listed = record {
+  none = no_initials;
+  known = known_initial;
+  split = items_split;
+  apart = λ h. absurd cc;
+  one = λ d x ks r p f. (p, are_one_initial f.0);
+  next = λ d x more ks m r p f g. (g.0, are_initials f.0 g.1);
+  empty = refl;
+  added = λ x xs. refl;
+}
+
+known_items : Known InitialsBefore
+known_items = record {
+  front = λ d is ks m f. let s = front_initials f.1 in (λ x. s.0 (kind.CloseParenthesis at f.0 ∷ x), cut_join s.1 (cut_one (kind.CloseParenthesis at f.0) cut_none), s.2, λ x h. (f.0, s.3 (kind.CloseParenthesis at f.0 ∷ x)));
+  same = λ d d' is is' ks m m' f f'. ap behind (unique_initials f.1 f'.1 (refl, refl) (refl, refl) refl refl).1;
+}
+
+pub items_refuse : (d : ℕ) (end : Place) (ks : List Terminal) (e : ParseError) → Refuses InitialsBefore d end ks e → Refuses (Seq InitialsBefore NoMoreExpression) d end ks e
+items_refuse d end ks e h = refuses_first InitialsBefore NoMoreExpression d end ks e h
+
+pub items_go_on : (d : ℕ) (end : Place) (is : Initials) (ks m : List Terminal) (e : ParseError) → InitialsBefore d is ks m → Refuses NoMoreExpression d end m e → Refuses (Seq InitialsBefore NoMoreExpression) d end ks e
+items_go_on d end is ks m e f h = refuses_after InitialsBefore NoMoreExpression d end is ks m e known_items f h
+
+-- ---- the fields behind one
+
+abbrev pub add_field : FieldInitializer → FieldInitials → FieldInitials
+add_field x more = field_initials x.name (initial_of x.value) more
+
+front_more : (d : ℕ) (fs : FieldInitials) (ks r : List Terminal) → FieldsBehind d fs ks r → (f : List Terminal → List Terminal) × IsCut f × (ks ≡ f r) × ((x : List Terminal) → SameHead r x → FieldsBehind d fs (f x) x)
+front_more d fs ks r (no_fields_behind {p = p}) = (λ x. kind.CloseParenthesis at p ∷ x, cut_one (kind.CloseParenthesis at p) cut_none, refl, λ x h. no_fields_behind)
+front_more d fs ks r (fields_behind {i = i} {fs = gs} {p = p} {q = q} {m = m} {l = l} f g h) =
+    let s = front_name f in
+    let v = known_initial.front d i m l g in
+    let u = front_more d gs l r h in
+    (λ z. kind.Semicolon at p ∷ s.0 (kind.Colon at q ∷ v.0 (u.0 z)), cut_one (kind.Semicolon at p) (cut_join s.1 (cut_one (kind.Colon at q) (cut_join v.1 u.1))), ap (λ z. kind.Semicolon at p ∷ z) (s.2 ∙ ap (λ z. s.0 (kind.Colon at q ∷ z)) (v.2 ∙ ap v.0 u.2)), λ z e. fields_behind (s.3 (kind.Colon at q ∷ v.0 (u.0 z))) (v.3 (u.0 z) (subst (λ y. SameHead y (u.0 z)) (sym u.2) (same_cut u.1 r z e))) (u.3 z e))
+
+same_more : (d d' : ℕ) (fs fs' : FieldInitials) (ks r r' : List Terminal) → FieldsBehind d fs ks r → FieldsBehind d' fs' ks r' → r ≡ r'
+same_more d d' fs fs' ks r r' no_fields_behind no_fields_behind = refl
+same_more d d' fs fs' ks r r' (fields_behind {i = i} {fs = gs} {m = m} {l = l} f g h) (fields_behind {i = i'} {fs = gs'} {m = m'} {l = l'} f' g' h') =
+    let same = known_initial.same d d' i i' m l l' g (subst (λ y. SomeInitial d' i' y l') (sym (ap behind (unique_name f f').1)) g') in
+    same_more d d' gs gs' l r r' h (subst (λ y. FieldsBehind d' gs' y r') (sym same) h')
+
+known_more : Known FieldsBehind
+known_more = record { front = front_more; same = same_more }
+
+abbrev ColonParts : Phrase (Position × (Initial × FieldInitials))
+ColonParts = Seq (Marked mark.Colon) (Seq SomeInitial FieldsBehind)
+
+into_fields : (p : Position) (d : ℕ) (fs : FieldInitials) (ls r : List Terminal) → FieldsBehind d fs (kind.Semicolon at p ∷ ls) r → Some_ (Seq SomeName ColonParts) d ls
+into_fields p d fs ls r (fields_behind {n = n} {i = i} {fs = gs} {q = q} {m = m} {l = l} f g h) = ((n, (q, (i, gs))), r, (kind.Colon at q ∷ m, f, (m, refl, (l, g, h))))
+
+fields_refuse : (d : ℕ) (end : Place) (p : Position) (ks after : List Terminal) (e : ParseError) → ks ≡ kind.Semicolon at p ∷ after → Refuses (Seq SomeName ColonParts) d end after e → Refuses FieldsBehind d end ks e
+fields_refuse d end p ks after e is h = subst (λ z. Refuses FieldsBehind d end z e) (sym is) (refuses_behind (Seq SomeName ColonParts) FieldsBehind d end (kind.Semicolon at p) after e (into_fields p) h)
+
+name_refuses : (d : ℕ) (end : Place) (p : Position) (n : Name) (ks after m : List Terminal) (e : ParseError) → ks ≡ kind.Semicolon at p ∷ after → IsName n after m → Refuses ColonParts d end m e → Refuses FieldsBehind d end ks e
+name_refuses d end p n ks after m e is f h = fields_refuse d end p ks after e is (refuses_after SomeName ColonParts d end n after m e known_name f h)
+
+colon_refuses : (d : ℕ) (end : Place) (p q : Position) (n : Name) (ks after m k : List Terminal) (e : ParseError) → ks ≡ kind.Semicolon at p ∷ after → IsName n after m → m ≡ kind.Colon at q ∷ k → Refuses (Seq SomeInitial FieldsBehind) d end k e → Refuses FieldsBehind d end ks e
+colon_refuses d end p q n ks after m k e is f c h = name_refuses d end p n ks after m e is f (refuses_after (Marked mark.Colon) (Seq SomeInitial FieldsBehind) d end q m k e (known_mark mark.Colon) c h)
+
+only_close : (ks : List Terminal) → NoMark mark.Semicolon ks → (d : ℕ) (fs : FieldInitials) (ls r : List Terminal) → SameHead ks ls → FieldsBehind d fs ls r → Some_ (Marked mark.CloseParenthesis) d ls
+only_close ks none d fs ls r s (no_fields_behind {p = p}) = (p, r, refl)
+only_close ks none d fs ls r s (fields_behind {p = p} f g h) = absurd (no_mark_same mark.Semicolon ks ls s none p _ refl)
+
+pub more_name : (d : ℕ) (end : Place) (p : Position) (all rest after : List Terminal) (xs : List FieldInitializer) (e : ParseError) → Reading add_field FieldsBehind d end all xs rest → rest ≡ kind.Semicolon at p ∷ after → Refuses SomeName d end after e → Refuses FieldsBehind d end all e
+more_name d end p all rest after xs e so_far is h = so_far.dies e (fields_refuse d end p rest after e is (refuses_first SomeName ColonParts d end after e h))
+
+pub more_colon : (d : ℕ) (end : Place) (p : Position) (n : Name) (all rest after m : List Terminal) (xs : List FieldInitializer) (e : ParseError) → Reading add_field FieldsBehind d end all xs rest → rest ≡ kind.Semicolon at p ∷ after → IsName n after m → Refuses (Marked mark.Colon) d end m e → Refuses FieldsBehind d end all e
+more_colon d end p n all rest after m xs e so_far is f h = so_far.dies e (name_refuses d end p n rest after m e is f (refuses_first (Marked mark.Colon) (Seq SomeInitial FieldsBehind) d end m e h))
+
+pub more_value : (d : ℕ) (end : Place) (p q : Position) (n : Name) (all rest after m k : List Terminal) (xs : List FieldInitializer) (e : ParseError) → Reading add_field FieldsBehind d end all xs rest → rest ≡ kind.Semicolon at p ∷ after → IsName n after m → m ≡ kind.Colon at q ∷ k → Refuses SomeInitial d end k e → Refuses FieldsBehind d end all e
+more_value d end p q n all rest after m k xs e so_far is f c h = so_far.dies e (colon_refuses d end p q n rest after m k e is f c (refuses_first SomeInitial FieldsBehind d end k e h))
+
+pub more_goes_on : (d : ℕ) (end : Place) (p q : Position) (all rest after m k l : List Terminal) (xs : List FieldInitializer) (x : FieldInitializer) → Reading add_field FieldsBehind d end all xs rest → rest ≡ kind.Semicolon at p ∷ after → IsName x.name after m → m ≡ kind.Colon at q ∷ k → SomeInitial d (initial_of x.value) k l → Reading add_field FieldsBehind d end all (xs ++ (x ∷ [])) l
+more_goes_on d end p q all rest after m k l xs x so_far is f c g = reading_more add_field FieldsBehind d end all rest xs x l so_far (λ more r h. subst (λ z. FieldsBehind d (add_field x more) z r) (sym is) (fields_behind (subst (λ z. IsName x.name after z) c f) g h)) (λ e h. colon_refuses d end p q x.name rest after m k e is f c (refuses_after SomeInitial FieldsBehind d end (initial_of x.value) k l e known_initial g h))
+
+pub more_close : (d : ℕ) (end : Place) (all rest : List Terminal) (xs : List FieldInitializer) (e : ParseError) → Reading add_field FieldsBehind d end all xs rest → NoMark mark.Semicolon rest → Refuses (Marked mark.CloseParenthesis) d end rest e → Refuses FieldsBehind d end all e
+more_close d end all rest xs e so_far none h = so_far.dies e (refuses_map (Marked mark.CloseParenthesis) FieldsBehind d end rest e (only_close rest none) h)
+
+pub more_ends : (d : ℕ) (end : Place) (p : Position) (all rest after : List Terminal) (xs : List FieldInitializer) → Reading add_field FieldsBehind d end all xs rest → rest ≡ kind.CloseParenthesis at p ∷ after → FieldsBehind d (field_initials_of xs) all after
+more_ends d end p all rest after xs so_far is = reading_ends add_field no_field_initials field_initials_of FieldsBehind d end all rest after xs refl (λ x xs. refl) so_far (subst (λ z. FieldsBehind d no_field_initials z after) (sym is) no_fields_behind)
+
+-- ---- a record
+
+fields_in : {d : ℕ} {fs : FieldInitials} {p : Position} {ks r : List Terminal} → AreFieldInitials d fs ks (kind.CloseParenthesis at p ∷ r) → (n : Name) × (i : Initial) × (more : FieldInitials) × (q : Position) × (m : List Terminal) × (l : List Terminal) × IsName n ks (kind.Colon at q ∷ m) × SomeInitial d i m l × FieldsBehind d more l r
+fields_in {p = p} {r = r} (are_one_field_initial {n = n} {i = i} {p = q} {m = m} f g) = (n, i, no_field_initials, q, m, kind.CloseParenthesis at p ∷ r, f, (g, (refl, refl)), no_fields_behind)
+fields_in (are_field_initials {n = n} {i = i} {p = q} {q = u} {m = m} {l = l} f g h) = let w = fields_in h in (n, i, field_initials w.0 w.1 w.2, q, m, kind.Semicolon at u ∷ l, f, (g, (refl, refl)), fields_behind w.6 w.7 w.8)
+
+fields_out : {d : ℕ} {n : Name} {i : Initial} {fs : FieldInitials} {ks m l r : List Terminal} {q : Position} → IsName n ks (kind.Colon at q ∷ m) → SomeInitial d i m l → FieldsBehind d fs l r → (p : Position) × AreFieldInitials d (field_initials n i fs) ks (kind.CloseParenthesis at p ∷ r)
+fields_out n f (no_fields_behind {p = p}) = (p, are_one_field_initial n f.0)
+fields_out n f (fields_behind g h k) = let w = fields_out g h k in (w.0, are_field_initials n f.0 w.1)
+
+into_record : (n : Name) (q : Position) (d : ℕ) (fs : FieldInitials) (ls r : List Terminal) → RecordBehind n q d fs ls r → Some_ (Seq SomeInitial (Seq FieldsBehind NoMoreExpression)) d ls
+into_record n q d fs ls r (p, f, st) = let w = fields_in f in ((w.1, (w.2, [])), r, (w.5, subst (λ z. SomeInitial d w.1 z w.5) (ap behind (unique_name w.6 is_name).1) w.7, (r, w.8, (refl, st))))
+
+pub record_value_refuses : (n : Name) (q : Position) (d : ℕ) (end : Place) (ks : List Terminal) (e : ParseError) → Refuses SomeInitial d end ks e → Refuses (RecordBehind n q) d end ks e
+record_value_refuses n q d end ks e h = refuses_map (Seq SomeInitial (Seq FieldsBehind NoMoreExpression)) (RecordBehind n q) d end ks e (λ d' b ls r s f. into_record n q d' b ls r f) (refuses_first SomeInitial (Seq FieldsBehind NoMoreExpression) d end ks e h)
+
+record_behind_value : (n : Name) (q : Position) (d : ℕ) (end : Place) (i : Initial) (ks m : List Terminal) (e : ParseError) → SomeInitial d i ks m → Refuses (Seq FieldsBehind NoMoreExpression) d end m e → Refuses (RecordBehind n q) d end ks e
+record_behind_value n q d end i ks m e f h = refuses_map (Seq SomeInitial (Seq FieldsBehind NoMoreExpression)) (RecordBehind n q) d end ks e (λ d' b ls r s f. into_record n q d' b ls r f) (refuses_after SomeInitial (Seq FieldsBehind NoMoreExpression) d end i ks m e known_initial f h)
+
+pub record_more_refuses : (n : Name) (q : Position) (d : ℕ) (end : Place) (i : Initial) (ks m : List Terminal) (e : ParseError) → SomeInitial d i ks m → Refuses FieldsBehind d end m e → Refuses (RecordBehind n q) d end ks e
+record_more_refuses n q d end i ks m e f h = record_behind_value n q d end i ks m e f (refuses_first FieldsBehind NoMoreExpression d end m e h)
+
+pub record_goes_on : (n : Name) (q : Position) (d : ℕ) (end : Place) (i : Initial) (fs : FieldInitials) (ks m r : List Terminal) (e : ParseError) → SomeInitial d i ks m → FieldsBehind d fs m r → Refuses NoMoreExpression d end r e → Refuses (RecordBehind n q) d end ks e
+record_goes_on n q d end i fs ks m r e f g h = record_behind_value n q d end i ks m e f (refuses_after FieldsBehind NoMoreExpression d end fs m r e known_more g h)
+
+pub record_behind_whole : (n : Name) (q : Position) (d : ℕ) (i : Initial) (fs : FieldInitials) (ks m r : List Terminal) → SomeInitial d i ks m → FieldsBehind d fs m r → Stops r → RecordBehind n q d (field_initials n i fs) ks r
+record_behind_whole n q d i fs ks m r f g st = let w = fields_out is_name f g in (w.0, w.1, st)

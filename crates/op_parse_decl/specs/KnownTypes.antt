@@ -1,0 +1,129 @@
+-- The sorts of names and types: each stands whatever follows that begins so, and ends at one place.
+use Rattle.std.proofs.Common.{◌≡◌, ℕ, Bool, false, List, [], ◌∷◌, refl, sym, ap, ◌∙◌, subst}
+use Rattle.op_parse_code.proofs.Cuts.{IsCut, cut_none, cut_one, cut_join, Front, same_not}
+use Rattle.op_parse_code.proofs.Refusing.{Known, Seq, no_mark_same}
+use Rattle.op_parse_code.proofs.StatementFronts.{front_qualified}
+use Rattle.op_parse_code.specs.Refusal.{Phrase, SameHead}
+use Rattle.op_parse_code.specs.Whole.{NoMark}
+use Rattle.op_parse_code.specs.declared.mark.Mark.TheVariants as mark
+use Rattle.op_parse_decl.specs.Known.{same_cut}
+use Rattle.op_parse_decl.specs.Fronts.{front_names, front_bracketed_names, front_denoter, front_denoters, front_field_lists}
+use Rattle.op_parse_decl.specs.Types.{SomeNames, SomeBracketedNames, SomeQualified, SomeDenoter, DenotersBefore, FieldsBefore, RecordFields, record_fields, SomeIndices, no_indices, some_indices, SomeFields}
+use Rattle.op_scan.specs.declared.token.TokenKind.{TokenKind}
+use Rattle.op_scan.specs.declared.token.TokenKind.TheVariants as kind
+use Rattle.op_tree.proofs.DenoterUnique.{unique_names, unique_bracketed_names, unique_denoter, unique_denoters, unique_field_lists}
+use Rattle.op_tree.proofs.ExpressionUnique.{behind, is_comma}
+use Rattle.op_tree.proofs.StatementUnique.{is_dot, unique_qualified}
+use Rattle.op_tree.specs.Denoter.{Denoter, Denoters, FieldLists}
+use Rattle.op_tree.specs.Ends.{IsNot, StopsDenoter}
+use Rattle.op_tree.specs.NameGrammar.{AreNames}
+use Rattle.op_tree.specs.Terminal.{Terminal, ◌at◌}
+use Rattle.op_tree.specs.declared.position.Name.{Name}
+use Rattle.op_tree.specs.declared.position.Position.{Position}
+
+-- ---- what may follow
+
+pub same_stops : (r r' : List Terminal) → SameHead r r' → StopsDenoter r → StopsDenoter r'
+same_stops r r' s h = record { operator = same_not _ r r' s h.operator; selector = same_not _ r r' s h.selector; range = same_not _ r r' s h.range }
+
+pub not_comma : (r : List Terminal) → NoMark mark.Comma r → IsNot is_comma r
+not_comma [] h = tt
+not_comma (t ∷ r) h = at_kind t.kind t.position h
+  where
+    at_kind : (k : TokenKind) (p : Position) → NoMark mark.Comma (k at p ∷ r) → is_comma k ≡ false
+    at_kind kind.Comma p h = absurd (h p r refl)
+    at_kind other p h = refl
+
+pub not_dot : (r : List Terminal) → NoMark mark.Dot r → IsNot is_dot r
+not_dot [] h = tt
+not_dot (t ∷ r) h = at_kind t.kind t.position h
+  where
+    at_kind : (k : TokenKind) (p : Position) → NoMark mark.Dot (k at p ∷ r) → is_dot k ≡ false
+    at_kind kind.Dot p h = absurd (h p r refl)
+    at_kind other p h = refl
+
+-- ---- two parts
+
+pub known_seq : {A B : Type 0} (P : Phrase A) (Q : Phrase B) → Known P → Known Q → Known (Seq P Q)
+known_seq P Q p q = record {
+  front = λ d a ks m f.
+      let s = p.front d a.0 ks f.0 f.1 in
+      let u = q.front d a.1 f.0 m f.2 in
+      (λ x. s.0 (u.0 x), cut_join s.1 u.1, s.2 ∙ ap s.0 u.2, λ x h. (u.0 x, s.3 (u.0 x) (subst (λ z. SameHead z (u.0 x)) (sym u.2) (same_cut u.1 m x h)), u.3 x h));
+  same = λ d d' a a' ks m m' f f'. q.same d d' a.1 a'.1 f.0 m m' f.2 (subst (λ z. Q d' a'.1 z m') (sym (p.same d d' a.0 a'.0 ks f.0 f'.0 f.1 f'.1)) f'.2);
+}
+
+-- ---- names
+
+pub known_names : Known SomeNames
+known_names = record {
+  front = λ d ns ks m p. let s = front_names p.0 in (s.0, s.1, s.2, λ x h. (s.3 x, no_mark_same mark.Comma m x h p.1));
+  same = λ d d' ns ns' ks m m' p p'. (unique_names p.0 p'.0 (not_comma m p.1) (not_comma m' p'.1)).1;
+}
+
+pub known_qualified : Known SomeQualified
+known_qualified = record {
+  front = λ d q ks m p. let s = front_qualified p.0 in (s.0, s.1, s.2, λ x h. (s.3 x, no_mark_same mark.Dot m x h p.1));
+  same = λ d d' q q' ks m m' p p'. (unique_qualified p.0 p'.0 (not_dot m p.1) (not_dot m' p'.1)).1;
+}
+
+pub known_bracketed_names : Known SomeBracketedNames
+known_bracketed_names = record {
+  front = λ d ns ks m p. let s = front_bracketed_names p in (s.0, s.1, s.2, λ x h. s.3 x);
+  same = λ d d' ns ns' ks m m' p p'. (unique_bracketed_names p p').1;
+}
+
+-- ---- types
+
+pub known_denoter : Known SomeDenoter
+known_denoter = record {
+  front = λ d t ks m p. let s = front_denoter p.0 in (s.0, s.1, s.2, λ x h. (s.3 x, same_stops m x h p.1));
+  same = λ d d' t t' ks m m' p p'. (unique_denoter p.0 p'.0 p.1 p'.1).1;
+}
+
+pub known_denoters : Known DenotersBefore
+known_denoters = record {
+  front = λ d ts ks m p. let s = front_denoters p.1 in (λ x. s.0 (kind.CloseBracket at p.0 ∷ x), cut_join s.1 (cut_one (kind.CloseBracket at p.0) cut_none), s.2, λ x h. (p.0, s.3 (kind.CloseBracket at p.0 ∷ x)));
+  same = λ d d' ts ts' ks m m' p p'. ap behind (unique_denoters p.1 p'.1 (record { operator = refl; selector = refl; range = refl }) (record { operator = refl; selector = refl; range = refl }) refl refl).1;
+}
+
+pub known_fields_before : Known FieldsBefore
+known_fields_before = record {
+  front = λ d ts ks m p. let s = front_field_lists p.1 in (λ x. s.0 (kind.End at p.0 ∷ x), cut_join s.1 (cut_one (kind.End at p.0) cut_none), s.2, λ x h. (p.0, s.3 (kind.End at p.0 ∷ x)));
+  same = λ d d' ts ts' ks m m' p p'. ap behind (unique_field_lists p.1 p'.1 refl refl).1;
+}
+
+front_record : (d : ℕ) (fs : FieldLists) (ks m : List Terminal) → RecordFields d fs ks m → (f : List Terminal → List Terminal) × IsCut f × (ks ≡ f m) × ((x : List Terminal) → SameHead m x → RecordFields d fs (f x) x)
+front_record d fs ks m (record_fields {p = p} {ks = ls} f) =
+    let s = known_fields_before.front d fs ls m f in
+    (λ x. kind.Record at p ∷ s.0 x, cut_one (kind.Record at p) s.1, ap (λ z. kind.Record at p ∷ z) s.2, λ x h. record_fields (s.3 x h))
+
+same_record : (d d' : ℕ) (fs fs' : FieldLists) (ks m m' : List Terminal) → RecordFields d fs ks m → RecordFields d' fs' ks m' → m ≡ m'
+same_record d d' fs fs' ks m m' (record_fields {ks = ls} f) (record_fields f') = known_fields_before.same d d' fs fs' ls m m' f f'
+
+pub known_record : Known RecordFields
+known_record = record { front = front_record; same = same_record }
+
+front_indices : (d : ℕ) (ts : Denoters) (ks m : List Terminal) → SomeIndices d ts ks m → (f : List Terminal → List Terminal) × IsCut f × (ks ≡ f m) × ((x : List Terminal) → SameHead m x → SomeIndices d ts (f x) x)
+front_indices d ts ks m (no_indices {p = p}) = (λ x. kind.Of at p ∷ x, cut_one (kind.Of at p) cut_none, refl, λ x h. no_indices)
+front_indices d ts ks m (some_indices {d = i} {p = p} {q = q} {ks = ls} f) =
+    let s = known_denoters.front i ts ls (kind.Of at q ∷ m) f in
+    (λ x. kind.OpenBracket at p ∷ s.0 (kind.Of at q ∷ x), cut_one (kind.OpenBracket at p) (cut_join s.1 (cut_one (kind.Of at q) cut_none)), ap (λ z. kind.OpenBracket at p ∷ z) s.2, λ x h. some_indices (s.3 (kind.Of at q ∷ x) refl))
+
+same_indices : (d d' : ℕ) (ts ts' : Denoters) (ks m m' : List Terminal) → SomeIndices d ts ks m → SomeIndices d' ts' ks m' → m ≡ m'
+same_indices d d' ts ts' ks m m' no_indices no_indices = refl
+same_indices d d' ts ts' ks m m' (some_indices {d = i} {ks = ls} f) (some_indices {d = i'} f') = ap behind (known_denoters.same i i' ts ts' ls _ _ f f')
+
+pub known_indices : Known SomeIndices
+known_indices = record { front = front_indices; same = same_indices }
+
+pub known_fields : Known SomeFields
+known_fields = record {
+  front = λ d x ks m p.
+      let s = front_names p.2 in
+      let u = known_denoter.front d x.1 p.1 m p.3 in
+      (λ z. s.0 (kind.Colon at p.0 ∷ u.0 z), cut_join s.1 (cut_one (kind.Colon at p.0) u.1), s.2 ∙ ap (λ z. s.0 (kind.Colon at p.0 ∷ z)) u.2, λ z h. (p.0, u.0 z, s.3 (kind.Colon at p.0 ∷ u.0 z), u.3 z h));
+  same = λ d d' x x' ks m m' p p'.
+      let s = unique_names p.2 p'.2 refl refl in
+      known_denoter.same d d' x.1 x'.1 p.1 m m' p.3 (subst (λ z. SomeDenoter d' x'.1 z m') (sym (ap behind s.1)) p'.3);
+}

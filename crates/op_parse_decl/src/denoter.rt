@@ -1,0 +1,373 @@
+//! Types as they are written, but for classes and interfaces (Free Pascal Reference Guide, "Types").
+ghost use Rattle.std.specs.Prelude.{◌≡◌, ◌∷◌, ◌≤◌, ◌<◌, ℕ, true, false, IfOk, IfErr, length};
+ghost use Rattle.op_parse_code.specs.Refusal.{Refuses};
+ghost use Rattle.op_parse_decl.specs.Opening.{lists_names};
+ghost use Rattle.op_parse_decl.specs.Types.{DenoterBehind, DenotersBefore, FieldsBefore, RecordFields, SomeBounded, SomeDenoter, SomeFields, SomeIndices, SomeStructure};
+ghost use Rattle.op_scan.specs.declared.token.TokenKind.TheVariants as kind;
+ghost use Rattle.op_tree.proofs.ExpressionUnique.{Begins};
+ghost use Rattle.op_tree.specs.Denoter.{denoter_of};
+ghost use Rattle.op_tree.specs.Ends.{begins_expression};
+ghost use Rattle.op_tree.specs.Lists.{denoters_of, field_lists_of};
+ghost use Rattle.op_tree.specs.Terminal.{◌at◌, terminals};
+ghost use Rattle.op_tree.specs.declared.position.Position.{Position};
+
+use crate::form::{
+    GIVEN_VALUE, PROCEDURAL_TYPE, form_of_bound, form_of_record, gives_value, is_procedural,
+};
+use crate::names::names;
+use crate::nodes::{array_node, denoted, record_node, set_node};
+use crate::opening::{DenoterOpening, denoter_opening};
+use crate::stops::stop_type;
+use op_base::Place;
+use op_parse_code::ParseError;
+use op_parse_code::shared::{
+    Mark, after_mark, behind_mark, chain, enter, is_identifier, left_out, position_of, syntax,
+};
+use op_scan::Token;
+use op_tree::{Fields, Level, Position, TypeDenoter};
+use std::alloc::Global;
+
+/// A type, before what belongs to none.
+#[cycle(denoter)]
+pub fn denoter<'a>(
+    alloc: Global,
+    left: u32,
+    end: Place,
+    tokens: &'a [Token],
+) -> Result<(TypeDenoter, &'a [Token]), ParseError>
+    ensures whole { IfOk result (λ f. SomeDenoter left (denoter_of f.0) (terminals tokens.now) (terminals f.1.now)) }
+    ensures refused { IfErr result (Refuses SomeDenoter left end (terminals tokens.now)) }
+    ensures shorter { IfOk result (λ f. length f.1.now < length tokens.now) }
+{
+    let Some((first, rest)) = tokens.split_first() else {
+        return Err(syntax(end, tokens));
+    };
+    let position = position_of(first);
+    match denoter_opening(&first.kind) {
+        DenoterOpening::Nothing => Err(syntax(end, tokens)),
+        DenoterOpening::LeftOut(feature) => Err(left_out(feature, end, tokens)),
+        DenoterOpening::Procedural => {
+            if is_procedural(tokens) {
+                return Err(left_out(PROCEDURAL_TYPE, end, tokens));
+            }
+            Err(syntax(end, tokens))
+        }
+        DenoterOpening::Bound => {
+            let inner = enter(left, end, tokens)?;
+            bounded(alloc, inner, end, tokens)
+        }
+        DenoterOpening::Set => {
+            let inner = enter(left, end, tokens)?;
+            set(alloc, position, inner, end, rest)
+        }
+        DenoterOpening::Array => {
+            let inner = enter(left, end, tokens)?;
+            array(alloc, position, false, inner, end, rest)
+        }
+        DenoterOpening::Record => {
+            let inner = enter(left, end, tokens)?;
+            record(alloc, position, false, inner, end, rest)
+        }
+        DenoterOpening::Packed => {
+            let inner = enter(left, end, tokens)?;
+            packed(alloc, position, inner, end, rest)
+        }
+    }
+}
+
+/// What stands behind `set`.
+#[cycle(denoter)]
+fn set<'a>(
+    alloc: Global,
+    position: Position,
+    left: u32,
+    end: Place,
+    tokens: &'a [Token],
+) -> Result<(TypeDenoter, &'a [Token]), ParseError>
+    ensures whole { IfOk result (λ f. DenoterBehind kind.Set position left (denoter_of f.0) (terminals tokens.now) (terminals f.1.now)) }
+    ensures refused { IfErr result (Refuses (DenoterBehind kind.Set position) left end (terminals tokens.now)) }
+    ensures shorter { IfOk result (λ f. length f.1.now < length tokens.now) }
+{
+    let rest = after_mark(Mark::Of, end, tokens)?;
+    let (base, rest) = denoter(alloc, left, end, rest)?;
+    let node = set_node(alloc, position, base)?;
+    Ok((node, rest))
+}
+
+/// What stands behind `packed`: an array or a record.
+#[cycle(denoter)]
+fn packed<'a>(
+    alloc: Global,
+    position: Position,
+    left: u32,
+    end: Place,
+    tokens: &'a [Token],
+) -> Result<(TypeDenoter, &'a [Token]), ParseError>
+    ensures whole { IfOk result (λ f. SomeStructure position true left (denoter_of f.0) (terminals tokens.now) (terminals f.1.now)) }
+    ensures refused { IfErr result (Refuses (SomeStructure position true) left end (terminals tokens.now)) }
+    ensures shorter { IfOk result (λ f. length f.1.now < length tokens.now) }
+{
+    match behind_mark(Mark::Array, tokens) {
+        Some(rest) => array(alloc, position, true, left, end, rest),
+        None => {
+            let rest = after_mark(Mark::Record, end, tokens)?;
+            record(alloc, position, true, left, end, rest)
+        }
+    }
+}
+
+/// What stands behind `array`.
+#[cycle(denoter)]
+fn array<'a>(
+    alloc: Global,
+    position: Position,
+    packed: bool,
+    left: u32,
+    end: Place,
+    tokens: &'a [Token],
+) -> Result<(TypeDenoter, &'a [Token]), ParseError>
+    ensures whole { IfOk result (λ f. (q : Position) → SomeStructure position packed left (denoter_of f.0) (kind.Array at q ∷ terminals tokens.now) (terminals f.1.now)) }
+    ensures refused { IfErr result (λ e. (q : Position) → Refuses (SomeStructure position packed) left end (kind.Array at q ∷ terminals tokens.now) e) }
+    ensures shorter { IfOk result (λ f. length f.1.now < length tokens.now) }
+{
+    let (indices, rest) = indices(alloc, left, end, tokens)?;
+    let (element, rest) = denoter(alloc, left, end, rest)?;
+    let node = array_node(alloc, position, packed, indices, element)?;
+    Ok((node, rest))
+}
+
+/// What stands between `array` and the type of its elements.
+#[cycle(denoter)]
+fn indices<'a>(
+    alloc: Global,
+    left: u32,
+    end: Place,
+    tokens: &'a [Token],
+) -> Result<(Vec<TypeDenoter>, &'a [Token]), ParseError>
+    ensures whole { IfOk result (λ f. SomeIndices left (denoters_of f.0.items) (terminals tokens.now) (terminals f.1.now)) }
+    ensures refused { IfErr result (Refuses SomeIndices left end (terminals tokens.now)) }
+    ensures shorter { IfOk result (λ f. length f.1.now < length tokens.now) }
+{
+    match behind_mark(Mark::OpenBracket, tokens) {
+        None => {
+            let rest = after_mark(Mark::Of, end, tokens)?;
+            Ok((Vec::new(alloc), rest))
+        }
+        Some(rest) => {
+            let inner = enter(left, end, tokens)?;
+            let (indices, rest) = index_types(alloc, inner, end, rest)?;
+            let rest = after_mark(Mark::Of, end, rest)?;
+            Ok((indices, rest))
+        }
+    }
+}
+
+/// Types, up to the closing bracket, and what stands behind it.
+#[cycle(denoter)]
+fn index_types<'a>(
+    alloc: Global,
+    left: u32,
+    end: Place,
+    tokens: &'a [Token],
+) -> Result<(Vec<TypeDenoter>, &'a [Token]), ParseError>
+    ensures whole { IfOk result (λ f. DenotersBefore left (denoters_of f.0.items) (terminals tokens.now) (terminals f.1.now)) }
+    ensures refused { IfErr result (Refuses DenotersBefore left end (terminals tokens.now)) }
+    ensures shorter { IfOk result (λ f. length f.1.now < length tokens.now) }
+{
+    let mut types = Vec::new(alloc);
+    let mut rest = tokens;
+    loop {
+        let (index, behind) = denoter(alloc, left, end, rest)?;
+        types.push(index)?;
+        match behind_mark(Mark::Comma, behind) {
+            Some(after) => rest = after,
+            None => {
+                let rest = after_mark(Mark::CloseBracket, end, behind)?;
+                return Ok((types, rest));
+            }
+        }
+    }
+}
+
+/// What stands behind `record`.
+#[cycle(denoter)]
+fn record<'a>(
+    alloc: Global,
+    position: Position,
+    packed: bool,
+    left: u32,
+    end: Place,
+    tokens: &'a [Token],
+) -> Result<(TypeDenoter, &'a [Token]), ParseError>
+    ensures whole { IfOk result (λ f. (q : Position) → SomeStructure position packed left (denoter_of f.0) (kind.Record at q ∷ terminals tokens.now) (terminals f.1.now)) }
+    ensures refused { IfErr result (λ e. (q : Position) → Refuses (SomeStructure position packed) left end (kind.Record at q ∷ terminals tokens.now) e) }
+    ensures shorter { IfOk result (λ f. length f.1.now < length tokens.now) }
+{
+    let (fields, rest) = field_lists(alloc, left, end, tokens)?;
+    stop_type(end, rest)?;
+    Ok((record_node(position, packed, fields), rest))
+}
+
+/// The fields of a record, up to its end. The last semicolon may be missing.
+#[cycle(denoter)]
+fn field_lists<'a>(
+    alloc: Global,
+    left: u32,
+    end: Place,
+    tokens: &'a [Token],
+) -> Result<(Vec<Fields>, &'a [Token]), ParseError>
+    ensures whole { IfOk result (λ f. FieldsBefore left (field_lists_of f.0.items) (terminals tokens.now) (terminals f.1.now)) }
+    ensures refused { IfErr result (λ e. (q : Position) → Refuses RecordFields left end (kind.Record at q ∷ terminals tokens.now) e) }
+    ensures shorter { IfOk result (λ f. length f.1.now < length tokens.now) }
+{
+    let mut lists = Vec::new(alloc);
+    let mut rest = tokens;
+    loop {
+        if let Some(after) = behind_mark(Mark::End, rest) {
+            return Ok((lists, after));
+        }
+        if let Some(feature) = form_of_record(rest) {
+            return Err(left_out(feature, end, rest));
+        }
+        let (fields, behind) = fields_of_one_type(alloc, left, end, rest)?;
+        lists.push(fields)?;
+        match behind_mark(Mark::Semicolon, behind) {
+            Some(after) => rest = after,
+            None => {
+                let rest = after_mark(Mark::End, end, behind)?;
+                return Ok((lists, rest));
+            }
+        }
+    }
+}
+
+/// Names, a colon and a type.
+#[cycle(denoter)]
+pub fn fields_of_one_type<'a>(
+    alloc: Global,
+    left: u32,
+    end: Place,
+    tokens: &'a [Token],
+) -> Result<(Fields, &'a [Token]), ParseError>
+    ensures whole { IfOk result (λ f. SomeFields left (f.0.names, denoter_of f.0.denoter) (terminals tokens.now) (terminals f.1.now)) }
+    ensures refused { IfErr result (Refuses SomeFields left end (terminals tokens.now)) }
+    ensures shorter { IfOk result (λ f. length f.1.now < length tokens.now) }
+{
+    let (names, rest) = names(alloc, end, tokens)?;
+    let rest = after_mark(Mark::Colon, end, rest)?;
+    let (denoter, rest) = denoter(alloc, left, end, rest)?;
+    Ok((Fields { names, denoter }, rest))
+}
+
+/// A type that begins as a bound of a subrange does: an enumeration, a subrange or a name.
+fn bounded<'a>(
+    alloc: Global,
+    left: u32,
+    end: Place,
+    tokens: &'a [Token],
+) -> Result<(TypeDenoter, &'a [Token]), ParseError>
+    requires { Begins begins_expression (terminals tokens.now) }
+    ensures whole { IfOk result (λ f. SomeBounded left (denoter_of f.0) (terminals tokens.now) (terminals f.1.now)) }
+    ensures refused { IfErr result (Refuses SomeBounded left end (terminals tokens.now)) }
+    ensures shorter { IfOk result (λ f. length f.1.now < length tokens.now) }
+{
+    if lists_names(tokens) {
+        return enumeration(alloc, left, end, tokens);
+    }
+    match subrange_or_name(alloc, left, end, tokens) {
+        Ok(found) => Ok(found),
+        Err(error) => Err(or_form(error, end, tokens)),
+    }
+}
+
+/// An opening bracket, a name and a comma stand at the front: no expression begins so.
+fn lists_names(tokens: &[Token]) -> bool
+    ensures { result ≡ lists_names (terminals tokens.now) }
+{
+    let Some(inside) = behind_mark(Mark::OpenParenthesis, tokens) else {
+        return false;
+    };
+    let Some((first, rest)) = inside.split_first() else {
+        return false;
+    };
+    if !is_identifier(&first.kind) {
+        return false;
+    }
+    match behind_mark(Mark::Comma, rest) {
+        Some(_) => true,
+        None => false,
+    }
+}
+
+/// Names in brackets, before what belongs to no type.
+fn enumeration<'a>(
+    alloc: Global,
+    left: u32,
+    end: Place,
+    tokens: &'a [Token],
+) -> Result<(TypeDenoter, &'a [Token]), ParseError>
+    requires { lists_names (terminals tokens.now) ≡ true }
+    ensures whole { IfOk result (λ f. SomeBounded left (denoter_of f.0) (terminals tokens.now) (terminals f.1.now)) }
+    ensures refused { IfErr result (Refuses SomeBounded left end (terminals tokens.now)) }
+    ensures shorter { IfOk result (λ f. length f.1.now < length tokens.now) }
+{
+    let Some((first, rest)) = tokens.split_first() else {
+        return Err(syntax(end, tokens));
+    };
+    let position = position_of(first);
+    enter(left, end, tokens)?;
+    let (values, rest) = names(alloc, end, rest)?;
+    if gives_value(rest) {
+        return Err(left_out(GIVEN_VALUE, end, rest));
+    }
+    let rest = after_mark(Mark::CloseParenthesis, end, rest)?;
+    stop_type(end, rest)?;
+    Ok((TypeDenoter::Enumeration { position, values }, rest))
+}
+
+/// A bound, and another one behind `..`; or what names a type and reads as a bound.
+fn subrange_or_name<'a>(
+    alloc: Global,
+    left: u32,
+    end: Place,
+    tokens: &'a [Token],
+) -> Result<(TypeDenoter, &'a [Token]), ParseError>
+    requires begins { Begins begins_expression (terminals tokens.now) }
+    requires lists { lists_names (terminals tokens.now) ≡ false }
+    ensures whole { IfOk result (λ f. SomeBounded left (denoter_of f.0) (terminals tokens.now) (terminals f.1.now)) }
+    ensures refused { IfErr result (Refuses SomeBounded left end (terminals tokens.now)) }
+    ensures shorter { IfOk result (λ f. length f.1.now < length tokens.now) }
+{
+    let (first, rest) = chain(alloc, Level::Additive, left, end, tokens)?;
+    if let Some(after) = behind_mark(Mark::DotDot, rest) {
+        let (last, rest) = chain(alloc, Level::Additive, left, end, after)?;
+        stop_type(end, rest)?;
+        return Ok((TypeDenoter::Subrange { first, last }, rest));
+    }
+    match denoted(alloc, first)? {
+        Some(denoter) => Ok((denoter, rest)),
+        None => Err(syntax(end, rest)),
+    }
+}
+
+/// The same refusal; but where no type stands there, and a form that is left out does, that form.
+fn or_form(error: ParseError, end: Place, tokens: &[Token]) -> ParseError
+    ensures { (d : ℕ) → Refuses SomeBounded d end (terminals tokens.now) error → Refuses SomeBounded d end (terminals tokens.now) result }
+{
+    let Some((feature, form)) = form_of_bound(tokens) else {
+        return error;
+    };
+    match error {
+        ParseError::Refused(refusal) => {
+            if refusal.rule.number == SYNTAX {
+                left_out(feature, end, form)
+            } else {
+                ParseError::Refused(refusal)
+            }
+        }
+        ParseError::NoMemory => ParseError::NoMemory,
+    }
+}
+
+/// The number of the rule that no sentence goes on so.
+const SYNTAX: u8 = 9;
