@@ -1,13 +1,11 @@
 //! What the scripts in `bench/` and `tests/` ask of parts of the compiler.
 //!
-//! `count FILE..` tells how many tokens each file has, and `list FILE..` each token with its place. `parse FILE..` tells what each file
-//! is, and `print FILE..` prints its tree. `words FILE..` decodes the words of code. `make N..` makes low code of N instructions, and
-//! `build N..` writes its image.
+//! `count FILE..` tells how many tokens each file has, and `list FILE..` each token with its place. `words FILE..` decodes the words
+//! of code. `make N..` makes low code of N instructions, and `build N..` writes its image.
 #![tactic(auto)]
 
 mod building;
 mod tokens;
-mod trees;
 mod words;
 
 use op_base::{FileAnswer, Files, StdFiles};
@@ -21,7 +19,6 @@ fn tell_file(rt: &HostRuntime, command: &str, name: &str) -> io::Result<()> {
     match files.read(rt.alloc(), name, MOST_BYTES) {
         Ok(FileAnswer::Found(text)) => match command {
             "words" => words::tell(rt, text.as_slice()),
-            "parse" | "print" => trees::tell(rt, name, text.as_slice(), command == "print"),
             _ => tokens::tell(rt, name, text.as_slice(), command == "list"),
         },
         _ => println!(rt; "not read"),

@@ -45,12 +45,10 @@ mutual
     decides_behind : {text : List ℕ} {p : Position} {q m : List Terminal} → IsWord (codes "on") text → Decides q m → Decides (kind.Identifier text at p ∷ q) m
     decides_in_list : {q m : List Terminal} → TellsList q m → Decides q m
 
-  -- The comma behind a first value, or the colon behind a field's name, tells that the brackets before it are those of a list or
-  -- a record, whose items are counted, and no expression's. So there it is decided that a token of the value, or one of these
-  -- brackets, is nested too deep.
+  -- The comma behind a first value tells that the brackets before it are those of a list, whose items are counted, and no
+  -- expression's. So there it is decided that a token of the value, or one of these brackets, is nested too deep.
   pub data TellsList : List Terminal → List Terminal → Type 0 where
     tells_of_value : {d : ℕ} {i : Initial} {u : Position} {q n m : List Terminal} (front : List Terminal) → Decides q n → IsInitial d i (front ++ n) (kind.Comma at u ∷ m) → TellsList q (kind.Comma at u ∷ m)
-    tells_of_name : {text : List ℕ} {v u : Position} {m : List Terminal} → TellsList (kind.Identifier text at v ∷ kind.Colon at u ∷ m) (kind.Colon at u ∷ m)
     tells_of_bracket : {p : Position} {q m : List Terminal} → TellsList q m → TellsList (kind.OpenParenthesis at p ∷ q) m
 
 -- Why the tokens have no part at this depth: rule 9 where none begins so, whatever the depth, rule 61 where none of this

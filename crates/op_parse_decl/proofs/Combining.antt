@@ -3,7 +3,6 @@ use Rattle.std.proofs.Common.{◌≡◌, ℕ, suc, Bool, true, false, List, [], 
 use Rattle.op_base.specs.declared.place.Place.{Place}
 use Rattle.op_parse_code.proofs.Cuts.{same_not}
 use Rattle.op_parse_code.proofs.Factors.{same_begins}
-use Rattle.op_parse_code.proofs.Lists.{SplitsOpen, open_item, open_more}
 use Rattle.op_parse_code.proofs.Refusing.{Some_, Seq, Known, no_mark_same, refuses_map, refuses_first, refuses_after, refuses_behind, refuses_deeper, dead_here}
 use Rattle.op_parse_code.specs.Opening.{kind_of}
 use Rattle.op_parse_code.specs.Refusal.{Phrase, SameHead, Refuses, syntax, nested, decides_there, refused_at}
@@ -11,8 +10,8 @@ use Rattle.op_parse_code.specs.Whole.{Marked, NoMark}
 use Rattle.op_parse_code.specs.WholeStatement.{front_is}
 use Rattle.op_parse_code.specs.declared.error.ParseError.{ParseError}
 use Rattle.op_parse_code.specs.declared.mark.Mark.{Mark}
-use Rattle.op_parse_decl.specs.Known.{As, Forked, forked, MayStand, may_stand, mark_stands, has_mark_same, mark_or_none}
-use Rattle.op_parse_decl.specs.Combined.{Both, Stands, stands, Then, then_, Behind, no_mark, behind_mark, Repeats, no_more, one_more, Or, this, that, Choice, chosen, otherwise, Deeper, deeper, Fork, marked, Several, HasMark, mark_ahead, Ahead, is_ahead, not_ahead, Separated, last_part, and_more}
+use Rattle.op_parse_decl.specs.Known.{As, Forked, forked, MayStand, may_stand, mark_stands}
+use Rattle.op_parse_decl.specs.Combined.{Both, Stands, stands, Then, then_, Behind, no_mark, behind_mark, Repeats, no_more, one_more, Or, this, that, Choice, chosen, otherwise, Deeper, deeper, Fork, marked, Several}
 use Rattle.op_scan.specs.declared.token.TokenKind.{TokenKind}
 use Rattle.op_tree.proofs.ExpressionUnique.{Begins, behind}
 use Rattle.op_tree.proofs.StatementUnique.{both as apart}
@@ -73,51 +72,33 @@ into_item : {A : Type 0} (test : TokenKind → Bool) (P : Phrase A) (ks : List T
 into_item test P ks h d [] ls r s (no_more h') = apart test ls (same_begins test ks ls s h) h'
 into_item test P ks h d (a ∷ as_) ls r s (one_more {m = m} h' p more) = ((a, as_), r, (m, p, more))
 
--- the parts of a list that are read so far, and what is left
-pub record Repeating {A X : Type 0} (L : Phrase (List A)) (says : X → A) (d : ℕ) (end : Place) (all : List Terminal) (xs : List X) (rest : List Terminal) : Type 0 where
-  pub completes : (more : List A) (r : List Terminal) → L d more rest r → L d (map says xs ++ more) all r
-  pub dies : (e : ParseError) → Refuses L d end rest e → Refuses L d end all e
+-- the parts that are read so far, and what is left
+pub record Repeating {A X : Type 0} (test : TokenKind → Bool) (P : Phrase A) (says : X → A) (d : ℕ) (end : Place) (all : List Terminal) (xs : List X) (rest : List Terminal) : Type 0 where
+  pub completes : (more : List A) (r : List Terminal) → Repeats test P d more rest r → Repeats test P d (map says xs ++ more) all r
+  pub dies : (e : ParseError) → Refuses (Repeats test P) d end rest e → Refuses (Repeats test P) d end all e
 
-pub repeating_none : {A X : Type 0} (L : Phrase (List A)) (says : X → A) (d : ℕ) (end : Place) (all : List Terminal) → Repeating L says d end all [] all
-repeating_none L says d end all = record { completes = λ more r x. x; dies = λ e x. x }
+pub repeating_none : {A X : Type 0} (test : TokenKind → Bool) (P : Phrase A) (says : X → A) (d : ℕ) (end : Place) (all : List Terminal) → Repeating test P says d end all [] all
+repeating_none test P says d end all = record { completes = λ more r x. x; dies = λ e x. x }
 
-pub repeating_item : {A X : Type 0} (test : TokenKind → Bool) (P : Phrase A) (says : X → A) (d : ℕ) (end : Place) (all rest : List Terminal) (xs : List X) (e : ParseError) → Repeating (Repeats test P) says d end all xs rest → Begins test rest → Refuses P d end rest e → Refuses (Repeats test P) d end all e
+pub repeating_item : {A X : Type 0} (test : TokenKind → Bool) (P : Phrase A) (says : X → A) (d : ℕ) (end : Place) (all rest : List Terminal) (xs : List X) (e : ParseError) → Repeating test P says d end all xs rest → Begins test rest → Refuses P d end rest e → Refuses (Repeats test P) d end all e
 repeating_item test P says d end all rest xs e so_far b h = so_far.dies e (refuses_map (Seq P (Repeats test P)) (Repeats test P) d end rest e (into_item test P rest b) (refuses_first P (Repeats test P) d end rest e h))
 
 map_push : {A X : Type 0} (says : X → A) (xs : List X) (x : X) (more : List A) → map says (xs ++ (x ∷ [])) ++ more ≡ map says xs ++ (says x ∷ more)
 map_push says [] x more = refl
 map_push says (y ∷ xs) x more = ap (λ z. says y ∷ z) (map_push says xs x more)
 
-repeating_push : {A X : Type 0} (L : Phrase (List A)) (says : X → A) (d : ℕ) (end : Place) (all rest m : List Terminal) (xs : List X) (x : X) → Repeating L says d end all xs rest → ((more : List A) (r : List Terminal) → L d more m r → L d (says x ∷ more) rest r) → ((e : ParseError) → Refuses L d end m e → Refuses L d end rest e) → Repeating L says d end all (xs ++ (x ∷ [])) m
-repeating_push L says d end all rest m xs x so_far f g = record {
-  completes = λ more r h. subst (λ z. L d z all r) (sym (map_push says xs x more)) (so_far.completes (says x ∷ more) r (f more r h));
-  dies = λ e h. so_far.dies e (g e h);
+pub repeating_more : {A X : Type 0} (test : TokenKind → Bool) (P : Phrase A) (says : X → A) (d : ℕ) (end : Place) (all rest m : List Terminal) (xs : List X) (x : X) → Known P → Repeating test P says d end all xs rest → Begins test rest → P d (says x) rest m → Repeating test P says d end all (xs ++ (x ∷ [])) m
+repeating_more test P says d end all rest m xs x known so_far b p = record {
+  completes = λ more r h. subst (λ z. Repeats test P d z all r) (sym (map_push says xs x more)) (so_far.completes (says x ∷ more) r (one_more b p h));
+  dies = λ e h. so_far.dies e (refuses_map (Seq P (Repeats test P)) (Repeats test P) d end rest e (into_item test P rest b) (refuses_after P (Repeats test P) d end (says x) rest m e known p h));
 }
 
-pub repeating_more : {A X : Type 0} (test : TokenKind → Bool) (P : Phrase A) (says : X → A) (d : ℕ) (end : Place) (all rest m : List Terminal) (xs : List X) (x : X) → Known P → Repeating (Repeats test P) says d end all xs rest → Begins test rest → P d (says x) rest m → Repeating (Repeats test P) says d end all (xs ++ (x ∷ [])) m
-repeating_more test P says d end all rest m xs x known so_far b p = repeating_push (Repeats test P) says d end all rest m xs x so_far (λ more r h. one_more b p h) (λ e h. refuses_map (Seq P (Repeats test P)) (Repeats test P) d end rest e (into_item test P rest b) (refuses_after P (Repeats test P) d end (says x) rest m e known p h))
-
-pub append_none : {A : Type 0} (xs : List A) → xs ++ [] ≡ xs
+append_none : {A : Type 0} (xs : List A) → xs ++ [] ≡ xs
 append_none [] = refl
 append_none (x ∷ xs) = ap (λ z. x ∷ z) (append_none xs)
 
-pub repeating_ends : {A X : Type 0} (test : TokenKind → Bool) (P : Phrase A) (says : X → A) (d : ℕ) (end : Place) (all rest : List Terminal) (xs : List X) → Repeating (Repeats test P) says d end all xs rest → IsNot test rest → Repeats test P d (map says xs) all rest
+pub repeating_ends : {A X : Type 0} (test : TokenKind → Bool) (P : Phrase A) (says : X → A) (d : ℕ) (end : Place) (all rest : List Terminal) (xs : List X) → Repeating test P says d end all xs rest → IsNot test rest → Repeats test P d (map says xs) all rest
 repeating_ends test P says d end all rest xs so_far h = subst (λ z. Repeats test P d z all rest) (append_none (map says xs)) (so_far.completes [] rest (no_more h))
-
--- ---- parts with a mark between them
-
-separated_split : {A : Type 0} (m : Mark) (P : Phrase A) → SplitsOpen P (Separated m P) (Separated m P) m
-separated_split m P d x ls r (last_part {a = a} p none) = ((a, None), r, (r, p, none))
-separated_split m P d x ls r (and_more {a = a} {as_ = as_} {p = q} {z = z} p more) = ((a, Some as_), r, (kind_of m at q ∷ z, p, (q, z, refl, more)))
-
-pub separated_item : {A X : Type 0} (m : Mark) (P : Phrase A) (says : X → A) (d : ℕ) (end : Place) (all rest : List Terminal) (xs : List X) (e : ParseError) → Repeating (Separated m P) says d end all xs rest → Refuses P d end rest e → Refuses (Separated m P) d end all e
-separated_item m P says d end all rest xs e so_far h = so_far.dies e (open_item P (Separated m P) (Separated m P) m d end rest e (separated_split m P) h)
-
-pub separated_more : {A X : Type 0} (m : Mark) (P : Phrase A) (says : X → A) (d : ℕ) (end : Place) (all rest behind : List Terminal) (xs : List X) (x : X) (q : Position) (after : List Terminal) → Known P → Repeating (Separated m P) says d end all xs rest → P d (says x) rest behind → behind ≡ kind_of m at q ∷ after → Repeating (Separated m P) says d end all (xs ++ (x ∷ [])) after
-separated_more m P says d end all rest behind xs x q after known so_far p is = repeating_push (Separated m P) says d end all rest after xs x so_far (λ more r h. and_more (subst (λ z. P d (says x) rest z) is p) h) (λ e h. open_more P (Separated m P) (Separated m P) m d end (says x) rest behind after q e (separated_split m P) known p is h)
-
-pub separated_ends : {A X : Type 0} (m : Mark) (P : Phrase A) (says : X → A) (d : ℕ) (end : Place) (all rest behind : List Terminal) (xs : List X) (x : X) → Repeating (Separated m P) says d end all xs rest → P d (says x) rest behind → NoMark m behind → Separated m P d (map says (xs ++ (x ∷ []))) all behind
-separated_ends m P says d end all rest behind xs x so_far p none = subst (λ z. Separated m P d z all behind) (sym (map_push says xs x []) ∙ append_none (map says (xs ++ (x ∷ [])))) (so_far.completes (says x ∷ []) behind (last_part p none))
 
 -- ---- a choice
 
@@ -181,22 +162,3 @@ several_refused {test = test} {P = P} h = refuses_map (Repeats test P) (Several 
 
 pub none_begins : {A : Type 0} {test : TokenKind → Bool} {P : Phrase A} {d : ℕ} {end : Place} {ks : List Terminal} {e : ParseError} → IsNot test ks → e ≡ refused_at 9 0 end ks → Refuses (Several test P) d end ks e
 none_begins {test = test} {P = P} {ks = ks} h x = syntax ks x (λ d'. dead_here (Several test P d') ks (λ b ls r s p. apart test ls p.0 (same_not test ks ls s h)))
-
--- ---- a part where a mark stands
-
-pub has_mark : {m : Mark} {p : Position} {ks r : List Terminal} → ks ≡ kind_of m at p ∷ r → HasMark m ks
-has_mark {m = m} e = subst (HasMark m) (sym e) mark_ahead
-
-into_ahead : {A B : Type 0} {m : Mark} {P : Phrase A} {Q : Phrase B} (ks : List Terminal) → HasMark m ks → (d : ℕ) (x : Or A B) (ls r : List Terminal) → SameHead ks ls → Ahead m P Q d x ls r → Some_ P d ls
-into_ahead ks h d (this a) ls r s (is_ahead h' p) = (a, r, p)
-into_ahead {m = m} ks h d (that b) ls r s (not_ahead none p) = mark_or_none (has_mark_same m ks ls s h) none
-
-pub ahead_refused : {A B : Type 0} {m : Mark} {P : Phrase A} {Q : Phrase B} {d : ℕ} {end : Place} {ks : List Terminal} {e : ParseError} → HasMark m ks → Refuses P d end ks e → Refuses (Ahead m P Q) d end ks e
-ahead_refused {m = m} {P = P} {Q = Q} {ks = ks} h f = refuses_map P (Ahead m P Q) _ _ _ _ (into_ahead ks h) f
-
-into_not_ahead : {A B : Type 0} {m : Mark} {P : Phrase A} {Q : Phrase B} (ks : List Terminal) → NoMark m ks → (d : ℕ) (x : Or A B) (ls r : List Terminal) → SameHead ks ls → Ahead m P Q d x ls r → Some_ Q d ls
-into_not_ahead {m = m} ks none d (this a) ls r s (is_ahead h p) = mark_or_none h (no_mark_same m ks ls s none)
-into_not_ahead ks none d (that b) ls r s (not_ahead none' p) = (b, r, p)
-
-pub not_ahead_refused : {A B : Type 0} {m : Mark} {P : Phrase A} {Q : Phrase B} {d : ℕ} {end : Place} {ks : List Terminal} {e : ParseError} → NoMark m ks → Refuses Q d end ks e → Refuses (Ahead m P Q) d end ks e
-not_ahead_refused {m = m} {P = P} {Q = Q} {ks = ks} none f = refuses_map Q (Ahead m P Q) _ _ _ _ (into_not_ahead ks none) f

@@ -34,7 +34,7 @@ by_simple : {d : ℕ} {e : Expression} {g : Designator} {ks r : List Terminal} �
 by_simple h (is_chain (is_term f) are_no_operations q) = by_term (sym q ∙ h) f
 by_simple h (is_chain a (are_operations o l b os) q) = absurd cc
 
-pub by_expr : {d : ℕ} {e : Expression} {g : Designator} {ks r : List Terminal} → e ≡ designated g → IsChain Relational d e ks r → IsDesignator d g ks r
+by_expr : {d : ℕ} {e : Expression} {g : Designator} {ks r : List Terminal} → e ≡ designated g → IsChain Relational d e ks r → IsDesignator d g ks r
 by_expr h (is_chain (is_simple f) are_no_operations q) = by_simple (sym q ∙ h) f
 by_expr h (is_chain a (are_operations o l b os) q) = absurd cc
 

@@ -1,20 +1,41 @@
 -- Refusals of methods, and the directives behind a heading.
-use Rattle.std.proofs.Common.{◌≡◌, ℕ, List, [], ◌∷◌, ◌++◌, append_assoc, Some, refl, sym, ap, ◌∙◌, subst}
+use Rattle.std.proofs.Common.{◌≡◌, ℕ, List, [], ◌∷◌, ◌++◌, append_assoc, Option, Some, refl, sym, ap, ◌∙◌, subst}
 use Rattle.op_base.specs.declared.place.Place.{Place}
-use Rattle.op_parse_code.proofs.Refusing.{Some_, Seq, refuses_map, refuses_first, refuses_after}
+use Rattle.op_parse_code.proofs.Cuts.{IsCut, cut_one}
+use Rattle.op_parse_code.proofs.ExpressionKnown.{known_mark}
+use Rattle.op_parse_code.proofs.Refusing.{Known, Some_, Seq, refuses_map, refuses_first, refuses_after}
 use Rattle.op_parse_code.specs.Form.{Form, is_inline}
-use Rattle.op_parse_code.specs.Refusal.{Refuses, left_out, refused_at}
+use Rattle.op_parse_code.specs.Refusal.{Phrase, SameHead, Refuses, left_out, refused_at}
+use Rattle.op_parse_code.specs.Whole.{Marked}
 use Rattle.op_parse_code.specs.declared.error.ParseError.{ParseError}
-use Rattle.op_parse_decl.specs.HeadingParts.{known_heading}
-use Rattle.op_parse_decl.specs.Headings.{SomeHeading, SomeDirectives, SomeMethod, IsDirective}
+use Rattle.op_parse_code.specs.declared.mark.Mark.TheVariants as mark
+use Rattle.op_parse_decl.specs.HeadingKnown.{known_part, known_routine_name, known_optional_type}
+use Rattle.op_parse_decl.proofs.HeadingParts.{Rest, Result, heading_seq, heading_whole}
+use Rattle.op_parse_decl.specs.KnownTypes.{known_seq}
+use Rattle.op_parse_decl.specs.Headings.{SomeHeading, SomeDirectives, SomeMethod, IsDirective, SomeParameterPart, SomeRoutineName}
+use Rattle.op_parse_decl.specs.Types.{SomeOptionalType}
 use Rattle.op_scan.specs.declared.token.TokenKind.{TokenKind}
 use Rattle.op_scan.specs.declared.token.TokenKind.TheVariants as kind
+use Rattle.op_tree.proofs.HeadingUnique.{unique_heading}
 use Rattle.op_tree.specs.Declaration.{Heading, Method}
 use Rattle.op_tree.specs.Ends.{NoDirective}
-use Rattle.op_tree.specs.HeadingGrammar.{directive_of, AreDirectives, are_no_directives, are_directives, is_method}
+use Rattle.op_tree.specs.HeadingGrammar.{directive_of, is_heading, AreDirectives, are_no_directives, are_directives, IsMethod, is_method}
 use Rattle.op_tree.specs.Terminal.{Terminal, ◌at◌}
 use Rattle.op_tree.specs.declared.heading.Directive.{Directive}
 use Rattle.op_tree.specs.declared.position.Position.{Position}
+
+-- ---- a heading
+
+front_heading : (d : ℕ) (h : Heading) (ks m : List Terminal) → SomeHeading d h ks m → (f : List Terminal → List Terminal) × IsCut f × (ks ≡ f m) × ((x : List Terminal) → SameHead m x → SomeHeading d h (f x) x)
+front_heading d h ks m (u, is_heading {k = k} {sort = sort} {c = c} {n = n} {as_ = as_} {t = t} {p = p} {ks = ls} e f a g) =
+    let w = (known_seq SomeRoutineName Rest known_routine_name (known_seq SomeParameterPart Result known_part (known_seq SomeOptionalType (Marked mark.Semicolon) known_optional_type (known_mark mark.Semicolon)))).front d ((c, n), (as_, (t, u))) ls m (heading_seq d u m f a g) in
+    (λ x. k at p ∷ w.0 x, cut_one (k at p) w.1, ap (λ z. k at p ∷ z) w.2, λ x s. let v = w.3 x s in heading_whole d k sort p u c n as_ t (w.0 x) v.0 v.2.0 v.2.2.0 x e v.1 v.2.1 v.2.2.1 v.2.2.2)
+
+pub known_heading : Known SomeHeading
+known_heading = record {
+  front = front_heading;
+  same = λ d d' h h' ks m m' p p'. (unique_heading p.1 p'.1).1;
+}
 
 -- ---- directives
 

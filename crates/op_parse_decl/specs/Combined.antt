@@ -1,6 +1,5 @@
 -- Phrases that are put together.
 use Rattle.std.specs.Prelude.{◌≡◌, ℕ, suc, Bool, List, [], ◌∷◌, Option, Some, None}
-use Rattle.op_parse_code.specs.Form.{HasForm}
 use Rattle.op_parse_code.specs.Opening.{kind_of}
 use Rattle.op_parse_code.specs.Refusal.{Phrase}
 use Rattle.op_parse_code.specs.Whole.{NoMark}
@@ -57,21 +56,3 @@ pub data Fork {A B : Type 0} (m : Mark) (P : Phrase A) (Q : Phrase B) : ℕ → 
 -- at least one
 abbrev pub Several : {A : Type 0} → (TokenKind → Bool) → Phrase A → Phrase (List A)
 Several test P d as_ ks r = Begins test ks × Repeats test P d as_ ks r
-
--- a mark stands at the front
-pub data HasMark (m : Mark) : List Terminal → Type 0 where
-  mark_ahead : {p : Position} {r : List Terminal} → HasMark m (kind_of m at p ∷ r)
-
--- one part where a mark stands, with which it begins, or another where the mark does not stand
-pub data Ahead {A B : Type 0} (m : Mark) (P : Phrase A) (Q : Phrase B) : ℕ → Or A B → List Terminal → List Terminal → Type 0 where
-  is_ahead : {d : ℕ} {a : A} {ks r : List Terminal} → HasMark m ks → P d a ks r → Ahead m P Q d (this a) ks r
-  not_ahead : {d : ℕ} {b : B} {ks r : List Terminal} → NoMark m ks → Q d b ks r → Ahead m P Q d (that b) ks r
-
--- parts with a mark between them, at least one
-pub data Separated {A : Type 0} (m : Mark) (P : Phrase A) : ℕ → List A → List Terminal → List Terminal → Type 0 where
-  last_part : {d : ℕ} {a : A} {ks r : List Terminal} → P d a ks r → NoMark m r → Separated m P d (a ∷ []) ks r
-  and_more : {d : ℕ} {a : A} {as_ : List A} {p : Position} {ks z r : List Terminal} → P d a ks (kind_of m at p ∷ z) → Separated m P d as_ z r → Separated m P d (a ∷ as_) ks r
-
--- where these tokens stand behind such a part, the tokens from the part on have the form of this feature
-abbrev pub TellsBehind : {A : Type 0} → Phrase A → ℕ → List Terminal → Type 0
-TellsBehind {A} P feature q = (d : ℕ) (a : A) (ks : List Terminal) → P d a ks q → HasForm feature ks q

@@ -1,12 +1,12 @@
 -- What each production is made of.
-use Rattle.std.proofs.Common.{◌≡◌, ℕ, Bool, true, false, List, [], ◌∷◌, Option, is_some, map, refl, ap, subst}
+use Rattle.std.proofs.Common.{◌≡◌, ℕ, Bool, true, false, List, [], ◌∷◌, Option, Some, None, map, refl, ap, subst}
+use Rattle.op_parse_code.proofs.Lists.{kind_same}
 use Rattle.op_parse_code.specs.Refusal.{Phrase}
 use Rattle.op_parse_code.specs.Whole.{NoMark, SomeName}
 use Rattle.op_parse_code.specs.declared.mark.Mark.TheVariants as mark
-use Rattle.op_parse_decl.specs.Combined.{Both, both, Stands, stands, Then, then_, Behind, no_mark, behind_mark, Repeats, no_more, one_more, Or, this, that, Fork, marked, unmarked, Several, mark_ahead, Ahead, is_ahead, not_ahead}
-use Rattle.op_parse_decl.specs.Declarations.{DefinitionBefore, DefinitionBehind, OneDirective, SomeData, WholeMethod, is_directive}
+use Rattle.op_parse_decl.specs.Combined.{Both, both, Stands, stands, Then, then_, Behind, no_mark, behind_mark, Repeats, no_more, one_more, Or, this, that, Fork, marked, unmarked, Several}
+use Rattle.op_parse_decl.specs.Declarations.{DefinitionBefore, DefinitionBehind, IsTypeWord, is_type_word, OneDirective, SomeData, WholeMethod, is_directive, is_some}
 use Rattle.op_parse_decl.specs.Headings.{SomeHeading}
-use Rattle.op_parse_decl.specs.Interfaces.{InterfaceBefore}
 use Rattle.op_parse_decl.specs.Known.{As, no_mark_by}
 use Rattle.op_parse_decl.specs.Types.{SomeDenoter, SomeInitial, SomeNames}
 use Rattle.op_scan.specs.declared.token.TokenKind.{TokenKind}
@@ -17,10 +17,10 @@ use Rattle.op_tree.proofs.MethodUnique.{apart}
 use Rattle.op_tree.proofs.StatementUnique.{both as apart_by}
 use Rattle.op_parse_code.specs.Opening.{is_identifier}
 use Rattle.op_tree.specs.declared.heading.Directive.{Directive}
-use Rattle.op_tree.specs.Declaration.{Constant, Variables, TypeDefinition, denotes, TypeDeclaration, constants, types, variables, Heading}
+use Rattle.op_tree.specs.Declaration.{Constant, Variables, TypeDefinition, denotes, TypeDeclaration, Declaration, constants, types, variables, Heading, Method}
 use Rattle.op_tree.specs.DeclarationGrammar.{IsConstant, is_constant, AreVariablesOfOneType, are_variables_of_one_type, IsFirstValue, has_no_first_value, has_first_value, IsTypeDeclaration, is_type_declaration, denotes_type, is_forward_class, is_class, is_forward_interface, is_interface, AreConstants, is_one_constant, are_constants, AreTypes, is_one_type, are_types, AreVariables, is_one_variables, are_variables, declares_constants, declares_types, declares_variables}
 use Rattle.op_tree.specs.Denoter.{Denoter}
-use Rattle.op_tree.specs.DenoterGrammar.{IsDenoter, is_named, is_string, is_subrange, is_enumeration, is_set, is_unpacked, is_packed}
+use Rattle.op_tree.specs.DenoterGrammar.{IsInitial, IsDenoter, is_named, is_string, is_subrange, is_enumeration, is_set, is_unpacked, is_packed}
 use Rattle.op_tree.specs.Ends.{IsNot, StopsDenoter, begins_expression}
 use Rattle.op_tree.specs.HeadingGrammar.{IsOptionalType, has_no_type, has_type, has_body_alone, has_list_alone, has_list_and_body, has_methods_alone, has_ancestor_alone, has_ancestor_and_methods, AreDirectives, are_no_directives, are_directives, is_method}
 use Rattle.op_tree.specs.Initial.{Initial}
@@ -35,11 +35,11 @@ abbrev is_equal : TokenKind → Bool
 is_equal kind.Equal = true
 is_equal other = false
 
-pub type_in : {d : ℕ} {t : Option Denoter} {ks r : List Terminal} → NoMark mark.Colon r → StopsDenoter r → IsOptionalType d t ks r → Behind mark.Colon SomeDenoter d t ks r
+type_in : {d : ℕ} {t : Option Denoter} {ks r : List Terminal} → NoMark mark.Colon r → StopsDenoter r → IsOptionalType d t ks r → Behind mark.Colon SomeDenoter d t ks r
 type_in none stops has_no_type = no_mark none
 type_in none stops (has_type t) = behind_mark (t, stops)
 
-pub type_out : {d : ℕ} {t : Option Denoter} {ks r : List Terminal} → Behind mark.Colon SomeDenoter d t ks r → IsOptionalType d t ks r
+type_out : {d : ℕ} {t : Option Denoter} {ks r : List Terminal} → Behind mark.Colon SomeDenoter d t ks r → IsOptionalType d t ks r
 type_out (no_mark none) = has_no_type
 type_out (behind_mark t) = has_type t.0
 
@@ -89,16 +89,16 @@ pub made_type : As TypeParts IsTypeDeclaration
 made_type d c ks r (is_type_declaration {n = n} {t = t} {q = q} f g) = (both n (both tt t), then_ f (then_ stands (q, g)), λ ls s x. type_of_parts x)
 
 abbrev pub DefinitionParts : Phrase (Or TypeDefinition (Or TypeDefinition (Both Denoter (Unit {0}))))
-DefinitionParts = Fork mark.Class (DefinitionBehind kind.Class) (Ahead mark.Interface InterfaceBefore (Then SomeDenoter (Stands mark.Semicolon)))
+DefinitionParts = Fork mark.Class (DefinitionBehind kind.Class) (Fork mark.Interface (DefinitionBehind kind.Interface) (Then SomeDenoter (Stands mark.Semicolon)))
 
 pub class_of_parts : {d : ℕ} {t : TypeDefinition} {ks r : List Terminal} → DefinitionParts d (this t) ks r → DefinitionBefore d t ks r
 class_of_parts (marked {p = p} f) = f p
 
 pub interface_of_parts : {d : ℕ} {t : TypeDefinition} {ks r : List Terminal} → DefinitionParts d (that (this t)) ks r → DefinitionBefore d t ks r
-interface_of_parts (unmarked none (is_ahead h f)) = f.1
+interface_of_parts (unmarked none (marked {p = p} f)) = f p
 
 pub denoter_of_parts : {d : ℕ} {t : Denoter} {ks r : List Terminal} → DefinitionParts d (that (that (both t tt))) ks r → DefinitionBefore d (denotes t) ks r
-denoter_of_parts (unmarked none (not_ahead none' (then_ t (stands {p = p})))) = (p, denotes_type t.0)
+denoter_of_parts (unmarked none (unmarked none' (then_ t (stands {p = p})))) = (p, denotes_type t.0)
 
 -- the kind begins a class or an interface
 abbrev is_class_word : TokenKind → Bool
@@ -124,7 +124,7 @@ structure_no_object kind.Class h = false_true h
 structure_no_object kind.Interface h = false_true h
 structure_no_object other h = refl
 
-pub denoter_no_object : {d : ℕ} {t : Denoter} {ks r : List Terminal} → IsDenoter d t ks r → IsNot begins_object ks
+denoter_no_object : {d : ℕ} {t : Denoter} {ks r : List Terminal} → IsDenoter d t ks r → IsNot begins_object ks
 denoter_no_object (is_named (is_unqualified is_name)) = refl
 denoter_no_object (is_named (is_qualified is_name b)) = refl
 denoter_no_object is_string = refl
@@ -137,19 +137,19 @@ denoter_no_object (is_packed s) = refl
 class_in : {d : ℕ} {t : TypeDefinition} {ks r : List Terminal} → DefinitionParts d (this t) ks r → (a : _) × DefinitionParts d a ks r × ((ls s : List Terminal) → DefinitionParts d a ls s → DefinitionBefore d t ls s)
 class_in {t = t} f = (this t, f, λ ls s x. class_of_parts x)
 
-interface_in : {d : ℕ} {t : TypeDefinition} {p : Position} {ks r : List Terminal} → DefinitionBefore d t (kind.Interface at p ∷ ks) r → (a : _) × DefinitionParts d a (kind.Interface at p ∷ ks) r × ((ls s : List Terminal) → DefinitionParts d a ls s → DefinitionBefore d t ls s)
-interface_in {t = t} f = (that (this t), unmarked (no_mark_by mark.Class is_class_word refl refl) (is_ahead mark_ahead (mark_ahead, f)), λ ls s x. interface_of_parts x)
+interface_in : {d : ℕ} {t : TypeDefinition} {p : Position} {ks r : List Terminal} → DefinitionBehind kind.Interface d t ks r → (a : _) × DefinitionParts d a (kind.Interface at p ∷ ks) r × ((ls s : List Terminal) → DefinitionParts d a ls s → DefinitionBefore d t ls s)
+interface_in {t = t} f = (that (this t), unmarked (no_mark_by mark.Class is_class_word refl refl) (marked f), λ ls s x. interface_of_parts x)
 
 pub made_definition : As DefinitionParts DefinitionBefore
-made_definition d t ks r (q, denotes_type {t = x} f) = (that (that (both x tt)), unmarked (no_mark_by mark.Class begins_object refl (denoter_no_object f)) (not_ahead (no_mark_by mark.Interface begins_object refl (denoter_no_object f)) (then_ (f, record { operator = refl; selector = refl; range = refl }) stands)), λ ls s x. denoter_of_parts x)
+made_definition d t ks r (q, denotes_type {t = x} f) = (that (that (both x tt)), unmarked (no_mark_by mark.Class begins_object refl (denoter_no_object f)) (unmarked (no_mark_by mark.Interface begins_object refl (denoter_no_object f)) (then_ (f, record { operator = refl; selector = refl; range = refl }) stands)), λ ls s x. denoter_of_parts x)
 made_definition d t ks r (q, is_forward_class) = class_in (marked (λ p. (q, is_forward_class)))
 made_definition d t ks r (q, is_class (has_body_alone b)) = class_in (marked (λ p. (q, is_class (has_body_alone b))))
 made_definition d t ks r (q, is_class (has_list_alone a)) = class_in (marked (λ p. (q, is_class (has_list_alone a))))
 made_definition d t ks r (q, is_class (has_list_and_body a b)) = class_in (marked (λ p. (q, is_class (has_list_and_body a b))))
-made_definition d t ks r (q, is_forward_interface i) = interface_in (q, is_forward_interface i)
-made_definition d t ks r (q, is_interface (has_methods_alone i a)) = interface_in (q, is_interface (has_methods_alone i a))
-made_definition d t ks r (q, is_interface (has_ancestor_alone n i)) = interface_in (q, is_interface (has_ancestor_alone n i))
-made_definition d t ks r (q, is_interface (has_ancestor_and_methods n i a)) = interface_in (q, is_interface (has_ancestor_and_methods n i a))
+made_definition d t ks r (q, is_forward_interface i) = interface_in (λ p. (q, is_forward_interface i))
+made_definition d t ks r (q, is_interface (has_methods_alone i a)) = interface_in (λ p. (q, is_interface (has_methods_alone i a)))
+made_definition d t ks r (q, is_interface (has_ancestor_alone n i)) = interface_in (λ p. (q, is_interface (has_ancestor_alone n i)))
+made_definition d t ks r (q, is_interface (has_ancestor_and_methods n i a)) = interface_in (λ p. (q, is_interface (has_ancestor_and_methods n i a)))
 
 -- ---- constants, types or variables in a row
 
@@ -175,23 +175,32 @@ variables_in : {d : ℕ} {cs : List Variables} {ks r : List Terminal} → AreVar
 variables_in (is_one_variables c) n = (variables_begin c, one_more (variables_begin c) c (no_more n))
 variables_in (are_variables c cs) n = (variables_begin c, one_more (variables_begin c) c (variables_in cs n).1)
 
--- where one of them is a list of them, and one before such a list, at least one in a row are a list
-several_out : {A : Type 0} {test : TokenKind → Bool} {P : Phrase A} (Q : Phrase (List A)) → ((d : ℕ) (a : A) (ks r : List Terminal) → P d a ks r → Q d (a ∷ []) ks r) → ((d : ℕ) (a : A) (as_ : List A) (ks m r : List Terminal) → P d a ks m → Q d as_ m r → Q d (a ∷ as_) ks r) → {d : ℕ} {as_ : List A} {ks r : List Terminal} → Begins test ks → Repeats test P d as_ ks r → Q d as_ ks r × IsNot test r
-several_out {test = test} Q one more {ks = ks} b (no_more n) = apart_by test ks b n
-several_out Q one more b (one_more h c (no_more n)) = (one _ _ _ _ c, n)
-several_out Q one more b (one_more h c (one_more h' c' rest)) = let w = several_out Q one more h' (one_more h' c' rest) in (more _ _ _ _ _ _ c w.0, w.1)
+constants_out : {d : ℕ} {cs : List Constant} {ks r : List Terminal} → Begins is_identifier ks → Repeats is_identifier IsConstant d cs ks r → AreConstants d cs ks r × IsNot is_identifier r
+constants_out {ks = ks} b (no_more n) = apart_by is_identifier ks b n
+constants_out b (one_more h c (no_more n)) = (is_one_constant c, n)
+constants_out b (one_more h c (one_more h' c' more)) = let w = constants_out h' (one_more h' c' more) in (are_constants c w.0, w.1)
+
+types_out : {d : ℕ} {cs : List TypeDeclaration} {ks r : List Terminal} → Begins is_identifier ks → Repeats is_identifier IsTypeDeclaration d cs ks r → AreTypes d cs ks r × IsNot is_identifier r
+types_out {ks = ks} b (no_more n) = apart_by is_identifier ks b n
+types_out b (one_more h c (no_more n)) = (is_one_type c, n)
+types_out b (one_more h c (one_more h' c' more)) = let w = types_out h' (one_more h' c' more) in (are_types c w.0, w.1)
+
+variables_out : {d : ℕ} {cs : List Variables} {ks r : List Terminal} → Begins is_identifier ks → Repeats is_identifier AreVariablesOfOneType d cs ks r → AreVariables d cs ks r × IsNot is_identifier r
+variables_out {ks = ks} b (no_more n) = apart_by is_identifier ks b n
+variables_out b (one_more h c (no_more n)) = (is_one_variables c, n)
+variables_out b (one_more h c (one_more h' c' more)) = let w = variables_out h' (one_more h' c' more) in (are_variables c w.0, w.1)
 
 abbrev pub DataParts : Phrase (Or (List Constant) (Or (List Variables) (Both (Unit {0}) (List TypeDeclaration))))
-DataParts = Fork mark.Const_ (Several is_identifier IsConstant) (Fork mark.Var (Several is_identifier AreVariablesOfOneType) (Then (Stands mark.Type_) (Several is_identifier IsTypeDeclaration)))
+DataParts = Fork mark.Const_ (Several is_identifier IsConstant) (Fork mark.Var (Several is_identifier AreVariablesOfOneType) (Then IsTypeWord (Several is_identifier IsTypeDeclaration)))
 
 pub constants_of_parts : {d : ℕ} {cs : List Constant} {ks r : List Terminal} → DataParts d (this cs) ks r → SomeData d (constants cs) ks r
-constants_of_parts (marked (h, cs)) = let w = several_out AreConstants (λ d a ks r f. is_one_constant f) (λ d a as_ ks m r f more. are_constants f more) h cs in (declares_constants w.0, w.1)
+constants_of_parts (marked (h, cs)) = let w = constants_out h cs in (declares_constants w.0, w.1)
 
 pub variable_list_of_parts : {d : ℕ} {cs : List Variables} {ks r : List Terminal} → DataParts d (that (this cs)) ks r → SomeData d (variables cs) ks r
-variable_list_of_parts (unmarked none (marked (h, cs))) = let w = several_out AreVariables (λ d a ks r f. is_one_variables f) (λ d a as_ ks m r f more. are_variables f more) h cs in (declares_variables w.0, w.1)
+variable_list_of_parts (unmarked none (marked (h, cs))) = let w = variables_out h cs in (declares_variables w.0, w.1)
 
 pub types_of_parts : {d : ℕ} {cs : List TypeDeclaration} {ks r : List Terminal} → DataParts d (that (that (both tt cs))) ks r → SomeData d (types cs) ks r
-types_of_parts (unmarked none (unmarked none' (then_ stands (h, cs)))) = let w = several_out AreTypes (λ d a ks r f. is_one_type f) (λ d a as_ ks m r f more. are_types f more) h cs in (declares_types w.0, w.1)
+types_of_parts (unmarked none (unmarked none' (then_ is_type_word (h, cs)))) = let w = types_out h cs in (declares_types w.0, w.1)
 
 abbrev is_const_word : TokenKind → Bool
 is_const_word kind.Const_ = true
@@ -204,7 +213,7 @@ is_var_word other = false
 pub made_data : As DataParts SomeData
 made_data d e ks r (declares_constants {cs = cs} f, n) = (this cs, marked (constants_in f n), λ ls s x. constants_of_parts x)
 made_data d e ks r (declares_variables {vs = cs} f, n) = (that (this cs), unmarked (no_mark_by mark.Const_ is_const_word refl refl) (marked (variables_in f n)), λ ls s x. variable_list_of_parts x)
-made_data d e ks r (declares_types {ts = cs} f, n) = (that (that (both tt cs)), unmarked (no_mark_by mark.Const_ is_const_word refl refl) (unmarked (no_mark_by mark.Var is_var_word refl refl) (then_ stands (types_in f n))), λ ls s x. types_of_parts x)
+made_data d e ks r (declares_types {ts = cs} f, n) = (that (that (both tt cs)), unmarked (no_mark_by mark.Const_ is_const_word refl refl) (unmarked (no_mark_by mark.Var is_var_word refl refl) (then_ is_type_word (types_in f n))), λ ls s x. types_of_parts x)
 
 -- ---- headings with their directives
 

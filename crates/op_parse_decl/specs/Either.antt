@@ -1,7 +1,5 @@
 -- What a choice of two parts says.
 use Rattle.op_parse_decl.specs.Combined.{Or, this, that}
-use Rattle.op_parse_decl.specs.declared.choice.Ahead.{Ahead}
-use Rattle.op_parse_decl.specs.declared.choice.Ahead.TheVariants as ahead
 use Rattle.op_parse_decl.specs.declared.choice.Either.{Either}
 use Rattle.op_parse_decl.specs.declared.choice.Either.TheVariants as either
 use Rattle.op_parse_decl.specs.declared.choice.Fork.{Fork}
@@ -14,7 +12,3 @@ either_of f g (either.Second y) = that (g y)
 abbrev pub fork_of : {S X Y A B : Type 0} → (X → A) → (Y → B) → Fork S X Y → Or A B
 fork_of f g (fork.Marked x s) = this (f x)
 fork_of f g (fork.Unmarked y) = that (g y)
-
-abbrev pub ahead_of : {S X Y A B : Type 0} → (X → A) → (Y → B) → Ahead S X Y → Or A B
-ahead_of f g (ahead.Marked x s) = this (f x)
-ahead_of f g (ahead.Unmarked y) = that (g y)

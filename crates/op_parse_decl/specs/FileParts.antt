@@ -1,26 +1,27 @@
 -- What files and their parts are made of.
-use Rattle.std.proofs.Common.{◌≡◌, ℕ, Bool, true, false, List, [], ◌∷◌, Option, Some, None, map, refl, subst}
+use Rattle.std.proofs.Common.{◌≡◌, ℕ, Bool, true, false, List, [], ◌∷◌, Option, Some, None, refl, subst}
 use Rattle.op_parse_code.specs.Refusal.{Phrase}
 use Rattle.op_parse_code.specs.Whole.{NoMark, SomeName}
 use Rattle.op_parse_code.specs.WholeStatement.{SomeStatements}
 use Rattle.op_parse_code.specs.declared.mark.Mark.TheVariants as mark
 use Rattle.op_parse_code.proofs.Statements.{ends_all}
-use Rattle.op_parse_decl.specs.Combined.{Both, both, Stands, stands, Then, then_, Behind, no_mark, behind_mark, Repeats, Or, this, that, Choice, chosen, otherwise, Fork, marked, unmarked, Nothing, nothing}
-use Rattle.op_parse_decl.specs.Declarations.{SomeUses, no_uses, some_uses, SomeProgramHeading, no_heading, some_program_heading, begins_declaration, InterfaceDeclaration, BlockDeclaration, listed, AllOf, SomeProgram, SomeUnit, StandsHere, stands_here}
-use Rattle.op_parse_decl.specs.Blocks.{neither, begin_none, interface_in, interface_out, block_in, block_out, listed_of}
+use Rattle.op_parse_decl.specs.Combined.{Both, both, Stands, stands, Then, then_, Behind, no_mark, behind_mark, Or, this, that, Choice, chosen, otherwise, Fork, marked, unmarked, Nothing, nothing}
+use Rattle.op_parse_decl.specs.Declarations.{SomeUses, no_uses, some_uses, SomeProgramHeading, no_heading, some_program_heading, SomeDeclarations, StandsHere, stands_here}
 use Rattle.op_parse_decl.specs.Known.{As, no_mark_by}
 use Rattle.op_parse_decl.specs.Opening.{is_open}
 use Rattle.op_parse_decl.specs.Types.{SomeNames, SomeBracketedNames}
 use Rattle.op_parse_decl.specs.declared.file.Tail.{Tail as RustTail}
 use Rattle.op_scan.specs.declared.token.TokenKind.{TokenKind}
 use Rattle.op_scan.specs.declared.token.TokenKind.TheVariants as kind
+use Rattle.op_tree.proofs.DeclarationUnique.{begins_data, data_begins, routine_begins}
 use Rattle.op_tree.proofs.ExpressionUnique.{false_true, is_comma, true_false}
+use Rattle.op_tree.proofs.MethodUnique.{apart, begins_heading, method_begins}
 use Rattle.op_tree.proofs.StatementUnique.{is_end}
-use Rattle.op_tree.specs.Declaration.{Declaration, Declarations, declaration_of, declarations_of}
-use Rattle.op_tree.specs.DeclarationGrammar.{AreDeclarations}
-use Rattle.op_tree.specs.declared.declaration.Declaration.{Declaration as RustDeclaration}
+use Rattle.op_parse_decl.specs.declared.routine.Part.TheVariants as part
+use Rattle.op_tree.specs.Declaration.{Declarations}
+use Rattle.op_tree.specs.DeclarationGrammar.{AreInterfaceDeclarations, are_no_interface_declarations, data_in_interface, heading_in_interface, AreDeclarations, are_no_declarations, data_declared, routine_declared}
 use Rattle.op_tree.specs.Ends.{EndsDeclarations, IsNot}
-use Rattle.op_tree.specs.File.{Program, program, UnitFile, unit, Tail}
+use Rattle.op_tree.specs.File.{File, program, unit, Tail}
 use Rattle.op_tree.specs.FileGrammar.{IsFile, is_program, is_unit, IsUses, has_no_uses, has_uses, IsProgramHeading, has_no_heading, has_name, has_name_and_list, IsTail, has_end_alone, has_block, has_finalization, has_initialization, has_both}
 use Rattle.op_tree.specs.NameGrammar.{are_bracketed_names}
 use Rattle.op_tree.specs.Statement.{Statements, stmts_of}
@@ -106,15 +107,12 @@ is_initialization other = false
 last_in : {d : ℕ} {ss : Statements} {q : Position} {ks r : List Terminal} → AreStatements d ss ks (kind.End at q ∷ r) → Last d (both ss tt) ks r
 last_in ss = then_ (ss, ends_all ss refl refl refl) stands
 
-pub block_in_parts : {d : ℕ} {ss : Statements} {ks r : List Terminal} → IsBlock d ss ks r → BlockParts d (both tt (both ss tt)) ks r
-block_in_parts (is_begin_end ss) = then_ stands (last_in ss)
-
 pub made_tail : As TailParts IsTail
 made_tail d t ks r has_end_alone = (this tt, marked nothing, λ ls s x. end_of_parts x)
 made_tail d t ks r (has_finalization {ss = ss} f) = (that (this (both ss tt)), unmarked (no_mark_by mark.End is_end refl refl) (marked (last_in f)), λ ls s x. finalization_of_parts x)
 made_tail d t ks r (has_both {ss = ss} {ts = ts} f g) = (that (that (this (both ss (this (both ts tt))))), unmarked (no_mark_by mark.End is_end refl refl) (unmarked (no_mark_by mark.Finalization is_finalization refl refl) (marked (then_ (f, ends_all f refl refl refl) (marked (last_in g))))), λ ls s x. both_of_parts x)
 made_tail d t ks r (has_initialization {ss = ss} f) = (that (that (this (both ss (that tt)))), unmarked (no_mark_by mark.End is_end refl refl) (unmarked (no_mark_by mark.Finalization is_finalization refl refl) (marked (then_ (f, ends_all f refl refl refl) (unmarked (no_mark_by mark.Finalization is_finalization refl refl) stands)))), λ ls s x. initialization_of_parts x)
-made_tail d t ks r (has_block {ss = ss} (is_begin_end f)) = (that (that (that (both tt (both ss tt)))), unmarked (no_mark_by mark.End is_end refl refl) (unmarked (no_mark_by mark.Finalization is_finalization refl refl) (unmarked (no_mark_by mark.Initialization is_initialization refl refl) (block_in_parts (is_begin_end f)))), λ ls s x. block_of_parts x)
+made_tail d t ks r (has_block {ss = ss} (is_begin_end f)) = (that (that (that (both tt (both ss tt)))), unmarked (no_mark_by mark.End is_end refl refl) (unmarked (no_mark_by mark.Finalization is_finalization refl refl) (unmarked (no_mark_by mark.Initialization is_initialization refl refl) (then_ stands (last_in f)))), λ ls s x. block_of_parts x)
 
 -- ---- files
 
@@ -125,11 +123,30 @@ opens_file kind.Program = true
 opens_file kind.Unit = true
 opens_file other = false
 
-declares_none : (k : TokenKind) → begins_declaration k ≡ true → opens_file k ≡ false
-declares_none kind.Uses h = false_true h
-declares_none kind.Program h = false_true h
-declares_none kind.Unit h = false_true h
-declares_none other h = refl
+data_opens_none : (k : TokenKind) → begins_data k ≡ true → opens_file k ≡ false
+data_opens_none kind.Uses h = false_true h
+data_opens_none kind.Program h = false_true h
+data_opens_none kind.Unit h = false_true h
+data_opens_none other h = refl
+
+heading_opens_none : (k : TokenKind) → begins_heading k ≡ true → opens_file k ≡ false
+heading_opens_none kind.Uses h = false_true h
+heading_opens_none kind.Program h = false_true h
+heading_opens_none kind.Unit h = false_true h
+heading_opens_none other h = refl
+
+declarations_open_none : {d : ℕ} {es : Declarations} {ks r : List Terminal} → AreDeclarations d es ks r → IsNot opens_file r → IsNot opens_file ks
+declarations_open_none are_no_declarations h = h
+declarations_open_none {ks = ks} (data_declared e es) h = apart data_opens_none ks (data_begins e)
+declarations_open_none {ks = ks} (routine_declared e es) h = apart heading_opens_none ks (routine_begins e)
+
+interface_opens_none : {d : ℕ} {es : Declarations} {ks r : List Terminal} → AreInterfaceDeclarations d es ks r → IsNot opens_file r → IsNot opens_file ks
+interface_opens_none are_no_interface_declarations h = h
+interface_opens_none {ks = ks} (data_in_interface e es) h = apart data_opens_none ks (data_begins e)
+interface_opens_none {ks = ks} (heading_in_interface a es) h = apart heading_opens_none ks (method_begins a)
+
+block_opens_none : {d : ℕ} {ss : Statements} {ks r : List Terminal} → IsBlock d ss ks r → IsNot opens_file ks
+block_opens_none (is_begin_end ss) = refl
 
 tail_opens_none : {d : ℕ} {t : Tail} {ks r : List Terminal} → IsTail d t ks r → IsNot opens_file ks × EndsDeclarations ks
 tail_opens_none has_end_alone = (refl, refl)
@@ -151,13 +168,17 @@ opens_text kind.Program = true
 opens_text kind.Unit = true
 opens_text other = false
 
-fewer_words : (k : TokenKind) → opens_file k ≡ false → opens_text k ≡ false
-fewer_words kind.Program h = true_false h
-fewer_words kind.Unit h = true_false h
-fewer_words other h = refl
-
 uses_open_none : {ns : List Name} {ks r : List Terminal} → IsUses ns ks r → IsNot opens_file r → IsNot opens_text ks
-uses_open_none {r = r} has_no_uses n = neither fewer_words r n
+uses_open_none {r = r} has_no_uses n = fewer r n
+  where
+    fewer_kinds : (k : TokenKind) → opens_file k ≡ false → opens_text k ≡ false
+    fewer_kinds kind.Program h = true_false h
+    fewer_kinds kind.Unit h = true_false h
+    fewer_kinds other h = refl
+
+    fewer : (ks : List Terminal) → IsNot opens_file ks → IsNot opens_text ks
+    fewer [] h = tt
+    fewer (t ∷ ks) h = fewer_kinds t.kind h
 uses_open_none (has_uses ns) n = refl
 
 heading_in : {d : ℕ} {h : Option ProgramHeading} {ks r : List Terminal} → IsProgramHeading d h ks r → IsNot opens_text r → SomeProgramHeading d h ks r
@@ -173,50 +194,34 @@ abbrev is_unit_word : TokenKind → Bool
 is_unit_word kind.Unit = true
 is_unit_word other = false
 
-heading_no_unit : {d : ℕ} {h : Option ProgramHeading} {ks r : List Terminal} → IsProgramHeading d h ks r → IsNot opens_text r → NoMark mark.Unit ks
-heading_no_unit has_no_heading n = no_mark_by mark.Unit opens_text refl n
-heading_no_unit (has_name f) n = no_mark_by mark.Unit is_unit_word refl refl
-heading_no_unit (has_name_and_list f g) n = no_mark_by mark.Unit is_unit_word refl refl
+program_no_unit : {d : ℕ} {h : Option ProgramHeading} {ks r : List Terminal} → IsProgramHeading d h ks r → IsNot opens_text r → NoMark mark.Unit ks
+program_no_unit has_no_heading n = no_mark_by mark.Unit opens_text refl n
+program_no_unit (has_name f) n = no_mark_by mark.Unit is_unit_word refl refl
+program_no_unit (has_name_and_list f g) n = no_mark_by mark.Unit is_unit_word refl refl
 
--- what stands behind the uses of a program opens no file
-body_opens_none : {d : ℕ} {ds : Declarations} {ss : Statements} {ks m r : List Terminal} → AreDeclarations d ds ks m → IsBlock d ss m r → IsNot opens_file ks
-body_opens_none es (is_begin_end ss) = begin_none declares_none (block_in es refl) refl
+abbrev pub UnitParts : Phrase (Both (Both Name (Both (Unit {0}) (Unit {0}))) (Both (Both (List Name) (Both Declarations (Unit {0}))) (Both (Both (List Name) Declarations) (Both Tail (Unit {0})))))
+UnitParts = Then (Then SomeName (Then (Stands mark.Semicolon) (Stands mark.Interface))) (Then (Then SomeUses (Then (SomeDeclarations part.Interface) (Stands mark.Implementation))) (Then (Then SomeUses (SomeDeclarations part.Block)) (Then IsTail (Stands mark.Dot))))
 
--- a program does not begin as a unit
-pub program_no_unit : {d : ℕ} {p : Program} {ks r : List Terminal} → IsFile d (program p) ks r → NoMark mark.Unit ks
-program_no_unit (is_program b h us es ss) = heading_no_unit h (uses_open_none us (body_opens_none es ss))
+abbrev pub ProgramParts : Phrase (Both (Both (Option ProgramHeading) (Both (List Name) Declarations)) (Both (Both (Unit {0}) (Both Statements (Unit {0}))) (Unit {0})))
+ProgramParts = Then (Then SomeProgramHeading (Then SomeUses (SomeDeclarations part.Block))) (Then BlockParts (Stands mark.Dot))
 
--- ---- a program
+abbrev pub AllParts : Phrase (Both Position (Or (Both (Both Name (Both (Unit {0}) (Unit {0}))) (Both (Both (List Name) (Both Declarations (Unit {0}))) (Both (Both (List Name) Declarations) (Both Tail (Unit {0}))))) (Both (Both (Option ProgramHeading) (Both (List Name) Declarations)) (Both (Both (Unit {0}) (Both Statements (Unit {0}))) (Unit {0})))))
+AllParts = Then StandsHere (Fork mark.Unit UnitParts ProgramParts)
 
-abbrev pub ProgramParts : Phrase (Both Position (Both (Option ProgramHeading) (Both (List Name) (Both Declarations (Both (Both (Unit {0}) (Both Statements (Unit {0}))) (Unit {0}))))))
-ProgramParts = Then StandsHere (Then SomeProgramHeading (Then SomeUses (Then (AllOf BlockDeclaration) (Then BlockParts (Stands mark.Dot)))))
+abbrev unit_with : Position → Name → List Name → Declarations → List Name → Declarations → Tail → File
+unit_with p n ns es ls ds t = unit (record { position = p; name = n; interface = record { uses = ns; declarations = es }; implementation = record { uses = ls; declarations = ds }; tail = t })
 
-pub program_of_parts : {d : ℕ} {p : Position} {h : Option ProgramHeading} {ns : List Name} {ds : Declarations} {ss : Statements} {ks r : List Terminal} → ProgramParts d (both p (both h (both ns (both ds (both (both tt (both ss tt)) tt))))) ks r → SomeProgram d (record { position = p; heading = h; uses = ns; declarations = ds; statements = ss }) ks r
-program_of_parts {ds = ds} (then_ (stands_here b) (then_ h (then_ us (then_ es (then_ (then_ stands (then_ ss stands)) stands))))) = is_program b (heading_out h) (uses_out us) (block_out ds es) (is_begin_end ss.0)
+pub unit_of_parts : {d : ℕ} {p : Position} {n : Name} {ns ls : List Name} {es ds : Declarations} {t : Tail} {ks r : List Terminal} → AllParts d (both p (this (both (both n (both tt tt)) (both (both ns (both es tt)) (both (both ls ds) (both t tt)))))) ks r → IsFile d (unit (record { position = p; name = n; interface = record { uses = ns; declarations = es }; implementation = record { uses = ls; declarations = ds }; tail = t })) ks r
+unit_of_parts {d = d} {n = n} {ns = ns} {ls = ls} {es = es} {ds = ds} {t = t} {ks = ks} {r = r} (then_ (stands_here h) (marked (then_ (then_ f (then_ stands stands)) (then_ (then_ us (then_ is stands)) (then_ (then_ vs bs) (then_ e stands)))))) = subst (λ p. IsFile d (unit_with p n ns es ls ds t) ks r) h (is_unit f (uses_out us) is.0 (uses_out vs) bs.0 e)
 
-pub made_program : As ProgramParts SomeProgram
-made_program d f ks r (is_program {h = h} {ns = ns} {ds = ds} {p = p} b f1 us es (is_begin_end {ss = ss} g)) =
-    let n = body_opens_none es (is_begin_end g) in
-    (both p (both h (both ns (both ds (both (both tt (both ss tt)) tt)))), then_ (stands_here b) (then_ (heading_in f1 (uses_open_none us n)) (then_ (uses_in us n) (then_ (block_in es refl) (then_ (block_in_parts (is_begin_end g)) stands)))), λ ls s x. program_of_parts x)
+pub program_of_parts : {d : ℕ} {p : Position} {h : Option ProgramHeading} {ns : List Name} {ds : Declarations} {ss : Statements} {ks r : List Terminal} → AllParts d (both p (that (both (both h (both ns ds)) (both (both tt (both ss tt)) tt)))) ks r → IsFile d (program (record { position = p; heading = h; uses = ns; declarations = ds; statements = ss })) ks r
+program_of_parts (then_ (stands_here b) (unmarked none (then_ (then_ h (then_ us ds)) (then_ (then_ stands (then_ ss stands)) stands)))) = is_program b (heading_out h) (uses_out us) ds.0 (is_begin_end ss.0)
 
--- ---- a unit
-
-abbrev pub UnitParts : Phrase (Both (Both (Both Position (Unit {0})) (Both Name (Both (Unit {0}) (Unit {0})))) (Both (Both (List Name) (Both (List Declaration) (Unit {0}))) (Both (Both (List Name) Declarations) (Both Tail (Unit {0})))))
-UnitParts = Then (Then (Then StandsHere (Stands mark.Unit)) (Then SomeName (Then (Stands mark.Semicolon) (Stands mark.Interface)))) (Then (Then SomeUses (Then (Repeats begins_declaration InterfaceDeclaration) (Stands mark.Implementation))) (Then (Then SomeUses (AllOf BlockDeclaration)) (Then IsTail (Stands mark.Dot))))
-
-abbrev unit_with : Position → Name → List Name → Declarations → List Name → Declarations → Tail → UnitFile
-unit_with p n ns es ls ds t = record { position = p; name = n; interface = record { uses = ns; declarations = es }; implementation = record { uses = ls; declarations = ds }; tail = t }
-
-pub unit_of_parts : {d : ℕ} {p : Position} {n : Name} {ns ls : List Name} (es : Declarations) {ds : Declarations} {t : Tail} {ks r : List Terminal} → UnitParts d (both (both (both p tt) (both n (both tt tt))) (both (both ns (both (listed es) tt)) (both (both ls ds) (both t tt)))) ks r → SomeUnit d (record { position = p; name = n; interface = record { uses = ns; declarations = es }; implementation = record { uses = ls; declarations = ds }; tail = t }) ks r
-unit_of_parts {d = d} {n = n} {ns = ns} {ls = ls} es {ds = ds} {t = t} {ks = ks} {r = r} (then_ (then_ (then_ (stands_here h) stands) (then_ f (then_ stands stands))) (then_ (then_ us (then_ is stands)) (then_ (then_ vs bs) (then_ e stands)))) = subst (λ p. SomeUnit d (unit_with p n ns es ls ds t) ks r) h (is_unit f (uses_out us) (interface_out es is) (uses_out vs) (block_out ds bs) e)
-
--- the same, where the declarations of the interface part are those of a list
-pub unit_of_list : {d : ℕ} {p : Position} {n : Name} {ns ls : List Name} (xs : List RustDeclaration) {ds : Declarations} {t : Tail} {ks r : List Terminal} → UnitParts d (both (both (both p tt) (both n (both tt tt))) (both (both ns (both (map declaration_of xs) tt)) (both (both ls ds) (both t tt)))) ks r → SomeUnit d (record { position = p; name = n; interface = record { uses = ns; declarations = declarations_of xs }; implementation = record { uses = ls; declarations = ds }; tail = t }) ks r
-unit_of_list {d = d} {p = p} {n = n} {ns = ns} {ls = ls} xs {ds = ds} {t = t} {ks = ks} {r = r} x = unit_of_parts (declarations_of xs) (subst (λ z. UnitParts d (both (both (both p tt) (both n (both tt tt))) (both (both ns (both z tt)) (both (both ls ds) (both t tt)))) ks r) (listed_of xs) x)
-
-pub made_unit : As UnitParts SomeUnit
-made_unit d f ks r (is_unit {n = n} {ns = ns} {ls = vs} {es = es} {ds = ds} {t = t} {p = p} f1 us is ws bs e) =
+pub made_file : As AllParts IsFile
+made_file d f ks r (is_program {h = h} {ns = ns} {ds = ds} {p = p} b f1 us es (is_begin_end {ss = ss} g)) =
+    let n = declarations_open_none es refl in
+    let m = uses_open_none us n in
+    (both p (that (both (both h (both ns ds)) (both (both tt (both ss tt)) tt))), then_ (stands_here b) (unmarked (program_no_unit f1 m) (then_ (then_ (heading_in f1 m) (then_ (uses_in us n) (es, refl))) (then_ (then_ stands (last_in g)) stands))), λ ls s x. program_of_parts x)
+made_file d f ks r (is_unit {n = n} {ns = ns} {ls = vs} {es = es} {ds = ds} {t = t} {p = p} f1 us is ws bs e) =
     let k = tail_opens_none e in
-    let ins = interface_in is refl in
-    let blocks = block_in bs k.1 in
-    (both (both (both p tt) (both n (both tt tt))) (both (both ns (both (listed es) tt)) (both (both vs ds) (both t tt))), then_ (then_ (then_ (stands_here refl) stands) (then_ f1 (then_ stands stands))) (then_ (then_ (uses_in us (begin_none declares_none ins refl)) (then_ ins stands)) (then_ (then_ (uses_in ws (begin_none declares_none blocks k.0)) blocks) (then_ e stands))), λ ls s x. unit_of_parts es x)
+    (both p (this (both (both n (both tt tt)) (both (both ns (both es tt)) (both (both vs ds) (both t tt))))), then_ (stands_here refl) (marked (then_ (then_ f1 (then_ stands stands)) (then_ (then_ (uses_in us (interface_opens_none is refl)) (then_ (is, refl) stands)) (then_ (then_ (uses_in ws (declarations_open_none bs k.0)) (bs, k.1)) (then_ e stands))))), λ ls s x. unit_of_parts x)

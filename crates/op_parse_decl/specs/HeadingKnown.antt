@@ -1,56 +1,94 @@
--- The parts of headings that are no others put together: each stands whatever follows that begins so, and ends at one place.
-use Rattle.std.proofs.Common.{◌≡◌, ℕ, List, ◌∷◌, refl, ap, ◌∙◌}
-use Rattle.op_parse_code.proofs.Cuts.{cut_none, cut_one, cut_join, Front}
+-- The sorts of parts of headings: each stands whatever follows that begins so, and ends at one place.
+use Rattle.std.proofs.Common.{◌≡◌, ℕ, suc, Bool, false, List, [], ◌∷◌, Option, Some, None, refl, sym, ap, ◌∙◌, subst}
+use Rattle.op_parse_code.proofs.Cuts.{IsCut, cut_none, cut_one, cut_join}
 use Rattle.op_parse_code.proofs.Refusing.{Known, no_mark_same}
-use Rattle.op_parse_code.proofs.StatementFronts.{front_qualified}
+use Rattle.op_parse_code.proofs.StatementFronts.{front_name}
+use Rattle.op_parse_code.specs.Opening.{kind_of}
+use Rattle.op_parse_code.specs.Refusal.{SameHead}
+use Rattle.op_parse_code.specs.Whole.{NoMark}
+use Rattle.op_parse_code.specs.declared.mark.Mark.{Mark}
 use Rattle.op_parse_code.specs.declared.mark.Mark.TheVariants as mark
-use Rattle.op_parse_decl.specs.Combined.{Both}
-use Rattle.op_parse_decl.specs.Fronts.{front_names}
-use Rattle.op_parse_decl.specs.Headings.{IsRoutineKind, is_routine_kind, SomeModed, some_moded, SomeParameterType}
-use Rattle.op_parse_decl.specs.Known.{Stays}
-use Rattle.op_parse_decl.specs.KnownTypes.{not_dot}
+use Rattle.op_parse_decl.specs.HeadingFronts.{front_parameter, front_parameter_type, front_parameters}
+use Rattle.op_parse_decl.specs.KnownTypes.{known_denoter, not_dot}
+use Rattle.op_parse_decl.specs.Headings.{SomeParameterType, SomeParameter, ParametersBefore, SomeParameterPart, part_missing, part_empty, part_given, SomeRoutineName}
+use Rattle.op_parse_decl.specs.Types.{SomeDenoter, SomeOptionalType}
 use Rattle.op_scan.specs.declared.token.TokenKind.TheVariants as kind
-use Rattle.op_tree.proofs.HeadingUnique.{unique_moded, unique_parameter_type}
-use Rattle.op_tree.specs.HeadingGrammar.{IsMode, by_value, by_var, by_const, by_out, IsParameterType, is_named, is_string}
+use Rattle.op_tree.proofs.ExpressionUnique.{behind}
+use Rattle.op_tree.proofs.HeadingUnique.{unique_parameter, unique_parameter_type, unique_parameters, no_parameters}
+use Rattle.op_tree.proofs.StatementUnique.{unique_name}
+use Rattle.op_tree.specs.Denoter.{Denoter}
+use Rattle.op_tree.specs.NameGrammar.{IsName}
 use Rattle.op_tree.specs.Terminal.{Terminal, ◌at◌}
-use Rattle.op_tree.specs.declared.heading.ParameterMode.{ParameterMode}
-use Rattle.op_tree.specs.declared.heading.ParameterType.{ParameterType}
-use Rattle.op_tree.specs.declared.heading.RoutineKind.{RoutineKind}
+use Rattle.op_tree.specs.declared.heading.Parameter.{Parameter}
 use Rattle.op_tree.specs.declared.position.Name.{Name}
-
-front_kind : (d : ℕ) (sort : RoutineKind) (ks r : List Terminal) → IsRoutineKind d sort ks r → Stays (IsRoutineKind d sort) ks r
-front_kind d sort ks r (is_routine_kind {k = k} {p = p} e) = (λ x. k at p ∷ x, cut_one (k at p) cut_none, refl, λ x h. is_routine_kind e)
-
-same_kind : (d d' : ℕ) (sort sort' : RoutineKind) (ks r r' : List Terminal) → IsRoutineKind d sort ks r → IsRoutineKind d' sort' ks r' → r ≡ r'
-same_kind d d' sort sort' ks r r' (is_routine_kind e) (is_routine_kind e') = refl
-
-pub known_routine_kind : Known IsRoutineKind
-known_routine_kind = record { front = front_kind; same = same_kind }
-
-front_mode : {m : ParameterMode} {ks r : List Terminal} → IsMode m ks r → Front (IsMode m) ks r
-front_mode by_value = (λ x. x, cut_none, refl, λ x. by_value)
-front_mode (by_var {p = p}) = (λ x. kind.Var at p ∷ x, cut_one (kind.Var at p) cut_none, refl, λ x. by_var)
-front_mode (by_const {p = p}) = (λ x. kind.Const_ at p ∷ x, cut_one (kind.Const_ at p) cut_none, refl, λ x. by_const)
-front_mode (by_out {out = out} {p = p} h) = (λ x. kind.Identifier out at p ∷ x, cut_one (kind.Identifier out at p) cut_none, refl, λ x. by_out h)
-
-front_moded : (d : ℕ) (a : Both ParameterMode (List Name)) (ks r : List Terminal) → SomeModed d a ks r → Stays (SomeModed d a) ks r
-front_moded d a ks r (some_moded {p = p} m n) =
-    let s = front_mode m in
-    let u = front_names n in
-    (λ x. s.0 (u.0 (kind.Colon at p ∷ x)), cut_join s.1 (cut_join u.1 (cut_one (kind.Colon at p) cut_none)), s.2 ∙ ap s.0 u.2, λ x h. some_moded (s.3 (u.0 (kind.Colon at p ∷ x))) (u.3 (kind.Colon at p ∷ x)))
-
-same_moded : (d d' : ℕ) (a a' : Both ParameterMode (List Name)) (ks r r' : List Terminal) → SomeModed d a ks r → SomeModed d' a' ks r' → r ≡ r'
-same_moded d d' a a' ks r r' (some_moded m n) (some_moded m' n') = (unique_moded m n m' n').2
-
-pub known_moded : Known SomeModed
-known_moded = record { front = front_moded; same = same_moded }
-
-front_type : {t : ParameterType} {ks r : List Terminal} → IsParameterType t ks r → Front (IsParameterType t) ks r
-front_type (is_named q) = let s = front_qualified q in (s.0, s.1, s.2, λ x. is_named (s.3 x))
-front_type (is_string {p = p}) = (λ x. kind.String at p ∷ x, cut_one (kind.String at p) cut_none, refl, λ x. is_string)
+use Rattle.op_tree.specs.declared.position.Position.{Position}
 
 pub known_parameter_type : Known SomeParameterType
 known_parameter_type = record {
-  front = λ d t ks m p. let s = front_type p.0 in (s.0, s.1, s.2, λ x h. (s.3 x, no_mark_same mark.Dot m x h p.1));
+  front = λ d t ks m p. let s = front_parameter_type p.0 in (s.0, s.1, s.2, λ x h. (s.3 x, no_mark_same mark.Dot m x h p.1));
   same = λ d d' t t' ks m m' p p'. (unique_parameter_type p.0 p'.0 (not_dot m p.1) (not_dot m' p'.1)).1;
 }
+
+pub known_parameter : Known SomeParameter
+known_parameter = record {
+  front = λ d a ks m p. let s = front_parameter p.0 in (s.0, s.1, s.2, λ x h. (s.3 x, no_mark_same mark.Dot m x h p.1));
+  same = λ d d' a a' ks m m' p p'. (unique_parameter p.0 p'.0 (not_dot m p.1) (not_dot m' p'.1)).1;
+}
+
+pub known_parameters : Known ParametersBefore
+known_parameters = record {
+  front = λ d as_ ks m p. let s = front_parameters p.1 in (λ x. s.0 (kind.CloseParenthesis at p.0 ∷ x), cut_join s.1 (cut_one (kind.CloseParenthesis at p.0) cut_none), s.2, λ x h. (p.0, s.3 (kind.CloseParenthesis at p.0 ∷ x)));
+  same = λ d d' as_ as' ks m m' p p'. ap behind (unique_parameters p.1 p'.1 refl refl refl refl).1;
+}
+
+front_part : (d : ℕ) (as_ : List Parameter) (ks m : List Terminal) → SomeParameterPart d as_ ks m → (f : List Terminal → List Terminal) × IsCut f × (ks ≡ f m) × ((x : List Terminal) → SameHead m x → SomeParameterPart d as_ (f x) x)
+front_part d as_ ks m (part_missing none) = (λ x. x, cut_none, refl, λ x h. part_missing (no_mark_same mark.OpenParenthesis ks x h none))
+front_part d as_ ks m (part_empty {p = p} {q = q}) = (λ x. kind.OpenParenthesis at p ∷ kind.CloseParenthesis at q ∷ x, cut_one (kind.OpenParenthesis at p) (cut_one (kind.CloseParenthesis at q) cut_none), refl, λ x h. part_empty)
+front_part d as_ ks m (part_given {d = i} {p = p} {ks = ls} f) =
+    let s = known_parameters.front i as_ ls m f in
+    (λ x. kind.OpenParenthesis at p ∷ s.0 x, cut_one (kind.OpenParenthesis at p) s.1, ap (λ z. kind.OpenParenthesis at p ∷ z) s.2, λ x h. part_given (s.3 x h))
+
+same_part : (d d' : ℕ) (as_ as' : List Parameter) (ks m m' : List Terminal) → SomeParameterPart d as_ ks m → SomeParameterPart d' as' ks m' → m ≡ m'
+same_part d d' as_ as' ks m m' (part_missing none) (part_missing none') = refl
+same_part d d' as_ as' ks m m' (part_missing none) (part_empty {p = p}) = absurd (none p _ refl)
+same_part d d' as_ as' ks m m' (part_missing none) (part_given {p = p} f) = absurd (none p _ refl)
+same_part d d' as_ as' ks m m' (part_empty {p = p}) (part_missing none') = absurd (none' p _ refl)
+same_part d d' as_ as' ks m m' (part_given {p = p} f) (part_missing none') = absurd (none' p _ refl)
+same_part d d' as_ as' ks m m' part_empty part_empty = refl
+same_part d d' as_ as' ks m m' part_empty (part_given f) = no_parameters f.1
+same_part d d' as_ as' ks m m' (part_given f) part_empty = no_parameters f.1
+same_part d d' as_ as' ks m m' (part_given {d = i} {ks = ls} f) (part_given {d = i'} f') = known_parameters.same i i' as_ as' ls m m' f f'
+
+pub known_part : Known SomeParameterPart
+known_part = record { front = front_part; same = same_part }
+
+front_routine_name : (d : ℕ) (a : Option Name × Name) (ks m : List Terminal) → SomeRoutineName d a ks m → (f : List Terminal → List Terminal) × IsCut f × (ks ≡ f m) × ((x : List Terminal) → SameHead m x → SomeRoutineName d a (f x) x)
+front_routine_name d (None, n) ks m (f, none) = let s = front_name f in (s.0, s.1, s.2, λ x h. (s.3 x, no_mark_same mark.Dot m x h none))
+front_routine_name d (Some c, n) ks m (p, l, f, g) =
+    let s = front_name f in
+    let u = front_name g in
+    (λ x. s.0 (kind.Dot at p ∷ u.0 x), cut_join s.1 (cut_one (kind.Dot at p) u.1), s.2 ∙ ap (λ z. s.0 (kind.Dot at p ∷ z)) u.2, λ x h. (p, u.0 x, s.3 (kind.Dot at p ∷ u.0 x), u.3 x))
+
+same_routine_name : (d d' : ℕ) (a a' : Option Name × Name) (ks m m' : List Terminal) → SomeRoutineName d a ks m → SomeRoutineName d' a' ks m' → m ≡ m'
+same_routine_name d d' (None, n) (None, n') ks m m' (f, none) (f', none') = (unique_name f f').1
+same_routine_name d d' (None, n) (Some c', n') ks m m' (f, none) (p', l', f', g') = absurd (none p' l' (unique_name f f').1)
+same_routine_name d d' (Some c, n) (None, n') ks m m' (p, l, f, g) (f', none') = absurd (none' p l (sym (unique_name f f').1))
+same_routine_name d d' (Some c, n) (Some c', n') ks m m' (p, l, f, g) (p', l', f', g') = (unique_name g (subst (λ x. IsName n' x m') (sym (ap behind (unique_name f f').1)) g')).1
+
+pub known_routine_name : Known SomeRoutineName
+known_routine_name = record { front = front_routine_name; same = same_routine_name }
+
+front_optional_type : (d : ℕ) (t : Option Denoter) (ks m : List Terminal) → SomeOptionalType d t ks m → (f : List Terminal → List Terminal) × IsCut f × (ks ≡ f m) × ((x : List Terminal) → SameHead m x → SomeOptionalType d t (f x) x)
+front_optional_type d None ks m (e, none) = (λ x. x, cut_none, e, λ x h. (refl, no_mark_same mark.Colon m x h none))
+front_optional_type d (Some t) ks m (p, l, e, f) =
+    let s = known_denoter.front d t l m f in
+    (λ x. kind.Colon at p ∷ s.0 x, cut_one (kind.Colon at p) s.1, e ∙ ap (λ z. kind.Colon at p ∷ z) s.2, λ x h. (p, s.0 x, refl, s.3 x h))
+
+same_optional_type : (d d' : ℕ) (t t' : Option Denoter) (ks m m' : List Terminal) → SomeOptionalType d t ks m → SomeOptionalType d' t' ks m' → m ≡ m'
+same_optional_type d d' None None ks m m' (e, none) (e', none') = sym e ∙ e'
+same_optional_type d d' None (Some t') ks m m' (e, none) (p', l', e', f') = absurd (none p' l' (sym e ∙ e'))
+same_optional_type d d' (Some t) None ks m m' (p, l, e, f) (e', none') = absurd (none' p l (sym e' ∙ e))
+same_optional_type d d' (Some t) (Some t') ks m m' (p, l, e, f) (p', l', e', f') = known_denoter.same d d' t t' l m m' f (subst (λ z. SomeDenoter d' t' z m') (sym (ap behind (sym e ∙ e'))) f')
+
+pub known_optional_type : Known SomeOptionalType
+known_optional_type = record { front = front_optional_type; same = same_optional_type }

@@ -7,9 +7,9 @@ use Rattle.op_parse_code.specs.Opening.{kind_of}
 use Rattle.op_parse_code.specs.Refusal.{Phrase, SameHead}
 use Rattle.op_parse_code.specs.Whole.{NoMark}
 use Rattle.op_parse_code.specs.declared.mark.Mark.{Mark}
-use Rattle.op_parse_decl.specs.Combined.{Both, Stands, stands, Then, then_, Behind, no_mark, behind_mark, Repeats, no_more, one_more, Or, this, that, Choice, chosen, otherwise, Deeper, deeper, Nothing, nothing, Fork, marked, unmarked, Several, HasMark, mark_ahead, Ahead, is_ahead, not_ahead, Separated, last_part, and_more, both}
+use Rattle.op_parse_decl.specs.Combined.{Both, Stands, stands, Then, then_, Behind, no_mark, behind_mark, Repeats, no_more, one_more, Or, this, that, Choice, chosen, otherwise, Deeper, deeper, Nothing, nothing, Fork, marked, unmarked, Several}
 use Rattle.op_scan.specs.declared.token.TokenKind.{TokenKind}
-use Rattle.op_tree.proofs.ExpressionUnique.{behind}
+use Rattle.op_tree.proofs.ExpressionUnique.{Begins, behind}
 use Rattle.op_tree.proofs.StatementUnique.{both as apart, differ}
 use Rattle.op_tree.specs.Ends.{IsNot}
 use Rattle.op_tree.specs.Terminal.{Terminal, ◌at◌}
@@ -42,15 +42,11 @@ front_stands {m = m} d u ks r (stands {p = p}) = (λ x. kind_of m at p ∷ x, cu
 pub known_stands : (m : Mark) → Known (Stands m)
 known_stands m = record { front = front_stands; same = λ d d' u u' ks r r' p p'. ap behind (sym (mark_stands p).1 ∙ (mark_stands p').1) }
 
--- tokens in front of others, with which the part stands before any others that begin so
-abbrev pub Stays : (List Terminal → List Terminal → Type 0) → List Terminal → List Terminal → Type 0
-Stays P ks r = (f : List Terminal → List Terminal) × IsCut f × (ks ≡ f r) × ((z : List Terminal) → SameHead r z → P (f z) z)
-
-pub join : (P Q R : List Terminal → List Terminal → Type 0) {ks m r : List Terminal} → ((ls y z : List Terminal) → P ls y → Q y z → R ls z) → Stays P ks m → Stays Q m r → Stays R ks r
-join P Q R {r = r} h f g = (λ z. f.0 (g.0 z), cut_join f.1 g.1, f.2 ∙ ap f.0 g.2, λ z s. h (f.0 (g.0 z)) (g.0 z) z (f.3 (g.0 z) (subst (λ y. SameHead y (g.0 z)) (sym g.2) (same_cut g.1 r z s))) (g.3 z s))
-
-front_then : {A B : Type 0} {P : Phrase A} {Q : Phrase B} → Known P → Known Q → (d : ℕ) (x : Both A B) (ks r : List Terminal) → Then P Q d x ks r → Stays (Then P Q d x) ks r
-front_then {P = P} {Q = Q} one two d x ks r (then_ {a = a} {b = b} {m = m} p q) = join (P d a) (Q d b) (Then P Q d (both a b)) (λ ls y z u v. then_ u v) (one.front d a ks m p) (two.front d b m r q)
+front_then : {A B : Type 0} {P : Phrase A} {Q : Phrase B} → Known P → Known Q → (d : ℕ) (x : Both A B) (ks r : List Terminal) → Then P Q d x ks r → (f : List Terminal → List Terminal) × IsCut f × (ks ≡ f r) × ((z : List Terminal) → SameHead r z → Then P Q d x (f z) z)
+front_then one two d x ks r (then_ {a = a} {b = b} {m = m} p q) =
+    let f = one.front d a ks m p in
+    let g = two.front d b m r q in
+    (λ z. f.0 (g.0 z), cut_join f.1 g.1, f.2 ∙ ap f.0 g.2, λ z s. then_ (f.3 (g.0 z) (subst (λ y. SameHead y (g.0 z)) (sym g.2) (same_cut g.1 r z s))) (g.3 z s))
 
 same_then : {A B : Type 0} {P : Phrase A} {Q : Phrase B} → Known P → Known Q → (d d' : ℕ) (x x' : Both A B) (ks r r' : List Terminal) → Then P Q d x ks r → Then P Q d' x' ks r' → r ≡ r'
 same_then {Q = Q} one two d d' x x' ks r r' (then_ {a = a} {b = b} {m = m} p q) (then_ {a = a'} {b = b'} {m = m'} p' q') =
@@ -169,51 +165,3 @@ known_several {test = test} known = record {
   front = λ d as_ ks r p. let f = front_repeats known d as_ ks r p.1 in (f.0, f.1, f.2, λ x s. (same_begins test ks (f.0 x) (subst (λ y. SameHead y (f.0 x)) (sym f.2) (same_cut f.1 r x s)) p.0, f.3 x s));
   same = λ d d' as_ as' ks r r' p p'. same_repeats known d d' as_ as' ks r r' p.1 p'.1;
 }
-
--- ---- a part where a mark stands
-
-pub has_mark_same : (m : Mark) (ks ls : List Terminal) → SameHead ks ls → HasMark m ks → HasMark m ls
-has_mark_same m ks [] s mark_ahead = absurd s
-has_mark_same m ks (u ∷ ls) s mark_ahead = subst (λ (z : Terminal). HasMark m (z ∷ ls)) s mark_ahead
-
-pub mark_or_none : {A : Type 0} {m : Mark} {ks : List Terminal} → HasMark m ks → NoMark m ks → A
-mark_or_none (mark_ahead {p = p} {r = r}) none = absurd (none p r refl)
-
-front_ahead : {A B : Type 0} {m : Mark} {P : Phrase A} {Q : Phrase B} → Known P → Known Q → (d : ℕ) (x : Or A B) (ks r : List Terminal) → Ahead m P Q d x ks r → Stays (Ahead m P Q d x) ks r
-front_ahead {m = m} known known' d (this a) ks r (is_ahead h p) =
-    let f = known.front d a ks r p in
-    (f.0, f.1, f.2, λ z s. is_ahead (has_mark_same m ks (f.0 z) (subst (λ y. SameHead y (f.0 z)) (sym f.2) (same_cut f.1 r z s)) h) (f.3 z s))
-front_ahead {m = m} known known' d (that b) ks r (not_ahead none p) =
-    let f = known'.front d b ks r p in
-    (f.0, f.1, f.2, λ z s. not_ahead (no_mark_same m ks (f.0 z) (subst (λ y. SameHead y (f.0 z)) (sym f.2) (same_cut f.1 r z s)) none) (f.3 z s))
-
-same_ahead : {A B : Type 0} {m : Mark} {P : Phrase A} {Q : Phrase B} → Known P → Known Q → (d d' : ℕ) (x x' : Or A B) (ks r r' : List Terminal) → Ahead m P Q d x ks r → Ahead m P Q d' x' ks r' → r ≡ r'
-same_ahead known known' d d' (this a) (this a') ks r r' (is_ahead h p) (is_ahead h' p') = known.same d d' a a' ks r r' p p'
-same_ahead known known' d d' (this a) (that b) ks r r' (is_ahead h p) (not_ahead none p') = mark_or_none h none
-same_ahead known known' d d' (that b) (this a) ks r r' (not_ahead none p) (is_ahead h p') = mark_or_none h none
-same_ahead known known' d d' (that b) (that b') ks r r' (not_ahead none p) (not_ahead none' p') = known'.same d d' b b' ks r r' p p'
-
-pub known_ahead : {A B : Type 0} {m : Mark} {P : Phrase A} {Q : Phrase B} → Known P → Known Q → Known (Ahead m P Q)
-known_ahead known known' = record { front = front_ahead known known'; same = same_ahead known known' }
-
--- ---- parts with a mark between them
-
-front_separated : {A : Type 0} {m : Mark} {P : Phrase A} → Known P → (d : ℕ) (as_ : List A) (ks r : List Terminal) → Separated m P d as_ ks r → Stays (Separated m P d as_) ks r
-front_separated {m = m} known d xs ks r (last_part {a = a} p none) =
-    let f = known.front d a ks r p in
-    (f.0, f.1, f.2, λ z s. last_part (f.3 z s) (no_mark_same m r z s none))
-front_separated {m = m} known d xs ks r (and_more {a = a} {as_ = as_} {p = q} {z = y} p more) =
-    let f = known.front d a ks (kind_of m at q ∷ y) p in
-    let g = front_separated known d as_ y r more in
-    (λ x. f.0 (kind_of m at q ∷ g.0 x), cut_join f.1 (cut_one (kind_of m at q) g.1), f.2 ∙ ap (λ x. f.0 (kind_of m at q ∷ x)) g.2, λ x s. and_more (f.3 (kind_of m at q ∷ g.0 x) refl) (g.3 x s))
-
-same_separated : {A : Type 0} {m : Mark} {P : Phrase A} → Known P → (d d' : ℕ) (as_ as' : List A) (ks r r' : List Terminal) → Separated m P d as_ ks r → Separated m P d' as' ks r' → r ≡ r'
-same_separated known d d' xs xs' ks r r' (last_part {a = a} p none) (last_part {a = a'} p' none') = known.same d d' a a' ks r r' p p'
-same_separated known d d' xs xs' ks r r' (last_part {a = a} p none) (and_more {a = a'} {p = q} {z = y} p' more) = absurd (none q y (known.same d d' a a' ks r _ p p'))
-same_separated known d d' xs xs' ks r r' (and_more {a = a} {p = q} {z = y} p more) (last_part {a = a'} p' none) = absurd (none q y (sym (known.same d d' a a' ks _ r' p p')))
-same_separated {m = m} {P = P} known d d' xs xs' ks r r' (and_more {a = a} {as_ = as_} {z = y} p more) (and_more {a = a'} {as_ = as'} p' more') =
-    let e = ap behind (known.same d d' a a' ks _ _ p p') in
-    same_separated known d d' as_ as' y r r' more (subst (λ x. Separated m P d' as' x r') (sym e) more')
-
-pub known_separated : {A : Type 0} {m : Mark} {P : Phrase A} → Known P → Known (Separated m P)
-known_separated known = record { front = front_separated known; same = same_separated known }

@@ -3,7 +3,7 @@ use Rattle.std.proofs.Common.{◌≡◌, ℕ, List, [], ◌∷◌, refl, subst}
 use Rattle.op_parse_code.proofs.Cuts.{IsCut, cut_none, cut_one}
 use Rattle.op_parse_code.proofs.Refusing.{Known}
 use Rattle.op_parse_code.specs.Refusal.{SameHead}
-use Rattle.op_parse_decl.specs.Declarations.{OneDirective, StandsHere, stands_here}
+use Rattle.op_parse_decl.specs.Declarations.{OneDirective, StandsHere, stands_here, IsTypeWord, is_type_word}
 use Rattle.op_scan.specs.declared.token.TokenKind.TheVariants as kind
 use Rattle.op_tree.specs.FileGrammar.{BeginAt}
 use Rattle.op_tree.specs.HeadingGrammar.{are_directives, are_no_directives}
@@ -33,3 +33,12 @@ same_here d d' p p' ks r r' (stands_here h) (stands_here h') = refl
 
 pub known_here : Known StandsHere
 known_here = record { front = front_here; same = same_here }
+
+front_word : (d : ℕ) (u : Unit {0}) (ks r : List Terminal) → IsTypeWord d u ks r → (f : List Terminal → List Terminal) × IsCut f × (ks ≡ f r) × ((x : List Terminal) → SameHead r x → IsTypeWord d u (f x) x)
+front_word d u ks r (is_type_word {p = p}) = (λ x. kind.Type_ at p ∷ x, cut_one (kind.Type_ at p) cut_none, refl, λ x h. is_type_word)
+
+same_word : (d d' : ℕ) (u u' : Unit {0}) (ks r r' : List Terminal) → IsTypeWord d u ks r → IsTypeWord d' u' ks r' → r ≡ r'
+same_word d d' u u' ks r r' is_type_word is_type_word = refl
+
+pub known_type_word : Known IsTypeWord
+known_type_word = record { front = front_word; same = same_word }

@@ -65,6 +65,11 @@ pub data SomeIndices : ℕ → Denoters → List Terminal → List Terminal → 
 abbrev pub SomeFields : Phrase (List Name × Denoter)
 SomeFields d x ks r = (p : Position) × (m : List Terminal) × AreNames x.0 ks (kind.Colon at p ∷ m) × SomeDenoter d x.1 m r
 
+-- [":" type]
+abbrev pub SomeOptionalType : ℕ → Option Denoter → List Terminal → List Terminal → Type 0
+SomeOptionalType d None ks r = (ks ≡ r) × NoMark mark.Colon r
+SomeOptionalType d (Some t) ks r = (p : Position) × (m : List Terminal) × (ks ≡ kind.Colon at p ∷ m) × SomeDenoter d t m r
+
 -- the type that an expression is where it is no bound
 abbrev pub denoted : Expression → Option Denoter
 denoted (designated (designator (named_root n) no_selectors)) = Some (named (record { unit = None; name = n }))

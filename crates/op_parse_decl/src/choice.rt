@@ -1,12 +1,12 @@
 //! Choices by the first token, parts one deeper, and forms that are left out.
-ghost use Rattle.std.specs.Prelude.{◌≡◌, ◌+◌, IfSome, List, map, suc, min};
+ghost use Rattle.std.specs.Prelude.{◌≡◌, IfSome, List, map};
 ghost use Rattle.op_parse_code.specs.Form.{HasForm};
-ghost use Rattle.op_parse_decl.specs.Combined.{Ahead, Both, Choice, Deeper, Fork, Nothing, Or, Several, TellsBehind, Then, both};
-ghost use Rattle.op_parse_decl.specs.Either.{ahead_of, either_of, fork_of};
-ghost use Rattle.op_parse_decl.specs.Known.{known_ahead, known_choice, known_deeper, known_fork, known_nothing, known_several, known_then};
+ghost use Rattle.op_parse_decl.specs.Combined.{Choice, Deeper, Fork, Nothing, Or, Several};
+ghost use Rattle.op_parse_decl.specs.Either.{either_of, fork_of};
+ghost use Rattle.op_parse_decl.specs.Known.{known_choice, known_deeper, known_fork, known_nothing, known_several};
 ghost use Rattle.op_tree.specs.Terminal.{terminals};
 
-use crate::part::{Answer, Item, Part, Repeated, Setting, begins};
+use crate::part::{Answer, Item, Part, Repeated, Setting};
 use crate::sign::Sign;
 use op_parse_code::shared::{behind_mark, enter, left_out, syntax};
 use op_scan::Token;
@@ -26,10 +26,10 @@ impl<A: Item, B: Part> Part for Either<A, B> {
 
     ghost phrase = { Choice A.test A.phrase B.phrase };
 
-    ghost least = { min A.least B.least };
+    ghost least = { 0 };
 
     fn read<'a>(setting: Setting, tokens: &'a [Token]) -> Answer<'a, Either<A, B>> {
-        if begins::<A>(tokens) {
+        if A::begins(tokens) {
             let (part, rest) = A::read(setting, tokens)?;
             return Ok((Either::First(part), rest));
         }
@@ -54,7 +54,7 @@ impl<S: Sign, A: Part, B: Part> Part for Fork<S, A, B> {
 
     ghost phrase = { Fork S.sign A.phrase B.phrase };
 
-    ghost least = { min (suc A.least) B.least };
+    ghost least = { 0 };
 
     fn read<'a>(setting: Setting, tokens: &'a [Token]) -> Answer<'a, Fork<S, A, B>> {
         match behind_mark(S::sign(), tokens) {
@@ -70,38 +70,6 @@ impl<S: Sign, A: Part, B: Part> Part for Fork<S, A, B> {
     }
 
     ghost known = { known_fork A.known B.known };
-}
-
-/// One part that begins with a mark where the mark stands, else another.
-#[derive(Drop)]
-pub enum Ahead<S: Sign, A, B> {
-    Marked(A, PhantomData<S>),
-    Unmarked(B),
-}
-
-impl<S: Sign, A: Part, B: Part> Part for Ahead<S, A, B> {
-    ghost Said = { Or A.Said B.Said };
-
-    ghost says = { ahead_of A.says B.says };
-
-    ghost phrase = { Ahead S.sign A.phrase B.phrase };
-
-    ghost least = { 0 };
-
-    fn read<'a>(setting: Setting, tokens: &'a [Token]) -> Answer<'a, Ahead<S, A, B>> {
-        match behind_mark(S::sign(), tokens) {
-            Some(_) => {
-                let (part, rest) = A::read(setting, tokens)?;
-                Ok((Ahead::Marked(part, PhantomData), rest))
-            }
-            None => {
-                let (part, rest) = B::read(setting, tokens)?;
-                Ok((Ahead::Unmarked(part), rest))
-            }
-        }
-    }
-
-    ghost known = { known_ahead A.known B.known };
 }
 
 /// No part.
@@ -140,7 +108,7 @@ impl<A: Item> Part for Several<A> {
     ghost least = { 0 };
 
     fn read<'a>(setting: Setting, tokens: &'a [Token]) -> Answer<'a, Several<A>> {
-        if begins::<A>(tokens) {
+        if A::begins(tokens) {
             let (all, rest) = Repeated::<A>::read(setting, tokens)?;
             return Ok((Several { items: all.items }, rest));
         }
@@ -207,43 +175,4 @@ impl<F: Form, A: Part> Part for Unless<F, A> {
     }
 
     ghost known = { A.known };
-}
-
-/// A form that is left out and shows behind a part: it is told from the first token of that part on.
-pub trait FormBehind {
-    type Front: Part;
-
-    /// The number of its feature, where the tokens stand behind that part.
-    fn feature(tokens: &[Token]) -> Option<u8>
-        ensures { IfSome result (λ feature. TellsBehind Self.Front.phrase feature (terminals tokens.now)) };
-}
-
-/// A part, and behind it another, unless a form that is left out shows there.
-#[derive(Drop)]
-pub struct Unbroken<F: FormBehind, A> {
-    pub front: F::Front,
-    pub part: A,
-    form: PhantomData<F>,
-}
-
-impl<F: FormBehind, A: Part> Part for Unbroken<F, A> {
-    ghost Said = { Both F.Front.Said A.Said };
-
-    ghost says = { λ x. both (F.Front.says x.front) (A.says x.part) };
-
-    ghost phrase = { Then F.Front.phrase A.phrase };
-
-    ghost least = { F.Front.least + A.least };
-
-    fn read<'a>(setting: Setting, tokens: &'a [Token]) -> Answer<'a, Unbroken<F, A>> {
-        let (front, rest) = F::Front::read(setting, tokens)?;
-        if let Some(feature) = F::feature(rest) {
-            return Err(left_out(feature, setting.end, rest));
-        }
-        let form = PhantomData;
-        let (part, rest) = A::read(setting, rest)?;
-        Ok((Unbroken { front, part, form }, rest))
-    }
-
-    ghost known = { known_then F.Front.known A.known };
 }

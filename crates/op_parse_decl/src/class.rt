@@ -1,29 +1,22 @@
 //! Classes (Free Pascal Reference Guide, "Classes").
-ghost use Rattle.std.specs.Prelude.{◌≡◌, ◌++◌, ◌<◌, IfOk, IfErr, IfSome, List, MatchOption, [], length, map};
-ghost use Rattle.op_parse_code.specs.Opening.{is_identifier};
-ghost use Rattle.op_parse_code.specs.Whole.{NoMark};
-ghost use Rattle.op_parse_code.specs.WholeStatement.{front_is};
-ghost use Rattle.op_parse_code.specs.declared.mark.Mark.TheVariants as mark;
-ghost use Rattle.op_parse_decl.specs.Classes.{Adds, IsVisibility, NoVisibility, RefusesRest, SectionsBefore, SomeEntry, SomeMember, entry_of, goes_on_as_field, sections_before};
-ghost use Rattle.op_tree.proofs.ExpressionUnique.{Begins};
-ghost use Rattle.op_tree.specs.Declaration.{Section, class, definition_of, member_of, section_of};
-ghost use Rattle.op_tree.specs.HeadingGrammar.{IsMember, visibility_of};
+ghost use Rattle.std.specs.Prelude.{◌≤◌, ◌<◌, IfOk, IfErr, length};
+ghost use Rattle.op_parse_code.specs.Refusal.{Refuses};
+ghost use Rattle.op_parse_decl.specs.Declarations.{DefinitionBehind};
+ghost use Rattle.op_scan.specs.declared.token.TokenKind.TheVariants as kind;
+ghost use Rattle.op_tree.specs.Declaration.{definition_of};
 ghost use Rattle.op_tree.specs.Terminal.{terminals};
-ghost use Rattle.op_tree.specs.declared.class.Member.TheVariants as members;
 
-use crate::choice::{Either, Empty, Fork};
-use crate::declared_form::{form_behind_property, form_of_member};
+use crate::declared_form::{form_of_class, form_of_member};
+use crate::denoter::{denoter, fields_of_one_type};
 use crate::heading::method;
-use crate::leaf::BracketedNames;
-use crate::names::names;
-use crate::part::{Answer, Part, Setting, Stands};
-use crate::sign;
-use op_base::NoMemory;
-use op_parse_code::shared::{Mark, after_mark, behind_mark, is_identifier, left_out};
+use crate::names::bracketed_names;
+use crate::part::{Answer, Part, Setting};
+use crate::property::property;
+use op_base::Place;
+use op_parse_code::ParseError;
+use op_parse_code::shared::{Mark, after_mark, behind_mark, is_word, left_out, syntax};
 use op_scan::{Token, TokenKind};
-use op_tree::{
-    Class, Fields, Member, Names, Property, Section, TypeDefinition, TypeDenoter, Visibility,
-};
+use op_tree::{Class, Member, Names, Section, TypeDefinition, Visibility};
 use std::alloc::Global;
 
 /// What stands behind `class`, and the semicolon behind it.
@@ -32,17 +25,9 @@ pub struct ClassBehind {
     pub definition: TypeDefinition,
 }
 
-/// Names in brackets if there are any, and a semicolon or sections.
-type ClassParts = (
-    Either<BracketedNames, Empty>,
-    Fork<sign::Semicolon, Empty, Sections>,
-);
-
 impl Part for ClassBehind {
-    ghost use Rattle.op_parse_decl.specs.ClassKnown.{known_class};
-    ghost use Rattle.op_parse_decl.specs.Declarations.{DefinitionBehind};
-    ghost use Rattle.op_scan.specs.declared.token.TokenKind.TheVariants as kind;
-    ghost use Rattle.op_tree.specs.Declaration.{TypeDefinition, definition_of};
+    ghost use Rattle.op_parse_decl.specs.Later.{known_class};
+    ghost use Rattle.op_tree.specs.Declaration.{TypeDefinition};
 
     ghost Said = { TypeDefinition };
 
@@ -50,249 +35,190 @@ impl Part for ClassBehind {
 
     ghost phrase = { DefinitionBehind kind.Class };
 
-    ghost least = { 0 };
+    ghost least = { 1 };
 
     fn read<'a>(setting: Setting, tokens: &'a [Token]) -> Answer<'a, ClassBehind> {
-        let ((list, body), rest) = ClassParts::read(setting, tokens)?;
-        match list {
-            Either::Second(_) => match body {
-                Fork::Marked(_, _) => {
-                    let definition = TypeDefinition::ForwardClass;
-                    Ok((ClassBehind { definition }, rest))
-                }
-                Fork::Unmarked(body) => {
-                    let none = Names::from(Vec::new(setting.alloc));
-                    Ok((class(none, body.sections), rest))
-                }
-            },
-            Either::First(list) => match body {
-                Fork::Marked(_, _) => Ok((class(list.names, Vec::new(setting.alloc)), rest)),
-                Fork::Unmarked(body) => Ok((class(list.names, body.sections), rest)),
-            },
-        }
+        let (definition, rest) = class_behind(setting.alloc, setting.left, setting.end, tokens)?;
+        Ok((ClassBehind { definition }, rest))
     }
 
     ghost known = { known_class };
 }
 
-/// The sections of a class, and the `end` and the semicolon behind them.
-#[derive(Drop)]
-pub struct Sections {
-    pub sections: Vec<Section>,
-}
-
-/// What is read of a class: the sections before the last one, and what the last one has so far.
-#[derive(Drop)]
-struct Body {
-    sections: Vec<Section>,
-    visibility: Option<Visibility>,
-    members: Vec<Member>,
-}
-
-/// What a class goes on with.
-#[derive(Drop)]
-enum Entry {
-    Member(Member),
-    Visibility(Visibility),
-}
-
-impl Part for Sections {
-    ghost use Rattle.op_parse_decl.specs.ClassKnown.{known_sections};
-
-    ghost Said = { List Section };
-
-    ghost says = { λ x. map section_of x.sections.items };
-
-    ghost phrase = { SectionsBefore };
-
-    ghost least = { 1 };
-
-    fn read<'a>(setting: Setting, tokens: &'a [Token]) -> Answer<'a, Sections> {
-        let mut body = Body {
-            sections: Vec::new(setting.alloc),
-            visibility: None,
-            members: Vec::new(setting.alloc),
-        };
-        let mut rest = tokens;
-        loop {
-            if let Some(after) = behind_mark(Mark::End, rest) {
-                let rest = after_mark(Mark::Semicolon, setting.end, after)?;
-                let sections = closed(body.sections, body.visibility, body.members)?;
-                return Ok((Sections { sections }, rest));
-            }
-            let (entry, behind) = next_entry(setting, rest)?;
-            body = added(setting.alloc, body, entry)?;
-            rest = behind;
-        }
-    }
-
-    ghost known = { known_sections };
-}
-
-/// The sections with the last one, but for one of no members where no visibility is written.
-fn closed(
-    sections: Vec<Section>,
-    visibility: Option<Visibility>,
-    members: Vec<Member>,
-) -> Result<Vec<Section>, NoMemory>
-    ensures { IfOk result (λ all. map section_of all.items ≡ map section_of sections.items ++ sections_before visibility (map member_of members.items) []) }
-{
-    if visibility.is_none() && members.is_empty() {
-        return Ok(sections);
-    }
-    let mut sections = sections;
-    sections.push(Section {
-        visibility,
-        members,
-    })?;
-    Ok(sections)
-}
-
-/// What is read with one entry more.
-fn added(alloc: Global, body: Body, entry: Entry) -> Result<Body, NoMemory>
-    ensures { IfOk result (Adds (entry_of entry) body) }
-{
-    let Body {
-        sections,
-        visibility,
-        members,
-    } = body;
-    match entry {
-        Entry::Member(member) => {
-            let mut members = members;
-            members.push(member)?;
-            Ok(Body {
-                sections,
-                visibility,
-                members,
-            })
-        }
-        Entry::Visibility(word) => Ok(Body {
-            sections: closed(sections, visibility, members)?,
-            visibility: Some(word),
-            members: Vec::new(alloc),
-        }),
-    }
-}
-
-/// A member, or the word of a visibility.
-fn next_entry<'a>(setting: Setting, tokens: &'a [Token]) -> Answer<'a, Entry>
-    requires { NoMark mark.End (terminals tokens.now) }
-    ensures whole { IfOk result (λ f. SomeEntry setting.left (entry_of f.0) (terminals tokens.now) (terminals f.1.now)) }
-    ensures refused { IfErr result (RefusesRest setting.left setting.end (terminals tokens.now)) }
+/// What stands behind `class`, and the semicolon behind it.
+fn class_behind<'a>(
+    alloc: Global,
+    left: u32,
+    end: Place,
+    tokens: &'a [Token],
+) -> Result<(TypeDefinition, &'a [Token]), ParseError>
+    ensures whole { IfOk result (λ f. DefinitionBehind kind.Class left (definition_of f.0) (terminals tokens.now) (terminals f.1.now)) }
+    ensures refused { IfErr result (Refuses (DefinitionBehind kind.Class) left end (terminals tokens.now)) }
     ensures shorter { IfOk result (λ f. length f.1.now < length tokens.now) }
 {
-    if let Some((feature, form)) = form_of_member(tokens) {
-        return Err(left_out(feature, setting.end, form));
+    if let Some(rest) = behind_mark(Mark::Semicolon, tokens) {
+        return Ok((TypeDefinition::ForwardClass, rest));
     }
-    if let Some((word, rest)) = visibility(tokens) {
-        return Ok((Entry::Visibility(word), rest));
+    if behind_mark(Mark::OpenParenthesis, tokens).is_none() {
+        let (sections, rest) = sections(alloc, left, end, tokens)?;
+        let rest = after_mark(Mark::Semicolon, end, rest)?;
+        let ancestors = Names::from(Vec::new(alloc));
+        let class = Class {
+            ancestors,
+            sections,
+        };
+        return Ok((TypeDefinition::Class(class), rest));
     }
-    let (member, rest) = member(setting, tokens)?;
-    Ok((Entry::Member(member), rest))
+    let (ancestors, behind) = bracketed_names(alloc, left, end, tokens)?;
+    if let Some(rest) = behind_mark(Mark::Semicolon, behind) {
+        let sections = Vec::new(alloc);
+        let class = Class {
+            ancestors,
+            sections,
+        };
+        return Ok((TypeDefinition::Class(class), rest));
+    }
+    let (sections, rest) = sections(alloc, left, end, behind)?;
+    let rest = after_mark(Mark::Semicolon, end, rest)?;
+    let class = Class {
+        ancestors,
+        sections,
+    };
+    Ok((TypeDefinition::Class(class), rest))
 }
 
-/// The visibility whose word stands at the front. Where a comma or a colon follows, the word is a field's name.
-fn visibility(tokens: &[Token]) -> Option<(Visibility, &[Token])>
-    ensures stands { MatchOption result (NoVisibility (terminals tokens.now)) (λ f. IsVisibility f.0 (terminals tokens.now) (terminals f.1.now)) }
-    ensures shorter { IfSome result (λ f. length f.1.now < length tokens.now) }
+/// The sections of a class, and the `end` behind them.
+fn sections<'a>(
+    alloc: Global,
+    left: u32,
+    end: Place,
+    tokens: &'a [Token],
+) -> Result<(Vec<Section>, &'a [Token]), ParseError>
+    ensures shorter { IfOk result (λ f. length f.1.now < length tokens.now) }
 {
-    let (first, rest) = tokens.split_first()?;
-    let TokenKind::Identifier(word) = &first.kind else {
-        return None;
-    };
-    let visibility = visibility_of(word.as_slice())?;
-    if goes_on_as_field(rest) {
-        return None;
+    let mut sections = Vec::new(alloc);
+    let (first, behind) = members(alloc, left, end, tokens)?;
+    if !first.is_empty() {
+        sections.push(Section {
+            visibility: None,
+            members: first,
+        })?;
     }
-    Some((visibility, rest))
+    let mut rest = behind;
+    loop {
+        if let Some(after) = behind_mark(Mark::End, rest) {
+            return Ok((sections, after));
+        }
+        let (word, after) = visibility(end, rest)?;
+        let (others, behind) = members(alloc, left, end, after)?;
+        sections.push(Section {
+            visibility: Some(word),
+            members: others,
+        })?;
+        rest = behind;
+    }
+}
+
+/// The word of a visibility, and what stands behind it.
+fn visibility(end: Place, tokens: &[Token]) -> Result<(Visibility, &[Token]), ParseError>
+    ensures shorter { IfOk result (λ f. length f.1.now < length tokens.now) }
+{
+    if let Some(feature) = form_of_class(tokens) {
+        return Err(left_out(feature, end, tokens));
+    }
+    let Some((first, rest)) = tokens.split_first() else {
+        return Err(syntax(end, tokens));
+    };
+    match visibility_of(&first.kind) {
+        Some(visibility) => Ok((visibility, rest)),
+        None => Err(syntax(end, tokens)),
+    }
 }
 
 /// The visibility that a word is, in any case of letters.
-#[tactic(auto, unfolding(op_tree::specs::HeadingGrammar::visibility_of))]
-fn visibility_of(word: &[u8]) -> Option<Visibility>
-    ensures { result ≡ visibility_of word.now }
-{
-    if word.eq_ignore_ascii_case(b"private") {
+fn visibility_of(kind: &TokenKind) -> Option<Visibility> {
+    if is_word(b"private", kind) {
         return Some(Visibility::Private);
     }
-    if word.eq_ignore_ascii_case(b"protected") {
+    if is_word(b"protected", kind) {
         return Some(Visibility::Protected);
     }
-    if word.eq_ignore_ascii_case(b"public") {
+    if is_word(b"public", kind) {
         return Some(Visibility::Public);
     }
-    if word.eq_ignore_ascii_case(b"published") {
+    if is_word(b"published", kind) {
         return Some(Visibility::Published);
     }
     None
 }
 
-fn goes_on_as_field(tokens: &[Token]) -> bool
-    ensures { result ≡ front_is goes_on_as_field (terminals tokens.now) }
+/// All members at the front.
+fn members<'a>(
+    alloc: Global,
+    left: u32,
+    end: Place,
+    tokens: &'a [Token],
+) -> Result<(Vec<Member>, &'a [Token]), ParseError>
+    ensures shorter { IfOk result (λ f. length f.1.now ≤ length tokens.now) }
 {
-    match tokens.split_first() {
-        None => false,
-        Some((first, _)) => matches!(&first.kind, TokenKind::Comma | TokenKind::Colon),
+    let mut members = Vec::new(alloc);
+    let mut rest = tokens;
+    while begins_member(rest) {
+        let (member, behind) = member(alloc, left, end, rest)?;
+        members.push(member)?;
+        rest = behind;
     }
+    Ok((members, rest))
 }
 
-fn begins_name(tokens: &[Token]) -> bool
-    ensures { result ≡ front_is is_identifier (terminals tokens.now) }
-{
-    match tokens.split_first() {
-        None => false,
-        Some((first, _)) => is_identifier(&first.kind),
-    }
-}
-
-/// Fields of one type, a method or a property.
-fn member<'a>(setting: Setting, tokens: &'a [Token]) -> Answer<'a, Member>
-    requires no_end { NoMark mark.End (terminals tokens.now) }
-    requires no_visibility { NoVisibility (terminals tokens.now) }
-    ensures whole { IfOk result (λ f. SomeMember setting.left (member_of f.0) (terminals tokens.now) (terminals f.1.now)) }
-    ensures refused { IfErr result (RefusesRest setting.left setting.end (terminals tokens.now)) }
-    ensures shorter { IfOk result (λ f. length f.1.now < length tokens.now) }
-{
-    if let Some(_) = behind_mark(Mark::Property, tokens) {
-        let (property, rest) = Property::read(setting, tokens)?;
-        if let Some(feature) = form_behind_property(rest) {
-            return Err(left_out(feature, setting.end, rest));
-        }
-        return Ok((Member::Property(property), rest));
-    }
-    if begins_name(tokens) {
-        let (fields, rest) = fields(setting, tokens)?;
-        return Ok((Member::Fields(fields), rest));
-    }
-    let (method, rest) = method(setting.alloc, setting.left, setting.end, tokens)?;
-    Ok((Member::Method(method), rest))
-}
-
-/// Fields of one type, and the semicolon behind them.
-fn fields<'a>(setting: Setting, tokens: &'a [Token]) -> Answer<'a, Fields>
-    requires name { Begins is_identifier (terminals tokens.now) }
-    requires no_visibility { NoVisibility (terminals tokens.now) }
-    ensures whole { IfOk result (λ f. IsMember setting.left (member_of (members.Fields f.0)) (terminals tokens.now) (terminals f.1.now)) }
-    ensures refused { IfErr result (RefusesRest setting.left setting.end (terminals tokens.now)) }
-    ensures shorter { IfOk result (λ f. length f.1.now < length tokens.now) }
-{
-    let (names, rest) = names(setting.alloc, setting.end, tokens)?;
-    let ((_, (denoter, _)), rest) = FieldsEnd::read(setting, rest)?;
-    Ok((Fields { names, denoter }, rest))
-}
-
-/// What stands behind the names of fields.
-type FieldsEnd = (Stands<sign::Colon>, (TypeDenoter, Stands<sign::Semicolon>));
-
-fn class(ancestors: Names, sections: Vec<Section>) -> ClassBehind
-    ensures { definition_of result.definition ≡ class (record { ancestors = ancestors; sections = map section_of sections.items }) }
-{
-    let class = Class {
-        ancestors,
-        sections,
+/// A member begins at the front. The word of a visibility is a field's name where a comma or a colon follows.
+fn begins_member(tokens: &[Token]) -> bool {
+    let Some((first, rest)) = tokens.split_first() else {
+        return false;
     };
-    ClassBehind {
-        definition: TypeDefinition::Class(class),
+    match &first.kind {
+        TokenKind::Procedure => true,
+        TokenKind::Function => true,
+        TokenKind::Constructor => true,
+        TokenKind::Destructor => true,
+        TokenKind::Property => true,
+        TokenKind::Identifier(_) => visibility_of(&first.kind).is_none() || goes_on_as_field(rest),
+        _ => false,
+    }
+}
+
+fn goes_on_as_field(tokens: &[Token]) -> bool {
+    behind_mark(Mark::Comma, tokens).is_some() || behind_mark(Mark::Colon, tokens).is_some()
+}
+
+/// Fields of one type, a method or a property, and what stands behind it.
+fn member<'a>(
+    alloc: Global,
+    left: u32,
+    end: Place,
+    tokens: &'a [Token],
+) -> Result<(Member, &'a [Token]), ParseError>
+    ensures shorter { IfOk result (λ f. length f.1.now < length tokens.now) }
+{
+    if let Some((feature, form)) = form_of_member(tokens) {
+        return Err(left_out(feature, end, form));
+    }
+    let Some((first, rest)) = tokens.split_first() else {
+        return Err(syntax(end, tokens));
+    };
+    match &first.kind {
+        TokenKind::Property => {
+            let (property, rest) = property(alloc, left, end, rest)?;
+            Ok((Member::Property(property), rest))
+        }
+        TokenKind::Identifier(_) => {
+            let (fields, rest) = fields_of_one_type(alloc, left, end, tokens)?;
+            let rest = after_mark(Mark::Semicolon, end, rest)?;
+            Ok((Member::Fields(fields), rest))
+        }
+        _ => {
+            let (method, rest) = method(alloc, left, end, tokens)?;
+            Ok((Member::Method(method), rest))
+        }
     }
 }

@@ -1,19 +1,33 @@
 //! Constants, types and variables (Free Pascal Reference Guide, "Constants", "Types", "Variables").
 ghost use Rattle.std.specs.Prelude.{◌≡◌, ℕ, List};
+ghost use Rattle.op_parse_code.specs.Opening.{is_identifier};
+ghost use Rattle.op_parse_code.specs.WholeStatement.{front_is};
+ghost use Rattle.op_tree.specs.Terminal.{terminals};
 
-use crate::choice::{Ahead, Fork, Form, Several, Unless};
+use crate::choice::{Fork, Form, Several, Unless};
 use crate::class::ClassBehind;
 use crate::declared_form::{form_of_definition, form_of_type};
-use crate::interface::InterfaceWhole;
-use crate::part::{Answer, Behind, Item, Made, Part, Setting, Stands};
+use crate::interface::InterfaceBehind;
+use crate::leaf::TypeWord;
+use crate::part::{Behind, Item, Made, Stands};
 use crate::sign;
-use op_parse_code::shared::{Mark, after_mark, behind_mark, is_identifier};
-use op_scan::{Token, TokenKind};
+use op_parse_code::shared::is_identifier;
+use op_scan::Token;
 use op_tree::{
     Constant, Declaration, Initializer, Name, Names, TypeDeclaration, TypeDefinition, TypeDenoter,
     Variables,
 };
 use std::alloc::Global;
+
+/// An identifier stands at the front.
+fn begins_name(tokens: &[Token]) -> bool
+    ensures { result ≡ front_is is_identifier (terminals tokens.now) }
+{
+    match tokens.split_first() {
+        None => false,
+        Some((first, _)) => is_identifier(&first.kind),
+    }
+}
 
 /// A constant, and the semicolon behind it.
 impl Made for Constant {
@@ -53,8 +67,8 @@ impl Item for Constant {
 
     ghost test = { is_identifier };
 
-    fn opens(kind: &TokenKind) -> bool {
-        is_identifier(kind)
+    fn begins(tokens: &[Token]) -> bool {
+        begins_name(tokens)
     }
 
     ghost moves = { suc-le-suc zero-le };
@@ -101,8 +115,8 @@ impl Item for Variables {
 
     ghost test = { is_identifier };
 
-    fn opens(kind: &TokenKind) -> bool {
-        is_identifier(kind)
+    fn begins(tokens: &[Token]) -> bool {
+        begins_name(tokens)
     }
 
     ghost moves = { suc-le-suc zero-le };
@@ -146,8 +160,8 @@ impl Item for TypeDeclaration {
 
     ghost test = { is_identifier };
 
-    fn opens(kind: &TokenKind) -> bool {
-        is_identifier(kind)
+    fn begins(tokens: &[Token]) -> bool {
+        begins_name(tokens)
     }
 
     ghost moves = { suc-le-suc zero-le };
@@ -173,7 +187,7 @@ impl Made for TypeDefinition {
         Fork<
             sign::Class,
             ClassBehind,
-            Ahead<sign::Interface, InterfaceWhole, (TypeDenoter, Stands<sign::Semicolon>)>,
+            Fork<sign::Interface, InterfaceBehind, (TypeDenoter, Stands<sign::Semicolon>)>,
         >,
     >;
 
@@ -187,24 +201,30 @@ impl Made for TypeDefinition {
     fn of(_alloc: Global, parts: Self::Parts) -> TypeDefinition {
         match parts.part {
             Fork::Marked(class, _) => class.definition,
-            Fork::Unmarked(Ahead::Marked(interface, _)) => interface.definition,
-            Fork::Unmarked(Ahead::Unmarked((denoter, _))) => TypeDefinition::Denoter(denoter),
+            Fork::Unmarked(Fork::Marked(interface, _)) => interface.definition,
+            Fork::Unmarked(Fork::Unmarked((denoter, _))) => TypeDefinition::Denoter(denoter),
         }
     }
 
     ghost made = { made_definition };
 }
 
-/// Constants, types or variables in a row, with the word before them.
+/// Constants, types or variables, with the word before them.
 #[derive(Drop)]
 pub struct Data {
     pub declaration: Declaration,
 }
 
-impl Part for Data {
+impl Made for Data {
     ghost use Rattle.op_parse_decl.specs.Declarations.{SomeData};
-    ghost use Rattle.op_parse_decl.specs.Blocks.{known_data};
+    ghost use Rattle.op_parse_decl.specs.DeclarationParts.{made_data};
     ghost use Rattle.op_tree.specs.Declaration.{Declaration, declaration_of};
+
+    type Parts = Fork<
+        sign::Const_,
+        Several<Constant>,
+        Fork<sign::Var, Several<Variables>, (TypeWord, Several<TypeDeclaration>)>,
+    >;
 
     ghost Said = { Declaration };
 
@@ -212,37 +232,19 @@ impl Part for Data {
 
     ghost phrase = { SomeData };
 
-    ghost least = { 1 };
-
-    fn read<'a>(setting: Setting, tokens: &'a [Token]) -> Answer<'a, Data> {
-        if let Some(after) = behind_mark(Mark::Const_, tokens) {
-            let (constants, rest) = Several::<Constant>::read(setting, after)?;
-            let declaration = Declaration::Constants(constants.items);
-            return Ok((Data { declaration }, rest));
+    fn of(_alloc: Global, parts: Self::Parts) -> Data {
+        match parts {
+            Fork::Marked(constants, _) => Data {
+                declaration: Declaration::Constants(constants.items),
+            },
+            Fork::Unmarked(Fork::Marked(variables, _)) => Data {
+                declaration: Declaration::Variables(variables.items),
+            },
+            Fork::Unmarked(Fork::Unmarked((_, types))) => Data {
+                declaration: Declaration::Types(types.items),
+            },
         }
-        if let Some(after) = behind_mark(Mark::Var, tokens) {
-            let (variables, rest) = Several::<Variables>::read(setting, after)?;
-            let declaration = Declaration::Variables(variables.items);
-            return Ok((Data { declaration }, rest));
-        }
-        let after = after_mark(Mark::Type_, setting.end, tokens)?;
-        let (types, rest) = Several::<TypeDeclaration>::read(setting, after)?;
-        let declaration = Declaration::Types(types.items);
-        Ok((Data { declaration }, rest))
     }
 
-    ghost known = { known_data };
-}
-
-impl Item for Data {
-    ghost use Rattle.std.proofs.Common.{suc-le-suc, zero-le};
-    ghost use Rattle.op_tree.proofs.DeclarationUnique.{begins_data};
-
-    ghost test = { begins_data };
-
-    fn opens(kind: &TokenKind) -> bool {
-        matches!(kind, TokenKind::Const_ | TokenKind::Type_ | TokenKind::Var)
-    }
-
-    ghost moves = { suc-le-suc zero-le };
+    ghost made = { made_data };
 }

@@ -1,10 +1,7 @@
 //! Forms that are left out and show among declarations, classes and files.
-ghost use Rattle.std.specs.Prelude.{◌≡◌, ℕ, ◌∷◌, IfSome};
-ghost use Rattle.op_parse_code.specs.Form.{HasForm, begins_class_member};
-ghost use Rattle.op_parse_decl.specs.Classes.{IsFormBehindProperty, Resolves, begins_resolution};
-ghost use Rattle.op_scan.specs.declared.token.TokenKind.TheVariants as kind;
-ghost use Rattle.op_tree.specs.Terminal.{◌at◌, terminals};
-ghost use Rattle.op_tree.specs.declared.position.Position.{Position};
+ghost use Rattle.std.specs.Prelude.{ℕ, IfSome};
+ghost use Rattle.op_parse_code.specs.Form.{HasForm};
+ghost use Rattle.op_tree.specs.Terminal.{terminals};
 
 use op_parse_code::shared::{GENERIC, Mark, behind_mark, is_identifier, is_word};
 use op_scan::{Token, TokenKind};
@@ -31,7 +28,7 @@ const THREAD_VARIABLE: u8 = 27;
 
 const LIBRARY_OR_EXPORTS: u8 = 30;
 
-pub const INTERFACE_PROPERTY: u8 = 36;
+const INTERFACE_PROPERTY: u8 = 36;
 
 /// The feature of a declaration that stands at the front.
 pub fn form_of_part(tokens: &[Token]) -> Option<u8>
@@ -52,52 +49,33 @@ pub fn form_of_part(tokens: &[Token]) -> Option<u8>
 }
 
 /// The word `class` before that of a member.
-fn class_member(rest: &[Token]) -> Option<u8>
-    ensures { (p : Position) → IfSome result (λ feature. HasForm feature (kind.Class at p ∷ terminals rest.now) (kind.Class at p ∷ terminals rest.now)) }
-{
+fn class_member(rest: &[Token]) -> Option<u8> {
     let (second, _) = rest.split_first()?;
-    if let TokenKind::Operator = &second.kind {
-        return Some(OPERATOR);
+    match &second.kind {
+        TokenKind::Procedure => Some(CLASS_MEMBER),
+        TokenKind::Function => Some(CLASS_MEMBER),
+        TokenKind::Constructor => Some(CLASS_MEMBER),
+        TokenKind::Destructor => Some(CLASS_MEMBER),
+        TokenKind::Property => Some(CLASS_MEMBER),
+        TokenKind::Var => Some(CLASS_MEMBER),
+        TokenKind::Operator => Some(OPERATOR),
+        _ => None,
     }
-    if begins_class_member(&second.kind) {
-        return Some(CLASS_MEMBER);
-    }
-    None
-}
-
-fn begins_class_member(kind: &TokenKind) -> bool
-    ensures { result ≡ begins_class_member kind.now }
-{
-    matches!(
-        kind,
-        TokenKind::Procedure
-            | TokenKind::Function
-            | TokenKind::Constructor
-            | TokenKind::Destructor
-            | TokenKind::Property
-            | TokenKind::Var
-    )
 }
 
 /// The word `generic` before a name or the word of a routine.
-fn generic(first: &TokenKind, rest: &[Token]) -> Option<u8>
-    ensures { (p : Position) → IfSome result (λ feature. HasForm feature (first.now at p ∷ terminals rest.now) (first.now at p ∷ terminals rest.now)) }
-{
+fn generic(kind: &TokenKind, rest: &[Token]) -> Option<u8> {
     let (second, _) = rest.split_first()?;
-    if !is_word(b"generic", first) {
+    if !is_word(b"generic", kind) {
         return None;
     }
-    if begins_generic(&second.kind) {
-        return Some(GENERIC);
+    match &second.kind {
+        TokenKind::Identifier(_) => Some(GENERIC),
+        TokenKind::Procedure => Some(GENERIC),
+        TokenKind::Function => Some(GENERIC),
+        TokenKind::Class => Some(GENERIC),
+        _ => None,
     }
-    None
-}
-
-fn begins_generic(kind: &TokenKind) -> bool {
-    matches!(
-        kind,
-        TokenKind::Identifier(_) | TokenKind::Procedure | TokenKind::Function | TokenKind::Class
-    )
 }
 
 /// The feature of a type's declaration that stands at the front.
@@ -119,13 +97,18 @@ pub fn form_of_definition(tokens: &[Token]) -> Option<u8>
     }
 }
 
+/// The feature of a member of a class that begins so.
+pub fn form_of_class(tokens: &[Token]) -> Option<u8>
+    ensures { IfSome result (λ feature. HasForm feature (terminals tokens.now) (terminals tokens.now)) }
+{
+    let rest = behind_mark(Mark::Class, tokens)?;
+    class_member(rest)
+}
+
 /// The feature of what stands in place of a member, and the tokens from the one on that tells it.
 pub fn form_of_member(tokens: &[Token]) -> Option<(u8, &[Token])>
     ensures { IfSome result (λ f. HasForm f.0 (terminals tokens.now) (terminals f.1.now)) }
 {
-    if let Some(feature) = form_of_part(tokens) {
-        return Some((feature, tokens));
-    }
     let (first, rest) = tokens.split_first()?;
     let (second, behind) = rest.split_first()?;
     if !is_identifier(&second.kind) {
@@ -134,42 +117,46 @@ pub fn form_of_member(tokens: &[Token]) -> Option<(u8, &[Token])>
     if is_word(b"strict", &first.kind) {
         return Some((STRICT_VISIBILITY, tokens));
     }
-    if !begins_resolution(&first.kind) {
+    if is_word(b"default", &first.kind) {
         return None;
     }
-    let form = resolution(behind)?;
+    let form = resolution(&first.kind, behind)?;
     Some((METHOD_RESOLUTION, form))
 }
 
-fn begins_resolution(kind: &TokenKind) -> bool
-    ensures { result ≡ begins_resolution kind.now }
-{
-    matches!(kind, TokenKind::Procedure | TokenKind::Function)
-}
-
 /// Behind the word of a routine and a name: a dot, another name and `=`.
-fn resolution(tokens: &[Token]) -> Option<&[Token]>
-    ensures { IfSome result (λ form. Resolves (terminals tokens.now) (terminals form.now)) }
-{
-    let rest = behind_mark(Mark::Dot, tokens)?;
-    let (second, rest) = rest.split_first()?;
-    if !is_identifier(&second.kind) {
+fn resolution<'a>(kind: &TokenKind, tokens: &'a [Token]) -> Option<&'a [Token]> {
+    if !matches!(kind, TokenKind::Procedure | TokenKind::Function) {
         return None;
     }
-    behind_mark(Mark::Equal, rest)?;
-    Some(rest)
+    let rest = behind_mark(Mark::Dot, tokens)?;
+    let (third, rest) = rest.split_first()?;
+    if !is_identifier(&third.kind) {
+        return None;
+    }
+    match behind_mark(Mark::Equal, rest) {
+        Some(_) => Some(rest),
+        None => None,
+    }
 }
 
-/// The feature of the word `default` and a semicolon at the front, where they stand behind a property.
-pub fn form_behind_property(tokens: &[Token]) -> Option<u8>
-    ensures { IfSome result (λ feature. IsFormBehindProperty feature (terminals tokens.now)) }
-{
-    let (first, rest) = tokens.split_first()?;
-    if !is_word(b"default", &first.kind) {
-        return None;
+/// A property with parameters or an index stands at the front, behind its name or its type.
+pub fn form_of_property(tokens: &[Token]) -> bool {
+    if behind_mark(Mark::OpenBracket, tokens).is_some() {
+        return true;
     }
-    behind_mark(Mark::Semicolon, rest)?;
-    Some(PROPERTY)
+    match tokens.split_first() {
+        None => false,
+        Some((first, _)) => is_word(b"index", &first.kind) || is_word(b"default", &first.kind),
+    }
+}
+
+/// The feature of a property in an interface.
+pub fn form_of_interface(tokens: &[Token]) -> Option<u8> {
+    match behind_mark(Mark::Property, tokens) {
+        Some(_) => Some(INTERFACE_PROPERTY),
+        None => None,
+    }
 }
 
 /// The feature of a file that begins so.

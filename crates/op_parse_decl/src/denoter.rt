@@ -1,8 +1,9 @@
 //! Types as they are written, but for classes and interfaces (Free Pascal Reference Guide, "Types").
+ghost use Rattle.std.specs.Option.{option_map};
 ghost use Rattle.std.specs.Prelude.{◌≡◌, ◌∷◌, ◌≤◌, ◌<◌, ℕ, true, false, IfOk, IfErr, length};
 ghost use Rattle.op_parse_code.specs.Refusal.{Refuses};
 ghost use Rattle.op_parse_decl.specs.Opening.{lists_names};
-ghost use Rattle.op_parse_decl.specs.Types.{DenoterBehind, DenotersBefore, FieldsBefore, RecordFields, SomeBounded, SomeDenoter, SomeFields, SomeIndices, SomeStructure};
+ghost use Rattle.op_parse_decl.specs.Types.{DenoterBehind, DenotersBefore, FieldsBefore, RecordFields, SomeBounded, SomeDenoter, SomeFields, SomeIndices, SomeOptionalType, SomeStructure};
 ghost use Rattle.op_scan.specs.declared.token.TokenKind.TheVariants as kind;
 ghost use Rattle.op_tree.proofs.ExpressionUnique.{Begins};
 ghost use Rattle.op_tree.specs.Denoter.{denoter_of};
@@ -371,3 +372,23 @@ fn or_form(error: ParseError, end: Place, tokens: &[Token]) -> ParseError
 
 /// The number of the rule that no sentence goes on so.
 const SYNTAX: u8 = 9;
+
+/// A colon and a type, if there is a colon.
+pub fn optional_type<'a>(
+    alloc: Global,
+    left: u32,
+    end: Place,
+    tokens: &'a [Token],
+) -> Result<(Option<TypeDenoter>, &'a [Token]), ParseError>
+    ensures whole { IfOk result (λ f. SomeOptionalType left (option_map denoter_of f.0) (terminals tokens.now) (terminals f.1.now)) }
+    ensures refused { IfErr result (Refuses SomeOptionalType left end (terminals tokens.now)) }
+    ensures shorter { IfOk result (λ f. length f.1.now ≤ length tokens.now) }
+{
+    match behind_mark(Mark::Colon, tokens) {
+        None => Ok((None, tokens)),
+        Some(rest) => {
+            let (denoter, rest) = denoter(alloc, left, end, rest)?;
+            Ok((Some(denoter), rest))
+        }
+    }
+}

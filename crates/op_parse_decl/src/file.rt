@@ -1,19 +1,22 @@
 //! Whole files (Free Pascal Reference Guide, "Programs, units, blocks").
-ghost use Rattle.std.specs.Prelude.{◌≡◌, ℕ, IfOk, IfErr, List, [], MatchResult, Option};
+ghost use Rattle.std.specs.Prelude.{◌≡◌, ℕ, IfOk, IfErr, List, MatchResult, Option};
 ghost use Rattle.op_parse_code.specs.Refusal.{IsFree, Refuses};
-ghost use Rattle.op_parse_decl.specs.Declarations.{Whole, WholeFile};
+ghost use Rattle.op_parse_decl.specs.Declarations.{SomeDeclarations, WholeFile};
+ghost use Rattle.op_parse_decl.specs.Later.{known_declarations};
+ghost use Rattle.op_parse_decl.specs.declared.routine.Part.TheVariants as part;
+ghost use Rattle.op_tree.specs.Declaration.{Declarations, declarations_of};
 ghost use Rattle.op_tree.specs.File.{File, file_of};
-ghost use Rattle.op_tree.specs.FileGrammar.{IsFile, Spells};
+ghost use Rattle.op_tree.specs.FileGrammar.{Spells};
 ghost use Rattle.op_tree.specs.Terminal.{terminals};
 
-use crate::choice::{Either, Empty, Fork, Unless};
+use crate::choice::{Either, Empty, Fork, Form, Unless};
 use crate::declared_form::form_of_file;
 use crate::leaf::{BracketedNames, Here, Statements};
-use crate::part::{Behind, Made, Part, Repeated, Setting, Stands};
-use crate::routine::{Block, InBlock, LeftOut};
+use crate::part::{Answer, Behind, Made, Part, Setting, Stands};
+use crate::routine::{self, Block, LeftOut, declarations};
 use crate::sign;
 use op_parse_code::ParseError;
-use op_parse_code::shared::{Mark, behind_mark, left_out, syntax};
+use op_parse_code::shared::syntax;
 use op_scan::{Token, Tokens};
 use op_tree::{Declaration, Name, Names, Program, ProgramHeading, Stmt, Tree, Unit};
 use std::alloc::Global;
@@ -33,43 +36,64 @@ pub fn parse(alloc: Global, tokens: &Tokens) -> Result<Tree, ParseError>
     // No other tree does, and where one does the tokens are refused for a form that is left out alone.
     ensures only { (file : File) → Spells file (terminals tokens.now.list) → MatchResult result (λ tree. file_of tree ≡ file) IsFree }
 {
+    let list = tokens.list.as_slice();
     let setting = Setting {
         alloc,
         left: DEEPEST,
         end: tokens.end,
     };
-    file(setting, tokens.list.as_slice())
-}
-
-fn file(setting: Setting, tokens: &[Token]) -> Result<Tree, ParseError>
-    ensures whole { IfOk result (λ tree. IsFile setting.left (file_of tree) (terminals tokens.now) []) }
-    ensures refused { IfErr result (Refuses WholeFile setting.left setting.end (terminals tokens.now)) }
-{
-    if let Some(feature) = form_of_file(tokens) {
-        return Err(left_out(feature, setting.end, tokens));
-    }
-    match behind_mark(Mark::Unit, tokens) {
-        Some(_) => {
-            let unit = whole(setting, tokens)?;
-            Ok(Tree::Unit(unit))
-        }
-        None => {
-            let program = whole(setting, tokens)?;
-            Ok(Tree::Program(program))
-        }
+    let (tree, rest) = Tree::read(setting, list)?;
+    if rest.is_empty() {
+        Ok(tree)
+    } else {
+        Err(syntax(tokens.end, rest))
     }
 }
 
-/// The part that all of the tokens are.
-fn whole<A: Part>(setting: Setting, tokens: &[Token]) -> Result<A, ParseError>
-    ensures whole { IfOk result (λ a. A.phrase setting.left (A.says a) (terminals tokens.now) []) }
-    ensures refused { IfErr result (Refuses (Whole A.phrase) setting.left setting.end (terminals tokens.now)) }
-{
-    let (part, rest) = A::read(setting, tokens)?;
-    match rest.split_first() {
-        None => Ok(part),
-        Some(_) => Err(syntax(setting.end, rest)),
+/// The declarations of a block, as many as stand there.
+#[derive(Drop)]
+pub struct InBlock {
+    pub items: Vec<Declaration>,
+}
+
+impl Part for InBlock {
+    ghost Said = { Declarations };
+
+    ghost says = { λ x. declarations_of x.items.items };
+
+    ghost phrase = { SomeDeclarations part.Block };
+
+    ghost least = { 0 };
+
+    fn read<'a>(setting: Setting, tokens: &'a [Token]) -> Answer<'a, InBlock> {
+        let (items, rest) = declarations(routine::Part::Block, setting, tokens)?;
+        Ok((InBlock { items }, rest))
     }
+
+    ghost known = { known_declarations part.Block };
+}
+
+/// The declarations of an interface part, as many as stand there.
+#[derive(Drop)]
+pub struct InInterface {
+    pub items: Vec<Declaration>,
+}
+
+impl Part for InInterface {
+    ghost Said = { Declarations };
+
+    ghost says = { λ x. declarations_of x.items.items };
+
+    ghost phrase = { SomeDeclarations part.Interface };
+
+    ghost least = { 0 };
+
+    fn read<'a>(setting: Setting, tokens: &'a [Token]) -> Answer<'a, InInterface> {
+        let (items, rest) = declarations(routine::Part::Interface, setting, tokens)?;
+        Ok((InInterface { items }, rest))
+    }
+
+    ghost known = { known_declarations part.Interface };
 }
 
 /// The units that are used, if there are any.
@@ -131,23 +155,15 @@ impl Made for FileHeading {
 
     #[tactic(auto, using(crate::specs::FileParts::no_heading_of_parts, crate::specs::FileParts::name_of_parts, crate::specs::FileParts::names_of_parts))]
     fn of(alloc: Global, parts: Self::Parts) -> FileHeading {
-        let Some(parts) = parts.part else {
+        let Some((name, (given, _))) = parts.part else {
             return FileHeading { heading: None };
         };
-        let (name, (given, _)) = parts;
-        match given {
-            Either::First(given) => FileHeading {
-                heading: Some(ProgramHeading {
-                    name,
-                    parameters: given.names,
-                }),
-            },
-            Either::Second(_) => FileHeading {
-                heading: Some(ProgramHeading {
-                    name,
-                    parameters: Names::from(Vec::new(alloc)),
-                }),
-            },
+        let parameters = match given {
+            Either::First(given) => given.names,
+            Either::Second(_) => Names::from(Vec::new(alloc)),
+        };
+        FileHeading {
+            heading: Some(ProgramHeading { name, parameters }),
         }
     }
 
@@ -194,119 +210,92 @@ impl Made for Tail {
 
     #[tactic(auto, using(crate::specs::FileParts::end_of_parts, crate::specs::FileParts::finalization_of_parts, crate::specs::FileParts::both_of_parts, crate::specs::FileParts::initialization_of_parts, crate::specs::FileParts::block_of_parts))]
     fn of(_alloc: Global, parts: Self::Parts) -> Tail {
-        match parts {
-            Fork::Marked(_, _) => Tail {
-                initialization: None,
-                finalization: None,
-            },
-            Fork::Unmarked(Fork::Marked((last, _), _)) => Tail {
-                initialization: None,
-                finalization: Some(last.items),
-            },
-            Fork::Unmarked(Fork::Unmarked(Fork::Marked(parts, _))) => {
-                let (first, rest) = parts;
-                match rest {
-                    Fork::Marked((last, _), _) => Tail {
-                        initialization: Some(first.items),
-                        finalization: Some(last.items),
-                    },
-                    Fork::Unmarked(_) => Tail {
-                        initialization: Some(first.items),
-                        finalization: None,
-                    },
-                }
+        let (first, last) = match parts {
+            Fork::Marked(_, _) => (None, None),
+            Fork::Unmarked(Fork::Marked((last, _), _)) => (None, Some(last.items)),
+            Fork::Unmarked(Fork::Unmarked(Fork::Marked((first, Fork::Marked((last, _), _)), _))) =>
+                { (Some(first.items), Some(last.items)) }
+            Fork::Unmarked(Fork::Unmarked(Fork::Marked((first, Fork::Unmarked(_)), _))) => {
+                (Some(first.items), None)
             }
-            Fork::Unmarked(Fork::Unmarked(Fork::Unmarked((_, (first, _))))) => Tail {
-                initialization: Some(first.items),
-                finalization: None,
-            },
+            Fork::Unmarked(Fork::Unmarked(Fork::Unmarked((_, (first, _))))) => {
+                (Some(first.items), None)
+            }
+        };
+        Tail {
+            initialization: first,
+            finalization: last,
         }
     }
 
     ghost made = { made_tail };
 }
 
-/// A program, up to its dot.
-impl Made for Program {
-    ghost use Rattle.op_parse_decl.specs.Declarations.{SomeProgram};
-    ghost use Rattle.op_parse_decl.specs.FileParts.{made_program};
-    ghost use Rattle.op_tree.specs.File.{Program, program_of};
+/// A library.
+pub struct Library;
 
-    type Parts = (
-        Here,
-        (FileHeading, (Used, (InBlock, (Block, Stands<sign::Dot>)))),
-    );
-
-    ghost Said = { Program };
-
-    ghost says = { program_of };
-
-    ghost phrase = { SomeProgram };
-
-    #[tactic(auto, using(crate::specs::FileParts::program_of_parts))]
-    fn of(
-        _alloc: Global,
-        (here, (heading, (used, (block, ((_, (statements, _)), _))))): Self::Parts,
-    ) -> Program {
-        Program {
-            position: here.position,
-            heading: heading.heading,
-            uses: used.names,
-            declarations: block.items,
-            statements: statements.items,
-        }
+impl Form for Library {
+    fn feature(tokens: &[Token]) -> Option<u8> {
+        form_of_file(tokens)
     }
-
-    ghost made = { made_program };
 }
 
-/// A unit, up to its dot.
-impl Made for Unit {
-    ghost use Rattle.op_parse_decl.specs.Declarations.{SomeUnit};
-    ghost use Rattle.op_parse_decl.specs.FileParts.{made_unit};
-    ghost use Rattle.op_tree.specs.File.{UnitFile, unit_of};
-
-    type Parts = (
+/// What stands behind the word `unit`.
+type UnitParts = (
+    (Name, (Stands<sign::Semicolon>, Stands<sign::Interface>)),
+    (
         (
-            (Here, Stands<sign::Unit>),
-            (Name, (Stands<sign::Semicolon>, Stands<sign::Interface>)),
+            Used,
+            (InInterface, Unless<LeftOut, Stands<sign::Implementation>>),
         ),
-        (
-            (
-                Used,
-                (
-                    Repeated<Declaration>,
-                    Unless<LeftOut, Stands<sign::Implementation>>,
-                ),
-            ),
-            ((Used, InBlock), (Tail, Stands<sign::Dot>)),
-        ),
-    );
+        ((Used, InBlock), (Tail, Stands<sign::Dot>)),
+    ),
+);
 
-    ghost Said = { UnitFile };
+/// A program.
+type ProgramParts = ((FileHeading, (Used, InBlock)), (Block, Stands<sign::Dot>));
 
-    ghost says = { unit_of };
+/// A program or a unit, up to its dot.
+impl Made for Tree {
+    ghost use Rattle.op_parse_decl.specs.FileParts.{made_file};
+    ghost use Rattle.op_tree.specs.FileGrammar.{IsFile};
 
-    ghost phrase = { SomeUnit };
+    type Parts = Unless<Library, (Here, Fork<sign::Unit, UnitParts, ProgramParts>)>;
 
-    fn of(
-        _alloc: Global,
-        (
-            ((here, _), (name, _)),
-            ((above, (interface, _)), ((used, block), (tail, _))),
-        ): Self::Parts,
-    ) -> Unit {
-        Unit {
-            position: here.position,
-            name,
-            interface_uses: above.names,
-            interface_declarations: interface.items,
-            uses: used.names,
-            declarations: block.items,
-            initialization: tail.initialization,
-            finalization: tail.finalization,
+    ghost Said = { File };
+
+    ghost says = { file_of };
+
+    ghost phrase = { IsFile };
+
+    #[tactic(auto, using(crate::specs::FileParts::unit_of_parts, crate::specs::FileParts::program_of_parts))]
+    fn of(_alloc: Global, parts: Self::Parts) -> Tree {
+        let (here, parts) = parts.part;
+        let position = here.position;
+        match parts {
+            Fork::Marked(((name, _), ((above, (interface, _)), ((used, block), (tail, _)))), _) => {
+                Tree::Unit(Unit {
+                    position,
+                    name,
+                    interface_uses: above.names,
+                    interface_declarations: interface.items,
+                    uses: used.names,
+                    declarations: block.items,
+                    initialization: tail.initialization,
+                    finalization: tail.finalization,
+                })
+            }
+            Fork::Unmarked(((heading, (used, block)), ((_, (statements, _)), _))) => {
+                Tree::Program(Program {
+                    position,
+                    heading: heading.heading,
+                    uses: used.names,
+                    declarations: block.items,
+                    statements: statements.items,
+                })
+            }
         }
     }
 
-    ghost made = { made_unit };
+    ghost made = { made_file };
 }

@@ -1,154 +1,53 @@
-//! Headings of routines (Free Pascal Reference Guide, "Using functions and procedures").
-ghost use Rattle.std.specs.Prelude.{◌≡◌, ◌≤◌, ◌<◌, ℕ, IfOk, IfErr, IfSome, MatchOption, Option, length};
+//! Headings of routines, and the directives behind them (Free Pascal Reference Guide, "Using functions and procedures").
+ghost use Rattle.std.specs.Prelude.{◌≡◌, ◌≤◌, ◌<◌, ℕ, IfOk, IfErr, IfSome, MatchOption, length};
 ghost use Rattle.op_parse_code.specs.Refusal.{Refuses};
-ghost use Rattle.op_parse_decl.specs.Headings.{IsDirective, SomeDirectives, SomeMethod};
-ghost use Rattle.op_tree.specs.Declaration.{method_of};
+ghost use Rattle.op_parse_decl.specs.Headings.{IsDirective, SomeDirectives, SomeHeading, SomeMethod, SomeRoutineName};
+ghost use Rattle.op_tree.specs.Declaration.{heading_of, method_of};
 ghost use Rattle.op_tree.specs.Ends.{NoDirective};
 ghost use Rattle.op_tree.specs.HeadingGrammar.{directive_of, routine_kind_of};
 ghost use Rattle.op_tree.specs.Terminal.{terminals};
 
+use crate::denoter::optional_type;
 use crate::form::ASSEMBLY;
-use crate::part::{Answer, Behind, Made, Part, Setting, Stands};
-use crate::sign;
+use crate::parameter::parameter_part;
 use op_base::Place;
 use op_parse_code::ParseError;
-use op_parse_code::shared::{Mark, behind_mark, left_out, syntax};
+use op_parse_code::shared::{Mark, after_mark, behind_mark, left_out, name, syntax};
 use op_scan::{Token, TokenKind};
-use op_tree::{Directive, Directives, Heading, Method, Name, Parameters, RoutineKind, TypeDenoter};
+use op_tree::{Directive, Directives, Heading, Method, Name, RoutineKind};
 use std::alloc::Global;
 
-/// The word with which a heading begins.
-impl Part for RoutineKind {
-    ghost use Rattle.op_parse_decl.specs.HeadingKnown.{known_routine_kind};
-    ghost use Rattle.op_parse_decl.specs.Headings.{IsRoutineKind};
-    ghost use Rattle.op_tree.specs.declared.heading.RoutineKind.{RoutineKind};
-
-    ghost Said = { RoutineKind };
-
-    ghost says = { λ x. x };
-
-    ghost phrase = { IsRoutineKind };
-
-    ghost least = { 1 };
-
-    fn read<'a>(setting: Setting, tokens: &'a [Token]) -> Answer<'a, RoutineKind> {
-        let Some((first, rest)) = tokens.split_first() else {
-            return Err(syntax(setting.end, tokens));
-        };
-        match routine_kind(&first.kind) {
-            Some(kind) => Ok((kind, rest)),
-            None => Err(syntax(setting.end, tokens)),
-        }
-    }
-
-    ghost known = { known_routine_kind };
-}
-
-/// The name of a routine, and that of its class if it stands before it.
-#[derive(Drop)]
-pub struct RoutineName {
-    pub class: Option<Name>,
-    pub name: Name,
-}
-
-impl Made for RoutineName {
-    ghost use Rattle.op_parse_decl.specs.Combined.{Both, both};
-    ghost use Rattle.op_parse_decl.specs.HeadingParts.{made_name};
-    ghost use Rattle.op_parse_decl.specs.Headings.{SomeRoutineName};
-    ghost use Rattle.op_tree.specs.declared.position.Name.{Name};
-
-    type Parts = (Name, Behind<sign::Dot, Name>);
-
-    ghost Said = { Both (Option Name) Name };
-
-    ghost says = { λ x. both x.class x.name };
-
-    ghost phrase = { SomeRoutineName };
-
-    #[tactic(auto, using(crate::specs::HeadingParts::alone_of_parts, crate::specs::HeadingParts::class_of_parts))]
-    fn of(_alloc: Global, (first, second): Self::Parts) -> RoutineName {
-        match second.part {
-            None => RoutineName {
-                class: None,
-                name: first,
-            },
-            Some(name) => RoutineName {
-                class: Some(first),
-                name,
-            },
-        }
-    }
-
-    ghost made = { made_name };
-}
-
-/// A heading, made of its parts.
-#[derive(Drop)]
-struct WholeHeading {
-    pub heading: Heading,
-}
-
-impl Made for WholeHeading {
-    ghost use Rattle.op_parse_decl.specs.HeadingParts.{made_heading};
-    ghost use Rattle.op_parse_decl.specs.Headings.{SomeHeading};
-    ghost use Rattle.op_tree.specs.Declaration.{Heading, heading_of};
-
-    type Parts = (
-        RoutineKind,
-        (
-            RoutineName,
-            (
-                Parameters,
-                (Behind<sign::Colon, TypeDenoter>, Stands<sign::Semicolon>),
-            ),
-        ),
-    );
-
-    ghost Said = { Heading };
-
-    ghost says = { λ x. heading_of x.heading };
-
-    ghost phrase = { SomeHeading };
-
-    #[tactic(auto, using(crate::specs::HeadingParts::heading_of_parts))]
-    fn of(
-        _alloc: Global,
-        (kind, (routine, (parameters, (denoter, _)))): Self::Parts,
-    ) -> WholeHeading {
-        WholeHeading {
-            heading: Heading {
-                kind,
-                class: routine.class,
-                name: routine.name,
-                parameters,
-                result: denoter.part,
-            },
-        }
-    }
-
-    ghost made = { made_heading };
-}
-
 /// A heading, and the semicolon behind it.
-impl Part for Heading {
-    ghost use Rattle.op_parse_decl.specs.HeadingParts.{known_heading};
-    ghost use Rattle.op_parse_decl.specs.Headings.{SomeHeading};
-    ghost use Rattle.op_tree.specs.Declaration.{Heading, heading_of};
-
-    ghost Said = { Heading };
-
-    ghost says = { heading_of };
-
-    ghost phrase = { SomeHeading };
-
-    ghost least = { 1 };
-
-    fn read<'a>(setting: Setting, tokens: &'a [Token]) -> Answer<'a, Heading> {
-        let (whole, rest) = WholeHeading::read(setting, tokens)?;
-        Ok((whole.heading, rest))
-    }
-
-    ghost known = { known_heading };
+pub fn heading<'a>(
+    alloc: Global,
+    left: u32,
+    end: Place,
+    tokens: &'a [Token],
+) -> Result<(Heading, &'a [Token]), ParseError>
+    ensures whole { IfOk result (λ f. SomeHeading left (heading_of f.0) (terminals tokens.now) (terminals f.1.now)) }
+    ensures refused { IfErr result (Refuses SomeHeading left end (terminals tokens.now)) }
+    ensures shorter { IfOk result (λ f. length f.1.now < length tokens.now) }
+{
+    let Some((first, rest)) = tokens.split_first() else {
+        return Err(syntax(end, tokens));
+    };
+    let Some(kind) = routine_kind(&first.kind) else {
+        return Err(syntax(end, tokens));
+    };
+    let (class, name, rest) = routine_name(alloc, end, rest)?;
+    let (parameters, rest) = parameter_part(alloc, left, end, rest)?;
+    let (result, rest) = optional_type(alloc, left, end, rest)?;
+    let rest = after_mark(Mark::Semicolon, end, rest)?;
+    Ok((
+        Heading {
+            kind,
+            class,
+            name,
+            parameters,
+            result,
+        },
+        rest,
+    ))
 }
 
 /// A heading, a semicolon, and the directives behind it.
@@ -162,7 +61,7 @@ pub fn method<'a>(
     ensures refused { IfErr result (Refuses SomeMethod left end (terminals tokens.now)) }
     ensures shorter { IfOk result (λ f. length f.1.now < length tokens.now) }
 {
-    let (heading, rest) = Heading::read(Setting { alloc, left, end }, tokens)?;
+    let (heading, rest) = heading(alloc, left, end, tokens)?;
     let (directives, rest) = directives(alloc, end, rest)?;
     Ok((
         Method {
@@ -250,5 +149,25 @@ fn routine_kind(kind: &TokenKind) -> Option<RoutineKind>
         TokenKind::Constructor => Some(RoutineKind::Constructor),
         TokenKind::Destructor => Some(RoutineKind::Destructor),
         _ => None,
+    }
+}
+
+/// The name of a routine, behind that of its class and a dot if there is one.
+fn routine_name<'a>(
+    alloc: Global,
+    end: Place,
+    tokens: &'a [Token],
+) -> Result<(Option<Name>, Name, &'a [Token]), ParseError>
+    ensures whole { IfOk result (λ f. (d : ℕ) → SomeRoutineName d (f.0, f.1) (terminals tokens.now) (terminals f.2.now)) }
+    ensures refused { IfErr result (λ e. (d : ℕ) → Refuses SomeRoutineName d end (terminals tokens.now) e) }
+    ensures shorter { IfOk result (λ f. length f.2.now < length tokens.now) }
+{
+    let (first, rest) = name(alloc, end, tokens)?;
+    match behind_mark(Mark::Dot, rest) {
+        None => Ok((None, first, rest)),
+        Some(after) => {
+            let (second, rest) = name(alloc, end, after)?;
+            Ok((Some(first), second, rest))
+        }
     }
 }

@@ -1,188 +1,155 @@
 //! Interfaces (Free Pascal Reference Guide, "Interfaces").
-ghost use Rattle.std.specs.Prelude.{◌≡◌, ◌+◌, ◌≤◌, ℕ, IfOk, IfErr, List, Option, length};
+ghost use Rattle.std.specs.Prelude.{◌≡◌, ◌≤◌, ◌<◌, IfOk, IfErr, length};
 ghost use Rattle.op_parse_code.specs.Refusal.{Refuses};
-ghost use Rattle.op_parse_decl.specs.Interfaces.{InterfaceBefore, bodiless, is_literal};
-ghost use Rattle.op_tree.specs.Declaration.{TypeDefinition, definition_of};
+ghost use Rattle.op_parse_decl.specs.Declarations.{DefinitionBehind, SomeAncestor, SomeIdentifier};
+ghost use Rattle.op_scan.specs.declared.token.TokenKind.TheVariants as kind;
+ghost use Rattle.op_tree.specs.Declaration.{definition_of};
 ghost use Rattle.op_tree.specs.Terminal.{terminals};
 
-use crate::choice::{Ahead, Empty, Nested, Unless};
-use crate::declared_form::INTERFACE_PROPERTY;
-use crate::part::{Answer, Made, Part, Repeated, Setting, Stands};
-use crate::routine::LeftOut;
-use crate::sign;
-use op_base::Text;
-use op_parse_code::shared::{Mark, behind_mark, left_out, spelled, syntax};
+use crate::declared_form::form_of_interface;
+use crate::part::{Answer, Part, Repeated, Setting};
+use op_base::{Place, Text};
+use op_parse_code::ParseError;
+use op_parse_code::shared::{
+    Mark, after_mark, behind_mark, enter, left_out, name, spelled, syntax,
+};
 use op_scan::{Token, TokenKind};
 use op_tree::{Interface, Method, Name, TypeDefinition};
 use std::alloc::Global;
 
-/// A string.
+/// What stands behind `interface`, and the semicolon behind it.
 #[derive(Drop)]
-pub struct Literal {
-    pub text: Text,
-}
-
-impl Part for Literal {
-    ghost use Rattle.op_parse_decl.specs.InterfaceParts.{known_literal};
-    ghost use Rattle.op_parse_decl.specs.Interfaces.{IsLiteral};
-
-    ghost Said = { List ℕ };
-
-    ghost says = { λ x. x.text };
-
-    ghost phrase = { IsLiteral };
-
-    ghost least = { 1 };
-
-    fn read<'a>(setting: Setting, tokens: &'a [Token]) -> Answer<'a, Literal> {
-        let Some((first, rest)) = tokens.split_first() else {
-            return Err(syntax(setting.end, tokens));
-        };
-        if !is_literal(&first.kind) {
-            return Err(syntax(setting.end, tokens));
-        }
-        let text = spelled(setting.alloc, &first.kind)?;
-        Ok((Literal { text }, rest))
-    }
-
-    ghost known = { known_literal };
-}
-
-fn is_literal(kind: &TokenKind) -> bool
-    ensures { result ≡ is_literal kind.now }
-{
-    matches!(kind, TokenKind::CharacterString(_))
-}
-
-/// The word `interface`, what the interface goes on from, and its identifier.
-#[derive(Drop)]
-pub struct InterfaceHead {
-    pub ancestor: Option<Name>,
-    pub identifier: Option<Text>,
-}
-
-impl Made for InterfaceHead {
-    ghost use Rattle.op_parse_decl.specs.Combined.{Both, both};
-    ghost use Rattle.op_parse_decl.specs.InterfaceParts.{made_head};
-    ghost use Rattle.op_parse_decl.specs.Interfaces.{SomeInterfaceHead};
-    ghost use Rattle.op_tree.specs.declared.position.Name.{Name};
-
-    type Parts = (
-        Stands<sign::Interface>,
-        (
-            Ahead<
-                sign::OpenParenthesis,
-                Nested<
-                    (
-                        Stands<sign::OpenParenthesis>,
-                        (Name, Stands<sign::CloseParenthesis>),
-                    ),
-                >,
-                Empty,
-            >,
-            Ahead<
-                sign::OpenBracket,
-                Nested<
-                    (
-                        Stands<sign::OpenBracket>,
-                        (Literal, Stands<sign::CloseBracket>),
-                    ),
-                >,
-                Empty,
-            >,
-        ),
-    );
-
-    ghost Said = { Both (Option Name) (Option (List ℕ)) };
-
-    ghost says = { λ x. both x.ancestor x.identifier };
-
-    ghost phrase = { SomeInterfaceHead };
-
-    #[tactic(auto, using(crate::specs::InterfaceParts::head_of_none, crate::specs::InterfaceParts::head_of_text, crate::specs::InterfaceParts::head_of_name, crate::specs::InterfaceParts::head_of_both))]
-    fn of(_alloc: Global, (_, (ancestor, identifier)): Self::Parts) -> InterfaceHead {
-        match ancestor {
-            Ahead::Unmarked(_) => match identifier {
-                Ahead::Unmarked(_) => InterfaceHead {
-                    ancestor: None,
-                    identifier: None,
-                },
-                Ahead::Marked(text, _) => InterfaceHead {
-                    ancestor: None,
-                    identifier: Some(text.part.1.0.text),
-                },
-            },
-            Ahead::Marked(name, _) => match identifier {
-                Ahead::Unmarked(_) => InterfaceHead {
-                    ancestor: Some(name.part.1.0),
-                    identifier: None,
-                },
-                Ahead::Marked(text, _) => InterfaceHead {
-                    ancestor: Some(name.part.1.0),
-                    identifier: Some(text.part.1.0.text),
-                },
-            },
-        }
-    }
-
-    ghost made = { made_head };
-}
-
-/// An interface, and the semicolon behind it.
-#[derive(Drop)]
-pub struct InterfaceWhole {
+pub struct InterfaceBehind {
     pub definition: TypeDefinition,
 }
 
-impl Part for InterfaceWhole {
-    ghost use Rattle.op_parse_decl.specs.InterfaceParts.{known_interface};
+impl Part for InterfaceBehind {
+    ghost use Rattle.op_parse_decl.specs.Later.{known_interface};
+    ghost use Rattle.op_tree.specs.Declaration.{TypeDefinition};
 
     ghost Said = { TypeDefinition };
 
     ghost says = { λ x. definition_of x.definition };
 
-    ghost phrase = { InterfaceBefore };
+    ghost phrase = { DefinitionBehind kind.Interface };
 
     ghost least = { 1 };
 
-    fn read<'a>(setting: Setting, tokens: &'a [Token]) -> Answer<'a, InterfaceWhole> {
-        let (head, behind) = InterfaceHead::read(setting, tokens)?;
-        if let Some(rest) = behind_mark(Mark::Semicolon, behind) {
-            let definition = bodiless(setting.alloc, head);
-            return Ok((InterfaceWhole { definition }, rest));
-        }
-        let (methods, behind) = Repeated::<Method>::read(setting, behind)?;
-        if let Some(_) = behind_mark(Mark::Property, behind) {
-            return Err(left_out(INTERFACE_PROPERTY, setting.end, behind));
-        }
-        let (_, rest) = <(Unless<LeftOut, Stands<sign::End>>, Stands<sign::Semicolon>)>::read(
-            setting, behind,
+    fn read<'a>(setting: Setting, tokens: &'a [Token]) -> Answer<'a, InterfaceBehind> {
+        let (definition, rest) = interface_behind(
+            setting.alloc,
+            setting.left,
+            setting.end,
+            tokens,
         )?;
-        let definition = TypeDefinition::Interface(Interface {
-            ancestor: head.ancestor,
-            identifier: head.identifier,
-            methods: methods.items,
-        });
-        Ok((InterfaceWhole { definition }, rest))
+        Ok((InterfaceBehind { definition }, rest))
     }
 
     ghost known = { known_interface };
 }
 
-/// An interface without `end`: without an ancestor it is a forward declaration.
-fn bodiless(alloc: Global, head: InterfaceHead) -> TypeDefinition
-    ensures { definition_of result ≡ bodiless head.ancestor head.identifier }
+/// What stands behind `interface`, and the semicolon behind it.
+fn interface_behind<'a>(
+    alloc: Global,
+    left: u32,
+    end: Place,
+    tokens: &'a [Token],
+) -> Result<(TypeDefinition, &'a [Token]), ParseError>
+    ensures whole { IfOk result (λ f. DefinitionBehind kind.Interface left (definition_of f.0) (terminals tokens.now) (terminals f.1.now)) }
+    ensures refused { IfErr result (Refuses (DefinitionBehind kind.Interface) left end (terminals tokens.now)) }
+    ensures shorter { IfOk result (λ f. length f.1.now < length tokens.now) }
 {
-    let InterfaceHead {
+    let (ancestor, behind) = ancestor(alloc, left, end, tokens)?;
+    let (identifier, behind) = identifier(alloc, left, end, behind)?;
+    if let Some(rest) = behind_mark(Mark::Semicolon, behind) {
+        return Ok((bodiless(alloc, ancestor, identifier), rest));
+    }
+    let setting = Setting { alloc, left, end };
+    let (methods, behind) = Repeated::<Method>::read(setting, behind)?;
+    let methods = methods.items;
+    if let Some(feature) = form_of_interface(behind) {
+        return Err(left_out(feature, end, behind));
+    }
+    let rest = after_mark(Mark::End, end, behind)?;
+    let rest = after_mark(Mark::Semicolon, end, rest)?;
+    let interface = Interface {
         ancestor,
         identifier,
-    } = head;
-    match ancestor {
-        None => TypeDefinition::ForwardInterface { identifier },
-        Some(name) => TypeDefinition::Interface(Interface {
-            ancestor: Some(name),
-            identifier,
-            methods: Vec::new(alloc),
-        }),
+        methods,
+    };
+    Ok((TypeDefinition::Interface(interface), rest))
+}
+
+/// An interface without `end`: without an ancestor it is a forward declaration.
+fn bodiless(alloc: Global, ancestor: Option<Name>, identifier: Option<Text>) -> TypeDefinition {
+    if ancestor.is_none() {
+        return TypeDefinition::ForwardInterface { identifier };
     }
+    TypeDefinition::Interface(Interface {
+        ancestor,
+        identifier,
+        methods: Vec::new(alloc),
+    })
+}
+
+/// A name in brackets, if there are brackets.
+fn ancestor<'a>(
+    alloc: Global,
+    left: u32,
+    end: Place,
+    tokens: &'a [Token],
+) -> Result<(Option<Name>, &'a [Token]), ParseError>
+    ensures whole { IfOk result (λ f. SomeAncestor left f.0 (terminals tokens.now) (terminals f.1.now)) }
+    ensures refused { IfErr result (Refuses SomeAncestor left end (terminals tokens.now)) }
+    ensures shorter { IfOk result (λ f. length f.1.now ≤ length tokens.now) }
+{
+    match behind_mark(Mark::OpenParenthesis, tokens) {
+        None => Ok((None, tokens)),
+        Some(inside) => {
+            enter(left, end, tokens)?;
+            let (name, rest) = name(alloc, end, inside)?;
+            let rest = after_mark(Mark::CloseParenthesis, end, rest)?;
+            Ok((Some(name), rest))
+        }
+    }
+}
+
+/// A text in square brackets, if there are such brackets.
+fn identifier<'a>(
+    alloc: Global,
+    left: u32,
+    end: Place,
+    tokens: &'a [Token],
+) -> Result<(Option<Text>, &'a [Token]), ParseError>
+    ensures whole { IfOk result (λ f. SomeIdentifier left f.0 (terminals tokens.now) (terminals f.1.now)) }
+    ensures refused { IfErr result (Refuses SomeIdentifier left end (terminals tokens.now)) }
+    ensures shorter { IfOk result (λ f. length f.1.now ≤ length tokens.now) }
+{
+    match behind_mark(Mark::OpenBracket, tokens) {
+        None => Ok((None, tokens)),
+        Some(inside) => {
+            enter(left, end, tokens)?;
+            let (text, rest) = string(alloc, end, inside)?;
+            let rest = after_mark(Mark::CloseBracket, end, rest)?;
+            Ok((Some(text), rest))
+        }
+    }
+}
+
+/// The string with which the tokens must begin, and the tokens behind it.
+fn string<'a>(
+    alloc: Global,
+    end: Place,
+    tokens: &'a [Token],
+) -> Result<(Text, &'a [Token]), ParseError>
+    ensures shorter { IfOk result (λ f. length f.1.now < length tokens.now) }
+{
+    let Some((first, rest)) = tokens.split_first() else {
+        return Err(syntax(end, tokens));
+    };
+    if !matches!(&first.kind, TokenKind::CharacterString(_)) {
+        return Err(syntax(end, tokens));
+    }
+    let text = spelled(alloc, &first.kind)?;
+    Ok((text, rest))
 }

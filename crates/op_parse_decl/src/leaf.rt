@@ -1,16 +1,16 @@
 //! The parts that are no others put together.
 ghost use Rattle.std.specs.Prelude.{◌≡◌, ℕ, List};
-ghost use Rattle.op_parse_decl.specs.Declarations.{directive_at};
+ghost use Rattle.op_parse_code.specs.WholeStatement.{front_is};
 ghost use Rattle.op_tree.specs.Terminal.{terminals};
 
 use crate::denoter::denoter;
-use crate::heading::directive_of;
+use crate::heading::{directive_of, heading};
 use crate::initializer::initial;
 use crate::names::{bracketed_names, names};
 use crate::part::{Answer, Item, Part, Setting};
 use op_parse_code::shared::{Mark, after_mark, name, position_of, statements, syntax};
 use op_scan::{Token, TokenKind};
-use op_tree::{Directive, Initializer, Name, Names, Position, Stmt, TypeDenoter};
+use op_tree::{Directive, Heading, Initializer, Name, Names, Position, Stmt, TypeDenoter};
 
 impl Part for Name {
     ghost use Rattle.op_parse_code.specs.Whole.{SomeName};
@@ -74,7 +74,7 @@ impl Part for TypeDenoter {
 }
 
 impl Part for Initializer {
-    ghost use Rattle.op_parse_decl.specs.InitialKnown.{known_initial};
+    ghost use Rattle.op_parse_decl.specs.Later.{known_initial};
     ghost use Rattle.op_parse_decl.specs.Types.{SomeInitial};
     ghost use Rattle.op_tree.specs.Initial.{Initial, initial_of};
 
@@ -126,8 +126,11 @@ impl Item for BracketedNames {
 
     ghost test = { is_open };
 
-    fn opens(kind: &TokenKind) -> bool {
-        matches!(kind, TokenKind::OpenParenthesis)
+    fn begins(tokens: &[Token]) -> bool {
+        match tokens.split_first() {
+            None => false,
+            Some((first, _)) => matches!(&first.kind, TokenKind::OpenParenthesis),
+        }
     }
 
     ghost moves = { suc-le-suc zero-le };
@@ -160,10 +163,28 @@ impl Part for Statements {
     ghost known = { known_statements };
 }
 
+impl Part for Heading {
+    ghost use Rattle.op_parse_decl.specs.Headings.{SomeHeading};
+    ghost use Rattle.op_parse_decl.specs.Later.{known_heading};
+    ghost use Rattle.op_tree.specs.Declaration.{Heading, heading_of};
+
+    ghost Said = { Heading };
+
+    ghost says = { heading_of };
+
+    ghost phrase = { SomeHeading };
+
+    ghost least = { 1 };
+
+    fn read<'a>(setting: Setting, tokens: &'a [Token]) -> Answer<'a, Heading> {
+        heading(setting.alloc, setting.left, setting.end, tokens)
+    }
+
+    ghost known = { known_heading };
+}
+
 /// The directive that a token is.
-fn directive_at(kind: &TokenKind) -> Option<Directive>
-    ensures { result ≡ directive_at kind.now }
-{
+fn word_directive(kind: &TokenKind) -> Option<Directive> {
     match kind {
         TokenKind::Identifier(text) => directive_of(text.as_slice()),
         _ => None,
@@ -187,7 +208,7 @@ impl Part for Directive {
         let Some((first, rest)) = tokens.split_first() else {
             return Err(syntax(setting.end, tokens));
         };
-        let Some(directive) = directive_at(&first.kind) else {
+        let Some(directive) = word_directive(&first.kind) else {
             return Err(syntax(setting.end, tokens));
         };
         let rest = after_mark(Mark::Semicolon, setting.end, rest)?;
@@ -203,8 +224,11 @@ impl Item for Directive {
 
     ghost test = { is_directive };
 
-    fn opens(kind: &TokenKind) -> bool {
-        directive_at(kind).is_some()
+    fn begins(tokens: &[Token]) -> bool {
+        match tokens.split_first() {
+            None => false,
+            Some((first, _)) => word_directive(&first.kind).is_some(),
+        }
     }
 
     ghost moves = { suc-le-suc zero-le };
@@ -238,4 +262,30 @@ impl Part for Here {
     }
 
     ghost known = { known_here };
+}
+
+/// The word `type`.
+#[derive(Drop)]
+pub struct TypeWord;
+
+impl Part for TypeWord {
+    ghost use Rattle.op_parse_decl.specs.Declarations.{IsTypeWord};
+    ghost use Rattle.op_parse_decl.specs.KnownLeaves.{known_type_word};
+
+    ghost Said = { Unit {0} };
+
+    ghost says = { λ _. tt };
+
+    ghost phrase = { IsTypeWord };
+
+    ghost least = { 1 };
+
+    fn read<'a>(setting: Setting, tokens: &'a [Token]) -> Answer<'a, TypeWord> {
+        match tokens.split_first() {
+            Some((first, rest)) if matches!(&first.kind, TokenKind::Type_) => Ok((TypeWord, rest)),
+            _ => Err(syntax(setting.end, tokens)),
+        }
+    }
+
+    ghost known = { known_type_word };
 }

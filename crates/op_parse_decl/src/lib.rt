@@ -28,4 +28,6 @@ mod stops;
 pub use file::parse;
 
 #[cfg(test)]
+mod file_tests;
+#[cfg(test)]
 mod tests;

@@ -1,11 +1,10 @@
 //! The nodes of types and first values, from their parts.
 ghost use Rattle.std.specs.Prelude.{◌≡◌, IfOk};
 ghost use Rattle.std.specs.Option.{option_map};
-ghost use Rattle.op_parse_decl.specs.Initials.{name_alone};
 ghost use Rattle.op_parse_decl.specs.Types.{denoted};
 ghost use Rattle.op_tree.specs.Denoter.{array, denoter_of, record_, set};
 ghost use Rattle.op_tree.specs.Expression.{bracketed, designated, designator, expr_of, named as named_root, no_selectors};
-ghost use Rattle.op_tree.specs.Initial.{field_initials, initial_of, initials, list, record_ as record_value};
+ghost use Rattle.op_tree.specs.Initial.{initial_of, list, record_ as record_value};
 ghost use Rattle.op_tree.specs.Lists.{denoters_of, field_initials_of, field_lists_of, initials_of};
 ghost use Rattle.op_tree.specs.Statement.{selectors_of};
 
@@ -55,51 +54,16 @@ pub fn record_node(position: Position, packed: bool, fields: Vec<Fields>) -> Typ
     }
 }
 
-/// A list of a first item and others.
-pub fn list_node(
-    position: Position,
-    first: Initializer,
-    others: Vec<Initializer>,
-) -> Result<Initializer, NoMemory>
-    ensures { IfOk result (λ i. initial_of i ≡ list position (initials (initial_of first) (initials_of others.items))) }
+pub fn list_node(position: Position, items: Vec<Initializer>) -> Initializer
+    ensures { initial_of result ≡ list position (initials_of items.items) }
 {
-    let mut items = others;
-    items.insert(0, first)?;
-    Ok(Initializer::List { position, items })
+    Initializer::List { position, items }
 }
 
-/// A record of a first field and others.
-pub fn record_value_node(
-    position: Position,
-    first: FieldInitializer,
-    others: Vec<FieldInitializer>,
-) -> Result<Initializer, NoMemory>
-    ensures { IfOk result (λ i. initial_of i ≡ record_value position (field_initials first.name (initial_of first.value) (field_initials_of others.items))) }
+pub fn record_value_node(position: Position, fields: Vec<FieldInitializer>) -> Initializer
+    ensures { initial_of result ≡ record_value position (field_initials_of fields.items) }
 {
-    let mut fields = others;
-    fields.insert(0, first)?;
-    Ok(Initializer::Record { position, fields })
-}
-
-/// The name that a first value is, if it is no more.
-pub fn name_alone(value: Initializer) -> Option<Name>
-    ensures { result ≡ name_alone (initial_of value) }
-{
-    let Initializer::Value(expression) = value else {
-        return None;
-    };
-    let Expr::Designator(designator) = expression else {
-        return None;
-    };
-    let Designator { root, selectors } = designator;
-    let Root::Named(name) = root else {
-        return None;
-    };
-    if selectors.is_empty() {
-        Some(name)
-    } else {
-        None
-    }
+    Initializer::Record { position, fields }
 }
 
 /// The type that an expression is where it is no bound of a subrange: a name, the word `string`, or a name in brackets.

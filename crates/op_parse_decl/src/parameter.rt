@@ -1,57 +1,107 @@
 //! Parameters of routines (Free Pascal Reference Guide, "Parameter lists").
-ghost use Rattle.std.specs.Prelude.{◌≡◌, ◌≤◌, IfSome, List, MatchOption, length};
-ghost use Rattle.op_parse_decl.specs.Headings.{NoOut, SomeMode, is_string};
-ghost use Rattle.op_tree.specs.Terminal.{terminals};
-ghost use Rattle.op_tree.specs.declared.heading.ParameterMode.TheVariants as mode;
+ghost use Rattle.std.specs.Prelude.{◌∷◌, ◌≤◌, ◌<◌, ℕ, IfOk, IfErr, IsTrue, MatchOption, length, suc};
+ghost use Rattle.op_parse_code.specs.Form.{HasForm};
+ghost use Rattle.op_parse_code.specs.Refusal.{Refuses};
+ghost use Rattle.op_parse_decl.specs.Headings.{ParametersBefore, ParametersBehind, SomeMode, SomeOpenArray, SomeParameter, SomeParameterPart, SomeParameterType};
+ghost use Rattle.op_scan.specs.declared.token.TokenKind.TheVariants as kind;
+ghost use Rattle.op_tree.specs.Terminal.{◌at◌, terminals};
+ghost use Rattle.op_tree.specs.declared.position.Position.{Position};
 
-use crate::choice::{Ahead, Empty, Form, FormBehind, Nested, Unbroken, Unless};
 use crate::form::{ARRAY_OF_CONST, DEFAULT_PARAMETER};
-use crate::names::qualified;
-use crate::part::{Answer, Behind, Made, Part, Separated, Setting, Stands};
-use crate::sign;
+use crate::names::{names, qualified};
 use crate::stops::no_dot;
+use op_base::Place;
+use op_parse_code::ParseError;
 use op_parse_code::shared::{
-    GENERIC, Mark, behind_mark, is_identifier, is_specialized, is_word, left_out, position_of,
-    syntax,
+    GENERIC, Mark, after_mark, behind_mark, enter, is_identifier, is_specialized, is_word,
+    left_out, position_of,
 };
 use op_scan::{Token, TokenKind};
-use op_tree::{Names, Parameter, ParameterMode, ParameterType, Parameters};
+use op_tree::{Parameter, ParameterMode, ParameterType, Parameters};
 use std::alloc::Global;
 
-/// How parameters are passed, their names, and the colon behind them.
-#[derive(Drop)]
-pub struct Moded {
-    pub mode: ParameterMode,
-    pub names: Names,
+/// The parameters of a routine in their brackets, if there are brackets.
+pub fn parameter_part<'a>(
+    alloc: Global,
+    left: u32,
+    end: Place,
+    tokens: &'a [Token],
+) -> Result<(Parameters, &'a [Token]), ParseError>
+    ensures whole { IfOk result (λ f. SomeParameterPart left f.0 (terminals tokens.now) (terminals f.1.now)) }
+    ensures refused { IfErr result (Refuses SomeParameterPart left end (terminals tokens.now)) }
+    ensures shorter { IfOk result (λ f. length f.1.now ≤ length tokens.now) }
+{
+    let Some(inside) = behind_mark(Mark::OpenParenthesis, tokens) else {
+        return Ok((Parameters::from(Vec::new(alloc)), tokens));
+    };
+    let inner = enter(left, end, tokens)?;
+    if let Some(rest) = behind_mark(Mark::CloseParenthesis, inside) {
+        return Ok((Parameters::from(Vec::new(alloc)), rest));
+    }
+    parameters(alloc, inner, end, inside)
 }
 
-impl Part for Moded {
-    ghost use Rattle.op_parse_decl.specs.Combined.{Both, both};
-    ghost use Rattle.op_parse_decl.specs.HeadingKnown.{known_moded};
-    ghost use Rattle.op_parse_decl.specs.Headings.{SomeModed};
-    ghost use Rattle.op_tree.specs.declared.heading.ParameterMode.{ParameterMode};
-    ghost use Rattle.op_tree.specs.declared.position.Name.{Name};
-
-    ghost Said = { Both ParameterMode (List Name) };
-
-    ghost says = { λ x. both x.mode x.names };
-
-    ghost phrase = { SomeModed };
-
-    ghost least = { 1 };
-
-    fn read<'a>(setting: Setting, tokens: &'a [Token]) -> Answer<'a, Moded> {
-        let (mode, rest) = parameter_mode(tokens);
-        let ((names, _), rest) = <(Names, Stands<sign::Colon>)>::read(setting, rest)?;
-        Ok((Moded { mode, names }, rest))
+/// Parameters, up to the closing bracket, and what stands behind it.
+fn parameters<'a>(
+    alloc: Global,
+    left: u32,
+    end: Place,
+    tokens: &'a [Token],
+) -> Result<(Parameters, &'a [Token]), ParseError>
+    ensures whole { IfOk result (λ f. ParametersBefore left f.0 (terminals tokens.now) (terminals f.1.now)) }
+    ensures refused { IfErr result (λ e. (p : Position) → Refuses ParametersBehind left end (kind.OpenParenthesis at p ∷ terminals tokens.now) e) }
+    ensures shorter { IfOk result (λ f. length f.1.now < length tokens.now) }
+{
+    let mut parameters = Vec::new(alloc);
+    let mut rest = tokens;
+    loop {
+        let (parameter, behind) = parameter(alloc, end, rest)?;
+        parameters.push(parameter)?;
+        if behind_mark(Mark::Equal, behind).is_some() {
+            return Err(left_out(DEFAULT_PARAMETER, end, behind));
+        }
+        match behind_mark(Mark::Semicolon, behind) {
+            Some(after) => rest = after,
+            None => {
+                let rest = after_mark(Mark::CloseParenthesis, end, behind)?;
+                return Ok((Parameters::from(parameters), rest));
+            }
+        }
     }
+}
 
-    ghost known = { known_moded };
+/// Parameters of one mode and type.
+fn parameter<'a>(
+    alloc: Global,
+    end: Place,
+    tokens: &'a [Token],
+) -> Result<(Parameter, &'a [Token]), ParseError>
+    ensures whole { IfOk result (λ f. (d : ℕ) → SomeParameter d f.0 (terminals tokens.now) (terminals f.1.now)) }
+    ensures refused { IfErr result (λ e. (d : ℕ) → Refuses SomeParameter d end (terminals tokens.now) e) }
+    ensures shorter { IfOk result (λ f. length f.1.now < length tokens.now) }
+{
+    let (mode, rest) = parameter_mode(tokens);
+    let (names, rest) = names(alloc, end, rest)?;
+    let rest = after_mark(Mark::Colon, end, rest)?;
+    if is_array_of_const(rest) {
+        return Err(left_out(ARRAY_OF_CONST, end, rest));
+    }
+    let (open_array, rest) = open_array(end, rest)?;
+    let (of, rest) = parameter_type(alloc, end, rest)?;
+    Ok((
+        Parameter {
+            mode,
+            names,
+            open_array,
+            of,
+        },
+        rest,
+    ))
 }
 
 /// How parameters are passed. The word `out` is a name where no name follows.
 fn parameter_mode(tokens: &[Token]) -> (ParameterMode, &[Token])
-    ensures whole { SomeMode result.0 (terminals tokens.now) (terminals result.1.now) }
+    ensures whole { (d : ℕ) → SomeMode d result.0 (terminals tokens.now) (terminals result.1.now) }
     ensures shorter { length result.1.now ≤ length tokens.now }
 {
     if let Some(rest) = behind_mark(Mark::Var, tokens) {
@@ -67,193 +117,64 @@ fn parameter_mode(tokens: &[Token]) -> (ParameterMode, &[Token])
 }
 
 /// The tokens behind the word `out`, where they begin with it and a name.
-fn behind_out(tokens: &[Token]) -> Option<&[Token]>
-    ensures out { MatchOption result (NoOut (terminals tokens.now)) (λ rest. SomeMode mode.Out (terminals tokens.now) (terminals rest.now)) }
-    ensures shorter { IfSome result (λ rest. length rest.now ≤ length tokens.now) }
-{
+fn behind_out(tokens: &[Token]) -> Option<&[Token]> {
     let (first, rest) = tokens.split_first()?;
-    if !is_word(b"out", &first.kind) {
-        return None;
-    }
     let (second, _) = rest.split_first()?;
-    if !is_identifier(&second.kind) {
-        return None;
+    if is_word(b"out", &first.kind) && is_identifier(&second.kind) {
+        Some(rest)
+    } else {
+        None
     }
-    Some(rest)
 }
 
-/// `array of const`
-pub struct ArrayOfConst;
+/// `array of const` stands at the front.
+fn is_array_of_const(tokens: &[Token]) -> bool
+    ensures { IsTrue result → HasForm 18 (terminals tokens.now) (terminals tokens.now) }
+{
+    let Some(rest) = behind_mark(Mark::Array, tokens) else {
+        return false;
+    };
+    let Some(rest) = behind_mark(Mark::Of, rest) else {
+        return false;
+    };
+    behind_mark(Mark::Const_, rest).is_some()
+}
 
-impl Form for ArrayOfConst {
-    fn feature(tokens: &[Token]) -> Option<u8> {
-        let rest = behind_mark(Mark::Array, tokens)?;
-        let rest = behind_mark(Mark::Of, rest)?;
-        match behind_mark(Mark::Const_, rest) {
-            Some(_) => Some(ARRAY_OF_CONST),
-            None => None,
+/// Whether `array of` stands at the front, and what stands behind it.
+fn open_array<'a>(end: Place, tokens: &'a [Token]) -> Result<(bool, &'a [Token]), ParseError>
+    ensures whole { IfOk result (λ f. (d : ℕ) → SomeOpenArray d f.0 (terminals tokens.now) (terminals f.1.now)) }
+    ensures refused { IfErr result (λ e. (d : ℕ) → Refuses SomeOpenArray d end (terminals tokens.now) e) }
+    ensures shorter { IfOk result (λ f. length f.1.now ≤ length tokens.now) }
+{
+    match behind_mark(Mark::Array, tokens) {
+        None => Ok((false, tokens)),
+        Some(rest) => {
+            let rest = after_mark(Mark::Of, end, rest)?;
+            Ok((true, rest))
         }
     }
 }
 
 /// A name, or the word `string`.
-impl Part for ParameterType {
-    ghost use Rattle.op_parse_decl.specs.HeadingKnown.{known_parameter_type};
-    ghost use Rattle.op_parse_decl.specs.Headings.{SomeParameterType};
-    ghost use Rattle.op_tree.specs.declared.heading.ParameterType.{ParameterType};
-
-    ghost Said = { ParameterType };
-
-    ghost says = { λ x. x };
-
-    ghost phrase = { SomeParameterType };
-
-    ghost least = { 1 };
-
-    fn read<'a>(setting: Setting, tokens: &'a [Token]) -> Answer<'a, ParameterType> {
-        let Some((first, rest)) = tokens.split_first() else {
-            return Err(syntax(setting.end, tokens));
-        };
-        if is_string(&first.kind) {
-            no_dot(setting.end, rest)?;
+fn parameter_type<'a>(
+    alloc: Global,
+    end: Place,
+    tokens: &'a [Token],
+) -> Result<(ParameterType, &'a [Token]), ParseError>
+    ensures whole { IfOk result (λ f. (d : ℕ) → SomeParameterType d f.0 (terminals tokens.now) (terminals f.1.now)) }
+    ensures refused { IfErr result (λ e. (d : ℕ) → Refuses SomeParameterType d end (terminals tokens.now) e) }
+    ensures shorter { IfOk result (λ f. length f.1.now < length tokens.now) }
+{
+    if let Some((first, rest)) = tokens.split_first() {
+        if matches!(&first.kind, TokenKind::String) {
+            no_dot(end, rest)?;
             let position = position_of(first);
             return Ok((ParameterType::String { position }, rest));
         }
-        if is_specialized(tokens) {
-            return Err(left_out(GENERIC, setting.end, tokens));
-        }
-        let (name, rest) = qualified(setting.alloc, setting.end, tokens)?;
-        Ok((ParameterType::Named(name), rest))
     }
-
-    ghost known = { known_parameter_type };
-}
-
-fn is_string(kind: &TokenKind) -> bool
-    ensures { result ≡ is_string kind.now }
-{
-    matches!(kind, TokenKind::String)
-}
-
-/// Parameters of one mode and type.
-impl Made for Parameter {
-    ghost use Rattle.op_parse_decl.specs.HeadingParts.{made_parameter};
-    ghost use Rattle.op_parse_decl.specs.Headings.{SomeParameter};
-    ghost use Rattle.op_tree.specs.declared.heading.Parameter.{Parameter};
-
-    type Parts = (
-        Moded,
-        (
-            Unless<ArrayOfConst, Behind<sign::Array, Stands<sign::Of>>>,
-            ParameterType,
-        ),
-    );
-
-    ghost Said = { Parameter };
-
-    ghost says = { λ x. x };
-
-    ghost phrase = { SomeParameter };
-
-    #[tactic(auto, using(crate::specs::HeadingParts::closed_of_parts, crate::specs::HeadingParts::open_of_parts))]
-    fn of(_alloc: Global, (moded, (array, of)): Self::Parts) -> Parameter {
-        let Moded { mode, names } = moded;
-        match array.part.part {
-            None => Parameter {
-                mode,
-                names,
-                open_array: false,
-                of,
-            },
-            Some(_) => Parameter {
-                mode,
-                names,
-                open_array: true,
-                of,
-            },
-        }
+    if is_specialized(tokens) {
+        return Err(left_out(GENERIC, end, tokens));
     }
-
-    ghost made = { made_parameter };
-}
-
-/// The value that a parameter has where none is given for it.
-pub struct DefaultParameter;
-
-impl FormBehind for DefaultParameter {
-    type Front = (
-        Stands<sign::OpenParenthesis>,
-        Ahead<sign::CloseParenthesis, Empty, Separated<sign::Semicolon, Parameter>>,
-    );
-
-    fn feature(tokens: &[Token]) -> Option<u8> {
-        match behind_mark(Mark::Equal, tokens) {
-            Some(_) => Some(DEFAULT_PARAMETER),
-            None => None,
-        }
-    }
-}
-
-/// The parameters of a routine in their brackets, if there are brackets.
-#[derive(Drop)]
-struct ParameterPart {
-    pub parameters: Parameters,
-}
-
-impl Made for ParameterPart {
-    ghost use Rattle.op_parse_decl.specs.HeadingParts.{made_part};
-    ghost use Rattle.op_parse_decl.specs.Headings.{SomeParameterPart};
-    ghost use Rattle.op_tree.specs.declared.heading.Parameter.{Parameter};
-
-    type Parts = Ahead<
-        sign::OpenParenthesis,
-        Nested<Unbroken<DefaultParameter, Stands<sign::CloseParenthesis>>>,
-        Empty,
-    >;
-
-    ghost Said = { List Parameter };
-
-    ghost says = { λ x. x.parameters };
-
-    ghost phrase = { SomeParameterPart };
-
-    #[tactic(auto, using(crate::specs::HeadingParts::missing_of_parts, crate::specs::HeadingParts::empty_of_parts))]
-    fn of(alloc: Global, parts: Self::Parts) -> ParameterPart {
-        match parts {
-            Ahead::Unmarked(_) => ParameterPart {
-                parameters: Parameters::from(Vec::new(alloc)),
-            },
-            Ahead::Marked(inside, _) => match inside.part.front.1 {
-                Ahead::Marked(_, _) => ParameterPart {
-                    parameters: Parameters::from(Vec::new(alloc)),
-                },
-                Ahead::Unmarked(list) => ParameterPart {
-                    parameters: Parameters::from(list.items),
-                },
-            },
-        }
-    }
-
-    ghost made = { made_part };
-}
-
-impl Part for Parameters {
-    ghost use Rattle.op_parse_decl.specs.HeadingParts.{known_part};
-    ghost use Rattle.op_parse_decl.specs.Headings.{SomeParameterPart};
-    ghost use Rattle.op_tree.specs.declared.heading.Parameter.{Parameter};
-
-    ghost Said = { List Parameter };
-
-    ghost says = { λ x. x };
-
-    ghost phrase = { SomeParameterPart };
-
-    ghost least = { 0 };
-
-    fn read<'a>(setting: Setting, tokens: &'a [Token]) -> Answer<'a, Parameters> {
-        let (part, rest) = ParameterPart::read(setting, tokens)?;
-        Ok((part.parameters, rest))
-    }
-
-    ghost known = { known_part };
+    let (name, rest) = qualified(alloc, end, tokens)?;
+    Ok((ParameterType::Named(name), rest))
 }

@@ -5,8 +5,8 @@ ghost use Rattle.op_parse_code.specs.Refusal.{Phrase, Refuses};
 ghost use Rattle.op_parse_code.specs.WholeStatement.{front_is};
 ghost use Rattle.op_parse_code.specs.declared.mark.Mark.{Mark};
 ghost use Rattle.op_parse_code.proofs.Refusing.{Known};
-ghost use Rattle.op_parse_decl.specs.Combined.{Behind, Both, Repeats, Separated, Stands, Then, both};
-ghost use Rattle.op_parse_decl.specs.Known.{As, known_as, known_behind, known_repeats, known_separated, known_stands, known_then};
+ghost use Rattle.op_parse_decl.specs.Combined.{Behind, Both, Repeats, Stands, Then, both};
+ghost use Rattle.op_parse_decl.specs.Known.{As, known_as, known_behind, known_repeats, known_stands, known_then};
 ghost use Rattle.op_scan.specs.declared.token.TokenKind.{TokenKind};
 ghost use Rattle.op_tree.specs.Terminal.{Terminal, terminals};
 
@@ -14,7 +14,7 @@ use crate::sign::Sign;
 use op_base::Place;
 use op_parse_code::ParseError;
 use op_parse_code::shared::{after_mark, behind_mark};
-use op_scan::{Token, TokenKind};
+use op_scan::Token;
 use std::alloc::Global;
 use std::marker::PhantomData;
 
@@ -124,21 +124,11 @@ impl<S: Sign, A: Part> Part for Behind<S, A> {
 pub trait Item: Part {
     ghost test: { TokenKind → Bool };
 
-    /// The part begins with a token of this kind.
-    fn opens(kind: &TokenKind) -> bool
-        ensures { result ≡ test kind.now };
+    /// The list goes on with another part.
+    fn begins(tokens: &[Token]) -> bool
+        ensures { result ≡ front_is test (terminals tokens.now) };
 
     ghost moves: { 0 < Self.least };
-}
-
-/// The tokens begin as the part does.
-pub fn begins<A: Item>(tokens: &[Token]) -> bool
-    ensures { result ≡ front_is A.test (terminals tokens.now) }
-{
-    match tokens.split_first() {
-        None => false,
-        Some((first, _)) => A::opens(&first.kind),
-    }
 }
 
 /// All parts at the front.
@@ -159,7 +149,7 @@ impl<A: Item> Part for Repeated<A> {
     fn read<'a>(setting: Setting, tokens: &'a [Token]) -> Answer<'a, Repeated<A>> {
         let mut items = Vec::new(setting.alloc);
         let mut rest = tokens;
-        while begins::<A>(rest) {
+        while A::begins(rest) {
             let (item, behind) = A::read(setting, rest)?;
             items.push(item)?;
             rest = behind;
@@ -168,41 +158,6 @@ impl<A: Item> Part for Repeated<A> {
     }
 
     ghost known = { known_repeats A.known };
-}
-
-/// Parts with a mark between them, at least one.
-#[derive(Drop)]
-pub struct Separated<S: Sign, A> {
-    pub items: Vec<A>,
-    sign: PhantomData<S>,
-}
-
-impl<S: Sign, A: Part> Part for Separated<S, A> {
-    ghost Said = { List A.Said };
-
-    ghost says = { λ x. map A.says x.items.items };
-
-    ghost phrase = { Separated S.sign A.phrase };
-
-    ghost least = { A.least };
-
-    fn read<'a>(setting: Setting, tokens: &'a [Token]) -> Answer<'a, Separated<S, A>> {
-        let mut items = Vec::new(setting.alloc);
-        let mut rest = tokens;
-        loop {
-            let (part, behind) = A::read(setting, rest)?;
-            items.push(part)?;
-            match behind_mark(S::sign(), behind) {
-                Some(after) => rest = after,
-                None => {
-                    let sign = PhantomData;
-                    return Ok((Separated { items, sign }, behind));
-                }
-            }
-        }
-    }
-
-    ghost known = { known_separated A.known };
 }
 
 /// A part that is made of others.

@@ -1,88 +1,56 @@
 //! Properties of classes (Free Pascal Reference Guide, "Properties (Classes)").
-ghost use Rattle.std.specs.Prelude.{ℕ, ◌≤◌, Option, IfErr, IfOk, codes, length};
-ghost use Rattle.op_parse_code.specs.Refusal.{Refuses};
-ghost use Rattle.op_parse_decl.specs.Properties.{SomeAccessor};
-ghost use Rattle.op_tree.specs.Terminal.{terminals};
+ghost use Rattle.std.specs.Prelude.{◌≤◌, ◌<◌, IfOk, length};
 
-use crate::choice::{FormBehind, Unbroken};
-use crate::declared_form::PROPERTY;
-use crate::part::{Answer, Made, Part, Setting, Stands};
-use crate::sign;
+use crate::declared_form::{PROPERTY, form_of_property};
+use crate::denoter::denoter;
 use op_base::Place;
 use op_parse_code::ParseError;
-use op_parse_code::shared::{Mark, behind_mark, is_word, name};
+use op_parse_code::shared::{Mark, after_mark, is_word, left_out, name};
 use op_scan::Token;
-use op_tree::{Name, Property, TypeDenoter};
+use op_tree::{Name, Property};
 use std::alloc::Global;
 
-/// Parameters of a property, behind its name.
-pub struct ArrayProperty;
+/// What stands behind `property`, and the semicolon behind it.
+pub fn property<'a>(
+    alloc: Global,
+    left: u32,
+    end: Place,
+    tokens: &'a [Token],
+) -> Result<(Property, &'a [Token]), ParseError>
+    ensures shorter { IfOk result (λ f. length f.1.now < length tokens.now) }
+{
+    let (name, rest) = name(alloc, end, tokens)?;
+    let rest = property_mark(Mark::Colon, end, rest)?;
+    let (denoter, rest) = denoter(alloc, left, end, rest)?;
+    let (read, rest) = accessor(alloc, b"read", end, rest)?;
+    let (write, rest) = accessor(alloc, b"write", end, rest)?;
+    let rest = property_mark(Mark::Semicolon, end, rest)?;
+    let property = Property {
+        name,
+        denoter,
+        read,
+        write,
+    };
+    Ok((property, rest))
+}
 
-impl FormBehind for ArrayProperty {
-    type Front = (Stands<sign::Property>, Name);
-
-    fn feature(tokens: &[Token]) -> Option<u8> {
-        match behind_mark(Mark::OpenBracket, tokens) {
-            Some(_) => Some(PROPERTY),
-            None => None,
-        }
+/// The tokens behind a mark of a property, or the form that stands there instead.
+fn property_mark<'a>(mark: Mark, end: Place, tokens: &'a [Token]) -> Result<&'a [Token], ParseError>
+    ensures shorter { IfOk result (λ rest. length rest.now < length tokens.now) }
+{
+    if form_of_property(tokens) {
+        return Err(left_out(PROPERTY, end, tokens));
     }
+    after_mark(mark, end, tokens)
 }
 
-/// An index of a property, behind its type.
-pub struct IndexedProperty;
-
-impl FormBehind for IndexedProperty {
-    type Front = (Unbroken<ArrayProperty, Stands<sign::Colon>>, TypeDenoter);
-
-    fn feature(tokens: &[Token]) -> Option<u8> {
-        let (first, _) = tokens.split_first()?;
-        if is_word(b"index", &first.kind) {
-            Some(PROPERTY)
-        } else {
-            None
-        }
-    }
-}
-
-/// What a property reads and writes.
-#[derive(Drop)]
-pub struct Accessors {
-    pub read: Option<Name>,
-    pub write: Option<Name>,
-}
-
-impl Part for Accessors {
-    ghost use Rattle.op_parse_decl.specs.Combined.{Both, both};
-    ghost use Rattle.op_parse_decl.specs.Properties.{SomeAccessors, known_accessors};
-    ghost use Rattle.op_tree.specs.declared.position.Name.{Name};
-
-    ghost Said = { Both (Option Name) (Option Name) };
-
-    ghost says = { λ x. both x.read x.write };
-
-    ghost phrase = { SomeAccessors };
-
-    ghost least = { 0 };
-
-    fn read<'a>(setting: Setting, tokens: &'a [Token]) -> Answer<'a, Accessors> {
-        let (read, rest) = accessor(setting.alloc, b"read", setting.end, tokens)?;
-        let (write, rest) = accessor(setting.alloc, b"write", setting.end, rest)?;
-        Ok((Accessors { read, write }, rest))
-    }
-
-    ghost known = { known_accessors };
-}
-
-/// The name behind a word, if the word stands there.
+/// What stands behind a word, if that stands there.
 fn accessor<'a>(
     alloc: Global,
     word: &[u8],
     end: Place,
     tokens: &'a [Token],
 ) -> Result<(Option<Name>, &'a [Token]), ParseError>
-    ensures whole { IfOk result (λ f. (d : ℕ) → SomeAccessor word.now d f.0 (terminals tokens.now) (terminals f.1.now)) }
-    ensures refused { IfErr result (λ e. (d : ℕ) → Refuses (SomeAccessor word.now) d end (terminals tokens.now) e) }
     ensures shorter { IfOk result (λ f. length f.1.now ≤ length tokens.now) }
 {
     let Some((first, rest)) = tokens.split_first() else {
@@ -93,35 +61,4 @@ fn accessor<'a>(
     }
     let (name, rest) = name(alloc, end, rest)?;
     Ok((Some(name), rest))
-}
-
-/// A property, and the semicolon behind it.
-impl Made for Property {
-    ghost use Rattle.op_parse_decl.specs.Properties.{made_property};
-    ghost use Rattle.op_tree.specs.Declaration.{Property, property_of};
-    ghost use Rattle.op_tree.specs.HeadingGrammar.{IsProperty};
-
-    type Parts = Unbroken<IndexedProperty, (Accessors, Stands<sign::Semicolon>)>;
-
-    ghost Said = { Property };
-
-    ghost says = { property_of };
-
-    ghost phrase = { IsProperty };
-
-    #[tactic(auto, using(crate::specs::Properties::property_of_parts))]
-    fn of(_alloc: Global, parts: Self::Parts) -> Property {
-        let (named, denoter) = parts.front;
-        let (_, name) = named.front;
-        let (accessors, _) = parts.part;
-        let Accessors { read, write } = accessors;
-        Property {
-            name,
-            denoter,
-            read,
-            write,
-        }
-    }
-
-    ghost made = { made_property };
 }

@@ -1,23 +1,32 @@
 //! Declarations in a row, and routines with what is declared in them (Free Pascal Reference Guide, "Using functions and
 //! procedures").
-ghost use Rattle.std.specs.Prelude.{◌≡◌, ◌≤◌, ◌<◌, IfOk, IfErr, IfSome, MatchOption, length};
+ghost use Rattle.std.specs.Prelude.{◌≡◌, ℕ, ◌≤◌, ◌<◌, IfOk, IfErr, length};
 ghost use Rattle.op_parse_code.specs.Refusal.{Refuses};
-ghost use Rattle.op_parse_decl.specs.Declarations.{AllOf, BehindForward, BlockDeclaration, BodyBefore, is_forward};
-ghost use Rattle.op_tree.specs.Declaration.{Declarations, body, body_of, declaration_of, declarations_of};
-ghost use Rattle.op_tree.specs.Ends.{IsNot};
-ghost use Rattle.op_tree.specs.Statement.{stmts_of};
+ghost use Rattle.op_parse_code.specs.WholeStatement.{front_is};
+ghost use Rattle.op_parse_decl.specs.Declarations.{BodyBefore, RoutineBehind, SomeDeclaration, SomeDeclarations, begins_declaration};
+ghost use Rattle.op_tree.proofs.DeclarationUnique.{begins_data};
+ghost use Rattle.op_tree.specs.Declaration.{body_of, declaration_of, declarations_of, heading_of};
 ghost use Rattle.op_tree.specs.Terminal.{terminals};
 
-use crate::choice::{Either, Form, Unless};
+use crate::choice::{Form, Nested, Unless};
 use crate::declaration::Data;
 use crate::declared_form::form_of_part;
 use crate::leaf::Statements;
-use crate::part::{Answer, Item, Made, Part, Repeated, Setting, Stands, begins};
+use crate::part::{Answer, Item, Made, Part as Read, Repeated, Setting, Stands};
 use crate::sign;
 use op_parse_code::shared::{enter, is_word};
 use op_scan::{Token, TokenKind};
-use op_tree::{Body, Declaration, Directive, Directives, Heading, Method, Routine, Stmt};
+use op_tree::{Body, Declaration, Directive, Directives, Heading, Method, Routine};
 use std::alloc::Global;
+
+/// Where declarations stand.
+#[derive(Clone, Copy, Debug)]
+pub enum Part {
+    /// In the interface part of a unit, where routines have no body.
+    Interface,
+    /// Everywhere else.
+    Block,
+}
 
 /// A declaration that is left out.
 pub struct LeftOut;
@@ -64,120 +73,100 @@ impl Item for Method {
 
     ghost test = { begins_heading };
 
-    fn opens(kind: &TokenKind) -> bool {
-        matches!(
-            kind,
-            TokenKind::Procedure
-                | TokenKind::Function
-                | TokenKind::Constructor
-                | TokenKind::Destructor
-        )
-    }
-
-    ghost moves = { suc-le-suc zero-le };
-}
-
-/// A declaration of an interface part: of a routine the heading alone.
-impl Made for Declaration {
-    ghost use Rattle.op_parse_decl.specs.Declarations.{InterfaceDeclaration};
-    ghost use Rattle.op_parse_decl.specs.Blocks.{made_interface_declaration};
-    ghost use Rattle.op_tree.specs.Declaration.{Declaration, declaration_of};
-
-    type Parts = Either<Data, Method>;
-
-    ghost Said = { Declaration };
-
-    ghost says = { declaration_of };
-
-    ghost phrase = { InterfaceDeclaration };
-
-    #[tactic(auto, using(crate::specs::Blocks::data_of_parts, crate::specs::Blocks::heading_of_parts))]
-    fn of(_alloc: Global, parts: Self::Parts) -> Declaration {
-        match parts {
-            Either::First(data) => data.declaration,
-            Either::Second(method) => Declaration::Heading(method),
+    fn begins(tokens: &[Token]) -> bool {
+        match tokens.split_first() {
+            None => false,
+            Some((first, _)) => matches!(
+                &first.kind,
+                TokenKind::Procedure
+                    | TokenKind::Function
+                    | TokenKind::Constructor
+                    | TokenKind::Destructor
+            ),
         }
     }
 
-    ghost made = { made_interface_declaration };
-}
-
-impl Item for Declaration {
-    ghost use Rattle.std.proofs.Common.{suc-le-suc, zero-le};
-    ghost use Rattle.op_parse_decl.specs.Declarations.{begins_declaration};
-
-    ghost test = { begins_declaration };
-
-    fn opens(kind: &TokenKind) -> bool {
-        Data::opens(kind) || Method::opens(kind)
-    }
-
     ghost moves = { suc-le-suc zero-le };
-}
-
-/// The declarations of a block, as many as stand there.
-#[derive(Drop)]
-pub struct InBlock {
-    pub items: Vec<Declaration>,
-}
-
-impl Part for InBlock {
-    ghost use Rattle.op_parse_decl.specs.Blocks.{known_declarations};
-
-    ghost Said = { Declarations };
-
-    ghost says = { λ x. declarations_of x.items.items };
-
-    ghost phrase = { AllOf BlockDeclaration };
-
-    ghost least = { 0 };
-
-    fn read<'a>(setting: Setting, tokens: &'a [Token]) -> Answer<'a, InBlock> {
-        let (items, rest) = declarations(setting, tokens)?;
-        Ok((InBlock { items }, rest))
-    }
-
-    ghost known = { known_declarations };
 }
 
 /// All declarations at the front.
 #[cycle(declaration)]
-fn declarations<'a>(setting: Setting, tokens: &'a [Token]) -> Answer<'a, Vec<Declaration>>
-    ensures whole { IfOk result (λ f. AllOf BlockDeclaration setting.left (declarations_of f.0.items) (terminals tokens.now) (terminals f.1.now)) }
-    ensures refused { IfErr result (Refuses (AllOf BlockDeclaration) setting.left setting.end (terminals tokens.now)) }
+pub fn declarations<'a>(
+    part: Part,
+    setting: Setting,
+    tokens: &'a [Token],
+) -> Answer<'a, Vec<Declaration>>
+    ensures whole { IfOk result (λ f. SomeDeclarations part setting.left (declarations_of f.0.items) (terminals tokens.now) (terminals f.1.now)) }
+    ensures refused { IfErr result (Refuses (SomeDeclarations part) setting.left setting.end (terminals tokens.now)) }
     ensures shorter { IfOk result (λ f. length f.1.now ≤ length tokens.now) }
 {
-    let mut items = Vec::new(setting.alloc);
+    let mut declarations = Vec::new(setting.alloc);
     let mut rest = tokens;
-    while begins::<Declaration>(rest) {
-        let (item, behind) = declaration(setting, rest)?;
-        items.push(item)?;
+    while begins_declaration(rest) {
+        let (declaration, behind) = declaration(part, setting, rest)?;
+        declarations.push(declaration)?;
         rest = behind;
     }
-    Ok((items, rest))
+    Ok((declarations, rest))
 }
 
-/// One declaration. A routine is counted.
+fn begins_declaration(tokens: &[Token]) -> bool
+    ensures { result ≡ front_is begins_declaration (terminals tokens.now) }
+{
+    begins_data(tokens) || Method::begins(tokens)
+}
+
+/// One declaration.
 #[cycle(declaration)]
-fn declaration<'a>(setting: Setting, tokens: &'a [Token]) -> Answer<'a, Declaration>
-    ensures whole { IfOk result (λ f. BlockDeclaration setting.left (declaration_of f.0) (terminals tokens.now) (terminals f.1.now)) }
-    ensures refused { IfErr result (Refuses BlockDeclaration setting.left setting.end (terminals tokens.now)) }
+fn declaration<'a>(part: Part, setting: Setting, tokens: &'a [Token]) -> Answer<'a, Declaration>
+    ensures whole { IfOk result (λ f. SomeDeclaration part setting.left (declaration_of f.0) (terminals tokens.now) (terminals f.1.now)) }
+    ensures refused { IfErr result (Refuses (SomeDeclaration part) setting.left setting.end (terminals tokens.now)) }
     ensures shorter { IfOk result (λ f. length f.1.now < length tokens.now) }
 {
-    if begins::<Data>(tokens) {
+    if begins_data(tokens) {
         let (data, rest) = Data::read(setting, tokens)?;
         return Ok((data.declaration, rest));
     }
-    let left = enter(setting.left, setting.end, tokens)?;
-    let inside = Setting { left, ..setting };
-    let (method, rest) = Method::read(inside, tokens)?;
-    let (body, rest) = body(inside, rest)?;
+    match part {
+        Part::Interface => {
+            let (method, rest) = Method::read(setting, tokens)?;
+            Ok((Declaration::Heading(method), rest))
+        }
+        Part::Block => {
+            let left = enter(setting.left, setting.end, tokens)?;
+            let (routine, rest) = routine(Setting { left, ..setting }, tokens)?;
+            Ok((Declaration::Routine(routine), rest))
+        }
+    }
+}
+
+fn begins_data(tokens: &[Token]) -> bool
+    ensures { result ≡ front_is begins_data (terminals tokens.now) }
+{
+    match tokens.split_first() {
+        None => false,
+        Some((first, _)) => matches!(
+            &first.kind,
+            TokenKind::Const_ | TokenKind::Type_ | TokenKind::Var
+        ),
+    }
+}
+
+/// A routine, and the semicolon behind it, with the depth inside it.
+#[cycle(declaration)]
+fn routine<'a>(setting: Setting, tokens: &'a [Token]) -> Answer<'a, Routine>
+    ensures whole { IfOk result (λ f. RoutineBehind setting.left (heading_of f.0.heading, f.0.directives, body_of f.0.body) (terminals tokens.now) (terminals f.1.now)) }
+    ensures refused { IfErr result (Refuses RoutineBehind setting.left setting.end (terminals tokens.now)) }
+    ensures shorter { IfOk result (λ f. length f.1.now < length tokens.now) }
+{
+    let (method, rest) = Method::read(setting, tokens)?;
+    let (body, rest) = body(setting, rest)?;
     let routine = Routine {
         heading: method.heading,
         directives: method.directives,
         body,
     };
-    Ok((Declaration::Routine(routine), rest))
+    Ok((routine, rest))
 }
 
 /// What stands behind the heading of a routine, and the semicolon behind it.
@@ -187,35 +176,21 @@ fn body<'a>(setting: Setting, tokens: &'a [Token]) -> Answer<'a, Body>
     ensures refused { IfErr result (Refuses BodyBefore setting.left setting.end (terminals tokens.now)) }
     ensures shorter { IfOk result (λ f. length f.1.now < length tokens.now) }
 {
-    if let Some(rest) = behind_forward(tokens) {
-        let (_, rest) = <Stands<sign::Semicolon>>::read(setting, rest)?;
-        return Ok((Body::Forward, rest));
+    if let Some((first, rest)) = tokens.split_first() {
+        if is_word(b"forward", &first.kind) {
+            let (_, rest) = <Stands<sign::Semicolon>>::read(setting, rest)?;
+            return Ok((Body::Forward, rest));
+        }
     }
-    let (declarations, rest) = declarations(setting, tokens)?;
-    let (((_, (statements, _)), _), rest) = <(Block, Stands<sign::Semicolon>)>::read(
-        setting, rest,
-    )?;
-    Ok((block_body(declarations, statements.items), rest))
-}
-
-fn block_body(declarations: Vec<Declaration>, statements: Vec<Stmt>) -> Body
-    ensures { body_of result ≡ body (declarations_of declarations.items) (stmts_of statements.items) }
-{
-    Body::Block {
-        declarations,
-        statements,
-    }
-}
-
-/// The tokens behind the word `forward`, where they begin with it.
-fn behind_forward(tokens: &[Token]) -> Option<&[Token]>
-    ensures word { MatchOption result (IsNot is_forward (terminals tokens.now)) (λ rest. BehindForward (terminals tokens.now) (terminals rest.now)) }
-    ensures shorter { IfSome result (λ rest. length rest.now < length tokens.now) }
-{
-    let (first, rest) = tokens.split_first()?;
-    if is_word(b"forward", &first.kind) {
-        Some(rest)
-    } else {
-        None
-    }
+    let (declarations, rest) = declarations(Part::Block, setting, tokens)?;
+    let ((_, (statements, _)), rest) = Block::read(setting, rest)?;
+    let (_, rest) = <Stands<sign::Semicolon>>::read(setting, rest)?;
+    let statements = statements.items;
+    Ok((
+        Body::Block {
+            declarations,
+            statements,
+        },
+        rest,
+    ))
 }

@@ -46,39 +46,6 @@ impl Sign for Equal {
     }
 }
 
-/// `array`
-pub struct Array;
-
-impl Sign for Array {
-    ghost sign = { mark.Array };
-
-    fn sign() -> Mark {
-        Mark::Array
-    }
-}
-
-/// `of`
-pub struct Of;
-
-impl Sign for Of {
-    ghost sign = { mark.Of };
-
-    fn sign() -> Mark {
-        Mark::Of
-    }
-}
-
-/// `property`
-pub struct Property;
-
-impl Sign for Property {
-    ghost sign = { mark.Property };
-
-    fn sign() -> Mark {
-        Mark::Property
-    }
-}
-
 /// `uses`
 pub struct Uses;
 
@@ -263,16 +230,5 @@ impl Sign for Unit {
 
     fn sign() -> Mark {
         Mark::Unit
-    }
-}
-
-/// `type`
-pub struct Type_;
-
-impl Sign for Type_ {
-    ghost sign = { mark.Type_ };
-
-    fn sign() -> Mark {
-        Mark::Type_
     }
 }

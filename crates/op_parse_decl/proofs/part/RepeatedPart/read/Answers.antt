@@ -5,7 +5,7 @@ use Rattle.op_parse_decl.proofs.Combining.{front_begins, front_not, repeating_no
 use Rattle.op_parse_decl.proofs.part.RepeatedPart.read.Goals as goal
 
 pub loop-setting-init : goal.loop-setting-init
-loop-setting-init g c = (rw c.new-items.ensures.items (repeating_none _ _ _ _ _), omega arith)
+loop-setting-init g c = (rw c.new-items.ensures.items (repeating_none _ _ _ _ _ _), omega arith)
 
 pub returns-in_err-item-clause-refused : goal.returns-in_err-item-clause-refused
 returns-in_err-item-clause-refused g c = passed c.from_residual.result c.from_residual.ensures.1 (λ y e. rw e (repeating_item _ _ _ _ _ _ _ _ _ c.loop-setting.invariant.0 (front_begins _ _ (sym c.begins.ensures ∙ c.loop-setting-test.true)) c.in_err-item.ensures.refused))
