@@ -1,0 +1,13 @@
+pub mod Expression
+pub mod Faults
+pub mod Heading
+pub mod Initial
+pub mod Members
+pub mod Nodes
+pub mod Rows
+pub mod Sizes
+pub mod Sound
+pub mod Statement
+pub mod StatementTyping
+pub mod Types
+pub mod Typing

@@ -1,0 +1,251 @@
+-- What every typed program keeps that the checker gives. The limits are those of this compiler.
+use Rattle.std.specs.Prelude.{◌≡◌, ℕ, suc, pos, ◌+◌, ◌<◌, ◌≤◌, ◌≤ℤ◌, ◌≢◌, Bool, true, false, List, [], ◌∷◌, Option, Some, None, IsSome, IsTrue, IsSomeAnd, IfSome, length, slice_get, map, codes, replicate, ◌⊎◌}
+use Rattle.std.specs.Char.{to_ascii_lowercase}
+use Rattle.std.specs.List.{All, Contains, filter, flat_map, sum_by}
+use Rattle.std.specs.Option.{option_and_then, option_map}
+use Rattle.op_core.specs.Heading.{is_same_heading}
+use Rattle.op_core.specs.Initial.{FirstValue, constant, parts, FirstValues, no_values, values, first_value_of}
+use Rattle.op_core.specs.Members.{There, Kind, InRun, Descends, AsksFor, HasMethod}
+use Rattle.op_core.specs.Rows.{rows}
+use Rattle.op_core.specs.Sizes.{type_at, range_of, values_of, extent_of}
+use Rattle.op_core.specs.Statement.{stmts_of}
+use Rattle.op_core.specs.StatementTyping.{AreStatements, Here}
+use Rattle.op_core.specs.Typing.{Sees, Fits, IsOrdinal, Within, element_of}
+use Rattle.op_core.specs.declared.class.Accessor.{Accessor}
+use Rattle.op_core.specs.declared.class.Accessor.TheVariants.{Field as ByField, Method as ByMethod}
+use Rattle.op_core.specs.declared.class.Binding.TheVariants.{Static, Override}
+use Rattle.op_core.specs.declared.class.Class.{Class as RustClass}
+use Rattle.op_core.specs.declared.class.Interface.{Interface as Face}
+use Rattle.op_core.specs.declared.class.Method.{Method}
+use Rattle.op_core.specs.declared.class.Property.{Property}
+use Rattle.op_core.specs.declared.ids.ClassId.{ClassId}
+use Rattle.op_core.specs.declared.ids.InterfaceId.{InterfaceId}
+use Rattle.op_core.specs.declared.ids.RoutineId.{RoutineId}
+use Rattle.op_core.specs.declared.ids.Run.{Run}
+use Rattle.op_core.specs.declared.ids.TypeId.{TypeId}
+use Rattle.op_core.specs.declared.ids.VariableId.{VariableId}
+use Rattle.op_core.specs.declared.program.Core.{Core}
+use Rattle.op_core.specs.declared.program.ExceptionClasses.{ExceptionClasses}
+use Rattle.op_core.specs.declared.program.Unit.{Unit as RustUnit}
+use Rattle.op_core.specs.declared.routine.Owner.{Owner}
+use Rattle.op_core.specs.declared.routine.Owner.TheVariants.{Unit as OfUnit, Class as OfClass, Interface as OfInterface}
+use Rattle.op_core.specs.declared.routine.Role.{Role}
+use Rattle.op_core.specs.declared.routine.Role.TheVariants.{Plain, Constant}
+use Rattle.op_core.specs.declared.routine.Routine.{Routine}
+use Rattle.op_core.specs.declared.routine.Variable.{Variable}
+use Rattle.op_core.specs.declared.types.CoreType.{CoreType}
+use Rattle.op_core.specs.declared.types.CoreType.TheVariants.{Enumeration, Subrange, Set, Record, Array, DynamicArray, OpenArray, Class, Interface, Broken}
+use Rattle.op_tree.specs.declared.heading.RoutineKind.TheVariants.{Destructor}
+
+-- ---- ids in range
+
+abbrev Row : {A : Type 0} → List A → ℕ → Type 0
+Row table n = n < length table
+
+abbrev Fit : {A : Type 0} → List A → Run → Type 0
+Fit table run = run.first + run.count ≤ length table
+
+-- this holds of each row, by its number
+abbrev Each : {A : Type 0} → List A → (ℕ → A → Type 0) → Type 0
+Each {A} table P = (n : ℕ) (a : A) → slice_get table n ≡ Some a → P n a
+
+-- ---- chains of ancestors, and of routines round a routine
+
+-- so many steps lead to one that has nothing above it
+pub data Depth (above : ℕ → Option ℕ) : ℕ → ℕ → Type 0 where
+  top : {n : ℕ} → above n ≡ None → Depth above n 0
+  below : {n m k : ℕ} → above n ≡ Some m → Depth above m k → Depth above n (suc k)
+
+abbrev EndsWithin : ℕ → (ℕ → Option ℕ) → ℕ → Type 0
+EndsWithin most above n = (k : ℕ) × Depth above n k × (k ≤ most)
+
+abbrev ancestor_of : Core → ℕ → Option ℕ
+ancestor_of core n = option_and_then (λ x. option_map (λ a. a.0) x.ancestor) (slice_get core.classes n)
+
+abbrev extended_by : Core → ℕ → Option ℕ
+extended_by core n = option_and_then (λ x. option_map (λ a. a.0) x.ancestor) (slice_get core.interfaces n)
+
+abbrev enclosing_of : Core → ℕ → Option ℕ
+enclosing_of core n = option_and_then (λ x. option_map (λ a. a.0) x.enclosing) (slice_get core.routines n)
+
+-- ---- types
+
+abbrev IsRange : Core → ℕ → TypeId → Type 0
+IsRange core n base = (base.0 < n) × IsOrdinal core base
+
+abbrev IsTypeRow : Core → ℕ → CoreType → Type 0
+IsTypeRow core n (Enumeration count) = (0 < count) × (count ≤ 65536)
+IsTypeRow core n (Subrange base low high) = IsRange core n base × IsSomeAnd (range_of (type_at core base)) (λ r. Within r low × Within r high) × (low ≤ℤ high)
+IsTypeRow core n (Set base) = IsRange core n base × IsSomeAnd (range_of (type_at core base)) (λ r. (pos 0 ≤ℤ r.0) × (r.1 ≤ℤ pos 31))
+IsTypeRow core n (Record fields) = Fit core.fields fields × All (λ f. f.of.0 < n) (rows core.fields fields)
+IsTypeRow core n (Array index element) = IsRange core n index × (element.0 < n)
+IsTypeRow core n (DynamicArray element) = Row core.types element.0
+IsTypeRow core n (OpenArray element) = Row core.types element.0
+IsTypeRow core n (Class c) = There core.classes c.0 (λ x. x.of.0 ≡ n)
+IsTypeRow core n (Interface i) = There core.interfaces i.0 (λ x. x.of.0 ≡ n)
+IsTypeRow core n Broken = ⊥
+IsTypeRow core n _ = Unit {0}
+
+-- the second is a part of the first through records and arrays alone
+pub data Holds (core : Core) : TypeId → TypeId → Type 0 where
+  of_element : {a b : TypeId} → element_of (type_at core a) ≡ Some b → Holds core a b
+  of_field : {a b : TypeId} {fields : Run} → Kind core a (Record fields) → Contains (map (λ f. f.of) (rows core.fields fields)) b → Holds core a b
+  through : {a b c : TypeId} → Holds core a b → Holds core b c → Holds core a c
+
+abbrev size_of : Core → TypeId → ℕ
+size_of core of = (extent_of core of).size
+
+-- ---- classes and interfaces
+
+abbrev lower : List ℕ → List ℕ
+lower text = map to_ascii_lowercase text
+
+-- the two routines have the same name and the same heading
+abbrev Matches : Core → RoutineId → RoutineId → Type 0
+Matches core a b = There core.routines a.0 (λ x. There core.routines b.0 (λ y. (lower x.name.text ≡ lower y.name.text) × IsTrue (is_same_heading core x y)))
+
+-- an ancestor has a virtual method that this one takes the place of
+pub record Overrides (core : Core) (parent : ClassId) (m : Method) : Type 0 where
+  pub owner : ClassId
+  pub descends : Descends core parent owner
+  pub old : Method
+  pub declares : There core.classes owner.0 (λ x. Contains (rows core.methods x.methods) old)
+  pub is_virtual : old.binding ≢ Static
+  pub matches : Matches core old.routine m.routine
+
+-- the one destructor is Destroy, without parameters; it is overridden everywhere but in TObject
+abbrev IsDestructor : RustClass → Method → Routine → Type 0
+IsDestructor x m r = (lower r.name.text ≡ codes "destroy") × (r.parameters.count ≡ 0) × (IsSome x.ancestor → m.binding ≡ Override)
+
+pub record IsMethod (core : Core) (n : ℕ) (x : RustClass) (m : Method) (r : Routine) : Type 0 where
+  pub owner : r.owner ≡ OfClass (record { 0 = n })
+  pub overrides : m.binding ≡ Override → IsSomeAnd x.ancestor (λ a. Overrides core a m)
+  pub destructor : r.kind ≡ Destructor → IsDestructor x m r
+  pub body : m.is_abstract ≡ false → IsSome r.body
+
+abbrev IsAccessor : Core → Accessor → Type 0
+IsAccessor core (ByField f) = Row core.fields f.0
+IsAccessor core (ByMethod r) = Row core.routines r.0
+
+abbrev IsProperty : Core → Property → Type 0
+IsProperty core p = Row core.types p.of.0 × IfSome p.read (IsAccessor core) × IfSome p.write (IsAccessor core)
+
+pub record IsClass (core : Core) (n : ℕ) (x : RustClass) : Type 0 where
+  pub of : Kind core x.of (Class (record { 0 = n }))
+  pub unit : Row core.units x.unit.0
+  pub complete : x.complete ≡ true
+  pub root : x.ancestor ≡ None → n ≡ 0
+  pub ancestors : EndsWithin 64 (ancestor_of core) n
+  pub runs : Fit core.listed x.interfaces × Fit core.fields x.fields × Fit core.methods x.methods × Fit core.properties x.properties
+  pub fields : All (λ f. Row core.types f.of.0) (rows core.fields x.fields)
+  pub properties : All (IsProperty core) (rows core.properties x.properties)
+  pub methods : All (λ m. There core.routines m.routine.0 (IsMethod core n x m)) (rows core.methods x.methods)
+  pub interfaces : All (λ i. Row core.interfaces i.0) (rows core.listed x.interfaces)
+  pub implements : (i : InterfaceId) → Contains (rows core.listed x.interfaces) i → (asked : RoutineId) → AsksFor core i asked → (own : RoutineId) × HasMethod core (record { 0 = n }) own × Matches core own asked
+
+pub record IsInterface (core : Core) (n : ℕ) (x : Face) : Type 0 where
+  pub of : Kind core x.of (Interface (record { 0 = n }))
+  pub unit : Row core.units x.unit.0
+  pub complete : x.complete ≡ true
+  pub ancestors : EndsWithin (length core.interfaces) (extended_by core) n
+  pub methods : Fit core.methods x.methods × All (λ m. There core.routines m.routine.0 (λ r. r.owner ≡ OfInterface (record { 0 = n }))) (rows core.methods x.methods)
+
+-- ---- variables and routines
+
+abbrev mutual
+  IsFirst : Core → CoreType → TypeId → FirstValue → Type 0
+  IsFirst core t of (constant v) = Fits core v of
+  IsFirst core (Record fields) of (parts vs) = AreFirst core (map (λ f. f.of) (rows core.fields fields)) vs
+  IsFirst core (Array index element) of (parts vs) = AreFirst core (replicate (values_of (range_of (type_at core index))) element) vs
+  IsFirst core _ of (parts vs) = ⊥
+
+  AreFirst : Core → List TypeId → FirstValues → Type 0
+  AreFirst core [] no_values = Unit {0}
+  AreFirst core (of ∷ ofs) (values v vs) = IsSomeAnd (type_at core of) (λ t. IsFirst core t of v) × AreFirst core ofs vs
+  AreFirst core _ _ = ⊥
+
+abbrev IsVariableRow : Core → Variable → Type 0
+IsVariableRow core v = IsSomeAnd (type_at core v.of) (λ t. IfSome v.first_value (λ i. IsFirst core t v.of (first_value_of i)))
+
+abbrev is_declared : Role → Bool
+is_declared Plain = true
+is_declared Constant = true
+is_declared _ = false
+
+-- together, in bytes
+abbrev bytes_of : Core → List Variable → ℕ
+bytes_of core vs = sum_by (λ v. size_of core v.of) vs
+
+abbrev at_start : Routine → Here
+at_start r = record { result = r.result; handler = false; loop = false; routine = true }
+
+abbrev IsBody : Core → Sees → Routine → Type 0
+IsBody core sees r = IfSome r.body (λ b. AreStatements core sees (at_start r) (stmts_of b.statements.items))
+
+abbrev IsOwner : Core → Owner → Type 0
+IsOwner core OfUnit = Unit {0}
+IsOwner core (OfClass c) = Row core.classes c.0
+IsOwner core (OfInterface i) = Row core.interfaces i.0
+
+pub record IsRoutine (core : Core) (r : Routine) : Type 0 where
+  pub unit : Row core.units r.unit.0
+  pub owner : IsOwner core r.owner
+  pub enclosing : IfSome r.enclosing (λ e. Row core.routines e.0)
+  pub runs : Fit core.parameters r.parameters × Fit core.variables r.variables
+  pub parameters : All (λ p. Row core.types p.of.0) (rows core.parameters r.parameters)
+  pub result : IfSome r.result (λ of. Row core.types of.0)
+  pub has_body : r.owner ≡ OfUnit → IsSome r.body
+  pub locals : bytes_of core (filter (λ v. is_declared v.role) (rows core.variables r.variables)) ≤ 1048576
+
+-- ---- programs
+
+abbrev IsPart : Core → Option RoutineId → Type 0
+IsPart core part = IfSome part (λ p. There core.routines p.0 (λ r. (r.owner ≡ OfUnit) × (r.parameters.count ≡ 0)))
+
+abbrev IsUnit : Core → RustUnit → Type 0
+IsUnit core u = Fit core.variables u.globals × IsPart core u.initialization × IsPart core u.finalization
+
+abbrev AreExceptions : Core → ExceptionClasses → Type 0
+AreExceptions core x =
+    All (λ c. Row core.classes c.0 × Descends core c x.exception) (x.exception ∷ x.zero_divisor ∷ x.range ∷ x.overflow ∷ x.cast ∷ [])
+    × There core.classes x.exception.0 (λ c. InRun c.fields x.message.0)
+
+-- bodies may name whatever is there
+abbrev everything : Core → Sees
+everything core = record { variable = λ v. Row core.variables v.0; routine = λ r. Row core.routines r.0 }
+
+pub record IsSound (core : Core) : Type 0 where
+  pub types : Each core.types (IsTypeRow core)
+  pub finite : (a : TypeId) → Holds core a a → ⊥
+  pub sizes : Each core.types (λ n t. size_of core (record { 0 = n }) ≤ 1048576)
+  pub classes : Each core.classes (IsClass core)
+  pub interfaces : Each core.interfaces (IsInterface core)
+  pub descriptions : length core.classes + length core.interfaces ≤ 4096
+  pub variables : All (IsVariableRow core) core.variables
+  pub routines : All (IsRoutine core) core.routines
+  pub bodies : All (IsBody core (everything core)) core.routines
+  pub units : All (IsUnit core) core.units
+  pub globals : bytes_of core (flat_map (λ u. rows core.variables u.globals) core.units) ≤ 8388608
+  pub exceptions : IfSome core.exceptions (AreExceptions core)
+
+-- ---- nesting
+
+-- it is the routine, or stands round it
+pub data Encloses (core : Core) : ℕ → ℕ → Type 0 where
+  itself : {n : ℕ} → Encloses core n n
+  further : {n m k : ℕ} → enclosing_of core n ≡ Some m → Encloses core m k → Encloses core n k
+
+abbrev IsGlobal : Core → VariableId → Type 0
+IsGlobal core v = (u : RustUnit) × Contains core.units u × InRun u.globals v.0
+
+-- globals and the variables of the routine and of those round it, routines that stand in none or in one of these
+abbrev within : Core → ℕ → Sees
+within core n = record {
+  variable = λ v. IsGlobal core v ⊎ ((m : ℕ) × Encloses core n m × There core.routines m (λ r. InRun r.variables v.0));
+  routine = λ r. There core.routines r.0 (λ x. (x.enclosing ≡ None) ⊎ IsSomeAnd x.enclosing (λ e. Encloses core n e.0));
+}
+
+pub record IsSoundNesting (core : Core) : Type 0 where
+  pub methods : All (λ r. r.owner ≢ OfUnit → r.enclosing ≡ None) core.routines
+  pub ends : Each core.routines (λ n r. EndsWithin (length core.routines) (enclosing_of core) n)
+  pub bodies : Each core.routines (λ n r. IsBody core (within core n) r)

@@ -1,0 +1,6 @@
+pub mod Assignable
+pub mod Constants
+pub mod Names
+pub mod Operators
+pub mod Sorts
+pub mod Values

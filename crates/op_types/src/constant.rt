@@ -1,0 +1,245 @@
+//! Constant expressions (Free Pascal Reference Guide, "Ordinary constants").
+ghost use Rattle.std.specs.Prelude.{◌≡◌, IfOk};
+ghost use Rattle.std.specs.Option.{option_map};
+ghost use Rattle.op_tree.specs.Expression.{argument_of, arguments, call, designator, expr_of, named, no_arguments, no_selectors, prefixed, selector_of, selectors};
+ghost use Rattle.op_tree.specs.Lists.{arguments_of, operations_of};
+ghost use Rattle.op_tree.specs.Statement.{designator_of};
+ghost use Rattle.op_types.specs.Constants.{FoldIs, Gives, GivesBehind, constant, designated_constant, in_brackets, sole, sole_means, use_means};
+
+use crate::part::{is_folded, joined, made, number_behind, refuse, start_of};
+use crate::{Setting, Visible};
+use op_base::{NoMemory, Place};
+use op_core::{CheckError, Const, Core, FirstRefusal, Function, TypeId};
+use op_tree::{
+    Argument, Designator, Expr, Name, Operation, Position, PrefixOperator, Root, Selector,
+};
+use std::alloc::Global;
+
+/// The value of a constant expression, with its type. It stands for so many nodes of the text.
+#[derive(Drop)]
+pub struct Constant {
+    pub value: Const,
+    pub of: TypeId,
+    pub nodes: u32,
+}
+
+/// A constant; None where a rule is broken in it.
+pub type Part = Result<Option<Constant>, NoMemory>;
+
+/// The same of an expression; None where it is no constant expression.
+pub type Folded = Result<Option<Option<Constant>>, NoMemory>;
+
+/// What a call of a name with one argument does.
+#[derive(Clone, Copy)]
+pub enum Use {
+    /// The name is unknown.
+    Unknown,
+    /// Its declaration breaks a rule.
+    Silent,
+    /// Low or High of a type.
+    Bound(Function),
+    Apply(Applied),
+}
+
+/// What is done with the one argument of a call.
+#[derive(Clone, Copy)]
+pub enum Applied {
+    Cast(TypeId),
+    Function(Function),
+}
+
+/// What a constant expression is, None where it is no constant expression; or the first rule that it breaks.
+pub fn fold(
+    alloc: Global,
+    core: &Core,
+    visible: &Visible,
+    e: &Expr,
+) -> Result<Option<Const>, CheckError>
+    ensures { FoldIs (constant core.now visible.now (expr_of e.now)) result }
+{
+    let mut sink = FirstRefusal::new();
+    let setting = Setting {
+        alloc,
+        core,
+        visible,
+    };
+    match setting.constant(&mut sink, e)? {
+        None => Ok(None),
+        Some(typed) => sink.or_typed(value_of(typed)),
+    }
+}
+
+fn value_of(typed: Option<Constant>) -> Option<Const>
+    ensures { result ≡ option_map (λ c. c.value) typed }
+{
+    match typed {
+        None => None,
+        Some(constant) => Some(constant.value),
+    }
+}
+
+impl<'a> Setting<'a> {
+    /// What a constant expression means; its faults go into the sink.
+    #[cycle(folding)]
+    pub fn constant(self, sink: &mut FirstRefusal, e: &Expr) -> Folded
+        ensures { IfOk result (Gives (constant self.entry.core.now self.entry.visible.now (expr_of e.now)) sink.old sink.new) }
+    {
+        match e {
+            Expr::Chain { first, rest } => {
+                let a = self.constant(sink, first)?;
+                self.operations(sink, start_of(first), a, rest)
+            }
+            Expr::Prefix {
+                operator,
+                position,
+                operand,
+            } => { self.signed(sink, *operator, *position, operand) }
+            Expr::Number { value, position } => {
+                Ok(Some(self.numeral(sink, position.place, 1, *value as i64)))
+            }
+            Expr::Nil { .. } => Ok(Some(Some(made(Const::Nil, TypeId::NIL, 1)))),
+            Expr::Literal {
+                text,
+                selectors,
+                ..
+            } => self.literal(text.as_slice(), selectors),
+            Expr::Designator(called) => self.designated(sink, called),
+            Expr::Set { .. } => Ok(None),
+            Expr::Inherited { .. } => Ok(None),
+        }
+    }
+
+    /// Operators and operands behind a first operand, in an expression that begins at `start`.
+    #[cycle(folding)]
+    fn operations(
+        self,
+        sink: &mut FirstRefusal,
+        start: Place,
+        first: Option<Option<Constant>>,
+        rest: &[Operation],
+    ) -> Folded
+        ensures { IfOk result (GivesBehind self.entry.core.now self.entry.visible.now start first (operations_of rest.now) sink.old sink.new) }
+    {
+        let Some(mut a) = first else {
+            return Ok(None);
+        };
+        for operation in rest {
+            let Some(b) = self.constant(sink, &operation.operand)? else {
+                return Ok(None);
+            };
+            if !is_folded(operation.operator) {
+                return Ok(None);
+            }
+            let place = operation.position.place;
+            a = self.operation(sink, start, operation.operator, place, a, b)?;
+        }
+        Ok(Some(a))
+    }
+
+    /// A sign or `not` before an operand.
+    #[cycle(folding)]
+    fn signed(
+        self,
+        sink: &mut FirstRefusal,
+        operator: PrefixOperator,
+        position: Position,
+        operand: &Expr,
+    ) -> Folded
+        ensures { IfOk result (Gives (constant self.entry.core.now self.entry.visible.now (prefixed operator position (expr_of operand.now))) sink.old sink.new) }
+    {
+        if let Some((n, at)) = number_behind(operator, operand) {
+            return Ok(Some(self.numeral(sink, at, 2, -(n as i64))));
+        }
+        match self.constant(sink, operand)? {
+            None => Ok(None),
+            Some(None) => Ok(Some(None)),
+            Some(Some(a)) => Ok(Some(self.prefix(sink, position.place, operator, a))),
+        }
+    }
+
+    #[cycle(folding)]
+    fn designated(self, sink: &mut FirstRefusal, called: &Designator) -> Folded
+        ensures { IfOk result (Gives (designated_constant self.entry.core.now self.entry.visible.now (designator_of called.now)) sink.old sink.new) }
+    {
+        match (&called.root, called.selectors.split_first()) {
+            (Root::Named(name), None) => {
+                let meaning = self.visible.look_up(name.text.as_slice())?;
+                self.name(sink, name.position.place, meaning)
+            }
+            (Root::Named(name), Some((first, others))) => match others.split_first() {
+                None => self.selected(sink, name, first),
+                Some(_) => Ok(None),
+            },
+            (Root::Bracketed { inside, .. }, None) => self.bracketed(sink, inside),
+            _ => Ok(None),
+        }
+    }
+
+    #[cycle(folding)]
+    fn bracketed(self, sink: &mut FirstRefusal, inside: &Expr) -> Folded
+        ensures { IfOk result (Gives (option_map in_brackets (constant self.entry.core.now self.entry.visible.now (expr_of inside.now))) sink.old sink.new) }
+    {
+        match self.constant(sink, inside)? {
+            None => Ok(None),
+            Some(None) => Ok(Some(None)),
+            Some(Some(a)) => Ok(Some(Some(made(a.value, a.of, joined(a.nodes, 0))))),
+        }
+    }
+
+    /// A name, and the one thing that is selected of it.
+    #[cycle(folding)]
+    fn selected(self, sink: &mut FirstRefusal, name: &Name, first: &Selector) -> Folded
+        ensures { IfOk result (Gives (designated_constant self.entry.core.now self.entry.visible.now (designator (named name.now) (selectors (selector_of first.now) no_selectors))) sink.old sink.new) }
+    {
+        match first {
+            Selector::Member(member) => self.member(sink, name, member),
+            Selector::Call { arguments } => self.call(sink, name, arguments),
+            Selector::Index { .. } => Ok(None),
+        }
+    }
+
+    /// A name with one list of arguments.
+    #[cycle(folding)]
+    fn call(self, sink: &mut FirstRefusal, name: &Name, list: &[Argument]) -> Folded
+        ensures { IfOk result (Gives (designated_constant self.entry.core.now self.entry.visible.now (designator (named name.now) (selectors (call (arguments_of list.now)) no_selectors))) sink.old sink.new) }
+    {
+        let place = name.position.place;
+        match self.use_of(self.visible.look_up(name.text.as_slice())?) {
+            None => Ok(None),
+            Some(Use::Unknown) => Ok(Some(refuse(sink, 15, place))),
+            Some(Use::Silent) => Ok(Some(None)),
+            Some(Use::Bound(function)) => match self.type_named(list)? {
+                None => Ok(None),
+                Some((of, at)) => Ok(Some(self.bound(sink, function, of, at))),
+            },
+            Some(Use::Apply(what)) => match list.split_first() {
+                None => Ok(Some(refuse(sink, 26, place))),
+                Some((first, others)) => match others.split_first() {
+                    None => self.argument(sink, what, place, first),
+                    Some(_) => Ok(Some(refuse(sink, 26, place))),
+                },
+            },
+        }
+    }
+
+    /// A cast or a function at a place, of the one argument.
+    #[cycle(folding)]
+    fn argument(
+        self,
+        sink: &mut FirstRefusal,
+        what: Applied,
+        place: Place,
+        first: &Argument,
+    ) -> Folded
+        ensures { IfOk result (Gives (sole_means place (use_means self.entry.core.now what place) (sole self.entry.core.now self.entry.visible.now (arguments (argument_of first.now) no_arguments))) sink.old sink.new) }
+    {
+        match first {
+            Argument::Value(e) => match self.constant(sink, e)? {
+                None => Ok(None),
+                Some(None) => Ok(Some(None)),
+                Some(Some(a)) => Ok(Some(self.used(sink, what, place, start_of(e), a)?)),
+            },
+            _ => Ok(Some(refuse(sink, 26, place))),
+        }
+    }
+}

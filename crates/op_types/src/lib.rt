@@ -1,0 +1,27 @@
+//! Types, names and constants: what the rules of expressions stand on.
+//!
+//! A type has a size, is managed or not, and has a sort, which tells what operators are defined on it; a type is assignable to
+//! another one or not. `Visible` is the list of visible names with what each stands for. `fold` evaluates constant
+//! expressions: exactly their value, or the first rule that they break. The checker of expressions asks the same tables.
+#![tactic(auto)]
+
+mod assign;
+mod constant;
+mod operator;
+mod part;
+mod setting;
+mod size;
+mod sort;
+mod value;
+mod visible;
+
+pub use assign::assignable;
+pub use constant::{Applied, Constant, Folded, Part, Use, fold};
+pub use operator::{application, operation, prefixed};
+pub use setting::Setting;
+pub use size::{extent_of, is_managed, range_of, size_of, values_of};
+pub use sort::{OrdinalKind, Sort, kind_of, sort_of};
+pub use visible::{BuiltIn, Meaning, Visible};
+
+#[cfg(test)]
+mod tests;

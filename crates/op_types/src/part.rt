@@ -1,0 +1,360 @@
+//! What the parts of constant expressions mean, once their own parts are constants.
+ghost use Rattle.std.specs.Prelude.{◌≡◌, [], Some, None, IfOk, if◌then◌else◌};
+ghost use Rattle.std.specs.Option.{option_copied, option_map};
+ghost use Rattle.op_core.specs.Faults.{refused};
+ghost use Rattle.op_tree.specs.Expression.{expr_of};
+ghost use Rattle.op_tree.specs.Lists.{arguments_of};
+ghost use Rattle.op_types.specs.Constants.{Gives, Reports, application_means, bound_means, cast_means, entered, is_folded, joined, literal_means, made, member_means, name_means, number_behind, numeral, only_value, operation_means, prefix_means, rule_of, start_of, type_named, type_of_name, type_of_value, use_means, use_of, use_of_function};
+ghost use Rattle.op_types.specs.Names.{lower, meaning_of};
+ghost use Rattle.op_tree.specs.Statement.{designator_of, selectors_of};
+
+use crate::constant::{Applied, Constant, Folded, Part, Use};
+use crate::operator::{application, operation, prefixed};
+use crate::sort::{Sort, kind_of, sort_of};
+use crate::value::{applied, before, bound_of, cast, number_of, operated, within};
+use crate::{BuiltIn, Meaning, Setting};
+use op_base::{NoMemory, Place, Refusal, Rule, Sequence, Text};
+use op_core::{Const, FirstRefusal, Function, TypeId};
+use op_tree::{Argument, Designator, Expr, Name, Operator, PrefixOperator, Root, Selector};
+use std::alloc::Global;
+
+/// Reports the rule at a place.
+pub fn refuse(sink: &mut FirstRefusal, number: u8, place: Place) -> Option<Constant>
+    ensures { Reports (refused number place) sink.old sink.new result }
+{
+    let rule = Rule { number, feature: 0 };
+    sink.report(Refusal { rule, place });
+    None
+}
+
+pub fn made(value: Const, of: TypeId, nodes: u32) -> Constant
+    ensures { result ≡ made value of nodes }
+{
+    Constant { value, of, nodes }
+}
+
+/// So many nodes and one more.
+pub fn joined(a: u32, b: u32) -> u32
+    ensures { result ≡ joined a b }
+{
+    a.saturating_add(b).saturating_add(1)
+}
+
+/// The first token of an expression.
+pub fn start_of(e: &Expr) -> Place
+    ensures { result ≡ start_of (expr_of e.now) }
+{
+    match e {
+        Expr::Chain { first, .. } => start_of(first),
+        Expr::Prefix { position, .. }
+        | Expr::Number { position, .. }
+        | Expr::Nil { position }
+        | Expr::Set { position, .. }
+        | Expr::Literal { position, .. }
+        | Expr::Inherited { position, .. } => position.place,
+        Expr::Designator(called) => match &called.root {
+            Root::Named(name) => name.position.place,
+            Root::String { position } | Root::Bracketed { position, .. } => position.place,
+        },
+    }
+}
+
+pub fn number_behind(operator: PrefixOperator, operand: &Expr) -> Option<(u32, Place)>
+    ensures { result ≡ number_behind operator (expr_of operand.now) }
+{
+    match (operator, operand) {
+        (PrefixOperator::Minus, Expr::Number { value, position }) => Some((*value, position.place)),
+        _ => None,
+    }
+}
+
+/// Whether constants have such an operator.
+pub fn is_folded(operator: Operator) -> bool
+    ensures { result ≡ is_folded operator }
+{
+    !matches!(operator, Operator::In_ | Operator::Is | Operator::As_)
+}
+
+/// The one argument of a call, where it is a value without a width.
+pub fn only_value(arguments: &[Argument]) -> Option<&Expr>
+    ensures { option_map (λ e. expr_of e.now) result ≡ only_value (arguments_of arguments.now) }
+{
+    let (first, others) = arguments.split_first()?;
+    match (first, others.split_first()) {
+        (Argument::Value(e), None) => Some(e),
+        _ => None,
+    }
+}
+
+/// A constant, where there is such a value; else the rule is broken at the place.
+fn entered(
+    sink: &mut FirstRefusal,
+    rule: (u8, Place),
+    of: TypeId,
+    nodes: u32,
+    value: Option<Const>,
+) -> Option<Constant>
+    ensures { Reports (entered rule.0 rule.1 of nodes value) sink.old sink.new result }
+{
+    match value {
+        None => refuse(sink, rule.0, rule.1),
+        Some(value) => Some(made(value, of, nodes)),
+    }
+}
+
+fn copy_of(alloc: Global, value: &Const) -> Result<Const, NoMemory>
+    ensures { IfOk result (λ v. v ≡ value.now) }
+{
+    match value {
+        Const::Ordinal(n) => Ok(Const::Ordinal(*n)),
+        Const::Text(text) => Ok(Const::Text(Text::copy_of(alloc, text.as_slice())?)),
+        Const::Set(members) => {
+            Ok(Const::Set(Sequence::from(Vec::from_slice(alloc, members.as_slice())?)))
+        }
+        Const::Nil => Ok(Const::Nil),
+    }
+}
+
+/// The rule that an argument breaks which the function does not take.
+fn rule_of(function: Function) -> u8
+    ensures { result ≡ rule_of function }
+{
+    match function {
+        Function::Ord | Function::Succ | Function::Pred => 23,
+        _ => 20,
+    }
+}
+
+fn use_of_function(function: Function) -> Option<Use>
+    ensures { result ≡ use_of_function function }
+{
+    match function {
+        Function::Low | Function::High => Some(Use::Bound(function)),
+        Function::Ord
+        | Function::Succ
+        | Function::Pred
+        | Function::Abs
+        | Function::Sqr
+        | Function::Odd
+        | Function::Length => Some(Use::Apply(Applied::Function(function))),
+        _ => None,
+    }
+}
+
+impl<'a> Setting<'a> {
+    /// A number; `nodes` are one, or two with a minus before it.
+    pub fn numeral(
+        self,
+        sink: &mut FirstRefusal,
+        place: Place,
+        nodes: u32,
+        n: i64,
+    ) -> Option<Constant>
+        ensures { Reports (numeral place nodes n) sink.old sink.new result }
+    {
+        entered(sink, (36, place), TypeId::INTEGER, nodes, within(n))
+    }
+
+    /// A literal, and what is selected of it. A text of one byte is a Char until a string is needed.
+    pub fn literal(self, text: &[u8], selectors: &[Selector]) -> Folded
+        ensures { IfOk result (λ g. g ≡ literal_means text.now (selectors_of selectors.now)) }
+    {
+        match (selectors.split_first(), text) {
+            (Some(_), _) => Ok(None),
+            (None, [byte]) => Ok(Some(Some(made(Const::Ordinal(*byte as i32), TypeId::CHAR, 1)))),
+            (None, _) => {
+                let value = Const::Text(Text::copy_of(self.alloc, text)?);
+                Ok(Some(Some(made(value, TypeId::STRING, 1))))
+            }
+        }
+    }
+
+    pub fn prefix(
+        self,
+        sink: &mut FirstRefusal,
+        place: Place,
+        operator: PrefixOperator,
+        a: Constant,
+    ) -> Option<Constant>
+        ensures { Reports (prefix_means self.entry.core.now place operator a) sink.old sink.new result }
+    {
+        let Some(of) = prefixed(operator, sort_of(self.core, a.of)) else {
+            return refuse(sink, 21, place);
+        };
+        let value = before(operator, of, number_of(&a.value));
+        entered(sink, (33, place), of, joined(a.nodes, 0), value)
+    }
+
+    /// An operator at a place between two parts, in an expression that begins at `start`.
+    pub fn operation(
+        self,
+        sink: &mut FirstRefusal,
+        start: Place,
+        operator: Operator,
+        place: Place,
+        a: Option<Constant>,
+        b: Option<Constant>,
+    ) -> Part
+        ensures { IfOk result (Reports (operation_means self.entry.core.now start operator place a b) sink.old sink.new) }
+    {
+        let (Some(a), Some(b)) = (a, b) else {
+            return Ok(None);
+        };
+        let sorts = (sort_of(self.core, a.of), sort_of(self.core, b.of));
+        let Some(of) = operation(operator, sorts.0, sorts.1, a.of) else {
+            return Ok(refuse(sink, 21, place));
+        };
+        let value = operated(self.alloc, operator, sorts, &a.value, &b.value)?;
+        Ok(entered(sink, (33, start), of, joined(a.nodes, b.nodes), value))
+    }
+
+    /// What a name stands for, where that is a constant.
+    pub fn name(self, sink: &mut FirstRefusal, place: Place, meaning: Option<&Meaning>) -> Folded
+        ensures { IfOk result (Gives (name_means place (option_copied meaning.entry)) sink.old sink.new) }
+    {
+        match meaning {
+            None => Ok(Some(refuse(sink, 15, place))),
+            Some(Meaning::Spoiled) => Ok(Some(None)),
+            Some(Meaning::Constant(constant)) => {
+                let value = copy_of(self.alloc, &constant.value)?;
+                Ok(Some(Some(made(value, constant.of, 1))))
+            }
+            _ => Ok(None),
+        }
+    }
+
+    /// A name behind a unit's.
+    pub fn member(self, sink: &mut FirstRefusal, unit: &Name, name: &Name) -> Folded
+        ensures { IfOk result (Gives (member_means self.entry.visible.now unit.now name.now (meaning_of self.entry.visible.now (lower unit.now.text))) sink.old sink.new) }
+    {
+        match self.visible.look_up(unit.text.as_slice())? {
+            None => Ok(Some(refuse(sink, 15, unit.position.place))),
+            Some(Meaning::Unit(_)) => {
+                let mut joined = Vec::from_slice(self.alloc, unit.text.as_slice())?;
+                joined.push(b'.')?;
+                joined.extend_from_slice(name.text.as_slice())?;
+                let meaning = self.visible.look_up(joined.as_slice())?;
+                self.name(sink, name.position.place, meaning)
+            }
+            _ => Ok(None),
+        }
+    }
+
+    /// What a call of a name does.
+    pub fn use_of(self, meaning: Option<&Meaning>) -> Option<Use>
+        ensures { result ≡ use_of self.entry.core.now (option_copied meaning.entry) }
+    {
+        match meaning {
+            None => Some(Use::Unknown),
+            Some(Meaning::Spoiled) => Some(Use::Silent),
+            Some(Meaning::TypeName(of)) => match kind_of(self.core, *of) {
+                None => None,
+                Some(_) => Some(Use::Apply(Applied::Cast(*of))),
+            },
+            Some(Meaning::BuiltIn(BuiltIn::Chr)) => {
+                Some(Use::Apply(Applied::Cast(TypeId::CHAR)))
+            }
+            Some(Meaning::BuiltIn(BuiltIn::Function(function))) => use_of_function(*function),
+            _ => None,
+        }
+    }
+
+    /// The type that the one argument of a call names, and where.
+    pub fn type_named(self, arguments: &[Argument]) -> Result<Option<(TypeId, Place)>, NoMemory>
+        ensures { IfOk result (λ t. t ≡ type_named self.entry.visible.now (arguments_of arguments.now)) }
+    {
+        match only_value(arguments) {
+            Some(e) => self.type_of_value(e),
+            None => Ok(None),
+        }
+    }
+
+    fn type_of_value(self, e: &Expr) -> Result<Option<(TypeId, Place)>, NoMemory>
+        ensures { IfOk result (λ t. t ≡ type_of_value self.entry.visible.now (expr_of e.now)) }
+    {
+        match e {
+            Expr::Designator(called) => self.type_of_name(called),
+            _ => Ok(None),
+        }
+    }
+
+    fn type_of_name(self, called: &Designator) -> Result<Option<(TypeId, Place)>, NoMemory>
+        ensures { IfOk result (λ t. t ≡ type_of_name self.entry.visible.now (designator_of called.now)) }
+    {
+        match (&called.root, called.selectors.split_first()) {
+            (Root::Named(name), None) => match self.visible.look_up(name.text.as_slice())? {
+                Some(Meaning::TypeName(of)) => Ok(Some((*of, name.position.place))),
+                _ => Ok(None),
+            },
+            _ => Ok(None),
+        }
+    }
+
+    /// Low or High of a type that is named at a place.
+    pub fn bound(
+        self,
+        sink: &mut FirstRefusal,
+        function: Function,
+        of: TypeId,
+        at: Place,
+    ) -> Option<Constant>
+        ensures { Reports (bound_means self.entry.core.now function (of, at)) sink.old sink.new result }
+    {
+        match bound_of(self.core, function, of) {
+            None => refuse(sink, 23, at),
+            Some((value, of)) => Some(made(value, of, 2)),
+        }
+    }
+
+    /// A cast or a function at a place, of an argument at another.
+    pub fn used(
+        self,
+        sink: &mut FirstRefusal,
+        what: Applied,
+        place: Place,
+        at: Place,
+        a: Constant,
+    ) -> Part
+        ensures { IfOk result (Reports (use_means self.entry.core.now what place at a) sink.old sink.new) }
+    {
+        match what {
+            Applied::Cast(of) => Ok(self.cast(sink, place, of, a)),
+            Applied::Function(function) => self.apply(sink, function, place, at, a),
+        }
+    }
+
+    fn cast(
+        self,
+        sink: &mut FirstRefusal,
+        place: Place,
+        of: TypeId,
+        a: Constant,
+    ) -> Option<Constant>
+        ensures { Reports (cast_means self.entry.core.now place of a) sink.old sink.new result }
+    {
+        match sort_of(self.core, a.of) {
+            Sort::Ordinal(_) => {
+                let value = cast(self.core, of, number_of(&a.value));
+                entered(sink, (33, place), of, joined(a.nodes, 0), value)
+            }
+            _ => refuse(sink, 39, place),
+        }
+    }
+
+    fn apply(
+        self,
+        sink: &mut FirstRefusal,
+        function: Function,
+        place: Place,
+        at: Place,
+        a: Constant,
+    ) -> Part
+        ensures { IfOk result (Reports (application_means self.entry.core.now place function at a) sink.old sink.new) }
+    {
+        let Some(of) = application(function, sort_of(self.core, a.of), a.of) else {
+            return Ok(refuse(sink, rule_of(function), at));
+        };
+        let value = applied(self.alloc, self.core, function, a.of, &a.value)?;
+        Ok(entered(sink, (33, place), of, joined(a.nodes, 0), value))
+    }
+}

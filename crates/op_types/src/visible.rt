@@ -1,0 +1,160 @@
+//! The names that are visible at a place, and what they stand for.
+ghost use Rattle.std.specs.Prelude.{◌≡◌, ◌-◌, [], ◌∷◌, ◌++◌, IfOk, length, take};
+ghost use Rattle.std.specs.Char.{to_ascii_lowercase};
+ghost use Rattle.std.specs.Option.{option_copied};
+ghost use Rattle.op_types.specs.Names.{lower, meaning_of};
+
+use crate::Constant;
+use indexmap::IndexMap;
+use op_base::NoMemory;
+use op_core::{Function, RoutineId, TypeId, UnitId, VariableId};
+use std::alloc::Global;
+use std::marker::Model;
+
+/// A name that the compiler itself knows, besides those of types and constants.
+#[derive(Clone, Copy, Debug, PartialEq, Eq)]
+pub enum BuiltIn {
+    Write,
+    WriteLn,
+    Read,
+    ReadLn,
+    Eof,
+    Eoln,
+    SetLength,
+    Copy,
+    Chr,
+    Inc,
+    Dec,
+    Include,
+    Exclude,
+    Val,
+    Str,
+    Halt,
+    Exit,
+    Break,
+    Continue,
+    /// A function of one value.
+    Function(Function),
+}
+
+/// What a name stands for.
+#[derive(Drop)]
+pub enum Meaning {
+    Constant(Constant),
+    TypeName(TypeId),
+    /// A variable or a parameter. The variable of a `for` stands once more for its body, where it cannot be written.
+    Variable { id: VariableId, writable: bool },
+    Routine(RoutineId),
+    Unit(UnitId),
+    BuiltIn(BuiltIn),
+    /// Its declaration breaks a rule; what uses it is silent.
+    Spoiled,
+}
+
+/// A name in small letters, and the next older declaration of it.
+#[derive(Drop)]
+struct Declared {
+    name: Vec<u8>,
+    meaning: Meaning,
+    hides: Option<usize>,
+}
+
+/// The visible names, in order of declaration, without regard to the case of letters. A name stands for what was declared last
+/// under it. A name behind a unit's name stands here as one name with a dot.
+#[derive(Drop)]
+pub struct Visible {
+    alloc: Global,
+    declared: Vec<Declared>,
+    /// For each name the last declaration of it.
+    newest: IndexMap<Vec<u8>, Option<usize>>,
+}
+
+impl Model for Visible {
+    ghost use Rattle.std.specs.Prelude.{List, map};
+    ghost use Rattle.op_types.specs.Names.{Agrees, Named, named};
+
+    ghost Value = { List Named };
+
+    ghost view = { λ v. map named v.declared.items };
+
+    ghost invariant = { λ v. Agrees v.declared.items v.newest };
+}
+
+impl Visible {
+    pub fn new(alloc: Global) -> Visible
+        ensures { result ≡ [] }
+    {
+        Visible {
+            alloc,
+            declared: Vec::new(alloc),
+            newest: IndexMap::new(alloc),
+        }
+    }
+
+    /// How many names are visible: what `leave` goes back to.
+    pub fn len(&self) -> usize
+        ensures { result ≡ length self.now }
+    {
+        self.declared.len()
+    }
+
+    /// Declares a name.
+    pub fn enter(&mut self, name: &[u8], meaning: Meaning) -> Result<(), NoMemory>
+        ensures { IfOk result (λ _. self.new ≡ self.old ++ record { name = lower name.now; meaning = meaning } ∷ []) }
+    {
+        let key = lowered(self.alloc, name)?;
+        let name = lowered(self.alloc, name)?;
+        self.declared.reserve(1)?;
+        let at = self.declared.len();
+        let hides = self.newest.insert(key, Some(at))?.flatten();
+        match self.declared.push(Declared {
+            name,
+            meaning,
+            hides,
+        }) {
+            Ok(()) => Ok(()),
+            Err(_) => unreachable!(),
+        }
+    }
+
+    /// Leaves a scope: all names but the first `count` are gone.
+    pub fn leave(&mut self, count: usize)
+        ensures { self.new ≡ take count self.old }
+    {
+        while self.declared.len() > count {
+            self.leave_last();
+        }
+    }
+
+    fn leave_last(&mut self)
+        ensures { self.new ≡ take (length self.old - 1) self.old }
+    {
+        if let Some(last) = self.declared.pop() {
+            match self.newest.insert(last.name, last.hides) {
+                Ok(_) => {}
+                Err(_) => unreachable!(),
+            }
+        }
+    }
+
+    /// What a name stands for.
+    pub fn look_up(&self, name: &[u8]) -> Result<Option<&Meaning>, NoMemory>
+        ensures { IfOk result (λ m. option_copied m ≡ meaning_of self.now (lower name.now)) }
+    {
+        let key = lowered(self.alloc, name)?;
+        match self.newest.get(&key) {
+            Some(Some(at)) => Ok(Some(&self.declared[*at].meaning)),
+            Some(None) => Ok(None),
+            None => Ok(None),
+        }
+    }
+}
+
+/// The name in small letters.
+fn lowered(alloc: Global, name: &[u8]) -> Result<Vec<u8>, NoMemory>
+    ensures { IfOk result (λ v. v.items ≡ lower name.now) }
+{
+    let mut letters = Vec::from_slice(alloc, name)?;
+    letters.as_mut_slice().make_ascii_lowercase();
+    Ok(letters)
+}
