@@ -9,6 +9,7 @@ mod assign;
 mod constant;
 mod operator;
 mod part;
+mod set;
 mod setting;
 mod size;
 mod sort;
@@ -16,8 +17,9 @@ mod value;
 mod visible;
 
 pub use assign::assignable;
-pub use constant::{Applied, Constant, Folded, Part, Use, fold};
+pub use constant::{Applied, Constant, Folded, Part, Use, Weight, fold};
 pub use operator::{application, operation, prefixed};
+pub use set::{common_set, set_behind, set_over, widest_set};
 pub use setting::Setting;
 pub use size::{extent_of, is_managed, range_of, size_of, values_of};
 pub use sort::{OrdinalKind, Sort, kind_of, sort_of};
