@@ -1,14 +1,14 @@
 -- What is found among the tokens is the first construct that is not built.
-use Rattle.std.proofs.Common.{◌≡◌, ◌≤◌, ℕ, Bool, true, false, ◌⊎◌, inl, inr, List, [], ◌∷◌, ◌++◌, Option, Some, None, length, arith, refl, sym, ap, subst, ◌∙◌}
+use Rattle.std.proofs.Common.{◌≡◌, ◌≤◌, ℕ, Bool, true, false, ◌⊎◌, inl, inr, List, [], ◌∷◌, ◌++◌, Some, None, length, arith, refl, sym, ap, subst, ◌∙◌}
 use Rattle.std.specs.Option.{option_and_then}
 use Rattle.op_base.specs.declared.rule.Refusal.{Refusal}
 use Rattle.op_scan.specs.declared.token.Token.{Token}
 use Rattle.op_scan.specs.declared.token.TokenKind.{TokenKind}
 use Rattle.op_scan.specs.declared.token.TokenKind.TheVariants as kind
 use Rattle.op_tree.specs.Ends.{begins_selector}
-use Rattle.op_tree.specs.Terminal.{Terminal, ◌at◌, terminal_of, terminals}
+use Rattle.op_tree.specs.Terminal.{Terminal, ◌at◌, terminals}
 use Rattle.op_tree.specs.declared.position.Position.{Position}
-use Rattle.op_units.specs.Search.{Found, begun, begun_by, search_in, or_behind, string_by, behind_string, array_by, behind_array, in_by, behind_for, equal_by, behind_equal}
+use Rattle.op_units.specs.Search.{Found, begun, begun_by, search_in, or_behind, string_by, array_by, in_by, equal_by}
 use Rattle.op_units.specs.Unbuilt.{Unbuilt, is_uses, is_unit, is_string, is_open_array, is_for_in, is_nil, is_class, is_is, is_as, is_inherited, is_interface, is_except, is_raise, HasUnbuilt, named, IsBuilt, FirstUnbuilt}
 
 -- ---- at the front of the tokens

@@ -1,6 +1,5 @@
 -- How constructs that are not built are looked for: by the first tokens of what is left.
-use Rattle.std.specs.Prelude.{ℕ, Bool, true, false, List, [], ◌∷◌, Option, Some, None, cond}
-use Rattle.op_base.specs.declared.rule.Refusal.{Refusal}
+use Rattle.std.specs.Prelude.{ℕ, Bool, true, false, List, [], ◌∷◌, Option, Some, None}
 use Rattle.op_scan.specs.declared.token.TokenKind.{TokenKind}
 use Rattle.op_scan.specs.declared.token.TokenKind.TheVariants as kind
 use Rattle.op_tree.specs.Ends.{begins_selector}

@@ -4,7 +4,7 @@ ghost use Rattle.std.specs.Option.{option_and_then};
 ghost use Rattle.op_tree.specs.Ends.{begins_selector};
 ghost use Rattle.op_tree.specs.Terminal.{terminal_of, terminals};
 ghost use Rattle.op_units.specs.Search.{begun, behind_array, behind_equal, behind_for, behind_string};
-ghost use Rattle.op_units.specs.Unbuilt.{FirstUnbuilt, feature_of_string, named};
+ghost use Rattle.op_units.specs.Unbuilt.{FirstUnbuilt, named};
 
 use op_base::{Refusal, Rule};
 use op_scan::{Token, TokenKind};
