@@ -3,7 +3,7 @@ use Rattle.std.proofs.Common.{◌≡◌, ℕ, inl, inr, Option, Some, None, Resu
 use Rattle.op_base.specs.Rule.{text_of_rule, text_of_feature}
 use Rattle.op_base.specs.declared.files.NamedFile.{NamedFile}
 use Rattle.op_base.specs.declared.rule.Refusal.{Refusal}
-use Rattle.op_tool.proofs.RuleTexts.{file_told}
+use Rattle.op_units.proofs.RuleTexts.{file_told}
 use Rattle.op_tool.specs.Compiles.{Compiles, error_of, FailsAs, HasNoImage, IsImageOf, IsProgramOf, IsRefused, RefusesBy, file_missing, not_compiled}
 use Rattle.op_tool.specs.Owes.{HasText}
 use Rattle.op_tool.specs.declared.compiler.CompileError.{CompileError}

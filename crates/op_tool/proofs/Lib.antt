@@ -4,7 +4,6 @@ pub mod Executing
 pub mod Failing
 pub mod Grows
 pub mod Lines
-pub mod RuleTexts
 pub mod Running
 pub mod RunningFiles
 pub mod Saying
