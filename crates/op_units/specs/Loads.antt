@@ -39,8 +39,9 @@ Has stored name bytes = (length bytes ≤ 4194304) × IfSome stored (λ files. f
 
 -- ---- tokens
 
-abbrev pub RefusedByGrammar : Tokens → Refusal → Type 0
-RefusedByGrammar tokens refusal = Refuses WholeFile 200 tokens.end (terminals tokens.list) (parsed.Refused refusal)
+-- what the parser answers of tokens that it refuses
+abbrev pub RefusedByGrammar : Tokens → ParseError → Type 0
+RefusedByGrammar tokens e = Refuses WholeFile 200 tokens.end (terminals tokens.list) e
 
 -- the first of a refusal by the grammar and one by a word, if there is one; the one by the grammar where they stand alike
 abbrev pub first_of : Refusal → Option Refusal → Refusal
@@ -49,7 +50,7 @@ first_of grammar (Some word) = if comes_before word grammar then word else gramm
 
 -- The first refusal of the tokens, by the grammar or by a word that shows what is not built.
 pub data IsShown (tokens : Tokens) (refusal : Refusal) : Type 0 where
-  by_grammar : (grammar : Refusal) (word : Option Refusal) → RefusedByGrammar tokens grammar → FirstUnbuilt (terminals tokens.list) word → refusal ≡ first_of grammar word → IsShown tokens refusal
+  by_grammar : (grammar : Refusal) (word : Option Refusal) → RefusedByGrammar tokens (parsed.Refused grammar) → FirstUnbuilt (terminals tokens.list) word → refusal ≡ first_of grammar word → IsShown tokens refusal
   by_word : (file : File) → Spells file (terminals tokens.list) → IsFirstUnbuilt (terminals tokens.list) refusal → IsShown tokens refusal
 
 -- ---- the text of a file

@@ -1,10 +1,8 @@
 use Rattle.std.proofs.Common.{subst}
-use Rattle.op_parse_code.specs.Refusal.{Refuses}
-use Rattle.op_parse_decl.specs.Declarations.{WholeFile}
 use Rattle.op_tree.specs.File.{file_of}
 use Rattle.op_tree.specs.Terminal.{terminals}
 use Rattle.op_units.proofs.Loading.{reads_tokens}
-use Rattle.op_units.specs.Loads.{by_grammar, by_word}
+use Rattle.op_units.specs.Loads.{RefusedByGrammar, by_grammar, by_word}
 use Rattle.op_units.specs.Unbuilt.{FirstUnbuilt}
 use Rattle.op_units.proofs.loader.tree_of_tokens.Goals as goal
 
@@ -15,4 +13,4 @@ pub returns-in-Some-clause-breaks : goal.returns-in-Some-clause-breaks
 returns-in-Some-clause-breaks c = by_word (file_of c.in-Ok.tree) c.in-Ok.ensures.spells (subst (FirstUnbuilt (terminals c.args.tokens.now.list)) c.in-Some.is (subst (λ ts. FirstUnbuilt (terminals ts) c.first_unbuilt-word.result) c.as_slice.ensures c.first_unbuilt-word.ensures))
 
 pub returns-in-Err-Refused-clause-breaks : goal.returns-in-Err-Refused-clause-breaks
-returns-in-Err-Refused-clause-breaks c = by_grammar c.in-Err-Refused.refusal c.first_unbuilt-word.result (subst (Refuses WholeFile 200 c.args.tokens.now.end (terminals c.args.tokens.now.list)) c.in-Err-Refused.field-0-is c.in-Err-Refused.ensures.refused) (subst (λ ts. FirstUnbuilt (terminals ts) c.first_unbuilt-word.result) c.as_slice.ensures c.first_unbuilt-word.ensures) c.first_of.ensures
+returns-in-Err-Refused-clause-breaks c = by_grammar c.in-Err-Refused.refusal c.first_unbuilt-word.result (subst (RefusedByGrammar c.args.tokens.now) c.in-Err-Refused.field-0-is c.in-Err-Refused.ensures.refused) (subst (λ ts. FirstUnbuilt (terminals ts) c.first_unbuilt-word.result) c.as_slice.ensures c.first_unbuilt-word.ensures) c.first_of.ensures
