@@ -3,7 +3,8 @@ use Rattle.std.proofs.Common.{◌≡◌, ℕ, List, [], ◌∷◌, ◌++◌, app
 use Rattle.op_base.specs.declared.place.Place.{Place}
 use Rattle.op_parse_code.proofs.Refusing.{Some_, Seq, refuses_map, refuses_first, refuses_after}
 use Rattle.op_parse_code.specs.Form.{Form, is_inline}
-use Rattle.op_parse_code.specs.Refusal.{Refuses, left_out, refused_at}
+use Rattle.op_parse_code.specs.Refusal.{left_out, refused_at}
+use Rattle.op_parse_decl.specs.Refusal.{RefusesPart}
 use Rattle.op_parse_code.specs.declared.error.ParseError.{ParseError}
 use Rattle.op_parse_decl.specs.HeadingParts.{known_heading}
 use Rattle.op_parse_decl.specs.Headings.{SomeHeading, SomeDirectives, SomeMethod, IsDirective}
@@ -45,7 +46,7 @@ none_more (w ∷ ws) = ap (λ z. w ∷ z) (none_more ws)
 pub directing_ends : (d : ℕ) (all rest : List Terminal) (ws : List Directive) → Directing all ws rest → NoDirective rest → SomeDirectives d ws all rest
 directing_ends d all rest ws so_far none = (subst (λ z. AreDirectives z all rest) (none_more ws) (so_far.completes [] rest are_no_directives), none)
 
-pub directing_inline : (d : ℕ) (end : Place) (all rest : List Terminal) (ws : List Directive) (p : Position) (r : List Terminal) (e : ParseError) → Directing all ws rest → rest ≡ kind.Inline at p ∷ r → e ≡ refused_at 13 17 end rest → Refuses SomeDirectives d end all e
+pub directing_inline : (d : ℕ) (end : Place) (all rest : List Terminal) (ws : List Directive) (p : Position) (r : List Terminal) (e : ParseError) → Directing all ws rest → rest ≡ kind.Inline at p ∷ r → e ≡ refused_at 13 17 end rest → RefusesPart SomeDirectives d end all e
 directing_inline d end all rest ws p r e so_far is x = left_out 17 rest x (so_far.seen, rest, so_far.reaches, subst (λ z. Form 17 z z) (sym is) is_inline)
 
 -- ---- a method
@@ -53,10 +54,10 @@ directing_inline d end all rest ws p r e so_far is x = left_out 17 rest x (so_fa
 into_method : (d : ℕ) (a : Method) (ls r : List Terminal) → SomeMethod d a ls r → Some_ (Seq SomeHeading SomeDirectives) d ls
 into_method d a ls r (is_method {h = h} {ws = ws} {p = p} {m = m} f g, none) = ((h, ws), r, (m, (p, f), (g, none)))
 
-pub method_heading : (d : ℕ) (end : Place) (ks : List Terminal) (e : ParseError) → Refuses SomeHeading d end ks e → Refuses SomeMethod d end ks e
+pub method_heading : (d : ℕ) (end : Place) (ks : List Terminal) (e : ParseError) → RefusesPart SomeHeading d end ks e → RefusesPart SomeMethod d end ks e
 method_heading d end ks e h = refuses_map (Seq SomeHeading SomeDirectives) SomeMethod d end ks e (λ d' b ls r s x. into_method d' b ls r x) (refuses_first SomeHeading SomeDirectives d end ks e h)
 
-pub method_directives : (d : ℕ) (end : Place) (h : Heading) (ks m : List Terminal) (e : ParseError) → SomeHeading d h ks m → Refuses SomeDirectives d end m e → Refuses SomeMethod d end ks e
+pub method_directives : (d : ℕ) (end : Place) (h : Heading) (ks m : List Terminal) (e : ParseError) → SomeHeading d h ks m → RefusesPart SomeDirectives d end m e → RefusesPart SomeMethod d end ks e
 method_directives d end h ks m e f g = refuses_map (Seq SomeHeading SomeDirectives) SomeMethod d end ks e (λ d' b ls r s x. into_method d' b ls r x) (refuses_after SomeHeading SomeDirectives d end h ks m e known_heading f g)
 
 pub method_whole : (d : ℕ) (h : Heading) (ws : List Directive) (ks m r : List Terminal) → SomeHeading d h ks m → SomeDirectives d ws m r → SomeMethod d (record { heading = h; directives = ws }) ks r

@@ -1,6 +1,7 @@
 //! Whole files (Free Pascal Reference Guide, "Programs, units, blocks").
 ghost use Rattle.std.specs.Prelude.{◌≡◌, ℕ, IfOk, IfErr, List, [], MatchResult, Option};
-ghost use Rattle.op_parse_code.specs.Refusal.{IsFree, Refuses};
+ghost use Rattle.op_parse_code.specs.Refusal.{IsFree};
+ghost use Rattle.op_parse_decl.specs.Refusal.{RefusesPart};
 ghost use Rattle.op_parse_decl.specs.Declarations.{Whole, WholeFile};
 ghost use Rattle.op_tree.specs.File.{File, file_of};
 ghost use Rattle.op_tree.specs.FileGrammar.{IsFile, Spells};
@@ -29,7 +30,7 @@ pub fn parse(alloc: Global, tokens: &Tokens) -> Result<Tree, ParseError>
     // The grammar derives it from these tokens, with nothing left.
     ensures spells { IfOk result (λ tree. Spells (file_of tree) (terminals tokens.now.list)) }
     // There is none, or a form that is left out.
-    ensures refused { IfErr result (Refuses WholeFile 200 tokens.now.end (terminals tokens.now.list)) }
+    ensures refused { IfErr result (RefusesPart WholeFile 200 tokens.now.end (terminals tokens.now.list)) }
     // No other tree does, and where one does the tokens are refused for a form that is left out alone.
     ensures only { (file : File) → Spells file (terminals tokens.now.list) → MatchResult result (λ tree. file_of tree ≡ file) IsFree }
 {
@@ -43,7 +44,7 @@ pub fn parse(alloc: Global, tokens: &Tokens) -> Result<Tree, ParseError>
 
 fn file(setting: Setting, tokens: &[Token]) -> Result<Tree, ParseError>
     ensures whole { IfOk result (λ tree. IsFile setting.left (file_of tree) (terminals tokens.now) []) }
-    ensures refused { IfErr result (Refuses WholeFile setting.left setting.end (terminals tokens.now)) }
+    ensures refused { IfErr result (RefusesPart WholeFile setting.left setting.end (terminals tokens.now)) }
 {
     if let Some(feature) = form_of_file(tokens) {
         return Err(left_out(feature, setting.end, tokens));
@@ -63,7 +64,7 @@ fn file(setting: Setting, tokens: &[Token]) -> Result<Tree, ParseError>
 /// The part that all of the tokens are.
 fn whole<A: Part>(setting: Setting, tokens: &[Token]) -> Result<A, ParseError>
     ensures whole { IfOk result (λ a. A.phrase setting.left (A.says a) (terminals tokens.now) []) }
-    ensures refused { IfErr result (Refuses (Whole A.phrase) setting.left setting.end (terminals tokens.now)) }
+    ensures refused { IfErr result (RefusesPart (Whole A.phrase) setting.left setting.end (terminals tokens.now)) }
 {
     let (part, rest) = A::read(setting, tokens)?;
     match rest.split_first() {

@@ -1,6 +1,6 @@
 //! Headings of routines (Free Pascal Reference Guide, "Using functions and procedures").
 ghost use Rattle.std.specs.Prelude.{◌≡◌, ◌≤◌, ◌<◌, ℕ, IfOk, IfErr, IfSome, MatchOption, Option, length};
-ghost use Rattle.op_parse_code.specs.Refusal.{Refuses};
+ghost use Rattle.op_parse_decl.specs.Refusal.{RefusesPart};
 ghost use Rattle.op_parse_decl.specs.Headings.{IsDirective, SomeDirectives, SomeMethod};
 ghost use Rattle.op_tree.specs.Declaration.{method_of};
 ghost use Rattle.op_tree.specs.Ends.{NoDirective};
@@ -159,7 +159,7 @@ pub fn method<'a>(
     tokens: &'a [Token],
 ) -> Result<(Method, &'a [Token]), ParseError>
     ensures whole { IfOk result (λ f. SomeMethod left (method_of f.0) (terminals tokens.now) (terminals f.1.now)) }
-    ensures refused { IfErr result (Refuses SomeMethod left end (terminals tokens.now)) }
+    ensures refused { IfErr result (RefusesPart SomeMethod left end (terminals tokens.now)) }
     ensures shorter { IfOk result (λ f. length f.1.now < length tokens.now) }
 {
     let (heading, rest) = Heading::read(Setting { alloc, left, end }, tokens)?;
@@ -180,7 +180,7 @@ pub fn directives<'a>(
     tokens: &'a [Token],
 ) -> Result<(Directives, &'a [Token]), ParseError>
     ensures whole { IfOk result (λ f. (d : ℕ) → SomeDirectives d f.0 (terminals tokens.now) (terminals f.1.now)) }
-    ensures refused { IfErr result (λ e. (d : ℕ) → Refuses SomeDirectives d end (terminals tokens.now) e) }
+    ensures refused { IfErr result (λ e. (d : ℕ) → RefusesPart SomeDirectives d end (terminals tokens.now) e) }
     ensures shorter { IfOk result (λ f. length f.1.now ≤ length tokens.now) }
 {
     let mut directives = Vec::new(alloc);

@@ -4,6 +4,7 @@ ghost use Rattle.op_base.specs.declared.place.Place.{Place};
 ghost use Rattle.op_parse_code.proofs.Refusing.{Seq};
 ghost use Rattle.op_parse_code.specs.Opening.{NotTighter};
 ghost use Rattle.op_parse_code.specs.Refusal.{Refuses, refused_at};
+ghost use Rattle.op_parse_decl.specs.Refusal.{RefusesPart};
 ghost use Rattle.op_parse_code.specs.Whole.{Chain, NoMark, Operand};
 ghost use Rattle.op_parse_code.specs.declared.mark.Mark.TheVariants as mark;
 ghost use Rattle.op_parse_decl.specs.Initials.{Around, AroundFirst, AroundOne, FieldsBehind, FitsItem, FitsRoom, InitialsBefore, RecordBehind, SomeValue, ValueOf, Within};
@@ -49,7 +50,7 @@ pub fn initial<'a>(
     tokens: &'a [Token],
 ) -> Result<(Initializer, &'a [Token]), ParseError>
     ensures whole { IfOk result (λ f. SomeInitial left (initial_of f.0) (terminals tokens.now) (terminals f.1.now)) }
-    ensures refused { IfErr result (Refuses SomeInitial left end (terminals tokens.now)) }
+    ensures refused { IfErr result (RefusesPart SomeInitial left end (terminals tokens.now)) }
     ensures shorter { IfOk result (λ f. length f.1.now < length tokens.now) }
 {
     let Some((first, _)) = tokens.split_first() else {
@@ -73,7 +74,7 @@ fn in_brackets<'a>(
     tokens: &'a [Token],
 ) -> Result<(Initializer, &'a [Token]), ParseError>
     ensures whole { IfOk result (λ f. Around room left (terminals tokens.now) (λ k. Within k left (initial_of f.0) (terminals tokens.now) (terminals f.1.now))) }
-    ensures refused { IfErr result (λ e. Around room left (terminals tokens.now) (λ k. Refuses (Within k) left end (terminals tokens.now) e)) }
+    ensures refused { IfErr result (λ e. Around room left (terminals tokens.now) (λ k. RefusesPart (Within k) left end (terminals tokens.now) e)) }
     ensures shorter { IfOk result (λ f. length f.1.now < length tokens.now) }
 {
     match behind_bracket(tokens) {
@@ -156,7 +157,7 @@ fn closed<'a>(
     tokens: &'a [Token],
 ) -> Result<(Initializer, &'a [Token]), ParseError>
     ensures whole { IfOk result (λ f. AroundOne position left (initial_of inside) (terminals tokens.now) (λ k ks. Within k left (initial_of f.0) ks (terminals f.1.now))) }
-    ensures refused { IfErr result (λ e. AroundOne position left (initial_of inside) (terminals tokens.now) (λ k ks. Refuses (Within k) left end ks e)) }
+    ensures refused { IfErr result (λ e. AroundOne position left (initial_of inside) (terminals tokens.now) (λ k ks. RefusesPart (Within k) left end ks e)) }
     ensures shorter { IfOk result (λ f. length f.1.now ≤ length tokens.now) }
 {
     match inside {
@@ -186,7 +187,7 @@ fn list_or_record<'a>(
 ) -> Result<(Initializer, &'a [Token]), ParseError>
     requires closes { NoMark mark.CloseParenthesis (terminals tokens.now) }
     ensures whole { IfOk result (λ f. AroundFirst position room (initial_of first) (terminals inside.now) (terminals tokens.now) (λ k d ks. Within k d (initial_of f.0) ks (terminals f.1.now))) }
-    ensures refused { IfErr result (λ e. AroundFirst position room (initial_of first) (terminals inside.now) (terminals tokens.now) (λ k d ks. Refuses (Within k) d end ks e)) }
+    ensures refused { IfErr result (λ e. AroundFirst position room (initial_of first) (terminals inside.now) (terminals tokens.now) (λ k d ks. RefusesPart (Within k) d end ks e)) }
     ensures shorter { IfOk result (λ f. length f.1.now < length tokens.now) }
 {
     match behind_mark(Mark::Colon, tokens) {
@@ -238,7 +239,7 @@ fn list<'a>(
     tokens: &'a [Token],
 ) -> Result<(Initializer, &'a [Token]), ParseError>
     ensures whole { IfOk result (λ f. (others : Initials) × (initial_of f.0 ≡ list position (initials (initial_of first) others)) × InitialsBefore left others (terminals tokens.now) (terminals f.1.now) × Stops (terminals f.1.now)) }
-    ensures refused { IfErr result (Refuses (Seq InitialsBefore NoMoreExpression) left end (terminals tokens.now)) }
+    ensures refused { IfErr result (RefusesPart (Seq InitialsBefore NoMoreExpression) left end (terminals tokens.now)) }
     ensures shorter { IfOk result (λ f. length f.1.now < length tokens.now) }
 {
     let (others, rest) = items(alloc, left, end, tokens)?;
@@ -256,7 +257,7 @@ fn items<'a>(
     tokens: &'a [Token],
 ) -> Result<(Vec<Initializer>, &'a [Token]), ParseError>
     ensures whole { IfOk result (λ f. InitialsBefore left (initials_of f.0.items) (terminals tokens.now) (terminals f.1.now)) }
-    ensures refused { IfErr result (Refuses InitialsBefore left end (terminals tokens.now)) }
+    ensures refused { IfErr result (RefusesPart InitialsBefore left end (terminals tokens.now)) }
     ensures shorter { IfOk result (λ f. length f.1.now < length tokens.now) }
 {
     let mut items = Vec::new(alloc);
@@ -285,7 +286,7 @@ fn record<'a>(
     tokens: &'a [Token],
 ) -> Result<(Initializer, &'a [Token]), ParseError>
     ensures whole { IfOk result (λ f. (q : Position) → (fs : FieldInitials) × (initial_of f.0 ≡ record_ position fs) × RecordBehind name q left fs (terminals tokens.now) (terminals f.1.now)) }
-    ensures refused { IfErr result (λ e. (q : Position) → Refuses (RecordBehind name q) left end (terminals tokens.now) e) }
+    ensures refused { IfErr result (λ e. (q : Position) → RefusesPart (RecordBehind name q) left end (terminals tokens.now) e) }
     ensures shorter { IfOk result (λ f. length f.1.now < length tokens.now) }
 {
     let (value, rest) = initial(alloc, left, end, tokens)?;
@@ -304,7 +305,7 @@ fn more_fields<'a>(
     tokens: &'a [Token],
 ) -> Result<(Vec<FieldInitializer>, &'a [Token]), ParseError>
     ensures whole { IfOk result (λ f. FieldsBehind left (field_initials_of f.0.items) (terminals tokens.now) (terminals f.1.now)) }
-    ensures refused { IfErr result (Refuses FieldsBehind left end (terminals tokens.now)) }
+    ensures refused { IfErr result (RefusesPart FieldsBehind left end (terminals tokens.now)) }
     ensures shorter { IfOk result (λ f. length f.1.now < length tokens.now) }
 {
     let mut fields = Vec::new(alloc);

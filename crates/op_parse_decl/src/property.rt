@@ -1,6 +1,6 @@
 //! Properties of classes (Free Pascal Reference Guide, "Properties (Classes)").
 ghost use Rattle.std.specs.Prelude.{ℕ, ◌≤◌, Option, IfErr, IfOk, codes, length};
-ghost use Rattle.op_parse_code.specs.Refusal.{Refuses};
+ghost use Rattle.op_parse_decl.specs.Refusal.{RefusesPart};
 ghost use Rattle.op_parse_decl.specs.Properties.{SomeAccessor};
 ghost use Rattle.op_tree.specs.Terminal.{terminals};
 
@@ -82,7 +82,7 @@ fn accessor<'a>(
     tokens: &'a [Token],
 ) -> Result<(Option<Name>, &'a [Token]), ParseError>
     ensures whole { IfOk result (λ f. (d : ℕ) → SomeAccessor word.now d f.0 (terminals tokens.now) (terminals f.1.now)) }
-    ensures refused { IfErr result (λ e. (d : ℕ) → Refuses (SomeAccessor word.now) d end (terminals tokens.now) e) }
+    ensures refused { IfErr result (λ e. (d : ℕ) → RefusesPart (SomeAccessor word.now) d end (terminals tokens.now) e) }
     ensures shorter { IfOk result (λ f. length f.1.now ≤ length tokens.now) }
 {
     let Some((first, rest)) = tokens.split_first() else {

@@ -1,7 +1,7 @@
 //! Declarations in a row, and routines with what is declared in them (Free Pascal Reference Guide, "Using functions and
 //! procedures").
 ghost use Rattle.std.specs.Prelude.{◌≡◌, ◌≤◌, ◌<◌, IfOk, IfErr, IfSome, MatchOption, length};
-ghost use Rattle.op_parse_code.specs.Refusal.{Refuses};
+ghost use Rattle.op_parse_decl.specs.Refusal.{RefusesPart};
 ghost use Rattle.op_parse_decl.specs.Declarations.{AllOf, BehindForward, BlockDeclaration, BodyBefore, is_forward};
 ghost use Rattle.op_tree.specs.Declaration.{Declarations, body, body_of, declaration_of, declarations_of};
 ghost use Rattle.op_tree.specs.Ends.{IsNot};
@@ -144,7 +144,7 @@ impl Part for InBlock {
 #[cycle(declaration)]
 fn declarations<'a>(setting: Setting, tokens: &'a [Token]) -> Answer<'a, Vec<Declaration>>
     ensures whole { IfOk result (λ f. AllOf BlockDeclaration setting.left (declarations_of f.0.items) (terminals tokens.now) (terminals f.1.now)) }
-    ensures refused { IfErr result (Refuses (AllOf BlockDeclaration) setting.left setting.end (terminals tokens.now)) }
+    ensures refused { IfErr result (RefusesPart (AllOf BlockDeclaration) setting.left setting.end (terminals tokens.now)) }
     ensures shorter { IfOk result (λ f. length f.1.now ≤ length tokens.now) }
 {
     let mut items = Vec::new(setting.alloc);
@@ -161,7 +161,7 @@ fn declarations<'a>(setting: Setting, tokens: &'a [Token]) -> Answer<'a, Vec<Dec
 #[cycle(declaration)]
 fn declaration<'a>(setting: Setting, tokens: &'a [Token]) -> Answer<'a, Declaration>
     ensures whole { IfOk result (λ f. BlockDeclaration setting.left (declaration_of f.0) (terminals tokens.now) (terminals f.1.now)) }
-    ensures refused { IfErr result (Refuses BlockDeclaration setting.left setting.end (terminals tokens.now)) }
+    ensures refused { IfErr result (RefusesPart BlockDeclaration setting.left setting.end (terminals tokens.now)) }
     ensures shorter { IfOk result (λ f. length f.1.now < length tokens.now) }
 {
     if begins::<Data>(tokens) {
@@ -184,7 +184,7 @@ fn declaration<'a>(setting: Setting, tokens: &'a [Token]) -> Answer<'a, Declarat
 #[cycle(declaration)]
 fn body<'a>(setting: Setting, tokens: &'a [Token]) -> Answer<'a, Body>
     ensures whole { IfOk result (λ f. BodyBefore setting.left (body_of f.0) (terminals tokens.now) (terminals f.1.now)) }
-    ensures refused { IfErr result (Refuses BodyBefore setting.left setting.end (terminals tokens.now)) }
+    ensures refused { IfErr result (RefusesPart BodyBefore setting.left setting.end (terminals tokens.now)) }
     ensures shorter { IfOk result (λ f. length f.1.now < length tokens.now) }
 {
     if let Some(rest) = behind_forward(tokens) {

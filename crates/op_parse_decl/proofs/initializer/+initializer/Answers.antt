@@ -3,6 +3,7 @@ use Rattle.op_parse_code.proofs.Errors.{passed, ok_weaker, err_weaker}
 use Rattle.op_parse_code.proofs.Lists.{listed_item, listed_close, listed_more, listed_ends}
 use Rattle.op_parse_code.proofs.Names.{empty_not}
 use Rattle.op_parse_code.specs.Refusal.{out_of_memory}
+use Rattle.op_parse_decl.proofs.Combining.{refuses_part}
 use Rattle.op_parse_decl.proofs.InitialLists.{items_listed, items_refuse, items_go_on, more_close, more_colon, more_ends, more_goes_on, more_name, more_value, record_value_refuses, record_more_refuses, record_goes_on, record_behind_whole}
 use Rattle.op_parse_decl.proofs.Initials.{initial_none, initial_too_deep, initial_whole, initial_refuses, room_at_top, room_in_bracket, room_left, value_refuses, expression_whole, bracket_too_deep, inside_refuses, bracket_whole, bracket_refuses, no_record, record_too_deep, record_whole, record_refuses, no_comma_refuses, list_too_deep, item_refuses, list_whole, list_refuses}
 use Rattle.op_tree.specs.Ends.{begins_expression}
@@ -97,7 +98,7 @@ pub items-loop-items-preserved : goal.items-loop-items-preserved
 items-loop-items-preserved t c = (rw c.in_ok-push.ensures.items (listed_more items_listed c.args.left c.args.end _ _ _ _ _ _ _ c.loop-items.invariant.0 c.in_ok-item.ensures.whole c.in-Some.ensures.mark.1), omega (arith, c.loop-items.invariant.1, c.in-Some.ensures.shorter, c.in_ok-item.ensures.shorter))
 
 pub items-returns-in_err-rest-in-None-clause-refused : goal.items-returns-in_err-rest-in-None-clause-refused
-items-returns-in_err-rest-in-None-clause-refused t c = passed c.from_residual-in_err-rest-in-None.result c.from_residual-in_err-rest-in-None.ensures.1 (λ y e. rw e (listed_close items_listed c.args.left c.args.end _ _ _ _ _ _ c.loop-items.invariant.0 c.in_ok-item.ensures.whole c.in-None.ensures.mark (c.in_err-rest-in-None.ensures.refused _)))
+items-returns-in_err-rest-in-None-clause-refused t c = passed c.from_residual-in_err-rest-in-None.result c.from_residual-in_err-rest-in-None.ensures.1 (λ y e. rw e (listed_close items_listed c.args.left c.args.end _ _ _ _ _ _ c.loop-items.invariant.0 c.in_ok-item.ensures.whole c.in-None.ensures.mark (refuses_part (c.in_err-rest-in-None.ensures.refused _))))
 
 pub items-returns-in-None-clause-whole : goal.items-returns-in-None-clause-whole
 items-returns-in-None-clause-whole t c = rw c.in_ok-push.ensures.items (listed_ends items_listed c.args.left c.args.end _ _ _ _ _ _ _ c.loop-items.invariant.0 c.in_ok-item.ensures.whole c.in_ok-rest-in-None.ensures.mark.1)
