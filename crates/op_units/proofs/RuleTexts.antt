@@ -1,4 +1,4 @@
--- Each rule that a file breaks has a text.
+-- Each rule by which a file is refused has a text.
 use Rattle.std.proofs.Common.{◌≡◌, ℕ, Bool, true, false, if◌then◌else◌, List, [], ◌∷◌, Option, Some, None, IsSome, refl, sym, ap, ◌∙◌, subst, codes, nat_eq}
 use Rattle.op_base.specs.declared.files.NamedFile.{NamedFile}
 use Rattle.op_base.specs.Rule.{text_of_feature, text_of_rule}
@@ -6,7 +6,7 @@ use Rattle.op_base.specs.declared.place.Place.{Place}
 use Rattle.op_base.specs.declared.rule.Refusal.{Refusal}
 use Rattle.op_base.specs.declared.rule.Rule.{Rule}
 use Rattle.op_parse_code.specs.Form.{Form, is_fraction, is_slash, is_short_string, is_procedural, is_metaclass, is_object, is_variant, is_record_method, is_file, is_operator, is_class_operator, is_default, is_with, is_goto, is_label, is_asm, is_inline, is_array_of_const, is_class_member, is_array_property, is_indexed_property, is_default_property, is_strict, is_resolution, is_resource_string, is_thread_variable, is_specialized, is_generic, is_library, is_exports, is_given_value, is_raise_at, is_fraction_width, is_interface_property, is_descendant_property}
-use Rattle.op_parse_code.specs.Refusal.{Phrase, Refuses, out_of_memory, syntax, nested, left_out, place_at}
+use Rattle.op_parse_code.specs.Refusal.{Phrase, RefusesBy, out_of_memory, syntax, nested, left_out}
 use Rattle.op_parse_code.specs.declared.error.ParseError.TheVariants as parsed
 use Rattle.op_scan.specs.Directive.{effect_of_comment, effect_of_directive, effect_of_interfaces, effect_of_letter, effect_of_mode, effect_of_name, effect_of_named, effect_of_state, effect_of_switches, is_word, rule, with_switch}
 use Rattle.op_scan.specs.Item.{Item, a_blank, a_comment, a_name, a_number, a_string, a_symbol, effect_of, rule_without}
@@ -189,7 +189,7 @@ feature_told feature place told = told
 same_refusal : (a b : Refusal) → parsed.Refused a ≡ parsed.Refused b → b ≡ a
 same_refusal a b e = cc
 
-grammar_told : {A : Type 0} (P : Phrase A) (end : Place) (ks : List Terminal) (refusal : Refusal) → Refuses P 200 end ks (parsed.Refused refusal) → Told refusal.rule
+grammar_told : {A : Type 0} {D : List Terminal → List Terminal → Type 0} (P : Phrase A) (end : Place) (ks : List Terminal) (refusal : Refusal) → RefusesBy D P 200 end ks (parsed.Refused refusal) → Told refusal.rule
 unfolding text_of_rule
 grammar_told P end ks refusal (out_of_memory e) = absurd (cc)
 grammar_told P end ks refusal (syntax q e none) = subst (λ r. Told r.rule) (same_refusal _ _ e) refl

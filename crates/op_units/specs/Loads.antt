@@ -5,7 +5,7 @@ use Rattle.op_base.specs.Outside.{Rose}
 use Rattle.op_base.specs.declared.files.NamedFile.{NamedFile}
 use Rattle.op_base.specs.declared.rule.Refusal.{Refusal}
 use Rattle.op_core.specs.Faults.{broken, comes_before}
-use Rattle.op_parse_code.specs.Refusal.{Refuses}
+use Rattle.op_parse_decl.specs.Refusal.{RefusesPart}
 use Rattle.op_parse_code.specs.declared.error.ParseError.{ParseError}
 use Rattle.op_parse_code.specs.declared.error.ParseError.TheVariants as parsed
 use Rattle.op_parse_decl.specs.Declarations.{WholeFile}
@@ -41,7 +41,7 @@ Has stored name bytes = (length bytes ≤ 4194304) × IfSome stored (λ files. f
 
 -- what the parser answers of tokens that it refuses
 abbrev pub RefusedByGrammar : Tokens → ParseError → Type 0
-RefusedByGrammar tokens e = Refuses WholeFile 200 tokens.end (terminals tokens.list) e
+RefusedByGrammar tokens e = RefusesPart WholeFile 200 tokens.end (terminals tokens.list) e
 
 -- the first of a refusal by the grammar and one by a word, if there is one; the one by the grammar where they stand alike
 abbrev pub first_of : Refusal → Option Refusal → Refusal
