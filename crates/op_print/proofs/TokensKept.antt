@@ -7,7 +7,7 @@ use Rattle.std.specs.Str.{bytes_eq}
 use Rattle.std.proofs.lemmas.Bool.Decides.{nat_tests}
 use Rattle.std.proofs.lemmas.List.Sums.{take_while-cons}
 use Rattle.op_base.specs.declared.rule.Rule.{Rule}
-use Rattle.op_print.proofs.Kept.{Able}
+use Rattle.op_print.proofs.Printed.{Able}
 use Rattle.op_print.proofs.Words.{true_false}
 use Rattle.op_print.specs.Scanned.{IsSpellable}
 use Rattle.op_scan.specs.Byte.{begins_with, is_blank, is_name_start, is_name_byte}

@@ -3,6 +3,14 @@
 //! `print` is the one call. Its contract says which text it is.
 #![tactic(auto)]
 
+/// Prints parts on a page, one after the other: `f(x)` stands for `f(page, x)?`.
+macro_rules! print_all {
+    ($page:ident: $($part:ident($($value:expr),*)),+) => {{
+        $($part($page $(, $value)*)?;)+
+        Ok(())
+    }};
+}
+
 mod class;
 mod declaration;
 mod denoter;
@@ -10,6 +18,7 @@ mod expression;
 mod file;
 mod heading;
 mod initializer;
+mod list;
 mod name;
 mod printer;
 mod statement;
