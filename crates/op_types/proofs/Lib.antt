@@ -1,3 +1,4 @@
+pub mod Assigning
 pub mod Extents
 pub mod Folding
 pub mod Index

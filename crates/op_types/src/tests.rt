@@ -421,276 +421,26 @@ fn is_wanted(alloc: Global, core: &Core, e: &Expr, want: Want) -> Result<bool, N
     })
 }
 
-// Free Pascal Reference Guide, "Ordinary constants", "Operators" and "Set types"; Free Pascal takes and refuses the same, but for
-// constants of more than 32 bits, `UpCase`, which it does not evaluate, and `[1, Red]`.
-const ACCEPTED: [(&[Word], Want); 39] = [
-    (&[Number(2), Number(3), Infix(Operator::Add)], Is(5, 4)),
-    (
-        &[
-            Number(7),
-            Signed(PrefixOperator::Minus),
-            Number(2),
-            Infix(Operator::Div),
-        ],
-        Is(-3, 4),
-    ),
-    (
-        &[
-            Number(7),
-            Signed(PrefixOperator::Minus),
-            Number(2),
-            Infix(Operator::Mod_),
-        ],
-        Is(-1, 4),
-    ),
-    (
-        &[
-            Number(1),
-            Signed(PrefixOperator::Minus),
-            Number(1),
-            Infix(Operator::Shr),
-        ],
-        Is(0x7fff_ffff, 4),
-    ),
-    (&[Number(1), Number(33), Infix(Operator::Shl)], Is(2, 4)),
-    (
-        &[Number(0x8000_0000), Signed(PrefixOperator::Minus)],
-        Is(-0x8000_0000, 4),
-    ),
-    (
-        &[Number(6), Number(3), Infix(Operator::Xor), Brackets],
-        Is(5, 4),
-    ),
-    (&[Number(6), Signed(PrefixOperator::Not)], Is(-7, 4)),
-    (&[Named(b"TRUE"), Signed(PrefixOperator::Not)], Is(0, 5)),
-    (
-        &[Named(b"Red"), Named(b"Blue"), Infix(Operator::Less)],
-        Is(1, 5),
-    ),
-    (
-        &[Quoted(b"abc"), Quoted(b"abd"), Infix(Operator::Less)],
-        Is(1, 5),
-    ),
-    (
-        &[Quoted(b"a"), Quoted(b"b"), Infix(Operator::Add)],
-        Says(b"ab"),
-    ),
-    (&[Quoted(b"a")], Is(97, 6)),
-    (&[Nil, Nil, Infix(Operator::Equal)], Is(1, 5)),
-    (&[Member(b"Shapes", b"side")], Is(4, 4)),
-    (&[Number(300), Call(b"Byte")], Is(44, 1)),
-    (&[Number(200), Call(b"ShortInt")], Is(-56, 0)),
-    (&[Quoted(b"a"), Call(b"Byte")], Is(97, 1)),
-    (&[Number(1), Call(b"Boolean")], Is(1, 5)),
-    (&[Number(321), Call(b"Chr")], Is(65, 6)),
-    (&[Number(2), Call(b"Color")], Is(2, 16)),
-    (&[Named(b"Color"), Call(b"high")], Is(2, 16)),
-    (&[Named(b"Row"), Call(b"Low")], Is(1, 18)),
-    (&[Quoted(b"q"), Call(b"UpCase")], Is(81, 6)),
-    (&[Quoted(b"{"), Call(b"UpCase")], Is(123, 6)),
-    (&[Quoted(b"abc"), Call(b"Length")], Is(3, 4)),
-    (&[Named(b"Red"), Call(b"Succ")], Is(1, 16)),
-    (&[Set], Has(b"", 10)),
-    (
-        &[Number(1), One, Number(3), Number(5), Range, Set],
-        Has(b"\x01\x03\x04\x05", 12),
-    ),
-    (&[Number(5), Number(3), Range, Set], Has(b"", 12)),
-    (
-        &[Named(b"Red"), One, Named(b"Blue"), One, Set],
-        Has(b"\x00\x02", 17),
-    ),
-    (&[Named(b"Digit"), Call(b"Low"), One, Set], Has(b"\x01", 19)),
-    (
-        &[Named(b"Digit"), Call(b"Low"), One, Number(9), One, Set],
-        Has(b"\x01\x09", 12),
-    ),
-    (&[Named(b"True"), One, Set], Has(b"\x01", 15)),
-    (&[Quoted(b"\x1f"), One, Set], Has(b"\x1f", 14)),
-    (
-        &[
-            Number(1),
-            Number(3),
-            Range,
-            Set,
-            Number(2),
-            One,
-            Set,
-            Infix(Operator::Subtract),
-        ],
-        Has(b"\x01\x03", 12),
-    ),
-    (
-        &[
-            Number(1),
-            Number(3),
-            Range,
-            Set,
-            Number(2),
-            One,
-            Set,
-            Infix(Operator::GreaterEqual),
-        ],
-        Is(1, 5),
-    ),
-    (
-        &[Set, Named(b"Red"), One, Set, Infix(Operator::Add)],
-        Has(b"\x00", 17),
-    ),
-    (
-        &[Number(300), Number(1), One, Set, Infix(Operator::In_)],
-        Is(0, 5),
-    ),
-];
-
-const REFUSED: [(&[Word], Want); 30] = [
-    (&[Named(b"nix")], Breaks(15, 1)),
-    (&[Number(1), Call(b"nix")], Breaks(15, 2)),
-    (&[Number(1), One, Named(b"Red"), One, Set], Breaks(20, 3)),
-    (&[Named(b"True"), Number(1), Range, Set], Breaks(20, 2)),
-    (&[Number(1), Call(b"UpCase")], Breaks(20, 1)),
-    (&[Named(b"Red"), Call(b"Abs")], Breaks(20, 1)),
-    (
-        &[Number(1), Named(b"True"), Infix(Operator::Add)],
-        Breaks(21, 3),
-    ),
-    (
-        &[Number(1), Number(2), Infix(Operator::Slash)],
-        Breaks(21, 3),
-    ),
-    (
-        &[
-            Number(1),
-            One,
-            Set,
-            Number(2),
-            One,
-            Set,
-            Infix(Operator::Less),
-        ],
-        Breaks(21, 7),
-    ),
-    (
-        &[
-            Number(1),
-            One,
-            Set,
-            Named(b"Red"),
-            One,
-            Set,
-            Infix(Operator::Add),
-        ],
-        Breaks(21, 7),
-    ),
-    (
-        &[Named(b"Red"), Number(1), One, Set, Infix(Operator::In_)],
-        Breaks(21, 5),
-    ),
-    (&[Set, Signed(PrefixOperator::Not)], Breaks(21, 2)),
-    (&[Quoted(b"ab"), Call(b"Ord")], Breaks(23, 1)),
-    (&[Quoted(b"ab"), One, Set], Breaks(23, 1)),
-    (&[Named(b"Part"), Call(b"High")], Breaks(23, 1)),
-    (&[Empty(b"Ord")], Breaks(26, 1)),
-    (&[Empty(b"Byte")], Breaks(26, 1)),
-    (
-        &[Named(b"MaxInt"), Number(1), Infix(Operator::Add)],
-        Breaks(33, 1),
-    ),
-    (&[Number(2), Number(0), Infix(Operator::Div)], Breaks(33, 1)),
-    (&[Named(b"Blue"), Call(b"Succ")], Breaks(33, 2)),
-    (&[Number(6), Call(b"Digit")], Breaks(33, 2)),
-    (&[Number(0), Call(b"Digit")], Breaks(33, 2)),
-    (&[Number(32), One, Set], Breaks(34, 1)),
-    (
-        &[Number(1), Signed(PrefixOperator::Minus), One, Set],
-        Breaks(34, 2),
-    ),
-    (&[Number(1), Named(b"Last"), Range, Set], Breaks(34, 2)),
-    (&[Number(0x8000_0000)], Breaks(36, 1)),
-    (
-        &[Number(0x8000_0000), Brackets, Signed(PrefixOperator::Minus)],
-        Breaks(36, 1),
-    ),
-    (&[Quoted(b"ab"), Call(b"Char")], Breaks(39, 2)),
-    (&[Nil, Call(b"Byte")], Breaks(39, 2)),
-    (
-        &[
-            Number(1),
-            Number(0),
-            Infix(Operator::Div),
-            Named(b"nix"),
-            Infix(Operator::Add),
-        ],
-        Breaks(33, 1),
-    ),
-];
-
-const OTHERS: [(&[Word], Want); 7] = [
-    (&[Named(b"Bad")], Silent),
-    (&[Named(b"Bad"), One, Named(b"Red"), One, Set], Silent),
-    (&[Named(b"Byte")], NoConstant),
-    (&[Named(b"I"), One, Set], NoConstant),
-    (
-        &[
-            Number(1),
-            Number(0),
-            Infix(Operator::Div),
-            Named(b"I"),
-            Infix(Operator::Add),
-        ],
-        NoConstant,
-    ),
-    (&[Named(b"I"), Call(b"Ord")], NoConstant),
-    (&[Nil, Nil, Infix(Operator::Is)], NoConstant),
-];
-
-#[test]
-fn folds(rt: HostRuntime) -> Result<(), Fail> {
-    let alloc = rt.alloc();
+/// The number of the first case that does not come out as it should.
+fn first_wrong(alloc: Global, cases: &[(&[Word], Want)]) -> Result<Option<usize>, NoMemory> {
     let core = types(alloc)?;
-    for (number, (words, want)) in ACCEPTED.iter().enumerate() {
-        assert!(rt;
-            is_wanted(alloc, &core, &read(alloc, words)?, *want)?,
-            "accepted {number}"
-        );
+    for (number, (words, want)) in cases.iter().enumerate() {
+        if !is_wanted(alloc, &core, &read(alloc, words)?, *want)? {
+            return Ok(Some(number));
+        }
     }
-    for (number, (words, want)) in REFUSED.iter().enumerate() {
-        assert!(rt;
-            is_wanted(alloc, &core, &read(alloc, words)?, *want)?,
-            "refused {number}"
-        );
-    }
-    for (number, (words, want)) in OTHERS.iter().enumerate() {
-        assert!(rt;
-            is_wanted(alloc, &core, &read(alloc, words)?, *want)?,
-            "others {number}"
-        );
-    }
-    Ok(())
+    Ok(None)
 }
 
-/// What refuses a part refuses the whole: here the sum of 1 and the part in brackets.
-#[test]
-fn refuses_inside(rt: HostRuntime) -> Result<(), Fail> {
-    let alloc = rt.alloc();
+/// The same of 1 and the part in brackets: what refuses a part refuses the whole.
+fn first_wrong_inside(alloc: Global, cases: &[(&[Word], Want)]) -> Result<Option<usize>, NoMemory> {
     let core = types(alloc)?;
-    let visible = names(alloc)?;
-    for (number, (words, want)) in REFUSED.iter().enumerate() {
+    for (number, (words, want)) in cases.iter().enumerate() {
         let inside = Box::new(alloc, read(alloc, words)?)?;
-        let root = Root::Bracketed {
-            position: at(900),
-            inside,
-        };
-        let operand = designated(root, Vec::new(alloc));
-        let first = Box::new(
-            alloc,
-            Expr::Number {
-                value: 1,
-                position: at(901),
-            },
-        )?;
+        let position = at(900);
+        let operand = designated(Root::Bracketed { position, inside }, Vec::new(alloc));
+        let first = Box::new(alloc, Expr::Number { value: 1, position })?;
         let operator = Operator::Add;
-        let position = at(902);
         let rest = vec![in alloc;
             Operation {
                 operator,
@@ -698,14 +448,267 @@ fn refuses_inside(rt: HostRuntime) -> Result<(), Fail> {
                 operand
             },
         ]?;
-        let found = match fold(alloc, &core, &visible, &Expr::Chain { first, rest }) {
-            Err(CheckError::Refused(r)) => {
-                matches!(want, Breaks(rule, col) if r.rule.number == *rule && r.place.col == *col)
-            }
-            _ => false,
-        };
-        assert!(rt; found, "inside {number}");
+        if !is_wanted(alloc, &core, &Expr::Chain { first, rest }, *want)? {
+            return Ok(Some(number));
+        }
     }
+    Ok(None)
+}
+
+// Free Pascal Reference Guide, "Ordinary constants" and "Operators"; Free Pascal takes and refuses the same, but for constants of
+// more than 32 bits, and for `UpCase`, which it does not evaluate.
+#[test]
+fn folds(rt: HostRuntime) -> Result<(), Fail> {
+    let wrong = first_wrong(
+        rt.alloc(),
+        &[
+            (&[Number(2), Number(3), Infix(Operator::Add)], Is(5, 4)),
+            (
+                &[
+                    Number(7),
+                    Signed(PrefixOperator::Minus),
+                    Number(2),
+                    Infix(Operator::Div),
+                ],
+                Is(-3, 4),
+            ),
+            (
+                &[
+                    Number(7),
+                    Signed(PrefixOperator::Minus),
+                    Number(2),
+                    Infix(Operator::Mod_),
+                ],
+                Is(-1, 4),
+            ),
+            (
+                &[
+                    Number(1),
+                    Signed(PrefixOperator::Minus),
+                    Number(1),
+                    Infix(Operator::Shr),
+                ],
+                Is(0x7fff_ffff, 4),
+            ),
+            (&[Number(1), Number(33), Infix(Operator::Shl)], Is(2, 4)),
+            (
+                &[Number(0x8000_0000), Signed(PrefixOperator::Minus)],
+                Is(-0x8000_0000, 4),
+            ),
+            (
+                &[Number(6), Number(3), Infix(Operator::Xor), Brackets],
+                Is(5, 4),
+            ),
+            (&[Number(6), Signed(PrefixOperator::Not)], Is(-7, 4)),
+            (&[Named(b"TRUE"), Signed(PrefixOperator::Not)], Is(0, 5)),
+            (
+                &[Named(b"Red"), Named(b"Blue"), Infix(Operator::Less)],
+                Is(1, 5),
+            ),
+            (
+                &[Quoted(b"abc"), Quoted(b"abd"), Infix(Operator::Less)],
+                Is(1, 5),
+            ),
+            (
+                &[Quoted(b"a"), Quoted(b"b"), Infix(Operator::Add)],
+                Says(b"ab"),
+            ),
+            (&[Quoted(b"a")], Is(97, 6)),
+            (&[Nil, Nil, Infix(Operator::Equal)], Is(1, 5)),
+            (&[Member(b"Shapes", b"side")], Is(4, 4)),
+            (&[Number(300), Call(b"Byte")], Is(44, 1)),
+            (&[Number(200), Call(b"ShortInt")], Is(-56, 0)),
+            (&[Quoted(b"a"), Call(b"Byte")], Is(97, 1)),
+            (&[Number(1), Call(b"Boolean")], Is(1, 5)),
+            (&[Number(321), Call(b"Chr")], Is(65, 6)),
+            (&[Number(2), Call(b"Color")], Is(2, 16)),
+            (&[Named(b"Color"), Call(b"high")], Is(2, 16)),
+            (&[Named(b"Row"), Call(b"Low")], Is(1, 18)),
+            (&[Quoted(b"q"), Call(b"UpCase")], Is(81, 6)),
+            (&[Quoted(b"{"), Call(b"UpCase")], Is(123, 6)),
+            (&[Quoted(b"abc"), Call(b"Length")], Is(3, 4)),
+            (&[Named(b"Red"), Call(b"Succ")], Is(1, 16)),
+        ],
+    )?;
+    assert_eq!(rt; wrong, None);
+    Ok(())
+}
+
+// Free Pascal Reference Guide, "Set types" and "Set operators".
+#[test]
+fn folds_sets(rt: HostRuntime) -> Result<(), Fail> {
+    let wrong = first_wrong(
+        rt.alloc(),
+        &[
+            (&[Set], Has(b"", 10)),
+            (
+                &[Number(1), One, Number(3), Number(5), Range, Set],
+                Has(b"\x01\x03\x04\x05", 12),
+            ),
+            (&[Number(5), Number(3), Range, Set], Has(b"", 12)),
+            (
+                &[Named(b"Red"), One, Named(b"Blue"), One, Set],
+                Has(b"\x00\x02", 17),
+            ),
+            (&[Named(b"Digit"), Call(b"Low"), One, Set], Has(b"\x01", 19)),
+            (
+                &[Named(b"Digit"), Call(b"Low"), One, Number(9), One, Set],
+                Has(b"\x01\x09", 12),
+            ),
+            (&[Named(b"True"), One, Set], Has(b"\x01", 15)),
+            (&[Quoted(b"\x1f"), One, Set], Has(b"\x1f", 14)),
+            (
+                &[
+                    Number(1),
+                    Number(3),
+                    Range,
+                    Set,
+                    Number(2),
+                    One,
+                    Set,
+                    Infix(Operator::Subtract),
+                ],
+                Has(b"\x01\x03", 12),
+            ),
+            (
+                &[
+                    Number(1),
+                    Number(3),
+                    Range,
+                    Set,
+                    Number(2),
+                    One,
+                    Set,
+                    Infix(Operator::GreaterEqual),
+                ],
+                Is(1, 5),
+            ),
+            (
+                &[Set, Named(b"Red"), One, Set, Infix(Operator::Add)],
+                Has(b"\x00", 17),
+            ),
+            (
+                &[Number(300), Number(1), One, Set, Infix(Operator::In_)],
+                Is(0, 5),
+            ),
+        ],
+    )?;
+    assert_eq!(rt; wrong, None);
+    Ok(())
+}
+
+#[test]
+fn refuses(rt: HostRuntime) -> Result<(), Fail> {
+    let cases: &[(&[Word], Want)] = &[
+        (&[Named(b"nix")], Breaks(15, 1)),
+        (&[Number(1), Call(b"nix")], Breaks(15, 2)),
+        (&[Number(1), One, Named(b"Red"), One, Set], Breaks(20, 3)),
+        (&[Named(b"True"), Number(1), Range, Set], Breaks(20, 2)),
+        (&[Number(1), Call(b"UpCase")], Breaks(20, 1)),
+        (&[Named(b"Red"), Call(b"Abs")], Breaks(20, 1)),
+        (
+            &[Number(1), Named(b"True"), Infix(Operator::Add)],
+            Breaks(21, 3),
+        ),
+        (
+            &[Number(1), Number(2), Infix(Operator::Slash)],
+            Breaks(21, 3),
+        ),
+        (
+            &[
+                Number(1),
+                One,
+                Set,
+                Number(2),
+                One,
+                Set,
+                Infix(Operator::Less),
+            ],
+            Breaks(21, 7),
+        ),
+        (
+            &[
+                Number(1),
+                One,
+                Set,
+                Named(b"Red"),
+                One,
+                Set,
+                Infix(Operator::Add),
+            ],
+            Breaks(21, 7),
+        ),
+        (
+            &[Named(b"Red"), Number(1), One, Set, Infix(Operator::In_)],
+            Breaks(21, 5),
+        ),
+        (&[Set, Signed(PrefixOperator::Not)], Breaks(21, 2)),
+        (&[Quoted(b"ab"), Call(b"Ord")], Breaks(23, 1)),
+        (&[Quoted(b"ab"), One, Set], Breaks(23, 1)),
+        (&[Named(b"Part"), Call(b"High")], Breaks(23, 1)),
+        (&[Empty(b"Ord")], Breaks(26, 1)),
+        (&[Empty(b"Byte")], Breaks(26, 1)),
+        (
+            &[Named(b"MaxInt"), Number(1), Infix(Operator::Add)],
+            Breaks(33, 1),
+        ),
+        (&[Number(2), Number(0), Infix(Operator::Div)], Breaks(33, 1)),
+        (&[Named(b"Blue"), Call(b"Succ")], Breaks(33, 2)),
+        (&[Number(6), Call(b"Digit")], Breaks(33, 2)),
+        (&[Number(0), Call(b"Digit")], Breaks(33, 2)),
+        (&[Number(32), One, Set], Breaks(34, 1)),
+        (
+            &[Number(1), Signed(PrefixOperator::Minus), One, Set],
+            Breaks(34, 2),
+        ),
+        (&[Number(1), Named(b"Last"), Range, Set], Breaks(34, 2)),
+        (&[Number(0x8000_0000)], Breaks(36, 1)),
+        (
+            &[Number(0x8000_0000), Brackets, Signed(PrefixOperator::Minus)],
+            Breaks(36, 1),
+        ),
+        (&[Quoted(b"ab"), Call(b"Char")], Breaks(39, 2)),
+        (&[Nil, Call(b"Byte")], Breaks(39, 2)),
+        (
+            &[
+                Number(1),
+                Number(0),
+                Infix(Operator::Div),
+                Named(b"nix"),
+                Infix(Operator::Add),
+            ],
+            Breaks(33, 1),
+        ),
+    ];
+    assert_eq!(rt; first_wrong(rt.alloc(), cases)?, None);
+    assert_eq!(rt; first_wrong_inside(rt.alloc(), cases)?, None);
+    Ok(())
+}
+
+#[test]
+fn tells_constants_from_others(rt: HostRuntime) -> Result<(), Fail> {
+    let wrong = first_wrong(
+        rt.alloc(),
+        &[
+            (&[Named(b"Bad")], Silent),
+            (&[Named(b"Bad"), One, Named(b"Red"), One, Set], Silent),
+            (&[Named(b"Byte")], NoConstant),
+            (&[Named(b"I"), One, Set], NoConstant),
+            (
+                &[
+                    Number(1),
+                    Number(0),
+                    Infix(Operator::Div),
+                    Named(b"I"),
+                    Infix(Operator::Add),
+                ],
+                NoConstant,
+            ),
+            (&[Named(b"I"), Call(b"Ord")], NoConstant),
+            (&[Nil, Nil, Infix(Operator::Is)], NoConstant),
+        ],
+    )?;
+    assert_eq!(rt; wrong, None);
     Ok(())
 }
 
