@@ -7,6 +7,7 @@
 
 mod assign;
 mod constant;
+mod enter;
 mod operator;
 mod part;
 mod set;
@@ -18,6 +19,7 @@ mod visible;
 
 pub use assign::assignable;
 pub use constant::{Applied, Constant, Folded, Part, Use, Weight, fold};
+pub use enter::{enter_type, predefined};
 pub use operator::{application, operation, prefixed};
 pub use set::{common_set, set_behind, set_over, widest_set};
 pub use setting::Setting;

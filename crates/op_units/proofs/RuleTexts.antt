@@ -1,5 +1,5 @@
 -- Each rule by which a file is refused has a text.
-use Rattle.std.proofs.Common.{◌≡◌, ℕ, Bool, true, false, if◌then◌else◌, List, [], ◌∷◌, Option, Some, None, IsSome, refl, sym, ap, ◌∙◌, subst, codes, nat_eq}
+use Rattle.std.proofs.Common.{◌≡◌, ℕ, Bool, true, false, if◌then◌else◌, List, [], ◌∷◌, Option, Some, None, IsSome, refl, sym, ap, subst, codes, nat_eq}
 use Rattle.op_base.specs.declared.files.NamedFile.{NamedFile}
 use Rattle.op_base.specs.Rule.{text_of_feature, text_of_rule}
 use Rattle.op_base.specs.declared.place.Place.{Place}
