@@ -7,7 +7,7 @@ pub mod PrintedHeadings
 pub mod PrintedDeclarations
 pub mod PrintedFiles
 pub mod Words
-pub mod Symbols
 pub mod Quotes
+pub mod Symbols
 pub mod Scanned
 pub mod TokensKept

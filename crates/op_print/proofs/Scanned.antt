@@ -5,9 +5,8 @@ use Rattle.std.specs.List.{list_all}
 use Rattle.std.proofs.lemmas.Bool.Decides.{nat_tests}
 use Rattle.std.proofs.lemmas.List.{get_or-append-add}
 use Rattle.op_base.specs.declared.place.Place.{Place}
-use Rattle.op_print.proofs.Quotes.{spelled_string}
-use Rattle.op_print.proofs.Symbols.{spelled_symbol}
-use Rattle.op_print.proofs.Words.{true_false, all_append, decimal_digits, last_all, last_cons, IsApart, IsSpelled, spelled_identifier, spelled_name, spelled_number}
+use Rattle.op_print.proofs.Symbols.{spelled}
+use Rattle.op_print.proofs.Words.{both_true, all_append, decimal_digits, last_all, last_cons, IsApart, IsSpelled}
 use Rattle.op_print.specs.Page.{Page, empty_page, Draft, nothing, word, tight, line, indent, outdent, ◌&◌, first_byte, last_byte, runs_together, hugs, wants_gap, broken, start_line, parted, written, put, after}
 use Rattle.op_print.specs.Scanned.{begins_as_name, IsSpellable, AreSpellable, kinds_before, ScansTo}
 use Rattle.op_print.specs.Spelling.{quoted, spelling}
@@ -24,33 +23,6 @@ use Rattle.op_scan.specs.declared.token.TokenKind.{TokenKind}
 use Rattle.op_scan.specs.declared.token.TokenKind.TheVariants as kind
 
 -- ---- words
-
-spelled : (k : TokenKind) (rest : List ℕ) → IsSpellable k → IsApart (last_byte (spelling k)) rest → IsSpelled k rest
-unfolding keyword_of is_name_start is_name_byte
-spelled (kind.Identifier text) rest h a = spelled_identifier text rest h a
-spelled (kind.Number n) rest h a = spelled_number n rest h a
-spelled (kind.CharacterString text) rest h a = spelled_string text rest h a
-spelled kind.Plus rest h a = spelled_symbol kind.Plus rest refl a
-spelled kind.Minus rest h a = spelled_symbol kind.Minus rest refl a
-spelled kind.Star rest h a = spelled_symbol kind.Star rest refl a
-spelled kind.Slash rest h a = spelled_symbol kind.Slash rest refl a
-spelled kind.Equal rest h a = spelled_symbol kind.Equal rest refl a
-spelled kind.Less rest h a = spelled_symbol kind.Less rest refl a
-spelled kind.Greater rest h a = spelled_symbol kind.Greater rest refl a
-spelled kind.LessEqual rest h a = spelled_symbol kind.LessEqual rest refl a
-spelled kind.GreaterEqual rest h a = spelled_symbol kind.GreaterEqual rest refl a
-spelled kind.NotEqual rest h a = spelled_symbol kind.NotEqual rest refl a
-spelled kind.Assign rest h a = spelled_symbol kind.Assign rest refl a
-spelled kind.OpenParenthesis rest h a = spelled_symbol kind.OpenParenthesis rest refl a
-spelled kind.CloseParenthesis rest h a = spelled_symbol kind.CloseParenthesis rest refl a
-spelled kind.OpenBracket rest h a = spelled_symbol kind.OpenBracket rest refl a
-spelled kind.CloseBracket rest h a = spelled_symbol kind.CloseBracket rest refl a
-spelled kind.Comma rest h a = spelled_symbol kind.Comma rest refl a
-spelled kind.Semicolon rest h a = spelled_symbol kind.Semicolon rest refl a
-spelled kind.Colon rest h a = spelled_symbol kind.Colon rest refl a
-spelled kind.Dot rest h a = spelled_symbol kind.Dot rest refl a
-spelled kind.DotDot rest h a = spelled_symbol kind.DotDot rest refl a
-spelled k rest h a = spelled_name k rest refl refl refl refl a
 
 some_bytes : (k : TokenKind) → IsSpellable k → spelling k ≢ []
 some_bytes k h =
@@ -71,11 +43,7 @@ name_is_no_mark (x ∷ text) h = start_is_no_mark x h
 
 digits_no_mark : (ds : List ℕ) → list_all (is_digit_in Decimal) ds ≡ true → nat_eq (first_byte ds) 239 ≡ false
 digits_no_mark [] h = refl
-digits_no_mark (x ∷ ds) h = digit_is_no_mark x (and_true (is_digit_in Decimal x) (list_all (is_digit_in Decimal) ds) h)
-  where
-    and_true : (a b : Bool) → (a && b) ≡ true → a ≡ true
-    and_true true b h = refl
-    and_true false b h = true_false (sym h)
+digits_no_mark (x ∷ ds) h = digit_is_no_mark x (both_true (is_digit_in Decimal x) (list_all (is_digit_in Decimal) ds) h).0
 
 no_mark : (k : TokenKind) → IsSpellable k → nat_eq (first_byte (spelling k)) 239 ≡ false
 unfolding quoted
@@ -99,10 +67,6 @@ blank_first : (b : ℕ) (rest : List ℕ) (ks : List TokenKind) → is_blank b �
 blank_first b rest ks e h file mark before s =
     let r = h file mark (before ++ b ∷ []) s in
     record { tokens = r.tokens; end = r.end; scans = passes (b ∷ []) rest a_blank refl (blank e) refl r.scans; kinds_are = r.kinds_are }
-
-both_true : (a b : Bool) → (a && b) ≡ true → (a ≡ true) × (b ≡ true)
-both_true true b h = (refl, h)
-both_true false b h = true_false (sym h)
 
 blanks_first : (bs rest : List ℕ) (ks : List TokenKind) → list_all is_blank bs ≡ true → Scanned rest ks → Scanned (bs ++ rest) ks
 blanks_first [] rest ks e h = h

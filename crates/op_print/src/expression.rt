@@ -137,30 +137,14 @@ fn selector(page: &mut Printer, selector: &Selector) -> Result<(), NoMemory>
 fn expressions(page: &mut Printer, list: &[Expr]) -> Result<(), NoMemory>
     ensures { IfOk result (λ _. page.new ≡ after page.old (separated kind.Comma (expression_drafts (expressions_of list.now)))) }
 {
-    let Some((first, others)) = list.split_first() else {
-        return Ok(());
-    };
-    expression(page, first)?;
-    for each in others {
-        tight(page, b",")?;
-        expression(page, each)?;
-    }
-    Ok(())
+    print_separated!(page, b",", list, expression)
 }
 
 #[cycle(expression)]
 pub fn elements(page: &mut Printer, list: &[Element]) -> Result<(), NoMemory>
     ensures { IfOk result (λ _. page.new ≡ after page.old (separated kind.Comma (element_drafts (elements_of list.now)))) }
 {
-    let Some((first, others)) = list.split_first() else {
-        return Ok(());
-    };
-    element(page, first)?;
-    for each in others {
-        tight(page, b",")?;
-        element(page, each)?;
-    }
-    Ok(())
+    print_separated!(page, b",", list, element)
 }
 
 #[cycle(expression)]
@@ -178,15 +162,7 @@ fn element(page: &mut Printer, element: &Element) -> Result<(), NoMemory>
 fn arguments(page: &mut Printer, list: &[Argument]) -> Result<(), NoMemory>
     ensures { IfOk result (λ _. page.new ≡ after page.old (separated kind.Comma (argument_drafts (arguments_of list.now)))) }
 {
-    let Some((first, others)) = list.split_first() else {
-        return Ok(());
-    };
-    argument(page, first)?;
-    for each in others {
-        tight(page, b",")?;
-        argument(page, each)?;
-    }
-    Ok(())
+    print_separated!(page, b",", list, argument)
 }
 
 #[cycle(expression)]

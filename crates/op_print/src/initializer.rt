@@ -31,30 +31,14 @@ pub fn initializer(page: &mut Printer, value: &Initializer) -> Result<(), NoMemo
 fn initializers(page: &mut Printer, list: &[Initializer]) -> Result<(), NoMemory>
     ensures { IfOk result (λ _. page.new ≡ after page.old (separated kind.Comma (initial_drafts (initials_of list.now)))) }
 {
-    let Some((first, others)) = list.split_first() else {
-        return Ok(());
-    };
-    initializer(page, first)?;
-    for each in others {
-        tight(page, b",")?;
-        initializer(page, each)?;
-    }
-    Ok(())
+    print_separated!(page, b",", list, initializer)
 }
 
 #[cycle(initializer)]
 fn field_initializers(page: &mut Printer, list: &[FieldInitializer]) -> Result<(), NoMemory>
     ensures { IfOk result (λ _. page.new ≡ after page.old (separated kind.Semicolon (field_initial_drafts (field_initials_of list.now)))) }
 {
-    let Some((first, others)) = list.split_first() else {
-        return Ok(());
-    };
-    field_initializer(page, first)?;
-    for each in others {
-        tight(page, b";")?;
-        field_initializer(page, each)?;
-    }
-    Ok(())
+    print_separated!(page, b";", list, field_initializer)
 }
 
 #[cycle(initializer)]

@@ -11,6 +11,21 @@ macro_rules! print_all {
     }};
 }
 
+/// Prints the parts of a list with a mark between them.
+macro_rules! print_separated {
+    ($page:ident, $mark:expr, $list:ident, $part:ident) => {{
+        let Some((first, others)) = $list.split_first() else {
+            return Ok(());
+        };
+        $part($page, first)?;
+        for each in others {
+            tight($page, $mark)?;
+            $part($page, each)?;
+        }
+        Ok(())
+    }};
+}
+
 mod class;
 mod declaration;
 mod denoter;

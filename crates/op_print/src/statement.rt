@@ -168,15 +168,7 @@ fn guarded(page: &mut Printer, list: &[Stmt]) -> Result<(), NoMemory>
 fn statements(page: &mut Printer, list: &[Stmt]) -> Result<(), NoMemory>
     ensures { IfOk result (λ _. page.new ≡ after page.old (separated kind.Semicolon (statement_drafts (stmts_of list.now)))) }
 {
-    let Some((first, others)) = list.split_first() else {
-        return Ok(());
-    };
-    on_line(page, first)?;
-    for each in others {
-        tight(page, b";")?;
-        on_line(page, each)?;
-    }
-    Ok(())
+    print_separated!(page, b";", list, on_line)
 }
 
 #[cycle(statement)]
