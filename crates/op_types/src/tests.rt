@@ -272,92 +272,134 @@ impl Reader {
         }
     }
 
-    fn called(
-        &mut self,
-        col: u32,
-        text: &[u8],
-        arguments: Vec<Argument>,
-    ) -> Result<Expr, NoMemory> {
+    fn push(&mut self, e: Expr) -> Result<(), NoMemory> {
+        self.operands.push(e)?;
+        Ok(())
+    }
+
+    fn read(&mut self, col: u32, word: Word) -> Result<(), NoMemory> {
+        match word {
+            Number(value) => self.push(number(col, value)),
+            Quoted(text) => self.quoted(col, text),
+            Named(text) => self.named(col, text),
+            Member(unit, member) => self.member(col, unit, member),
+            Nil => self.push(Expr::Nil { position: at(col) }),
+            Empty(text) => self.called(col, text, Vec::new(self.alloc)),
+            Call(text) => self.call(col, text),
+            Signed(operator) => self.signed(col, operator),
+            Infix(operator) => self.infix(col, operator),
+            Brackets => self.brackets(col),
+            Set => self.set(col),
+            Range => self.range(),
+            One => self.one(),
+        }
+    }
+
+    fn quoted(&mut self, col: u32, text: &[u8]) -> Result<(), NoMemory> {
+        let text = Text::copy_of(self.alloc, text)?;
+        let selectors = Vec::new(self.alloc);
+        let position = at(col);
+        self.push(Expr::Literal {
+            text,
+            position,
+            selectors,
+        })
+    }
+
+    fn named(&mut self, col: u32, text: &[u8]) -> Result<(), NoMemory> {
         let root = Root::Named(name(self.alloc, col, text)?);
+        self.push(designated(root, Vec::new(self.alloc)))
+    }
+
+    fn member(&mut self, col: u32, unit: &[u8], member: &[u8]) -> Result<(), NoMemory> {
+        let member = name(self.alloc, col, member)?;
+        let selectors = vec![in self.alloc; Selector::Member(member)]?;
+        let root = Root::Named(name(self.alloc, col, unit)?);
+        self.push(designated(root, selectors))
+    }
+
+    fn called(&mut self, col: u32, text: &[u8], arguments: Vec<Argument>) -> Result<(), NoMemory> {
         let selectors = vec![in self.alloc; Selector::Call { arguments }]?;
-        Ok(designated(root, selectors))
+        let root = Root::Named(name(self.alloc, col, text)?);
+        self.push(designated(root, selectors))
+    }
+
+    fn call(&mut self, col: u32, text: &[u8]) -> Result<(), NoMemory> {
+        let arguments = vec![in self.alloc; Argument::Value(self.operand())]?;
+        self.called(col, text, arguments)
+    }
+
+    fn signed(&mut self, col: u32, operator: PrefixOperator) -> Result<(), NoMemory> {
+        let operand = Box::new(self.alloc, self.operand())?;
+        let position = at(col);
+        self.push(Expr::Prefix {
+            operator,
+            position,
+            operand,
+        })
+    }
+
+    fn infix(&mut self, col: u32, operator: Operator) -> Result<(), NoMemory> {
+        let second = self.operand();
+        let first = self.operand();
+        let e = joined(self.alloc, first, operator, col, second)?;
+        self.push(e)
+    }
+
+    fn brackets(&mut self, col: u32) -> Result<(), NoMemory> {
+        let inside = self.operand();
+        let e = bracketed(self.alloc, col, inside)?;
+        self.push(e)
+    }
+
+    fn set(&mut self, col: u32) -> Result<(), NoMemory> {
+        let mut elements = Vec::new(self.alloc);
+        std::mem::swap(&mut elements, &mut self.elements);
+        let position = at(col);
+        self.push(Expr::Set { position, elements })
+    }
+
+    fn one(&mut self) -> Result<(), NoMemory> {
+        let only = self.operand();
+        self.elements.push(Element::One(only))?;
+        Ok(())
+    }
+
+    fn range(&mut self) -> Result<(), NoMemory> {
+        let last = self.operand();
+        let first = self.operand();
+        self.elements.push(Element::Range(first, last))?;
+        Ok(())
     }
 }
 
-impl Reader {
-    fn simple(&mut self, col: u32, word: Word) -> Result<Option<Expr>, NoMemory> {
-        let alloc = self.alloc;
-        Ok(Some(match word {
-            Number(value) => Expr::Number {
-                value,
-                position: at(col),
-            },
-            Quoted(text) => Expr::Literal {
-                text: Text::copy_of(alloc, text)?,
-                position: at(col),
-                selectors: Vec::new(alloc),
-            },
-            Named(text) => { designated(Root::Named(name(alloc, col, text)?), Vec::new(alloc)) }
-            Member(unit, member) => {
-                let member = name(alloc, col, member)?;
-                let selectors = vec![in alloc; Selector::Member(member)]?;
-                designated(Root::Named(name(alloc, col, unit)?), selectors)
-            }
-            Nil => Expr::Nil { position: at(col) },
-            Empty(text) => self.called(col, text, Vec::new(alloc))?,
-            _ => return Ok(None),
-        }))
-    }
+fn number(col: u32, value: u32) -> Expr {
+    let position = at(col);
+    Expr::Number { value, position }
+}
 
-    fn joined(&mut self, col: u32, word: Word) -> Result<Option<Expr>, NoMemory> {
-        let alloc = self.alloc;
-        let position = at(col);
-        Ok(Some(match word {
-            Call(text) => {
-                let arguments = vec![in alloc; Argument::Value(self.operand())]?;
-                self.called(col, text, arguments)?
-            }
-            Signed(operator) => Expr::Prefix {
-                operator,
-                position,
-                operand: Box::new(alloc, self.operand())?,
-            },
-            Infix(operator) => {
-                let operand = self.operand();
-                let first = Box::new(alloc, self.operand())?;
-                let rest = vec![in alloc;
-                    Operation {
-                        operator,
-                        position,
-                        operand
-                    },
-                ]?;
-                Expr::Chain { first, rest }
-            }
-            Brackets => {
-                let inside = Box::new(alloc, self.operand())?;
-                designated(Root::Bracketed { position, inside }, Vec::new(alloc))
-            }
-            Set => {
-                let mut elements = Vec::new(alloc);
-                std::mem::swap(&mut elements, &mut self.elements);
-                Expr::Set { position, elements }
-            }
-            _ => return Ok(None),
-        }))
-    }
+fn joined(
+    alloc: Global,
+    first: Expr,
+    operator: Operator,
+    col: u32,
+    operand: Expr,
+) -> Result<Expr, NoMemory> {
+    let position = at(col);
+    let operation = Operation {
+        operator,
+        position,
+        operand,
+    };
+    let rest = vec![in alloc; operation]?;
+    let first = Box::new(alloc, first)?;
+    Ok(Expr::Chain { first, rest })
+}
 
-    fn element(&mut self, word: Word) -> Result<(), NoMemory> {
-        let last = self.operand();
-        match word {
-            Range => {
-                let first = self.operand();
-                self.elements.push(Element::Range(first, last))?;
-            }
-            _ => self.elements.push(Element::One(last))?,
-        }
-        Ok(())
-    }
+fn bracketed(alloc: Global, col: u32, inside: Expr) -> Result<Expr, NoMemory> {
+    let inside = Box::new(alloc, inside)?;
+    let position = at(col);
+    Ok(designated(Root::Bracketed { position, inside }, Vec::new(alloc)))
 }
 
 fn read(alloc: Global, words: &[Word]) -> Result<Expr, NoMemory> {
@@ -369,13 +411,7 @@ fn read(alloc: Global, words: &[Word]) -> Result<Expr, NoMemory> {
     let mut col = 0;
     for word in words {
         col = (col % 1000) + 1;
-        match reader.simple(col, *word)? {
-            Some(e) => reader.operands.push(e)?,
-            None => match reader.joined(col, *word)? {
-                Some(e) => reader.operands.push(e)?,
-                None => reader.element(*word)?,
-            },
-        }
+        reader.read(col, *word)?;
     }
     Ok(reader.operand())
 }
@@ -401,32 +437,32 @@ fn is_wanted(alloc: Global, core: &Core, e: &Expr, want: Want) -> Result<bool, N
         core,
         visible: &visible,
     };
-    let Some(given) = setting.constant(&mut sink, e)? else {
-        return Ok(matches!(want, NoConstant));
-    };
-    Ok(match (given, sink.kept, want) {
-        (Some(c), None, Is(n, of)) => matches!(c.value, Const::Ordinal(m) if m == n)
-            && c.of.0 == of,
-        (Some(c), None, Says(text)) => match &c.value {
-            Const::Text(own) => own.as_slice() == text && c.of.0 == TypeId::STRING.0,
-            _ => false,
-        },
-        (Some(c), None, Has(members, of)) => match &c.value {
-            Const::Set(own) => own.as_slice() == members && c.of.0 == of,
-            _ => false,
-        },
-        (None, Some(r), Breaks(rule, col)) => r.rule.number == rule && r.place.col == col,
-        (None, None, Silent) => true,
+    match (setting.constant(&mut sink, e)?, sink.kept) {
+        (None, _) => Ok(matches!(want, NoConstant)),
+        (Some(None), None) => Ok(matches!(want, Silent)),
+        (Some(None), Some(r)) => {
+            Ok(matches!(want, Breaks(rule, col) if r.rule.number == rule && r.place.col == col))
+        }
+        (Some(Some(_)), Some(_)) => Ok(false),
+        (Some(Some(c)), None) => Ok(is_value(&c, want)),
+    }
+}
+
+fn is_value(c: &Constant, want: Want) -> bool {
+    match (&c.value, want) {
+        (Const::Ordinal(n), Is(m, of)) => *n == m && c.of.0 == of,
+        (Const::Text(own), Says(text)) => own.as_slice() == text && c.of.0 == TypeId::STRING.0,
+        (Const::Set(own), Has(members, of)) => own.as_slice() == members && c.of.0 == of,
         _ => false,
-    })
+    }
 }
 
 /// The number of the first case that does not come out as it should.
 fn first_wrong(alloc: Global, cases: &[(&[Word], Want)]) -> Result<Option<usize>, NoMemory> {
     let core = types(alloc)?;
-    for (number, (words, want)) in cases.iter().enumerate() {
+    for (case, (words, want)) in cases.iter().enumerate() {
         if !is_wanted(alloc, &core, &read(alloc, words)?, *want)? {
-            return Ok(Some(number));
+            return Ok(Some(case));
         }
     }
     Ok(None)
@@ -435,21 +471,11 @@ fn first_wrong(alloc: Global, cases: &[(&[Word], Want)]) -> Result<Option<usize>
 /// The same of 1 and the part in brackets: what refuses a part refuses the whole.
 fn first_wrong_inside(alloc: Global, cases: &[(&[Word], Want)]) -> Result<Option<usize>, NoMemory> {
     let core = types(alloc)?;
-    for (number, (words, want)) in cases.iter().enumerate() {
-        let inside = Box::new(alloc, read(alloc, words)?)?;
-        let position = at(900);
-        let operand = designated(Root::Bracketed { position, inside }, Vec::new(alloc));
-        let first = Box::new(alloc, Expr::Number { value: 1, position })?;
-        let operator = Operator::Add;
-        let rest = vec![in alloc;
-            Operation {
-                operator,
-                position,
-                operand
-            },
-        ]?;
-        if !is_wanted(alloc, &core, &Expr::Chain { first, rest }, *want)? {
-            return Ok(Some(number));
+    for (case, (words, want)) in cases.iter().enumerate() {
+        let inside = bracketed(alloc, 900, read(alloc, words)?)?;
+        let sum = joined(alloc, number(901, 1), Operator::Add, 902, inside)?;
+        if !is_wanted(alloc, &core, &sum, *want)? {
+            return Ok(Some(case));
         }
     }
     Ok(None)
