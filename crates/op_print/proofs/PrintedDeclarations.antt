@@ -1,5 +1,5 @@
 -- Declarations can be printed and read again.
-use Rattle.std.proofs.Common.{◌≡◌, ℕ, List, [], ◌∷◌, map, Option, Some, None, refl, ap}
+use Rattle.std.proofs.Common.{ℕ, List, ◌∷◌, map, Option, Some, None, refl, ap}
 use Rattle.std.specs.Option.{option_map}
 use Rattle.op_print.proofs.Printed.{Able, fixed, Printed, printed, again, passed, first_of_all, alone}
 use Rattle.op_print.proofs.PrintedDenoters.{printed_names, printed_denoter, printed_initial}
@@ -7,8 +7,7 @@ use Rattle.op_print.proofs.PrintedHeadings.{printed_class, printed_directives, p
 use Rattle.op_print.proofs.PrintedStatements.{printed_block}
 use Rattle.op_print.specs.DeclarationDrafts.{begin_end_draft, body_draft, constant_draft, declaration_draft, declarations_draft, definition_draft, first_value_draft, type_declaration_draft, variables_draft}
 use Rattle.op_print.specs.Page.{each, optional}
-use Rattle.op_print.specs.Unplaced.{nowhere, bare_initial, bare_method, bare_statements, bare_constant, bare_variables, bare_definition, bare_type, bare_declaration, bare_declarations, bare_body}
-use Rattle.op_scan.specs.declared.token.TokenKind.TheVariants as kind
+use Rattle.op_print.specs.Unplaced.{nowhere, bare_initial, bare_statements, bare_constant, bare_variables, bare_definition, bare_type, bare_declaration, bare_declarations, bare_body}
 use Rattle.op_tree.proofs.ExpressionUnique.{same2, same3}
 use Rattle.op_tree.specs.Declaration.{Constant, Variables, TypeDefinition, denotes, forward_class, class, forward_interface, interface, TypeDeclaration, Declaration, constants, types, variables, heading, routine, Declarations, no_declarations, declarations, Body, forward, body}
 use Rattle.op_tree.specs.DeclarationGrammar.{IsConstant, is_constant, AreConstants, is_one_constant, are_constants, IsFirstValue, has_no_first_value, has_first_value, AreVariablesOfOneType, are_variables_of_one_type, AreVariables, is_one_variables, are_variables, IsDefinition, denotes_type, is_forward_class, is_class, is_forward_interface, is_interface, IsTypeDeclaration, is_type_declaration, AreTypes, is_one_type, are_types, IsDataDeclaration, declares_constants, declares_types, declares_variables, AreInterfaceDeclarations, are_no_interface_declarations, data_in_interface, heading_in_interface, AreDeclarations, are_no_declarations, data_declared, routine_declared, IsRoutine, is_routine, IsBody, is_body, is_forward}

@@ -1,15 +1,15 @@
 -- Names, types and first values can be printed and read again.
-use Rattle.std.proofs.Common.{◌≡◌, ℕ, suc, Bool, true, false, List, [], ◌∷◌, Some, None, map, refl, sym, ap, subst}
+use Rattle.std.proofs.Common.{◌≡◌, ℕ, suc, true, false, List, [], ◌∷◌, Some, None, map, refl, sym, ap, subst}
 use Rattle.op_print.proofs.Printed.{Able, Printed, printed, again, passed, Listed, last, more, bracketed, enclosed_is}
 use Rattle.op_print.proofs.PrintedExpressions.{printed_chain}
-use Rattle.op_print.specs.DenoterDrafts.{denoter_draft, denoter_drafts, fields_draft, field_line, initial_draft, initial_drafts, field_initial_drafts}
+use Rattle.op_print.specs.DenoterDrafts.{denoter_draft, denoter_drafts, fields_draft, initial_draft, initial_drafts, field_initial_drafts}
 use Rattle.op_print.specs.NameDrafts.{name_draft, bracketed_draft, qualified_draft}
 use Rattle.op_print.specs.Page.{nothing, word, tight, ◌&◌}
 use Rattle.op_print.specs.Unplaced.{nowhere, bare_name, bare_names, bare_qualified, bare_denoter, bare_denoters, bare_field_lists, bare_initial, bare_initials, bare_field_initials}
 use Rattle.op_scan.specs.declared.token.TokenKind.TheVariants as kind
 use Rattle.op_tree.proofs.ExpressionUnique.{same2, same3}
 use Rattle.op_tree.specs.Denoter.{Denoter, named, string, subrange, enumeration, set, array, record_, Denoters, no_denoters, denoters, FieldLists, no_fields, fields}
-use Rattle.op_tree.specs.DenoterGrammar.{IsDenoter, is_named, is_string, is_subrange, is_enumeration, is_set, is_unpacked, is_packed, IsStructure, is_dynamic_array, is_static_array, is_record, AreDenoters, are_one_denoter, are_denoters, AreFieldLists, are_no_fields, are_last_fields, are_fields, IsNoExpression, IsInitial, is_value, is_list, is_record_value, AreInitials, are_one_initial, are_initials, AreFieldInitials, are_one_field_initial, are_field_initials}
+use Rattle.op_tree.specs.DenoterGrammar.{IsDenoter, is_named, is_string, is_subrange, is_enumeration, is_set, is_unpacked, is_packed, is_dynamic_array, is_static_array, is_record, AreDenoters, are_one_denoter, are_denoters, AreFieldLists, are_no_fields, are_last_fields, are_fields, IsNoExpression, IsInitial, is_value, is_list, is_record_value, AreInitials, are_one_initial, are_initials, AreFieldInitials, are_one_field_initial, are_field_initials}
 use Rattle.op_tree.specs.Initial.{Initial, value, list, record_ as record_value, Initials, no_initials, initials, FieldInitials, no_field_initials, field_initials}
 use Rattle.op_tree.specs.NameGrammar.{IsName, is_name, AreNames, are_one_name, are_names, IsQualified, is_unqualified, is_qualified, AreBracketedNames, are_bracketed_names}
 use Rattle.op_tree.specs.Terminal.{Terminal, ◌at◌, name}

@@ -1,7 +1,7 @@
 -- Files can be printed and read again.
 use Rattle.std.proofs.Common.{◌≡◌, ℕ, List, [], ◌∷◌, map, Option, Some, None, refl, sym, ap, ◌∙◌, subst}
 use Rattle.std.specs.Option.{option_map}
-use Rattle.op_print.proofs.Printed.{Places, tokens, Able, Again, Printed, printed, again, HasOne, placed}
+use Rattle.op_print.proofs.Printed.{Places, tokens, Able, Printed, printed, again, HasOne, placed}
 use Rattle.op_print.proofs.PrintedDeclarations.{printed_begin_end, printed_declarations, printed_interface_declarations}
 use Rattle.op_print.proofs.PrintedDenoters.{printed_brackets, printed_names}
 use Rattle.op_print.proofs.PrintedStatements.{printed_block}
@@ -9,20 +9,19 @@ use Rattle.op_print.proofs.Scanned.{scanned_text}
 use Rattle.op_print.proofs.TokensKept.{tokens_able}
 use Rattle.op_print.specs.NameDrafts.{name_draft, names_draft}
 use Rattle.op_print.specs.Page.{Draft, word, tight, line, ◌&◌, optional, after, empty_page}
-use Rattle.op_print.specs.Print.{file_draft, program_heading_draft, program_draft, tail_draft, unit_draft, uses_draft}
-use Rattle.op_print.specs.Scanned.{kinds_before, SpelledAgain}
+use Rattle.op_print.specs.Print.{file_draft, program_heading_draft, program_draft, tail_draft, uses_draft}
+use Rattle.op_print.specs.Scanned.{SpelledAgain}
 use Rattle.op_print.specs.Unplaced.{nowhere, bare_names, bare_program_heading, bare_tail, unplaced}
 use Rattle.op_scan.specs.Scan.{StandFor}
 use Rattle.op_scan.specs.declared.token.Token.{Token}
 use Rattle.op_scan.specs.declared.token.Tokens.{Tokens}
-use Rattle.op_scan.specs.declared.token.TokenKind.{TokenKind}
 use Rattle.op_scan.specs.declared.token.TokenKind.TheVariants as kind
 use Rattle.op_tree.proofs.ExpressionUnique.{same2, same3}
 use Rattle.op_tree.proofs.StatementUnique.{same4}
 use Rattle.op_tree.specs.Declaration.{Declarations}
-use Rattle.op_tree.specs.File.{File, program, unit, UnitFile, UnitPart, Tail}
+use Rattle.op_tree.specs.File.{File, program, unit, UnitPart, Tail}
 use Rattle.op_tree.specs.FileGrammar.{IsProgramHeading, has_no_heading, has_name, has_name_and_list, IsUses, has_no_uses, has_uses, IsTail, has_end_alone, has_block, has_finalization, has_initialization, has_both, BeginAt, IsFile, is_program, is_unit, Spells}
-use Rattle.op_tree.specs.NameGrammar.{AreNames, are_one_name, are_names, is_name}
+use Rattle.op_tree.specs.NameGrammar.{is_name}
 use Rattle.op_tree.specs.Statement.{Statements}
 use Rattle.op_tree.specs.StatementGrammar.{is_begin_end}
 use Rattle.op_tree.specs.Terminal.{Terminal, terminals, ◌at◌, name}

@@ -8,7 +8,7 @@ use Rattle.op_print.specs.HeadingDrafts.{routine_word, directive_word, visibilit
 use Rattle.op_print.specs.NameDrafts.{qualified_of}
 use Rattle.op_print.specs.Page.{each, enclosed, optional, ended}
 use Rattle.op_print.specs.Scanned.{IsIdentifierText, IsSpellable}
-use Rattle.op_print.specs.Unplaced.{nowhere, bare_name, bare_names, bare_denoter, bare_parameter_type, bare_parameter, bare_heading, bare_method, bare_property, bare_member, bare_section, bare_class, bare_interface}
+use Rattle.op_print.specs.Unplaced.{nowhere, bare_name, bare_denoter, bare_parameter_type, bare_parameter, bare_heading, bare_method, bare_property, bare_member, bare_section, bare_class, bare_interface}
 use Rattle.op_scan.specs.Byte.{is_name_start, is_name_byte}
 use Rattle.op_scan.specs.Keyword.{keyword_of}
 use Rattle.op_tree.specs.declared.heading.ParameterMode.TheVariants as mode

@@ -2,7 +2,7 @@
 use Rattle.std.proofs.Common.{◌≡◌, ℕ, suc, List, ◌∷◌, Option, Some, None, refl, sym, ap, subst}
 use Rattle.std.specs.Option.{option_map}
 use Rattle.op_print.proofs.Printed.{Able, Printed, printed, again, passed, Listed, last, more, fixed}
-use Rattle.op_print.proofs.PrintedDenoters.{printed_name, printed_qualified}
+use Rattle.op_print.proofs.PrintedDenoters.{printed_qualified}
 use Rattle.op_print.proofs.PrintedExpressions.{printed_chain, printed_designator, printed_elements}
 use Rattle.op_print.specs.Page.{Draft, ◌&◌}
 use Rattle.op_print.specs.Scanned.{IsSpellable}
@@ -11,7 +11,7 @@ use Rattle.op_print.specs.Unplaced.{nowhere, bare_name, bare_qualified, bare_sta
 use Rattle.op_scan.specs.declared.token.TokenKind.TheVariants as kind
 use Rattle.op_tree.proofs.ExpressionUnique.{same2, same3}
 use Rattle.op_tree.specs.Statement.{Statement, empty, block, if_then, if_else, case_of, case_else, while_do, repeat_until, for_to, for_in, try_finally, try_except, try_on, try_on_else, raise, reraise, inherited, inherited_call, call, assign, Statements, no_statements, statements, Branches, no_branches, branches, Handlers, no_handlers, handlers}
-use Rattle.op_tree.specs.StatementGrammar.{IsClosed, direction_of, IsOn, is_on_class, is_on_variable, IsStatement, is_empty, is_block, is_if_then, is_if_else, is_case, is_case_else, is_while, is_repeat, is_for_to, is_for_in, is_try_finally, is_try_except, is_try_on, is_try_on_else, is_raise, is_reraise, is_inherited, is_inherited_call, is_call, is_assignment, IsBlock, is_begin_end, AreStatements, are_one_statement, are_statements, AreBranches, are_no_branches, are_branches, is_branch_before_end, is_branch_before_else, AreHandlers, are_no_handlers, are_handlers, is_handler_before_end, is_handler_before_else}
+use Rattle.op_tree.specs.StatementGrammar.{IsClosed, direction_of, IsOn, is_on_class, is_on_variable, IsStatement, is_empty, is_block, is_if_then, is_if_else, is_case, is_case_else, is_while, is_repeat, is_for_to, is_for_in, is_try_finally, is_try_except, is_try_on, is_try_on_else, is_raise, is_reraise, is_inherited, is_inherited_call, is_call, is_assignment, is_begin_end, AreStatements, are_one_statement, are_statements, AreBranches, are_no_branches, are_branches, is_branch_before_end, is_branch_before_else, AreHandlers, are_no_handlers, are_handlers, is_handler_before_end, is_handler_before_else}
 use Rattle.op_tree.specs.Terminal.{Terminal, ◌at◌, name}
 use Rattle.op_tree.specs.NameGrammar.{is_name}
 use Rattle.op_tree.specs.declared.position.Name.{Name}

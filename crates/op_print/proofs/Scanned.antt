@@ -14,7 +14,6 @@ use Rattle.op_scan.proofs.Scanning.{not_empty}
 use Rattle.op_scan.proofs.Strings.{append_nil}
 use Rattle.op_scan.specs.Byte.{is_blank, is_name_start, is_name_byte, is_digit_in}
 use Rattle.op_scan.specs.Item.{a_blank, blank}
-use Rattle.op_scan.specs.Keyword.{keyword_of}
 use Rattle.op_scan.specs.Scan.{Scans, all_off, ends, passes, gives, whole, token_at, place_of, mark_length}
 use Rattle.op_scan.specs.declared.number.Base.TheVariants.{Decimal}
 use Rattle.op_scan.specs.declared.token.Switches.{Switches}

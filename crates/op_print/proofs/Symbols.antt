@@ -1,5 +1,5 @@
 -- Each word of a print stands for its token, before what does not run into it.
-use Rattle.std.proofs.Common.{◌≡◌, ℕ, Bool, true, false, cond, ◌&&◌, List, [], ◌∷◌, take, Some, None, refl, sym, ap, ◌∙◌}
+use Rattle.std.proofs.Common.{◌≡◌, ℕ, true, false, cond, ◌&&◌, List, [], ◌∷◌, take, Some, None, refl, ap, ◌∙◌}
 use Rattle.std.specs.Prelude.{nat_eq}
 use Rattle.op_print.proofs.Quotes.{spelled_string}
 use Rattle.op_print.proofs.Words.{either_false, IsApart, apart_tests, IsSpelled, spelled_identifier, spelled_name, spelled_number}

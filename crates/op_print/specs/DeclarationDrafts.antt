@@ -1,5 +1,5 @@
 -- The print of declarations, as drafts. Each begins a line.
-use Rattle.std.specs.Prelude.{List, codes, map}
+use Rattle.std.specs.Prelude.{codes, map}
 use Rattle.op_print.specs.DenoterDrafts.{denoter_draft, initial_draft}
 use Rattle.op_print.specs.HeadingDrafts.{class_draft, directive_draft, heading_draft, identifier_draft, interface_draft, method_draft, type_draft}
 use Rattle.op_print.specs.NameDrafts.{name_draft, names_draft}

@@ -5,7 +5,7 @@ use Rattle.op_print.specs.NameDrafts.{bracketed_draft, name_draft, names_draft, 
 use Rattle.op_print.specs.Page.{Draft, nothing, word, tight, line, ◌&◌, each, enclosed, optional, ended}
 use Rattle.op_scan.specs.declared.token.TokenKind.{TokenKind}
 use Rattle.op_scan.specs.declared.token.TokenKind.TheVariants as kind
-use Rattle.op_tree.specs.Declaration.{Class, FieldList, Heading, Interface, Member, fields, method, property, Method, Property, Section}
+use Rattle.op_tree.specs.Declaration.{Class, Heading, Interface, Member, fields, method, property, Method, Property, Section}
 use Rattle.op_tree.specs.Denoter.{Denoter}
 use Rattle.op_tree.specs.declared.class.Visibility.{Visibility}
 use Rattle.op_tree.specs.declared.class.Visibility.TheVariants as visibility

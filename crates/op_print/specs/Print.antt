@@ -1,5 +1,5 @@
 -- The print of a file.
-use Rattle.std.specs.Prelude.{ℕ, List, [], ◌∷◌, Option}
+use Rattle.std.specs.Prelude.{ℕ, List, [], ◌∷◌}
 use Rattle.op_print.specs.DeclarationDrafts.{begin_end_draft, declarations_draft}
 use Rattle.op_print.specs.NameDrafts.{bracketed_draft, name_draft, names_draft}
 use Rattle.op_print.specs.Page.{Draft, nothing, word, tight, line, ◌&◌, optional, after, empty_page}
