@@ -484,147 +484,181 @@ fn first_wrong_inside(alloc: Global, cases: &[(&[Word], Want)]) -> Result<Option
 // Free Pascal Reference Guide, "Ordinary constants" and "Operators"; Free Pascal takes and refuses the same, but for constants of
 // more than 32 bits, and for `UpCase`, which it does not evaluate.
 #[test]
-fn folds(rt: HostRuntime) -> Result<(), Fail> {
-    let wrong = first_wrong(
-        rt.alloc(),
-        &[
-            (&[Number(2), Number(3), Infix(Operator::Add)], Is(5, 4)),
-            (
-                &[
-                    Number(7),
-                    Signed(PrefixOperator::Minus),
-                    Number(2),
-                    Infix(Operator::Div),
-                ],
-                Is(-3, 4),
-            ),
-            (
-                &[
-                    Number(7),
-                    Signed(PrefixOperator::Minus),
-                    Number(2),
-                    Infix(Operator::Mod_),
-                ],
-                Is(-1, 4),
-            ),
-            (
-                &[
-                    Number(1),
-                    Signed(PrefixOperator::Minus),
-                    Number(1),
-                    Infix(Operator::Shr),
-                ],
-                Is(0x7fff_ffff, 4),
-            ),
-            (&[Number(1), Number(33), Infix(Operator::Shl)], Is(2, 4)),
-            (
-                &[Number(0x8000_0000), Signed(PrefixOperator::Minus)],
-                Is(-0x8000_0000, 4),
-            ),
-            (
-                &[Number(6), Number(3), Infix(Operator::Xor), Brackets],
-                Is(5, 4),
-            ),
-            (&[Number(6), Signed(PrefixOperator::Not)], Is(-7, 4)),
-            (&[Named(b"TRUE"), Signed(PrefixOperator::Not)], Is(0, 5)),
-            (
-                &[Named(b"Red"), Named(b"Blue"), Infix(Operator::Less)],
-                Is(1, 5),
-            ),
-            (
-                &[Quoted(b"abc"), Quoted(b"abd"), Infix(Operator::Less)],
-                Is(1, 5),
-            ),
-            (
-                &[Quoted(b"a"), Quoted(b"b"), Infix(Operator::Add)],
-                Says(b"ab"),
-            ),
-            (&[Quoted(b"a")], Is(97, 6)),
-            (&[Nil, Nil, Infix(Operator::Equal)], Is(1, 5)),
-            (&[Member(b"Shapes", b"side")], Is(4, 4)),
-            (&[Number(300), Call(b"Byte")], Is(44, 1)),
-            (&[Number(200), Call(b"ShortInt")], Is(-56, 0)),
-            (&[Quoted(b"a"), Call(b"Byte")], Is(97, 1)),
-            (&[Number(1), Call(b"Boolean")], Is(1, 5)),
-            (&[Number(321), Call(b"Chr")], Is(65, 6)),
-            (&[Number(2), Call(b"Color")], Is(2, 16)),
-            (&[Named(b"Color"), Call(b"high")], Is(2, 16)),
-            (&[Named(b"Row"), Call(b"Low")], Is(1, 18)),
-            (&[Quoted(b"q"), Call(b"UpCase")], Is(81, 6)),
-            (&[Quoted(b"{"), Call(b"UpCase")], Is(123, 6)),
-            (&[Quoted(b"abc"), Call(b"Length")], Is(3, 4)),
-            (&[Named(b"Red"), Call(b"Succ")], Is(1, 16)),
-        ],
-    )?;
-    assert_eq!(rt; wrong, None);
+fn folds_arithmetic(rt: HostRuntime) -> Result<(), Fail> {
+    let cases: &[(&[Word], Want)] = &[
+        (&[Number(2), Number(3), Infix(Operator::Add)], Is(5, 4)),
+        (
+            &[
+                Number(7),
+                Signed(PrefixOperator::Minus),
+                Number(2),
+                Infix(Operator::Div),
+            ],
+            Is(-3, 4),
+        ),
+        (
+            &[
+                Number(7),
+                Signed(PrefixOperator::Minus),
+                Number(2),
+                Infix(Operator::Mod_),
+            ],
+            Is(-1, 4),
+        ),
+        (
+            &[
+                Number(1),
+                Signed(PrefixOperator::Minus),
+                Number(1),
+                Infix(Operator::Shr),
+            ],
+            Is(0x7fff_ffff, 4),
+        ),
+        (&[Number(1), Number(33), Infix(Operator::Shl)], Is(2, 4)),
+        (
+            &[Number(0x8000_0000), Signed(PrefixOperator::Minus)],
+            Is(-0x8000_0000, 4),
+        ),
+    ];
+    assert_eq!(rt; first_wrong(rt.alloc(), cases)?, None);
+    Ok(())
+}
+
+#[test]
+fn folds_logic(rt: HostRuntime) -> Result<(), Fail> {
+    let cases: &[(&[Word], Want)] = &[
+        (
+            &[Number(6), Number(3), Infix(Operator::Xor), Brackets],
+            Is(5, 4),
+        ),
+        (&[Number(6), Signed(PrefixOperator::Not)], Is(-7, 4)),
+        (&[Named(b"TRUE"), Signed(PrefixOperator::Not)], Is(0, 5)),
+        (
+            &[Named(b"Red"), Named(b"Blue"), Infix(Operator::Less)],
+            Is(1, 5),
+        ),
+        (
+            &[Quoted(b"abc"), Quoted(b"abd"), Infix(Operator::Less)],
+            Is(1, 5),
+        ),
+    ];
+    assert_eq!(rt; first_wrong(rt.alloc(), cases)?, None);
+    Ok(())
+}
+
+#[test]
+fn folds_texts_and_names(rt: HostRuntime) -> Result<(), Fail> {
+    let cases: &[(&[Word], Want)] = &[
+        (
+            &[Quoted(b"a"), Quoted(b"b"), Infix(Operator::Add)],
+            Says(b"ab"),
+        ),
+        (&[Quoted(b"a")], Is(97, 6)),
+        (&[Nil, Nil, Infix(Operator::Equal)], Is(1, 5)),
+        (&[Member(b"Shapes", b"side")], Is(4, 4)),
+    ];
+    assert_eq!(rt; first_wrong(rt.alloc(), cases)?, None);
+    Ok(())
+}
+
+#[test]
+fn folds_casts(rt: HostRuntime) -> Result<(), Fail> {
+    let cases: &[(&[Word], Want)] = &[
+        (&[Number(300), Call(b"Byte")], Is(44, 1)),
+        (&[Number(200), Call(b"ShortInt")], Is(-56, 0)),
+        (&[Quoted(b"a"), Call(b"Byte")], Is(97, 1)),
+        (&[Number(1), Call(b"Boolean")], Is(1, 5)),
+        (&[Number(321), Call(b"Chr")], Is(65, 6)),
+        (&[Number(2), Call(b"Color")], Is(2, 16)),
+    ];
+    assert_eq!(rt; first_wrong(rt.alloc(), cases)?, None);
+    Ok(())
+}
+
+#[test]
+fn folds_functions(rt: HostRuntime) -> Result<(), Fail> {
+    let cases: &[(&[Word], Want)] = &[
+        (&[Named(b"Color"), Call(b"high")], Is(2, 16)),
+        (&[Named(b"Row"), Call(b"Low")], Is(1, 18)),
+        (&[Quoted(b"q"), Call(b"UpCase")], Is(81, 6)),
+        (&[Quoted(b"{"), Call(b"UpCase")], Is(123, 6)),
+        (&[Quoted(b"abc"), Call(b"Length")], Is(3, 4)),
+        (&[Named(b"Red"), Call(b"Succ")], Is(1, 16)),
+    ];
+    assert_eq!(rt; first_wrong(rt.alloc(), cases)?, None);
     Ok(())
 }
 
 // Free Pascal Reference Guide, "Set types" and "Set operators".
 #[test]
-fn folds_sets(rt: HostRuntime) -> Result<(), Fail> {
-    let wrong = first_wrong(
-        rt.alloc(),
-        &[
-            (&[Set], Has(b"", 10)),
-            (
-                &[Number(1), One, Number(3), Number(5), Range, Set],
-                Has(b"\x01\x03\x04\x05", 12),
-            ),
-            (&[Number(5), Number(3), Range, Set], Has(b"", 12)),
-            (
-                &[Named(b"Red"), One, Named(b"Blue"), One, Set],
-                Has(b"\x00\x02", 17),
-            ),
-            (&[Named(b"Digit"), Call(b"Low"), One, Set], Has(b"\x01", 19)),
-            (
-                &[Named(b"Digit"), Call(b"Low"), One, Number(9), One, Set],
-                Has(b"\x01\x09", 12),
-            ),
-            (&[Named(b"True"), One, Set], Has(b"\x01", 15)),
-            (&[Quoted(b"\x1f"), One, Set], Has(b"\x1f", 14)),
-            (
-                &[
-                    Number(1),
-                    Number(3),
-                    Range,
-                    Set,
-                    Number(2),
-                    One,
-                    Set,
-                    Infix(Operator::Subtract),
-                ],
-                Has(b"\x01\x03", 12),
-            ),
-            (
-                &[
-                    Number(1),
-                    Number(3),
-                    Range,
-                    Set,
-                    Number(2),
-                    One,
-                    Set,
-                    Infix(Operator::GreaterEqual),
-                ],
-                Is(1, 5),
-            ),
-            (
-                &[Set, Named(b"Red"), One, Set, Infix(Operator::Add)],
-                Has(b"\x00", 17),
-            ),
-            (
-                &[Number(300), Number(1), One, Set, Infix(Operator::In_)],
-                Is(0, 5),
-            ),
-        ],
-    )?;
-    assert_eq!(rt; wrong, None);
+fn folds_set_constructors(rt: HostRuntime) -> Result<(), Fail> {
+    let cases: &[(&[Word], Want)] = &[
+        (&[Set], Has(b"", 10)),
+        (
+            &[Number(1), One, Number(3), Number(5), Range, Set],
+            Has(b"\x01\x03\x04\x05", 12),
+        ),
+        (&[Number(5), Number(3), Range, Set], Has(b"", 12)),
+        (
+            &[Named(b"Red"), One, Named(b"Blue"), One, Set],
+            Has(b"\x00\x02", 17),
+        ),
+        (&[Named(b"Digit"), Call(b"Low"), One, Set], Has(b"\x01", 19)),
+        (
+            &[Named(b"Digit"), Call(b"Low"), One, Number(9), One, Set],
+            Has(b"\x01\x09", 12),
+        ),
+        (&[Named(b"True"), One, Set], Has(b"\x01", 15)),
+        (&[Quoted(b"\x1f"), One, Set], Has(b"\x1f", 14)),
+    ];
+    assert_eq!(rt; first_wrong(rt.alloc(), cases)?, None);
     Ok(())
 }
 
 #[test]
-fn refuses(rt: HostRuntime) -> Result<(), Fail> {
+fn folds_set_operators(rt: HostRuntime) -> Result<(), Fail> {
+    let cases: &[(&[Word], Want)] = &[
+        (
+            &[
+                Number(1),
+                Number(3),
+                Range,
+                Set,
+                Number(2),
+                One,
+                Set,
+                Infix(Operator::Subtract),
+            ],
+            Has(b"\x01\x03", 12),
+        ),
+        (
+            &[
+                Number(1),
+                Number(3),
+                Range,
+                Set,
+                Number(2),
+                One,
+                Set,
+                Infix(Operator::GreaterEqual),
+            ],
+            Is(1, 5),
+        ),
+        (
+            &[Set, Named(b"Red"), One, Set, Infix(Operator::Add)],
+            Has(b"\x00", 17),
+        ),
+        (
+            &[Number(300), Number(1), One, Set, Infix(Operator::In_)],
+            Is(0, 5),
+        ),
+    ];
+    assert_eq!(rt; first_wrong(rt.alloc(), cases)?, None);
+    Ok(())
+}
+
+#[test]
+fn refuses_names_and_types(rt: HostRuntime) -> Result<(), Fail> {
     let cases: &[(&[Word], Want)] = &[
         (&[Named(b"nix")], Breaks(15, 1)),
         (&[Number(1), Call(b"nix")], Breaks(15, 2)),
@@ -632,6 +666,15 @@ fn refuses(rt: HostRuntime) -> Result<(), Fail> {
         (&[Named(b"True"), Number(1), Range, Set], Breaks(20, 2)),
         (&[Number(1), Call(b"UpCase")], Breaks(20, 1)),
         (&[Named(b"Red"), Call(b"Abs")], Breaks(20, 1)),
+    ];
+    assert_eq!(rt; first_wrong(rt.alloc(), cases)?, None);
+    assert_eq!(rt; first_wrong_inside(rt.alloc(), cases)?, None);
+    Ok(())
+}
+
+#[test]
+fn refuses_operators(rt: HostRuntime) -> Result<(), Fail> {
+    let cases: &[(&[Word], Want)] = &[
         (
             &[Number(1), Named(b"True"), Infix(Operator::Add)],
             Breaks(21, 3),
@@ -669,11 +712,29 @@ fn refuses(rt: HostRuntime) -> Result<(), Fail> {
             Breaks(21, 5),
         ),
         (&[Set, Signed(PrefixOperator::Not)], Breaks(21, 2)),
+    ];
+    assert_eq!(rt; first_wrong(rt.alloc(), cases)?, None);
+    assert_eq!(rt; first_wrong_inside(rt.alloc(), cases)?, None);
+    Ok(())
+}
+
+#[test]
+fn refuses_arguments(rt: HostRuntime) -> Result<(), Fail> {
+    let cases: &[(&[Word], Want)] = &[
         (&[Quoted(b"ab"), Call(b"Ord")], Breaks(23, 1)),
         (&[Quoted(b"ab"), One, Set], Breaks(23, 1)),
         (&[Named(b"Part"), Call(b"High")], Breaks(23, 1)),
         (&[Empty(b"Ord")], Breaks(26, 1)),
         (&[Empty(b"Byte")], Breaks(26, 1)),
+    ];
+    assert_eq!(rt; first_wrong(rt.alloc(), cases)?, None);
+    assert_eq!(rt; first_wrong_inside(rt.alloc(), cases)?, None);
+    Ok(())
+}
+
+#[test]
+fn refuses_values(rt: HostRuntime) -> Result<(), Fail> {
+    let cases: &[(&[Word], Want)] = &[
         (
             &[Named(b"MaxInt"), Number(1), Infix(Operator::Add)],
             Breaks(33, 1),
@@ -682,6 +743,15 @@ fn refuses(rt: HostRuntime) -> Result<(), Fail> {
         (&[Named(b"Blue"), Call(b"Succ")], Breaks(33, 2)),
         (&[Number(6), Call(b"Digit")], Breaks(33, 2)),
         (&[Number(0), Call(b"Digit")], Breaks(33, 2)),
+    ];
+    assert_eq!(rt; first_wrong(rt.alloc(), cases)?, None);
+    assert_eq!(rt; first_wrong_inside(rt.alloc(), cases)?, None);
+    Ok(())
+}
+
+#[test]
+fn refuses_elements_and_casts(rt: HostRuntime) -> Result<(), Fail> {
+    let cases: &[(&[Word], Want)] = &[
         (&[Number(32), One, Set], Breaks(34, 1)),
         (
             &[Number(1), Signed(PrefixOperator::Minus), One, Set],
@@ -713,28 +783,25 @@ fn refuses(rt: HostRuntime) -> Result<(), Fail> {
 
 #[test]
 fn tells_constants_from_others(rt: HostRuntime) -> Result<(), Fail> {
-    let wrong = first_wrong(
-        rt.alloc(),
-        &[
-            (&[Named(b"Bad")], Silent),
-            (&[Named(b"Bad"), One, Named(b"Red"), One, Set], Silent),
-            (&[Named(b"Byte")], NoConstant),
-            (&[Named(b"I"), One, Set], NoConstant),
-            (
-                &[
-                    Number(1),
-                    Number(0),
-                    Infix(Operator::Div),
-                    Named(b"I"),
-                    Infix(Operator::Add),
-                ],
-                NoConstant,
-            ),
-            (&[Named(b"I"), Call(b"Ord")], NoConstant),
-            (&[Nil, Nil, Infix(Operator::Is)], NoConstant),
-        ],
-    )?;
-    assert_eq!(rt; wrong, None);
+    let cases: &[(&[Word], Want)] = &[
+        (&[Named(b"Bad")], Silent),
+        (&[Named(b"Bad"), One, Named(b"Red"), One, Set], Silent),
+        (&[Named(b"Byte")], NoConstant),
+        (&[Named(b"I"), One, Set], NoConstant),
+        (
+            &[
+                Number(1),
+                Number(0),
+                Infix(Operator::Div),
+                Named(b"I"),
+                Infix(Operator::Add),
+            ],
+            NoConstant,
+        ),
+        (&[Named(b"I"), Call(b"Ord")], NoConstant),
+        (&[Nil, Nil, Infix(Operator::Is)], NoConstant),
+    ];
+    assert_eq!(rt; first_wrong(rt.alloc(), cases)?, None);
     Ok(())
 }
 
