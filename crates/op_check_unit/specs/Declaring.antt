@@ -1,11 +1,11 @@
 -- What declarations of types and constants mean (Free Pascal Reference Guide, "Types" and "Constants").
-use Rattle.std.specs.Prelude.{false, List, [], ◌∷◌, Option, Some, None}
+use Rattle.std.specs.Prelude.{false, List, Option, Some, None}
 use Rattle.op_check_unit.specs.Denoting.{denoted}
 use Rattle.op_check_unit.specs.Naming.{declared}
-use Rattle.op_check_unit.specs.Steps.{Here, Given, gives, breaks, silent, checked, followed}
+use Rattle.op_check_unit.specs.Steps.{Here, Given, breaks, silent, checked, each, followed}
 use Rattle.op_check_unit.specs.Types.{constant_part}
 use Rattle.op_core.specs.declared.ids.TypeId.{TypeId}
-use Rattle.op_tree.specs.Declaration.{Constant as ConstantTree, Declaration, TypeDeclaration, TypeDefinition, constants, types, denotes}
+use Rattle.op_tree.specs.Declaration.{Constant as ConstantTree, TypeDeclaration, TypeDefinition, denotes}
 use Rattle.op_tree.specs.Initial.{Initial, value, list, record_}
 use Rattle.op_tree.specs.declared.position.Name.{Name}
 use Rattle.op_types.specs.declared.constant.Constant.{Constant}
@@ -27,8 +27,7 @@ abbrev pub type_declared : TypeDeclaration → Here → Given (Unit {0})
 type_declared d h = followed (defined d.name d.definition h) (λ t h. declared d.name (type_meaning t) h)
 
 abbrev pub types_declared : List TypeDeclaration → Here → Given (Unit {0})
-types_declared [] h = gives tt h
-types_declared (d ∷ ds) h = followed (type_declared d h) (λ t h. types_declared ds h)
+types_declared = each type_declared
 
 -- ---- constants
 
@@ -46,5 +45,4 @@ abbrev pub constant_declared : ConstantTree → Here → Given (Unit {0})
 constant_declared d h = followed (value_means d.value h) (λ c h. declared d.name (constant_meaning c) h)
 
 abbrev pub constants_declared : List ConstantTree → Here → Given (Unit {0})
-constants_declared [] h = gives tt h
-constants_declared (d ∷ ds) h = followed (constant_declared d h) (λ t h. constants_declared ds h)
+constants_declared = each constant_declared

@@ -4,7 +4,7 @@ use Rattle.std.specs.Str.{str_eq_ignore_ascii_case}
 use Rattle.op_base.specs.declared.place.Place.{Place}
 use Rattle.op_check_unit.specs.declared.naming.Told.{Told}
 use Rattle.op_check_unit.specs.declared.naming.Told.TheVariants.{Unknown, Spoiled, Known, Unit as Unit', Other}
-use Rattle.op_check_unit.specs.Steps.{Here, Given, gives, breaks, where_true}
+use Rattle.op_check_unit.specs.Steps.{Here, Given, gives, where_true}
 use Rattle.op_core.specs.Faults.{Checked, fine, refused, untyped}
 use Rattle.op_core.specs.declared.ids.TypeId.{TypeId}
 use Rattle.op_tree.specs.declared.position.Name.{Name}

@@ -1,5 +1,5 @@
 -- Declarations change what is declared. A part of one gives what it denotes, what is declared behind it, and its faults.
-use Rattle.std.specs.Prelude.{◌≡◌, ℕ, Bool, true, false, List, Option, Some, None}
+use Rattle.std.specs.Prelude.{◌≡◌, ℕ, Bool, true, false, List, Option, Some, None, [], ◌∷◌}
 use Rattle.op_base.specs.declared.place.Place.{Place}
 use Rattle.op_check_unit.specs.declared.declarer.Declarer.{Declarer}
 use Rattle.op_core.specs.Faults.{Checked, Faults, none, one, both, broken, kept}
@@ -45,6 +45,11 @@ followed g f = record { typed = (f g.typed g.here).typed; here = (f g.typed g.he
 abbrev pub by : {A B : Type 0} → (A → Here → Given B) → Option A → Here → Given B
 by f None h = silent h
 by f (Some a) h = f a h
+
+-- the parts of a list, one behind the other
+abbrev pub each : {A : Type 0} → (A → Here → Given (Unit {0})) → List A → Here → Given (Unit {0})
+each f [] h = gives tt h
+each f (a ∷ as_) h = followed (f a h) (λ t h. each f as_ h)
 
 -- ---- answers
 

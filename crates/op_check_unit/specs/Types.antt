@@ -1,6 +1,5 @@
 -- What types denote: rows of the table of types (Free Pascal Reference Guide, "Types").
-use Rattle.std.specs.Prelude.{ℕ, ◌+◌, ℤ, pos, int_le, nat_le, Bool, true, false, ◌&&◌, List, [], ◌∷◌, ◌++◌, length, is_some, Option, Some, None}
-use Rattle.std.specs.Option.{option_map}
+use Rattle.std.specs.Prelude.{ℕ, ◌+◌, ℤ, pos, int_le, nat_le, Bool, false, ◌&&◌, List, [], ◌∷◌, ◌++◌, length, is_some, Option, Some, None}
 use Rattle.op_base.specs.declared.place.Place.{Place}
 use Rattle.op_check_unit.specs.Naming.{declared_within}
 use Rattle.op_check_unit.specs.Steps.{Here, Given, gives, silent, where_true, followed, by}
@@ -14,7 +13,6 @@ use Rattle.op_core.specs.declared.types.CoreType.TheVariants.{Enumeration, Subra
 use Rattle.op_tree.specs.Denoter.{Denoter, named, string, subrange, enumeration, set, array, record_}
 use Rattle.op_tree.specs.Expression.{Expression}
 use Rattle.op_tree.specs.declared.position.Name.{Name}
-use Rattle.op_tree.specs.declared.position.QualifiedName.{QualifiedName}
 use Rattle.op_types.specs.Constants.{constant, made, start_of}
 use Rattle.op_types.specs.Names.{Named}
 use Rattle.op_types.specs.Operators as table
