@@ -468,28 +468,66 @@ fn first_wrong(alloc: Global, cases: &[(&[Word], Want)]) -> Result<Option<usize>
     Ok(None)
 }
 
-/// The same of 1 and the part in brackets: what refuses a part refuses the whole.
-fn first_wrong_inside(alloc: Global, cases: &[(&[Word], Want)]) -> Result<Option<usize>, NoMemory> {
-    let core = types(alloc)?;
-    for (case, (words, want)) in cases.iter().enumerate() {
-        let inside = bracketed(alloc, 900, read(alloc, words)?)?;
-        let sum = joined(alloc, number(901, 1), Operator::Add, 902, inside)?;
-        if !is_wanted(alloc, &core, &sum, *want)? {
-            return Ok(Some(case));
-        }
-    }
-    Ok(None)
+// Free Pascal Reference Guide, "Ordinary constants", "Operators" and "Set operators"; Free Pascal takes and refuses the same, but for
+// constants of more than 32 bits, for `UpCase`, which it does not evaluate, and for `[1, Red]`, which it takes.
+#[test]
+fn folds_arithmetic(rt: HostRuntime) -> Result<(), Fail> {
+    let cases: &[(&[Word], Want)] = &[
+        (&[Number(2), Number(3), Infix(Operator::Add)], Is(5, 4)),
+        (
+            &[
+                Number(7),
+                Signed(PrefixOperator::Minus),
+                Number(2),
+                Infix(Operator::Div),
+            ],
+            Is(-3, 4),
+        ),
+        (
+            &[
+                Number(7),
+                Signed(PrefixOperator::Minus),
+                Number(2),
+                Infix(Operator::Mod_),
+            ],
+            Is(-1, 4),
+        ),
+        (
+            &[
+                Number(1),
+                Signed(PrefixOperator::Minus),
+                Number(1),
+                Infix(Operator::Shr),
+            ],
+            Is(0x7fff_ffff, 4),
+        ),
+    ];
+    assert_eq!(rt; first_wrong(rt.alloc(), cases)?, None);
+    Ok(())
 }
 
 #[test]
-fn folds_logic(rt: HostRuntime) -> Result<(), Fail> {
+fn folds_bits_and_signs(rt: HostRuntime) -> Result<(), Fail> {
     let cases: &[(&[Word], Want)] = &[
+        (&[Number(1), Number(33), Infix(Operator::Shl)], Is(2, 4)),
+        (
+            &[Number(0x8000_0000), Signed(PrefixOperator::Minus)],
+            Is(-0x8000_0000, 4),
+        ),
         (
             &[Number(6), Number(3), Infix(Operator::Xor), Brackets],
             Is(5, 4),
         ),
         (&[Number(6), Signed(PrefixOperator::Not)], Is(-7, 4)),
         (&[Named(b"TRUE"), Signed(PrefixOperator::Not)], Is(0, 5)),
+    ];
+    assert_eq!(rt; first_wrong(rt.alloc(), cases)?, None);
+    Ok(())
+}
+
+#[test]
+fn folds_comparisons_and_texts(rt: HostRuntime) -> Result<(), Fail> {
+    let cases: &[(&[Word], Want)] = &[
         (
             &[Named(b"Red"), Named(b"Blue"), Infix(Operator::Less)],
             Is(1, 5),
@@ -497,6 +535,327 @@ fn folds_logic(rt: HostRuntime) -> Result<(), Fail> {
         (
             &[Quoted(b"abc"), Quoted(b"abd"), Infix(Operator::Less)],
             Is(1, 5),
+        ),
+        (
+            &[Quoted(b"a"), Quoted(b"b"), Infix(Operator::Add)],
+            Says(b"ab"),
+        ),
+        (&[Quoted(b"a")], Is(97, 6)),
+        (&[Nil, Nil, Infix(Operator::Equal)], Is(1, 5)),
+    ];
+    assert_eq!(rt; first_wrong(rt.alloc(), cases)?, None);
+    Ok(())
+}
+
+#[test]
+fn folds_members_and_casts(rt: HostRuntime) -> Result<(), Fail> {
+    let cases: &[(&[Word], Want)] = &[
+        (&[Member(b"Shapes", b"side")], Is(4, 4)),
+        (&[Number(300), Call(b"Byte")], Is(44, 1)),
+        (&[Number(200), Call(b"ShortInt")], Is(-56, 0)),
+        (&[Quoted(b"a"), Call(b"Byte")], Is(97, 1)),
+    ];
+    assert_eq!(rt; first_wrong(rt.alloc(), cases)?, None);
+    Ok(())
+}
+
+#[test]
+fn folds_casts_and_bounds(rt: HostRuntime) -> Result<(), Fail> {
+    let cases: &[(&[Word], Want)] = &[
+        (&[Number(1), Call(b"Boolean")], Is(1, 5)),
+        (&[Number(321), Call(b"Chr")], Is(65, 6)),
+        (&[Number(2), Call(b"Color")], Is(2, 16)),
+        (&[Named(b"Color"), Call(b"high")], Is(2, 16)),
+    ];
+    assert_eq!(rt; first_wrong(rt.alloc(), cases)?, None);
+    Ok(())
+}
+
+#[test]
+fn folds_functions(rt: HostRuntime) -> Result<(), Fail> {
+    let cases: &[(&[Word], Want)] = &[
+        (&[Named(b"Row"), Call(b"Low")], Is(1, 18)),
+        (&[Quoted(b"q"), Call(b"UpCase")], Is(81, 6)),
+        (&[Quoted(b"{"), Call(b"UpCase")], Is(123, 6)),
+        (&[Quoted(b"abc"), Call(b"Length")], Is(3, 4)),
+        (&[Named(b"Red"), Call(b"Succ")], Is(1, 16)),
+    ];
+    assert_eq!(rt; first_wrong(rt.alloc(), cases)?, None);
+    Ok(())
+}
+
+#[test]
+fn folds_set_constructors(rt: HostRuntime) -> Result<(), Fail> {
+    let cases: &[(&[Word], Want)] = &[
+        (&[Set], Has(b"", 10)),
+        (
+            &[Number(1), One, Number(3), Number(5), Range, Set],
+            Has(b"\x01\x03\x04\x05", 12),
+        ),
+        (&[Number(5), Number(3), Range, Set], Has(b"", 12)),
+        (
+            &[Named(b"Red"), One, Named(b"Blue"), One, Set],
+            Has(b"\x00\x02", 17),
+        ),
+    ];
+    assert_eq!(rt; first_wrong(rt.alloc(), cases)?, None);
+    Ok(())
+}
+
+#[test]
+fn folds_sets_by_their_elements(rt: HostRuntime) -> Result<(), Fail> {
+    let cases: &[(&[Word], Want)] = &[
+        (&[Named(b"Digit"), Call(b"Low"), One, Set], Has(b"\x01", 19)),
+        (
+            &[Named(b"Digit"), Call(b"Low"), One, Number(9), One, Set],
+            Has(b"\x01\x09", 12),
+        ),
+        (&[Named(b"True"), One, Set], Has(b"\x01", 15)),
+        (&[Quoted(b"\x1f"), One, Set], Has(b"\x1f", 14)),
+    ];
+    assert_eq!(rt; first_wrong(rt.alloc(), cases)?, None);
+    Ok(())
+}
+
+#[test]
+fn folds_set_operators(rt: HostRuntime) -> Result<(), Fail> {
+    let cases: &[(&[Word], Want)] = &[
+        (
+            &[
+                Number(1),
+                Number(3),
+                Range,
+                Set,
+                Number(2),
+                One,
+                Set,
+                Infix(Operator::Subtract),
+            ],
+            Has(b"\x01\x03", 12),
+        ),
+        (
+            &[
+                Number(1),
+                Number(3),
+                Range,
+                Set,
+                Number(2),
+                One,
+                Set,
+                Infix(Operator::GreaterEqual),
+            ],
+            Is(1, 5),
+        ),
+        (
+            &[Set, Named(b"Red"), One, Set, Infix(Operator::Add)],
+            Has(b"\x00", 17),
+        ),
+        (
+            &[Number(300), Number(1), One, Set, Infix(Operator::In_)],
+            Is(0, 5),
+        ),
+    ];
+    assert_eq!(rt; first_wrong(rt.alloc(), cases)?, None);
+    Ok(())
+}
+
+#[test]
+fn refuses_names_and_kinds(rt: HostRuntime) -> Result<(), Fail> {
+    let cases: &[(&[Word], Want)] = &[
+        (&[Named(b"nix")], Breaks(15, 1)),
+        (&[Number(1), Call(b"nix")], Breaks(15, 2)),
+        (&[Number(1), One, Named(b"Red"), One, Set], Breaks(20, 3)),
+        (&[Named(b"True"), Number(1), Range, Set], Breaks(20, 2)),
+    ];
+    assert_eq!(rt; first_wrong(rt.alloc(), cases)?, None);
+    Ok(())
+}
+
+#[test]
+fn refuses_operands(rt: HostRuntime) -> Result<(), Fail> {
+    let cases: &[(&[Word], Want)] = &[
+        (&[Number(1), Call(b"UpCase")], Breaks(20, 1)),
+        (&[Named(b"Red"), Call(b"Abs")], Breaks(20, 1)),
+        (
+            &[Number(1), Named(b"True"), Infix(Operator::Add)],
+            Breaks(21, 3),
+        ),
+        (
+            &[Number(1), Number(2), Infix(Operator::Slash)],
+            Breaks(21, 3),
+        ),
+    ];
+    assert_eq!(rt; first_wrong(rt.alloc(), cases)?, None);
+    Ok(())
+}
+
+#[test]
+fn refuses_sets_under_operators(rt: HostRuntime) -> Result<(), Fail> {
+    let cases: &[(&[Word], Want)] = &[
+        (
+            &[
+                Number(1),
+                One,
+                Set,
+                Number(2),
+                One,
+                Set,
+                Infix(Operator::Less),
+            ],
+            Breaks(21, 7),
+        ),
+        (
+            &[
+                Number(1),
+                One,
+                Set,
+                Named(b"Red"),
+                One,
+                Set,
+                Infix(Operator::Add),
+            ],
+            Breaks(21, 7),
+        ),
+        (
+            &[Named(b"Red"), Number(1), One, Set, Infix(Operator::In_)],
+            Breaks(21, 5),
+        ),
+        (&[Set, Signed(PrefixOperator::Not)], Breaks(21, 2)),
+    ];
+    assert_eq!(rt; first_wrong(rt.alloc(), cases)?, None);
+    Ok(())
+}
+
+#[test]
+fn refuses_arguments(rt: HostRuntime) -> Result<(), Fail> {
+    let cases: &[(&[Word], Want)] = &[
+        (&[Quoted(b"ab"), Call(b"Ord")], Breaks(23, 1)),
+        (&[Quoted(b"ab"), One, Set], Breaks(23, 1)),
+        (&[Named(b"Part"), Call(b"High")], Breaks(23, 1)),
+        (&[Empty(b"Ord")], Breaks(26, 1)),
+        (&[Empty(b"Byte")], Breaks(26, 1)),
+    ];
+    assert_eq!(rt; first_wrong(rt.alloc(), cases)?, None);
+    Ok(())
+}
+
+#[test]
+fn refuses_values_out_of_range(rt: HostRuntime) -> Result<(), Fail> {
+    let cases: &[(&[Word], Want)] = &[
+        (
+            &[Named(b"MaxInt"), Number(1), Infix(Operator::Add)],
+            Breaks(33, 1),
+        ),
+        (&[Number(2), Number(0), Infix(Operator::Div)], Breaks(33, 1)),
+        (&[Named(b"Blue"), Call(b"Succ")], Breaks(33, 2)),
+        (&[Number(6), Call(b"Digit")], Breaks(33, 2)),
+        (&[Number(0), Call(b"Digit")], Breaks(33, 2)),
+    ];
+    assert_eq!(rt; first_wrong(rt.alloc(), cases)?, None);
+    Ok(())
+}
+
+#[test]
+fn refuses_elements_and_numbers(rt: HostRuntime) -> Result<(), Fail> {
+    let cases: &[(&[Word], Want)] = &[
+        (&[Number(32), One, Set], Breaks(34, 1)),
+        (
+            &[Number(1), Signed(PrefixOperator::Minus), One, Set],
+            Breaks(34, 2),
+        ),
+        (&[Number(1), Named(b"Last"), Range, Set], Breaks(34, 2)),
+        (&[Number(0x8000_0000)], Breaks(36, 1)),
+    ];
+    assert_eq!(rt; first_wrong(rt.alloc(), cases)?, None);
+    Ok(())
+}
+
+#[test]
+fn refuses_casts_and_the_first_of_two(rt: HostRuntime) -> Result<(), Fail> {
+    let cases: &[(&[Word], Want)] = &[
+        (
+            &[Number(0x8000_0000), Brackets, Signed(PrefixOperator::Minus)],
+            Breaks(36, 1),
+        ),
+        (&[Quoted(b"ab"), Call(b"Char")], Breaks(39, 2)),
+        (&[Nil, Call(b"Byte")], Breaks(39, 2)),
+        (
+            &[
+                Number(1),
+                Number(0),
+                Infix(Operator::Div),
+                Named(b"nix"),
+                Infix(Operator::Add),
+            ],
+            Breaks(33, 1),
+        ),
+    ];
+    assert_eq!(rt; first_wrong(rt.alloc(), cases)?, None);
+    Ok(())
+}
+
+#[test]
+fn is_silent_behind_spoiled_names(rt: HostRuntime) -> Result<(), Fail> {
+    let cases: &[(&[Word], Want)] = &[
+        (&[Named(b"Bad")], Silent),
+        (&[Named(b"Bad"), One, Named(b"Red"), One, Set], Silent),
+    ];
+    assert_eq!(rt; first_wrong(rt.alloc(), cases)?, None);
+    Ok(())
+}
+
+#[test]
+fn tells_constants_from_others(rt: HostRuntime) -> Result<(), Fail> {
+    let cases: &[(&[Word], Want)] = &[
+        (&[Named(b"Byte")], NoConstant),
+        (&[Named(b"I"), One, Set], NoConstant),
+        (
+            &[
+                Number(1),
+                Number(0),
+                Infix(Operator::Div),
+                Named(b"I"),
+                Infix(Operator::Add),
+            ],
+            NoConstant,
+        ),
+        (&[Named(b"I"), Call(b"Ord")], NoConstant),
+        (&[Nil, Nil, Infix(Operator::Is)], NoConstant),
+    ];
+    assert_eq!(rt; first_wrong(rt.alloc(), cases)?, None);
+    Ok(())
+}
+
+#[test]
+fn refuses_inside(rt: HostRuntime) -> Result<(), Fail> {
+    let cases: &[(&[Word], Want)] = &[
+        (
+            &[Number(1), Named(b"nix"), Brackets, Infix(Operator::Add)],
+            Breaks(15, 2),
+        ),
+        (
+            &[
+                Number(1),
+                Number(2),
+                Number(0),
+                Infix(Operator::Div),
+                Brackets,
+                Infix(Operator::Add),
+            ],
+            Breaks(33, 2),
+        ),
+        (
+            &[Number(32), One, Set, Set, Infix(Operator::Equal)],
+            Breaks(34, 1),
+        ),
+        (
+            &[
+                Number(1),
+                Quoted(b"ab"),
+                Call(b"Byte"),
+                Infix(Operator::Add),
+            ],
+            Breaks(39, 3),
         ),
     ];
     assert_eq!(rt; first_wrong(rt.alloc(), cases)?, None);
