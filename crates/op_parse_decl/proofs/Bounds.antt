@@ -9,6 +9,7 @@ use Rattle.op_parse_code.specs.Refusal.{SameHead, Dead, Refuses, out_of_memory, 
 use Rattle.op_parse_code.specs.Whole.{Chain, NoMark}
 use Rattle.op_parse_code.specs.declared.error.ParseError.{ParseError}
 use Rattle.op_parse_code.specs.declared.mark.Mark.TheVariants as mark
+use Rattle.op_parse_decl.proofs.Combining.{head_of}
 use Rattle.op_parse_decl.specs.Opening.{lists_names}
 use Rattle.op_parse_decl.specs.Types.{SomeBounded, NoMoreType, denoted}
 use Rattle.op_scan.specs.declared.token.TokenKind.{TokenKind}
@@ -40,7 +41,7 @@ data Reading (d : ℕ) (t : Denoter) (ks r : List Terminal) : Type 0 where
   reads_bounds : (a b : Expression) (p : Position) (m : List Terminal) → Chain Additive d a ks (kind.DotDot at p ∷ m) → Chain Additive d b m r → StopsDenoter r → Reading d t ks r
   reads_list : (i : ℕ) (text : List ℕ) (p u w : Position) (m : List Terminal) → d ≡ suc i → ks ≡ kind.OpenParenthesis at p ∷ kind.Identifier text at u ∷ kind.Comma at w ∷ m → Reading d t ks r
 
-structure_no_bound : (k : TokenKind) → is_structure k ≡ true → begins_expression k ≡ false
+pub structure_no_bound : (k : TokenKind) → is_structure k ≡ true → begins_expression k ≡ false
 structure_no_bound kind.Array h = refl
 structure_no_bound kind.Record h = refl
 structure_no_bound other h = false_true h
@@ -66,9 +67,6 @@ no_death {A} i p u w text m seen q ls none never s is = by_seen seen q ls none n
 
     bracketed_name : (x y : Terminal) → x ≡ kind.OpenParenthesis at p → y ≡ kind.Identifier text at u → (a : Expression) × Chain Additive (suc i) a (x ∷ y ∷ close ∷ []) []
     bracketed_name x y h g = (designated (designator (bracketed p (designated (designator (named_root (name text u)) no_selectors))) no_selectors), subst (λ z. Chain Additive (suc i) (designated (designator (bracketed p (designated (designator (named_root (name text u)) no_selectors))) no_selectors)) (z ∷ y ∷ close ∷ []) []) (sym h) (subst (λ z. Chain Additive (suc i) (designated (designator (bracketed p (designated (designator (named_root (name text u)) no_selectors))) no_selectors)) (kind.OpenParenthesis at p ∷ z ∷ close ∷ []) []) (sym g) (as_simple (is_designated (is_designator (is_bracketed (as_expr (is_designated (is_designator is_named_root are_no_selectors)))) are_no_selectors)), (tt, tt))))
-
-    head_of : {x y : Terminal} {xs ys : List Terminal} → x ∷ xs ≡ y ∷ ys → x ≡ y
-    head_of h = cc
 
     same_head : (q ls : List Terminal) (x : Terminal) (xs ys : List Terminal) → SameHead q ls → ls ≡ x ∷ xs → SameHead q (x ∷ ys)
     same_head [] ls x xs ys s h = absurd (subst (λ z. SameHead [] z) h s)

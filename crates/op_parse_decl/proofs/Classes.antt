@@ -1,6 +1,8 @@
 -- Refusals of classes.
 use Rattle.std.proofs.Common.{◌≡◌, ℕ, Bool, true, false, List, [], ◌∷◌, ◌++◌, codes, Some, None, map, refl, sym, ap, ◌∙◌, subst}
+use Rattle.std.proofs.lemmas.List.{append-nil}
 use Rattle.op_base.specs.declared.place.Place.{Place}
+use Rattle.op_parse_code.proofs.Calls.{front_not}
 use Rattle.op_parse_code.proofs.Cuts.{same_behind, same_not}
 use Rattle.op_parse_code.proofs.Refusing.{Known, Some_, Seq, refuses_map, refuses_first, refuses_after, refuses_behind, no_mark_same}
 use Rattle.op_parse_code.proofs.Names.{identifier_kind, named_at, word_kind}
@@ -12,7 +14,7 @@ use Rattle.op_parse_code.specs.Whole.{Marked, NoMark}
 use Rattle.op_parse_code.specs.WholeStatement.{front_is}
 use Rattle.op_parse_code.specs.declared.error.ParseError.{ParseError}
 use Rattle.op_parse_code.specs.declared.mark.Mark.TheVariants as mark
-use Rattle.op_parse_decl.proofs.Combining.{append_none, front_not, refuses_part}
+use Rattle.op_parse_decl.proofs.Combining.{refuses_part, same_sym, head_of}
 use Rattle.op_parse_decl.specs.Classes.{Adds, SectionsBefore, ClassRest, rest_ends, rest_directive, rest_method, rest_fields, rest_property, rest_visibility, RefusesRest, begins_resolution, IsFormBehindProperty, Resolves, goes_on_as_field, IsVisibility, is_visibility, NoVisibility, Entry, declares, opens, SomeEntry, members_behind, sections_behind, sections_before, body_with}
 use Rattle.op_parse_decl.specs.Combined.{Both, both, Stands, stands, Then, then_}
 use Rattle.op_parse_decl.specs.HeadingParts.{known_heading}
@@ -199,17 +201,11 @@ FieldsRest = Seq FieldsEnd (ClassRest false)
 fields_stand : {d : ℕ} {ns : List Name} {t : Denoter} {q u : Position} {ks m n r : List Terminal} → AreNames ns ks (kind.Colon at q ∷ m) → IsDenoter d t m (kind.Semicolon at u ∷ n) → ClassRest false d tt n r → Some_ (Seq SomeNames FieldsRest) d ks
 fields_stand {ns = ns} {t = t} {q = q} {m = m} {n = n} {r = r} f g more = ((ns, (both tt (both t tt), tt)), r, (kind.Colon at q ∷ m, (f, no_mark_by mark.Comma is_comma refl refl), (n, then_ stands (then_ (g, record { operator = refl; selector = refl; range = refl }) stands), more)))
 
-head_back : (ks ls : List Terminal) → SameHead ks ls → SameHead ls ks
-head_back [] [] s = s
-head_back [] (u ∷ ls) s = absurd s
-head_back (t ∷ ks) [] s = absurd s
-head_back (t ∷ ks) (u ∷ ls) s = sym s
-
 field_off : {b : Bool} {d : ℕ} {u : Unit {0}} {word : List ℕ} {p : Position} {ls r : List Terminal} (m : List Terminal) → SameHead m ls → (b ≡ true → NoDirective (kind.Identifier word at p ∷ m)) → NoVisibility (kind.Identifier word at p ∷ m) → ClassRest b d u (kind.Identifier word at p ∷ ls) r → Some_ (Seq SomeNames FieldsRest) d (kind.Identifier word at p ∷ ls)
 field_off m s free none (rest_directive {q = q} {ks = ks} e more) = directive_there q ks m s (free refl) e
 field_off m s free none (rest_method h more) = false_true (heading_begins h.1)
 field_off m s free none (rest_fields f g more) = fields_stand f g more
-field_off {ls = ls} m s free none (rest_visibility {v = v} e more) = absurd (none v m (is_visibility e (same_not goes_on_as_field ls m (head_back m ls s) (no_field more))))
+field_off {ls = ls} m s free none (rest_visibility {v = v} e more) = absurd (none v m (is_visibility e (same_not goes_on_as_field ls m (same_sym m ls s) (no_field more))))
 
 names_end : {ns : List Name} {word : List ℕ} {p : Position} {ls m : List Terminal} → NoMark mark.Comma ls → AreNames ns (kind.Identifier word at p ∷ ls) m → ls ≡ m
 names_end none (are_one_name is_name) = refl
@@ -243,13 +239,10 @@ dead_second P Q t ks q a z f h (v ∷ seen, e, never) = (
   v ∷ seen,
   e,
   λ ls c r s g.
-      let same : t ≡ v = front_same e in
+      let same : t ≡ v = head_of e in
       let w = h c (seen ++ ls) r (subst (λ y. SameHead y (seen ++ ls)) (sym (ap behind e)) (same_behind seen q ls s)) (subst (λ y. Q c (y ∷ (seen ++ ls)) r) (sym same) g) in
       never ls w.0 w.1 s (subst (λ y. P w.0 (y ∷ (seen ++ ls)) w.1) same w.2),
 )
-  where
-    front_same : {t u : Terminal} {ks ls : List Terminal} → t ∷ ks ≡ u ∷ ls → t ≡ u
-    front_same e = cc
 
 refuses_second : {A B : Type 0} (P : Phrase A) (Q : Phrase B) (d : ℕ) (end : Place) (t : Terminal) (ks : List Terminal) (x : ParseError) → (a : A) (z : List Terminal) → ((d' : ℕ) → P d' a (t ∷ []) z) → ((d' : ℕ) (c : B) (ls r : List Terminal) → SameHead ks ls → Q d' c (t ∷ ls) r → Some_ P d' (t ∷ ls)) → RefusesPart P d end (t ∷ ks) x → RefusesPart Q d end (t ∷ ks) x
 refuses_second P Q d end t ks x a z f h (out_of_memory e) = out_of_memory e
@@ -306,7 +299,7 @@ sectioning_more d end all rest m body more e so_far f added = record {
 pub sectioning_ends : (d : ℕ) (end : Place) (all rest after : List Terminal) (body : Body) (ss : List Section) (p q : Position) (r : List Terminal) → Sectioning d end all body rest → rest ≡ kind.End at p ∷ after → after ≡ kind.Semicolon at q ∷ r → ss ≡ map section_of body.sections.items ++ sections_before body.visibility (map member_of body.members.items) [] → SectionsBefore d ss all r
 sectioning_ends d end all rest after body ss p q r so_far e e1 is =
     let whole : SectionsBefore d (body_with body [] []) all r = so_far.completes [] [] p q rest r are_no_members (subst (λ z. AreSections d [] z (kind.End at p ∷ kind.Semicolon at q ∷ r)) (sym (e ∙ ap (λ z. kind.End at p ∷ z) e1)) are_no_sections) in
-    subst (λ z. SectionsBefore d z all r) (ap (λ z. map section_of body.sections.items ++ sections_before body.visibility z []) (append_none (map member_of body.members.items)) ∙ sym is) whole
+    subst (λ z. SectionsBefore d z all r) (ap (λ z. map section_of body.sections.items ++ sections_before body.visibility z []) (append-nil (map member_of body.members.items)) ∙ sym is) whole
 
 -- ---- forms
 

@@ -1,5 +1,6 @@
 -- What is known of phrases that are put together, and what refuses them.
 use Rattle.std.proofs.Common.{◌≡◌, ℕ, suc, Bool, true, false, List, [], ◌∷◌, ◌++◌, Option, Some, None, map, append_assoc, refl, sym, ap, ◌∙◌, subst}
+use Rattle.std.proofs.lemmas.List.{append-nil}
 use Rattle.op_base.specs.declared.place.Place.{Place}
 use Rattle.op_parse_code.proofs.Cuts.{same_not}
 use Rattle.op_parse_code.proofs.Factors.{same_begins}
@@ -21,15 +22,16 @@ use Rattle.op_tree.specs.Ends.{IsNot}
 use Rattle.op_tree.specs.Terminal.{Terminal, ◌at◌}
 use Rattle.op_tree.specs.declared.position.Position.{Position}
 
--- ---- the first token of cut tokens
+-- ---- first tokens
 
-pub front_begins : (test : TokenKind → Bool) (ks : List Terminal) → front_is test ks ≡ true → Begins test ks
-front_begins test [] h = absurd cc
-front_begins test (t ∷ ks) h = h
+pub same_sym : (ks ls : List Terminal) → SameHead ks ls → SameHead ls ks
+same_sym [] [] s = s
+same_sym [] (u ∷ ls) s = s
+same_sym (t ∷ ks) [] s = s
+same_sym (t ∷ ks) (u ∷ ls) s = sym s
 
-pub front_not : (test : TokenKind → Bool) (ks : List Terminal) → front_is test ks ≡ false → IsNot test ks
-front_not test [] h = tt
-front_not test (t ∷ ks) h = h
+pub head_of : {t u : Terminal} {ks ls : List Terminal} → t ∷ ks ≡ u ∷ ls → t ≡ u
+head_of h = cc
 
 -- ---- what statements and expressions refuse
 
@@ -106,12 +108,8 @@ repeating_push L says d end all rest m xs x so_far f g = record {
 pub repeating_more : {A X : Type 0} (test : TokenKind → Bool) (P : Phrase A) (says : X → A) (d : ℕ) (end : Place) (all rest m : List Terminal) (xs : List X) (x : X) → Known P → Repeating (Repeats test P) says d end all xs rest → Begins test rest → P d (says x) rest m → Repeating (Repeats test P) says d end all (xs ++ (x ∷ [])) m
 repeating_more test P says d end all rest m xs x known so_far b p = repeating_push (Repeats test P) says d end all rest m xs x so_far (λ more r h. one_more b p h) (λ e h. refuses_map (Seq P (Repeats test P)) (Repeats test P) d end rest e (into_item test P rest b) (refuses_after P (Repeats test P) d end (says x) rest m e known p h))
 
-pub append_none : {A : Type 0} (xs : List A) → xs ++ [] ≡ xs
-append_none [] = refl
-append_none (x ∷ xs) = ap (λ z. x ∷ z) (append_none xs)
-
 pub repeating_ends : {A X : Type 0} (test : TokenKind → Bool) (P : Phrase A) (says : X → A) (d : ℕ) (end : Place) (all rest : List Terminal) (xs : List X) → Repeating (Repeats test P) says d end all xs rest → IsNot test rest → Repeats test P d (map says xs) all rest
-repeating_ends test P says d end all rest xs so_far h = subst (λ z. Repeats test P d z all rest) (append_none (map says xs)) (so_far.completes [] rest (no_more h))
+repeating_ends test P says d end all rest xs so_far h = subst (λ z. Repeats test P d z all rest) (append-nil (map says xs)) (so_far.completes [] rest (no_more h))
 
 -- ---- parts with a mark between them
 
@@ -126,7 +124,7 @@ pub separated_more : {A X : Type 0} (m : Mark) (P : Phrase A) (says : X → A) (
 separated_more m P says d end all rest behind xs x q after known so_far p is = repeating_push (Separated m P) says d end all rest after xs x so_far (λ more r h. and_more (subst (λ z. P d (says x) rest z) is p) h) (λ e h. open_more P (Separated m P) (Separated m P) m d end (says x) rest behind after q e (separated_split m P) known p is h)
 
 pub separated_ends : {A X : Type 0} (m : Mark) (P : Phrase A) (says : X → A) (d : ℕ) (end : Place) (all rest behind : List Terminal) (xs : List X) (x : X) → Repeating (Separated m P) says d end all xs rest → P d (says x) rest behind → NoMark m behind → Separated m P d (map says (xs ++ (x ∷ []))) all behind
-separated_ends m P says d end all rest behind xs x so_far p none = subst (λ z. Separated m P d z all behind) (sym (map_push says xs x []) ∙ append_none (map says (xs ++ (x ∷ [])))) (so_far.completes (says x ∷ []) behind (last_part p none))
+separated_ends m P says d end all rest behind xs x so_far p none = subst (λ z. Separated m P d z all behind) (sym (map_push says xs x []) ∙ append-nil (map says (xs ++ (x ∷ [])))) (so_far.completes (says x ∷ []) behind (last_part p none))
 
 -- ---- a choice
 

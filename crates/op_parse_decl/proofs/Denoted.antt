@@ -86,10 +86,6 @@ named_more n xs (y ∷ ys) x e h = subst (λ z. denoted (designated (designator 
     two (member u) (z ∷ zs) = refl
     two other ys = refl
 
-pub named_last : (n : Name) (xs ys : List Selector) (x : Selector) → xs ≡ ys ++ (x ∷ []) → length ys ≡ 0 → denoted (designated (designator (named_root n) (selectors_of xs))) ≡ denoted (designated (designator (named_root n) (selectors (selector_of x) no_selectors)))
-named_last n xs [] x e h = ap (λ z. denoted (designated (designator (named_root n) (selectors_of z)))) e
-named_last n xs (y ∷ ys) x e h = absurd (omega (arith, h))
-
 pub string_more : (p : Position) (xs : List Selector) → 0 < length xs → denoted (designated (designator (string_root p) (selectors_of xs))) ≡ None
 string_more p [] h = absurd (omega (arith, h))
 string_more p (x ∷ xs) h = refl

@@ -10,6 +10,7 @@ use Rattle.op_parse_code.specs.Refusal.{SameHead, Refuses, syntax, nested, left_
 use Rattle.op_parse_code.specs.Whole.{Marked, NoMark}
 use Rattle.op_parse_code.specs.declared.error.ParseError.{ParseError}
 use Rattle.op_parse_code.specs.declared.mark.Mark.TheVariants as mark
+use Rattle.op_parse_decl.proofs.Bounds.{structure_no_bound}
 use Rattle.op_parse_decl.specs.KnownTypes.{known_names, known_denoter, known_denoters, known_indices}
 use Rattle.op_parse_decl.specs.Opening.{begins_denoter, IsProcedural}
 use Rattle.op_parse_decl.specs.Types.{SomeNames, SomeDenoter, DenoterBehind, SomeStructure, SomeBounded, DenotersBefore, SomeIndices, no_indices, some_indices, SomeFields}
@@ -125,15 +126,10 @@ no_name_there kind.Array h = refl
 no_name_there kind.Record h = refl
 no_name_there other h = false_true h
 
-no_bound_there : (k : TokenKind) → is_structure k ≡ true → begins_expression k ≡ false
-no_bound_there kind.Array h = refl
-no_bound_there kind.Record h = refl
-no_bound_there other h = false_true h
-
 into_unpacked : (d : ℕ) (t : Denoter) (k : TokenKind) (p : Position) (ls r : List Terminal) → is_structure k ≡ true → SomeDenoter d t (k at p ∷ ls) r → (i : ℕ) × (d ≡ suc i) × Some_ (SomeStructure p false) i (k at p ∷ ls)
 into_unpacked d t k p ls r h (is_named q, st) = both is_identifier (k at p ∷ ls) (qualified_begins q) (no_name_there k h)
 into_unpacked d t k p ls r h (is_string, st) = false_true h
-into_unpacked d t k p ls r h (is_subrange a b, st) = both begins_expression (k at p ∷ ls) (chain_begins a) (no_bound_there k h)
+into_unpacked d t k p ls r h (is_subrange a b, st) = both begins_expression (k at p ∷ ls) (chain_begins a) (structure_no_bound k h)
 into_unpacked d t k p ls r h (is_enumeration ns, st) = false_true h
 into_unpacked d t k p ls r h (is_set f, st) = false_true h
 into_unpacked d t k p ls r h (is_unpacked {d = i} s, st) = (i, refl, (t, r, (s, st)))
@@ -256,9 +252,6 @@ types_split d x ls r (p, are_denoters {t = t} {ts = ts} {p = q} {m = m} f g) = (
 pub record Indexing (d : ℕ) (end : Place) (all : List Terminal) (xs : List TypeDenoter) (rest : List Terminal) : Type 0 where
   pub completes : (more : Denoters) (r : List Terminal) → DenotersBefore d more rest r → DenotersBefore d (types_before xs more) all r
   pub dies : (e : ParseError) → Refuses DenotersBefore d end rest e → Refuses DenotersBefore d end all e
-
-pub indexing_none : (d : ℕ) (end : Place) (all : List Terminal) → Indexing d end all [] all
-indexing_none d end all = record { completes = λ more r x. x; dies = λ e x. x }
 
 pub indexing_item : (d : ℕ) (end : Place) (all rest : List Terminal) (xs : List TypeDenoter) (e : ParseError) → Indexing d end all xs rest → Refuses SomeDenoter d end rest e → Refuses DenotersBefore d end all e
 indexing_item d end all rest xs e so_far h = so_far.dies e (list_item SomeDenoter DenotersBefore mark.Comma mark.CloseBracket d end rest e types_split h)

@@ -75,9 +75,6 @@ pub record Fielding (d : ℕ) (end : Place) (all : List Terminal) (xs : List Fie
   pub completes : (more : FieldLists) (r : List Terminal) → AreFieldLists d more rest r → AreFieldLists d (lists_before xs more) all r
   pub dies : (e : ParseError) → Refuses FieldsBefore d end rest e → Refuses FieldsBefore d end all e
 
-pub fielding_none : (d : ℕ) (end : Place) (all : List Terminal) → Fielding d end all [] all
-fielding_none d end all = record { completes = λ more r x. x; dies = λ e x. x }
-
 in_record : (d : ℕ) (end : Place) (all : List Terminal) (e : ParseError) → Refuses FieldsBefore d end all e → (q : Position) → Refuses RecordFields d end (kind.Record at q ∷ all) e
 in_record d end all e h q = refuses_behind FieldsBefore RecordFields d end (kind.Record at q) all e (λ d' fs ls r f. inside d' fs ls r f) h
   where

@@ -8,7 +8,7 @@ use Rattle.op_parse_code.proofs.Refusing.{Some_, dead_here, no_mark_same, refuse
 use Rattle.op_parse_code.specs.Form.{Form, HasForm, is_array_of_const, is_default}
 use Rattle.op_parse_code.specs.Opening.{is_identifier, is_word}
 use Rattle.op_parse_code.specs.Refusal.{Phrase, SameHead, Dead, Refuses, out_of_memory, syntax, nested, left_out, refused_at}
-use Rattle.op_parse_decl.proofs.Combining.{refuses_part}
+use Rattle.op_parse_decl.proofs.Combining.{refuses_part, same_sym, head_of}
 use Rattle.op_parse_decl.specs.Refusal.{RefusesPart}
 use Rattle.op_parse_code.specs.Whole.{NoMark}
 use Rattle.op_parse_code.specs.declared.error.ParseError.{ParseError}
@@ -87,15 +87,6 @@ into_out out p d a ls r b (some_moded (by_out w) n) = named d n
 same_first : (q : List Terminal) (t : Terminal) (ks ls : List Terminal) → SameHead q (t ∷ ks) → SameHead q (t ∷ ls)
 same_first [] t ks ls s = absurd s
 same_first (u ∷ q) t ks ls s = s
-
-same_sym : (ks ls : List Terminal) → SameHead ks ls → SameHead ls ks
-same_sym [] [] s = s
-same_sym [] (u ∷ ls) s = absurd s
-same_sym (t ∷ ks) [] s = absurd s
-same_sym (t ∷ ks) (u ∷ ls) s = sym s
-
-head_of : {t u : Terminal} {ks ls : List Terminal} → t ∷ ks ≡ u ∷ ls → t ≡ u
-head_of h = cc
 
 -- where no list of names begins so, none stands behind the word `out`: behind the word itself one does
 no_out : (d : ℕ) (ks q seen ls : List Terminal) (out : List ℕ) (p : Position) (ns : List Name) (z r : List Terminal) → NoOut ks → ks ≡ seen ++ q → ((xs : List Terminal) (a : Both (List Name) (Unit {0})) (y : List Terminal) → SameHead q xs → Named d a (seen ++ xs) y → ⊥) → SameHead q ls → kind.Identifier out at p ∷ z ≡ seen ++ ls → IsWord (codes "out") out → AreNames ns z r → ⊥

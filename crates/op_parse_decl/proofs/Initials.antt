@@ -14,7 +14,7 @@ use Rattle.op_parse_decl.specs.Refusal.{DecidesInPart, RefusesPart, TellsList, d
 use Rattle.op_parse_code.specs.Whole.{Chain, Marked, NoMark, Operand, SomeSelectors}
 use Rattle.op_parse_code.specs.declared.error.ParseError.{ParseError}
 use Rattle.op_parse_code.specs.declared.mark.Mark.TheVariants as mark
-use Rattle.op_parse_decl.proofs.Combining.{refuses_part}
+use Rattle.op_parse_decl.proofs.Combining.{refuses_part, same_sym, head_of}
 use Rattle.op_parse_decl.proofs.Deeper.{chain_at}
 use Rattle.op_parse_decl.proofs.Denoted.{by_expr}
 use Rattle.op_parse_decl.specs.InitialKnown.{known_initial}
@@ -110,12 +110,6 @@ opening k d (record_ q fs) p ls r (l, h, (is_record_value {d = n} {q = u} (are_o
 opening k d (record_ q fs) p ls r (l, h, (is_record_value {d = n} {q = u} (are_field_initials {p = w} {m = m} (is_name {text = text} {p = v}) f gs), st)) = name_opening k d n text v w fs m r h (u, are_field_initials is_name f gs, st)
 
 -- ---- what is behind the first value dies
-
-same_sym : (ks ls : List Terminal) → SameHead ks ls → SameHead ls ks
-same_sym [] [] s = s
-same_sym [] (u ∷ ls) s = s
-same_sym (t ∷ ks) [] s = s
-same_sym (t ∷ ks) (u ∷ ls) s = sym s
 
 -- a first value whose rest begins with the same token
 before_others : (l : ℕ) (i : Initial) (front ls m : List Terminal) → SomeInitial l i (front ++ ls) ls → SameHead ls m → SomeInitial l i (front ++ m) m
@@ -277,9 +271,6 @@ overlap [] after seen q e = overlap_past seen refl
 overlap (t ∷ whole) after [] q e = overlap_in t whole refl (subst (λ z. SameHead z (t ∷ whole)) e refl)
 overlap (t ∷ whole) after (u ∷ seen) q e = also (overlap whole after seen q (ap behind e))
   where
-    head_of : {x y : Terminal} {xs ys : List Terminal} → x ∷ xs ≡ y ∷ ys → x ≡ y
-    head_of h = cc
-
     also : Overlap whole seen q → Overlap (t ∷ whole) (u ∷ seen) q
     also (overlap_past more h) = overlap_past more (subst (λ z. z ∷ seen ≡ t ∷ (whole ++ more)) (head_of e) (ap (λ z. t ∷ z) h))
     also (overlap_in v more h s) = overlap_in v more (subst (λ z. t ∷ whole ≡ z ∷ (seen ++ (v ∷ more))) (head_of e) (ap (λ z. t ∷ z) h)) s
@@ -469,13 +460,6 @@ selectors_refuse d end root ks m e f h = term_refuses d end ks e (chain_operand 
 
 pub root_operand : (d : ℕ) (root : Root) (ss : Selectors) (ks m r : List Terminal) → IsRoot d root ks m → SomeSelectors d ss m r → Operand Multiplicative d (designated (designator root ss)) ks r
 root_operand d root ss ks m r f g = multiplicative_operand d _ ks r (factor_designated d _ ks r (designator_whole d root ss ks m r f g))
-
-abbrev first_position : Position → List Terminal → Position
-first_position p [] = p
-first_position p (t ∷ ts) = t.position
-
-pub same_position : {k k' : TokenKind} {p q : Position} {ks m m' : List Terminal} → ks ≡ k at p ∷ m → ks ≡ k' at q ∷ m' → p ≡ q
-same_position {p = p} e e' = ap (first_position p) (sym e ∙ e')
 
 pub alone : (n : Name) (xs : List Selector) → length xs ≡ 0 → name_alone (value (designated (designator (named n) (selectors_of xs)))) ≡ Some n
 alone n [] h = refl

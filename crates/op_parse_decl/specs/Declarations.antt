@@ -44,10 +44,6 @@ WholeMethod d a ks r = IsMethod d a ks r × IsNot is_directive r
 
 -- ---- types
 
--- ["=" init]
-abbrev pub SomeFirstValue : Phrase (Option Initial)
-SomeFirstValue = Behind mark.Equal SomeInitial
-
 -- what a name stands for, and the semicolon behind it
 abbrev pub DefinitionBefore : Phrase TypeDefinition
 DefinitionBefore d t ks r = (q : Position) × IsDefinition d t ks (kind.Semicolon at q ∷ r)

@@ -44,27 +44,12 @@ not_dot (t ∷ r) h = at_kind t.kind t.position h
 
 -- ---- two parts
 
-pub known_seq : {A B : Type 0} (P : Phrase A) (Q : Phrase B) → Known P → Known Q → Known (Seq P Q)
-known_seq P Q p q = record {
-  front = λ d a ks m f.
-      let s = p.front d a.0 ks f.0 f.1 in
-      let u = q.front d a.1 f.0 m f.2 in
-      (λ x. s.0 (u.0 x), cut_join s.1 u.1, s.2 ∙ ap s.0 u.2, λ x h. (u.0 x, s.3 (u.0 x) (subst (λ z. SameHead z (u.0 x)) (sym u.2) (same_cut u.1 m x h)), u.3 x h));
-  same = λ d d' a a' ks m m' f f'. q.same d d' a.1 a'.1 f.0 m m' f.2 (subst (λ z. Q d' a'.1 z m') (sym (p.same d d' a.0 a'.0 ks f.0 f'.0 f.1 f'.1)) f'.2);
-}
-
 -- ---- names
 
 pub known_names : Known SomeNames
 known_names = record {
   front = λ d ns ks m p. let s = front_names p.0 in (s.0, s.1, s.2, λ x h. (s.3 x, no_mark_same mark.Comma m x h p.1));
   same = λ d d' ns ns' ks m m' p p'. (unique_names p.0 p'.0 (not_comma m p.1) (not_comma m' p'.1)).1;
-}
-
-pub known_qualified : Known SomeQualified
-known_qualified = record {
-  front = λ d q ks m p. let s = front_qualified p.0 in (s.0, s.1, s.2, λ x h. (s.3 x, no_mark_same mark.Dot m x h p.1));
-  same = λ d d' q q' ks m m' p p'. (unique_qualified p.0 p'.0 (not_dot m p.1) (not_dot m' p'.1)).1;
 }
 
 pub known_bracketed_names : Known SomeBracketedNames

@@ -1,4 +1,4 @@
-//! Parts, and how they are put together: one behind another, behind a mark, as many as stand there.
+//! Parser combinators: parts, and how they are put together, one behind another, behind a mark, as many as stand there.
 ghost use Rattle.std.specs.Prelude.{◌≡◌, ℕ, ◌+◌, ◌≤◌, ◌<◌, Bool, IfOk, IfErr, List, Option, length, map};
 ghost use Rattle.std.specs.Option.{option_map};
 ghost use Rattle.op_parse_decl.specs.Refusal.{RefusesPart};
@@ -37,7 +37,8 @@ pub trait Part: Drop {
 
     ghost phrase: { ℕ → Said → List Terminal → List Terminal → Type 0 };
 
-    ghost least: { ℕ };
+    // The fewest tokens of it.
+    ghost least: { ℕ } = { 1 };
 
     /// The part at the front, and what stands behind it.
     fn read<'a>(setting: Setting, tokens: &'a [Token]) -> Answer<'a, Self>
@@ -78,8 +79,6 @@ impl<S: Sign> Part for Stands<S> {
     ghost says = { λ _. tt };
 
     ghost phrase = { Stands S.sign };
-
-    ghost least = { 1 };
 
     fn read<'a>(setting: Setting, tokens: &'a [Token]) -> Answer<'a, Stands<S>> {
         let rest = after_mark(S::sign(), setting.end, tokens)?;
