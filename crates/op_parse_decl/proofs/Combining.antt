@@ -1,5 +1,5 @@
 -- What is known of phrases that are put together, and what refuses them.
-use Rattle.std.proofs.Common.{◌≡◌, ℕ, suc, Bool, true, false, List, [], ◌∷◌, ◌++◌, Option, Some, None, map, append_assoc, refl, sym, ap, ◌∙◌, subst}
+use Rattle.std.proofs.Common.{◌≡◌, ℕ, suc, Bool, List, [], ◌∷◌, ◌++◌, Option, Some, None, map, refl, sym, ap, ◌∙◌, subst}
 use Rattle.std.proofs.lemmas.List.{append-nil}
 use Rattle.op_base.specs.declared.place.Place.{Place}
 use Rattle.op_parse_code.proofs.Cuts.{same_not}
@@ -10,11 +10,10 @@ use Rattle.op_parse_code.specs.Opening.{kind_of}
 use Rattle.op_parse_code.specs.Refusal.{Phrase, SameHead, Refuses, out_of_memory, syntax, nested, left_out, decides_there, refused_at}
 use Rattle.op_parse_decl.specs.Refusal.{RefusesPart, decides_in_code}
 use Rattle.op_parse_code.specs.Whole.{Marked, NoMark}
-use Rattle.op_parse_code.specs.WholeStatement.{front_is}
 use Rattle.op_parse_code.specs.declared.error.ParseError.{ParseError}
 use Rattle.op_parse_code.specs.declared.mark.Mark.{Mark}
 use Rattle.op_parse_decl.specs.Known.{As, Forked, forked, MayStand, may_stand, mark_stands, has_mark_same, mark_or_none}
-use Rattle.op_parse_decl.specs.Combined.{Both, Stands, stands, Then, then_, Behind, no_mark, behind_mark, Repeats, no_more, one_more, Or, this, that, Choice, chosen, otherwise, Deeper, deeper, Fork, marked, Several, HasMark, mark_ahead, Ahead, is_ahead, not_ahead, Separated, last_part, and_more}
+use Rattle.op_parse_decl.specs.Combined.{Both, Stands, stands, Then, then_, Behind, behind_mark, Repeats, no_more, one_more, Or, this, that, Choice, chosen, otherwise, Deeper, deeper, Fork, marked, Several, HasMark, mark_ahead, Ahead, is_ahead, not_ahead, Separated, last_part, and_more}
 use Rattle.op_scan.specs.declared.token.TokenKind.{TokenKind}
 use Rattle.op_tree.proofs.ExpressionUnique.{Begins, behind}
 use Rattle.op_tree.proofs.StatementUnique.{both as apart}

@@ -5,28 +5,27 @@ use Rattle.op_parse_code.proofs.Cuts.{same_not}
 use Rattle.op_parse_code.proofs.ExpressionKnown.{known_mark}
 use Rattle.op_parse_code.proofs.Lists.{Splits, list_item, list_close, list_more}
 use Rattle.op_parse_code.proofs.Refusing.{Some_, Seq, refuses_map, refuses_first, refuses_after, refuses_behind, refuses_inside, refuses_deeper, dead_here, no_mark_same}
-use Rattle.op_parse_code.specs.Form.{BeginsProcedural, Form, HasForm, is_procedural}
+use Rattle.op_parse_code.specs.Form.{BeginsProcedural, Form, is_procedural}
 use Rattle.op_parse_code.specs.Refusal.{SameHead, Refuses, syntax, nested, left_out, decides_there, refused_at}
 use Rattle.op_parse_code.specs.Whole.{Marked, NoMark}
 use Rattle.op_parse_code.specs.declared.error.ParseError.{ParseError}
 use Rattle.op_parse_code.specs.declared.mark.Mark.TheVariants as mark
 use Rattle.op_parse_decl.proofs.Bounds.{structure_no_bound}
-use Rattle.op_parse_decl.specs.KnownTypes.{known_names, known_denoter, known_denoters, known_indices}
+use Rattle.op_parse_decl.specs.KnownTypes.{known_denoter, known_denoters, known_indices}
 use Rattle.op_parse_decl.specs.Opening.{begins_denoter, IsProcedural}
-use Rattle.op_parse_decl.specs.Types.{SomeNames, SomeDenoter, DenoterBehind, SomeStructure, SomeBounded, DenotersBefore, SomeIndices, no_indices, some_indices, SomeFields}
+use Rattle.op_parse_decl.specs.Types.{SomeDenoter, DenoterBehind, SomeStructure, SomeBounded, DenotersBefore, SomeIndices, no_indices, some_indices}
 use Rattle.op_scan.specs.declared.token.TokenKind.{TokenKind}
 use Rattle.op_scan.specs.declared.token.TokenKind.TheVariants as kind
 use Rattle.op_tree.proofs.DenoterUnique.{is_structure, structure_begins, qualified_begins}
-use Rattle.op_tree.proofs.ExpressionUnique.{Begins, true_false, false_true, chain_begins, behind}
-use Rattle.op_tree.proofs.MethodUnique.{apart, also}
+use Rattle.op_tree.proofs.ExpressionUnique.{Begins, false_true, chain_begins, behind}
+use Rattle.op_tree.proofs.MethodUnique.{also}
 use Rattle.op_tree.proofs.StatementUnique.{both, is_identifier}
 use Rattle.op_tree.specs.Denoter.{Denoter, set, array, Denoters, no_denoters, denoters, denoter_of}
-use Rattle.op_tree.specs.DenoterGrammar.{IsDenoter, is_named, is_string, is_subrange, is_enumeration, is_set, is_unpacked, is_packed, IsStructure, is_dynamic_array, is_static_array, is_record, AreDenoters, are_one_denoter, are_denoters}
-use Rattle.op_tree.specs.Ends.{IsNot, StopsDenoter, begins_expression}
+use Rattle.op_tree.specs.DenoterGrammar.{IsDenoter, is_named, is_string, is_subrange, is_enumeration, is_set, is_unpacked, is_packed, is_dynamic_array, is_static_array, is_record, are_one_denoter, are_denoters}
+use Rattle.op_tree.specs.Ends.{IsNot, begins_expression}
 use Rattle.op_tree.specs.Lists.{denoters_of}
 use Rattle.op_tree.specs.Terminal.{Terminal, ◌at◌}
 use Rattle.op_tree.specs.declared.denoter.TypeDenoter.{TypeDenoter}
-use Rattle.op_tree.specs.declared.position.Name.{Name}
 use Rattle.op_tree.specs.declared.position.Position.{Position}
 
 -- ---- how a type begins

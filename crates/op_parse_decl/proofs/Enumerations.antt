@@ -1,9 +1,8 @@
 -- Refusals of enumerations of several values.
-use Rattle.std.proofs.Common.{◌≡◌, ℕ, suc, Bool, true, false, List, [], ◌∷◌, ◌++◌, append_assoc, refl, sym, ap, ◌∙◌, subst, arith}
+use Rattle.std.proofs.Common.{◌≡◌, ℕ, suc, true, List, [], ◌∷◌, ◌++◌, append_assoc, refl, sym, ap, ◌∙◌, subst, arith}
 use Rattle.op_base.specs.declared.place.Place.{Place}
 use Rattle.op_parse_code.proofs.Cuts.{cut_seen, same_behind}
-use Rattle.op_parse_code.proofs.Factors.{same_begins}
-use Rattle.op_parse_code.proofs.Refusing.{Some_, Seq, dead_here, with_token, with_front, refuses_first, refuses_after}
+use Rattle.op_parse_code.proofs.Refusing.{Seq, dead_here, with_token, with_front, refuses_first, refuses_after}
 use Rattle.op_parse_code.proofs.ExpressionKnown.{known_mark}
 use Rattle.op_parse_code.specs.Form.{Form, is_given_value}
 use Rattle.op_parse_code.specs.Refusal.{Phrase, SameHead, Dead, Refuses, out_of_memory, syntax, nested, left_out, decides_there, refused_at}

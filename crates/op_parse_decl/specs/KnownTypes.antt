@@ -1,24 +1,20 @@
 -- The sorts of names and types: each stands whatever follows that begins so, and ends at one place.
-use Rattle.std.proofs.Common.{◌≡◌, ℕ, Bool, false, List, [], ◌∷◌, refl, sym, ap, ◌∙◌, subst}
-use Rattle.op_parse_code.proofs.Cuts.{IsCut, cut_none, cut_one, cut_join, Front, same_not}
-use Rattle.op_parse_code.proofs.Refusing.{Known, Seq, no_mark_same}
-use Rattle.op_parse_code.proofs.StatementFronts.{front_qualified}
-use Rattle.op_parse_code.specs.Refusal.{Phrase, SameHead}
+use Rattle.std.proofs.Common.{◌≡◌, ℕ, false, List, [], ◌∷◌, refl, sym, ap, ◌∙◌, subst}
+use Rattle.op_parse_code.proofs.Cuts.{IsCut, cut_none, cut_one, cut_join, same_not}
+use Rattle.op_parse_code.proofs.Refusing.{Known, no_mark_same}
+use Rattle.op_parse_code.specs.Refusal.{SameHead}
 use Rattle.op_parse_code.specs.Whole.{NoMark}
 use Rattle.op_parse_code.specs.declared.mark.Mark.TheVariants as mark
-use Rattle.op_parse_decl.specs.Known.{same_cut}
 use Rattle.op_parse_decl.specs.Fronts.{front_names, front_bracketed_names, front_denoter, front_denoters, front_field_lists}
-use Rattle.op_parse_decl.specs.Types.{SomeNames, SomeBracketedNames, SomeQualified, SomeDenoter, DenotersBefore, FieldsBefore, RecordFields, record_fields, SomeIndices, no_indices, some_indices, SomeFields}
+use Rattle.op_parse_decl.specs.Types.{SomeNames, SomeBracketedNames, SomeDenoter, DenotersBefore, FieldsBefore, RecordFields, record_fields, SomeIndices, no_indices, some_indices, SomeFields}
 use Rattle.op_scan.specs.declared.token.TokenKind.{TokenKind}
 use Rattle.op_scan.specs.declared.token.TokenKind.TheVariants as kind
 use Rattle.op_tree.proofs.DenoterUnique.{unique_names, unique_bracketed_names, unique_denoter, unique_denoters, unique_field_lists}
 use Rattle.op_tree.proofs.ExpressionUnique.{behind, is_comma}
-use Rattle.op_tree.proofs.StatementUnique.{is_dot, unique_qualified}
-use Rattle.op_tree.specs.Denoter.{Denoter, Denoters, FieldLists}
+use Rattle.op_tree.proofs.StatementUnique.{is_dot}
+use Rattle.op_tree.specs.Denoter.{Denoters, FieldLists}
 use Rattle.op_tree.specs.Ends.{IsNot, StopsDenoter}
-use Rattle.op_tree.specs.NameGrammar.{AreNames}
 use Rattle.op_tree.specs.Terminal.{Terminal, ◌at◌}
-use Rattle.op_tree.specs.declared.position.Name.{Name}
 use Rattle.op_tree.specs.declared.position.Position.{Position}
 
 -- ---- what may follow

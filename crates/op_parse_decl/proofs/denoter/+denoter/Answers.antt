@@ -1,7 +1,7 @@
-use Rattle.std.proofs.Common.{[], refl, arith}
+use Rattle.std.proofs.Common.{refl, arith}
 use Rattle.op_parse_code.proofs.Errors.{passed, ok_weaker, err_weaker}
 use Rattle.op_parse_code.proofs.Names.{empty_not}
-use Rattle.op_parse_code.specs.Refusal.{left_out, out_of_memory}
+use Rattle.op_parse_code.specs.Refusal.{out_of_memory}
 use Rattle.op_parse_decl.proofs.Denoters.{denoter_none, denoter_form, denoter_procedural, denoter_no_procedural, denoter_too_deep, denoter_bounded, denoter_bounded_whole, denoter_behind, denoter_behind_whole, denoter_unpacked, denoter_unpacked_whole, denoter_packed, denoter_packed_whole, set_of_missing, set_base, set_whole, structure_there, structure_there_whole, packed_none, array_indices, array_element, array_whole, indices_none, indices_none_whole, indices_too_deep, indices_types, indices_of_missing, indices_whole, indexing_item, indexing_more, indexing_close, indexing_ends}
 use Rattle.op_parse_decl.proofs.Fields.{fields_names, fields_colon, fields_type, fields_whole, fielding_ends, fielding_form, fielding_fields, fielding_more, fielding_unclosed, fielding_closes, record_refuses, record_goes_on, record_whole}
 use Rattle.op_parse_decl.specs.Opening.{begins_denoter}

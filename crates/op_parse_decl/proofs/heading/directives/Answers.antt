@@ -1,7 +1,7 @@
 use Rattle.std.proofs.Common.{arith}
 use Rattle.op_parse_code.proofs.Errors.{passed}
 use Rattle.op_parse_code.specs.Refusal.{out_of_memory}
-use Rattle.op_parse_decl.proofs.Methods.{directing_none, directing_more, directing_ends, directing_inline}
+use Rattle.op_parse_decl.proofs.Methods.{directing_more, directing_ends, directing_inline}
 use Rattle.op_parse_decl.proofs.heading.directives.Goals as goal
 
 pub returns-in_err-push-clause-refused : goal.returns-in_err-push-clause-refused
