@@ -1,5 +1,5 @@
 -- What types denote: rows of the table of types (Free Pascal Reference Guide, "Types").
-use Rattle.std.specs.Prelude.{ℕ, ◌+◌, ℤ, pos, int_le, nat_le, Bool, false, ◌&&◌, List, [], ◌∷◌, ◌++◌, length, is_some, Option, Some, None}
+use Rattle.std.specs.Prelude.{ℕ, ◌+◌, ℤ, pos, int_le, nat_le, Bool, false, ◌&&◌, List, [], ◌∷◌, length, is_some, Option, Some, None}
 use Rattle.op_base.specs.declared.place.Place.{Place}
 use Rattle.op_check_unit.specs.Naming.{declared_within}
 use Rattle.op_check_unit.specs.Steps.{Here, Given, gives, silent, where_true, followed, by}
@@ -13,7 +13,8 @@ use Rattle.op_core.specs.declared.types.CoreType.TheVariants.{Enumeration, Subra
 use Rattle.op_tree.specs.Denoter.{Denoter, named, string, subrange, enumeration, set, array, record_}
 use Rattle.op_tree.specs.Expression.{Expression}
 use Rattle.op_tree.specs.declared.position.Name.{Name}
-use Rattle.op_types.specs.Constants.{constant, made, start_of}
+use Rattle.op_types.specs.Constants.{constant, made, nodes, start_of}
+use Rattle.op_types.specs.Entering.{entered}
 use Rattle.op_types.specs.Names.{Named}
 use Rattle.op_types.specs.Operators as table
 use Rattle.op_types.specs.Sorts.{kind_of, same_kind}
@@ -42,18 +43,16 @@ start_of_denoter (record_ p packed lists) = p.place
 
 -- ---- rows
 
--- a row of the table of types, and its number
-abbrev pub with_type : CoreType → Core → Core
-with_type t core = record core { types = core.types ++ t ∷ [] }
-
+-- the number of the next row of the table of types
 abbrev pub number_of_next : Core → TypeId
 number_of_next core = record { 0 = length core.types }
 
 abbrev pub in_core : Core → Here → Here
 in_core core h = record h { core = core }
 
+-- a type more
 abbrev pub row : CoreType → Here → Given TypeId
-row t h = gives (number_of_next h.core) (in_core (with_type t h.core) h)
+row t h = gives (number_of_next h.core) (in_core (entered h.core t) h)
 
 -- the most bytes that a value of a type may have
 abbrev pub most_bytes : ℕ
@@ -65,7 +64,7 @@ is_small core of = nat_le (extent_of core of).size most_bytes
 -- the same of a type that may be too large
 abbrev pub sized_row : Place → CoreType → Here → Given TypeId
 sized_row place t h =
-    let core = with_type t h.core in
+    let core = entered h.core t in
     let of = number_of_next h.core in
     where_true (is_small core of) 67 place (in_core core h) (gives of (in_core core h))
 
@@ -113,7 +112,7 @@ subrange_of core names first last =
 -- ---- enumerations
 
 abbrev pub value_of : TypeId → ℤ → Meaning
-value_of of n = ConstantNamed (made (Ordinal n) of 1)
+value_of of n = ConstantNamed (made (Ordinal n) of (nodes 1))
 
 -- the values of an enumeration, numbered from n on
 abbrev pub values : Name → TypeId → ℕ → List Name → Here → Given (Unit {0})

@@ -7,7 +7,7 @@ use crate::Declarer;
 use op_base::NoMemory;
 use op_core::{Const, CoreType, TypeId};
 use op_tree::Name;
-use op_types::{Constant, Meaning};
+use op_types::{Constant, Meaning, Weight};
 
 impl Declarer {
     /// An enumeration with these values, in the declaration of a name.
@@ -40,9 +40,6 @@ fn value_of(of: TypeId, number: i32) -> Meaning
     ensures { result ≡ value_of of number }
 {
     let value = Const::Ordinal(number);
-    Meaning::Constant(Constant {
-        value,
-        of,
-        nodes: 1,
-    })
+    let weight = Weight { nodes: 1, words: 0 };
+    Meaning::Constant(Constant { value, of, weight })
 }

@@ -1,12 +1,12 @@
 //! Rows of the table of types.
 ghost use Rattle.std.specs.Prelude.{IfOk, Some};
 ghost use Rattle.op_check_unit.specs.Steps.{Leaves, here_of};
-ghost use Rattle.op_check_unit.specs.Types.{is_small, row, sized_row, with_type};
+ghost use Rattle.op_check_unit.specs.Types.{is_small, row, sized_row};
 
 use crate::Declarer;
 use op_base::{NoMemory, Place};
 use op_core::{CoreType, TypeId};
-use op_types::size_of;
+use op_types::{enter_type, size_of};
 
 /// The most bytes that a value of a type may have.
 const MOST_BYTES: u32 = 1_048_576;
@@ -16,11 +16,7 @@ impl Declarer {
     pub fn row(&mut self, of: CoreType) -> Result<TypeId, NoMemory>
         ensures { IfOk result (λ id. Leaves (row of (here_of self.old)) self.old self.new (Some id)) }
     {
-        let Ok(number) = u32::try_from(self.core.types.as_slice().len()) else {
-            return Err(NoMemory);
-        };
-        self.core.types.push(of)?;
-        Ok(TypeId(number))
+        enter_type(&mut self.core, of)
     }
 
     /// A new row of a type that may be too large, which is rule 67 at the place.
