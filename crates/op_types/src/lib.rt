@@ -18,6 +18,7 @@ mod visible;
 pub use assign::assignable;
 pub use constant::{Applied, Constant, Folded, Part, Use, fold};
 pub use operator::{application, operation, prefixed};
+pub use part::{is_folded, joined, made, number_behind, start_of};
 pub use setting::Setting;
 pub use size::{extent_of, is_managed, range_of, size_of, values_of};
 pub use sort::{OrdinalKind, Sort, kind_of, sort_of};
