@@ -1,7 +1,7 @@
 -- What ordinal types range over, how large values are, and which are managed.
-use Rattle.std.specs.Prelude.{ℕ, ℤ, pos, negsuc, ◌+◌, ◌-◌, ◌*◌, ◌^◌, ◌-ℤ◌, nat_abs, max, min, Bool, true, false, ◌||◌, List, [], ◌∷◌, Option, Some, None, slice_get, map}
+use Rattle.std.specs.Prelude.{◌≡◌, ◌<◌, ◌≤◌, ℕ, ℤ, pos, negsuc, ◌+◌, ◌-◌, ◌*◌, ◌^◌, ◌-ℤ◌, nat_abs, max, min, Bool, true, false, ◌||◌, List, [], ◌∷◌, length, Option, Some, None, unwrap_or, slice_get, map}
 use Rattle.std.specs.Int.{div_ceil}
-use Rattle.std.specs.List.{fold}
+use Rattle.std.specs.List.{All, fold}
 use Rattle.op_core.specs.Rows.{rows}
 use Rattle.op_core.specs.declared.class.Interface.{Interface as Face}
 use Rattle.op_core.specs.declared.class.InterfaceKind.{InterfaceKind}
@@ -100,12 +100,19 @@ extent_by inner core (Some (Record fields)) = in_order inner (rows core.fields f
 extent_by inner core (Some (Array index element)) = times (values_of (range_of (type_at core index))) (inner element)
 extent_by inner core _ = plain 4 false
 
--- no more records and arrays stand one in the other than there are steps
-abbrev pub extent_within : List CoreType → Core → TypeId → Extent
-extent_within [] core of = plain 4 false
-extent_within (step ∷ steps) core of = extent_by (extent_within steps core) core (type_at core of)
-
--- What a record or a static array is made of stands before it in the table, so no more of them stand one in the other than
--- there are types.
+-- what is kept for a type; what is none takes a word
 abbrev pub extent_of : Core → TypeId → Extent
-extent_of core of = extent_within core.types core of
+extent_of core of = unwrap_or (slice_get core.extents of.0) (plain 4 false)
+
+-- what the extent of a type is made of stands in front of it
+abbrev pub IsBehind : Core → ℕ → CoreType → Type 0
+IsBehind core n (Record fields) = (fields.first + fields.count ≤ length core.fields) × All (λ f. f.of.0 < n) (rows core.fields fields)
+IsBehind core n (Array index element) = (index.0 < n) × (element.0 < n)
+IsBehind core n (Interface id) = id.0 < length core.interfaces
+IsBehind core n _ = Unit {0}
+
+-- What is kept for each type is its extent, by what is kept for the types that it is made of.
+pub record KeepsExtents (core : Core) : Type 0 where
+  pub count : length core.extents ≡ length core.types
+  pub behind : (n : ℕ) (t : CoreType) → slice_get core.types n ≡ Some t → IsBehind core n t
+  pub each : (n : ℕ) (t : CoreType) → slice_get core.types n ≡ Some t → slice_get core.extents n ≡ Some (extent_by (extent_of core) core (Some t))

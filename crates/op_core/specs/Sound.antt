@@ -1,5 +1,5 @@
 -- What every typed program keeps that the checker gives. The limits are those of this compiler.
-use Rattle.std.specs.Prelude.{◌≡◌, ℕ, suc, pos, ◌+◌, ◌<◌, ◌≤◌, ◌≤ℤ◌, ◌≢◌, Bool, true, false, List, [], ◌∷◌, Option, Some, None, IsSome, IsTrue, IsSomeAnd, IfSome, length, slice_get, map, codes, replicate, ◌⊎◌}
+use Rattle.std.specs.Prelude.{◌≡◌, ℕ, suc, pos, ◌+◌, ◌<◌, ◌≤◌, ◌≤ℤ◌, ◌≢◌, Bool, true, false, List, [], ◌∷◌, Option, Some, None, IsSome, IsTrue, IsSomeAnd, IfSome, if◌then◌else◌, length, nat_le, slice_get, take, map, codes, replicate, ◌⊎◌}
 use Rattle.std.specs.Char.{to_ascii_lowercase}
 use Rattle.std.specs.List.{All, Contains, filter, flat_map, sum_by}
 use Rattle.std.specs.Option.{option_and_then, option_map}
@@ -7,9 +7,10 @@ use Rattle.op_core.specs.Heading.{is_same_heading}
 use Rattle.op_core.specs.Initial.{FirstValue, constant, parts, FirstValues, no_values, values, first_value_of}
 use Rattle.op_core.specs.Members.{There, Kind, InRun, Descends, AsksFor, HasMethod}
 use Rattle.op_core.specs.Rows.{rows}
-use Rattle.op_core.specs.Sizes.{type_at, range_of, values_of, extent_of}
+use Rattle.op_core.specs.Sizes.{type_at, range_of, values_of, extent_of, KeepsExtents}
 use Rattle.op_core.specs.Statement.{stmts_of}
 use Rattle.op_core.specs.StatementTyping.{AreStatements, Here}
+use Rattle.op_core.specs.Types.{id, predefined}
 use Rattle.op_core.specs.Typing.{Sees, Fits, IsOrdinal, Within, element_of}
 use Rattle.op_core.specs.declared.class.Accessor.{Accessor}
 use Rattle.op_core.specs.declared.class.Accessor.TheVariants.{Field as ByField, Method as ByMethod}
@@ -85,6 +86,13 @@ IsTypeRow core n (Class c) = There core.classes c.0 (λ x. x.of.0 ≡ n)
 IsTypeRow core n (Interface i) = There core.interfaces i.0 (λ x. x.of.0 ≡ n)
 IsTypeRow core n Broken = ⊥
 IsTypeRow core n _ = Unit {0}
+
+-- Right behind an enumeration or a subrange within 0 to 31 stands its set type, behind a larger enumeration the subrange of its
+-- first 32 values.
+abbrev HasSet : Core → ℕ → CoreType → Type 0
+HasSet core n (Enumeration count) = type_at core (id (n + 1)) ≡ Some (if nat_le count 32 then Set (id n) else Subrange (id n) (pos 0) (pos 31))
+HasSet core n (Subrange base low high) = pos 0 ≤ℤ low → high ≤ℤ pos 31 → type_at core (id (n + 1)) ≡ Some (Set (id n))
+HasSet core n _ = Unit {0}
 
 -- the second is a part of the first through records and arrays alone
 pub data Holds (core : Core) : TypeId → TypeId → Type 0 where
@@ -217,7 +225,10 @@ everything core = record { variable = λ v. Row core.variables v.0; routine = λ
 pub record IsSound (core : Core) : Type 0 where
   pub types : Each core.types (IsTypeRow core)
   pub finite : (a : TypeId) → Holds core a a → ⊥
-  pub sizes : Each core.types (λ n t. size_of core (record { 0 = n }) ≤ 1048576)
+  pub predefined : take 16 core.types ≡ predefined
+  pub sets : Each core.types (HasSet core)
+  pub extents : KeepsExtents core
+  pub sizes : Each core.types (λ n t. size_of core (id n) ≤ 1048576)
   pub classes : Each core.classes (IsClass core)
   pub interfaces : Each core.interfaces (IsInterface core)
   pub descriptions : length core.classes + length core.interfaces ≤ 4096

@@ -1,8 +1,9 @@
--- Types: which are one, what ordinal types range over, and how large their values are (Free Pascal Reference Guide, "Types").
-use Rattle.std.specs.Prelude.{Bool, false, ◌||◌, List, [], ◌∷◌, Option, Some, None, slice_get, nat_eq}
+-- Types: which are one, and which are predefined (Free Pascal Reference Guide, "Types").
+use Rattle.std.specs.Prelude.{ℕ, pos, Bool, false, ◌||◌, List, [], ◌∷◌, Option, Some, None, slice_get, nat_eq}
 use Rattle.op_core.specs.declared.ids.TypeId.{TypeId}
 use Rattle.op_core.specs.declared.types.CoreType.{CoreType}
-use Rattle.op_core.specs.declared.types.CoreType.TheVariants.{DynamicArray, OpenArray}
+use Rattle.op_core.specs.declared.types.CoreType.TheVariants.{Integer, Boolean, Char, String, Subrange, Set, DynamicArray, OpenArray, Nil, EmptySet, Nothing}
+use Rattle.op_core.specs.declared.types.IntegerKind.TheVariants.{Signed8, Unsigned8, Signed16, Unsigned16, Signed32}
 
 abbrev pub is_same : TypeId → TypeId → Bool
 is_same a b = nat_eq a.0 b.0
@@ -27,3 +28,12 @@ are_one (step ∷ steps) types a b = is_same a b || true_of (are_one steps types
 -- no array of a table stands in more others than the table has types
 abbrev pub is_one_type : List CoreType → TypeId → TypeId → Bool
 is_one_type types a b = are_one types types a b
+
+abbrev pub id : ℕ → TypeId
+id n = record { 0 = n }
+
+-- what a table of types begins with
+abbrev pub predefined : List CoreType
+predefined =
+    Integer Signed8 ∷ Integer Unsigned8 ∷ Integer Signed16 ∷ Integer Unsigned16 ∷ Integer Signed32 ∷ Boolean ∷ Char ∷ String ∷ Nil ∷ Nothing ∷ EmptySet
+    ∷ Subrange (id 4) (pos 0) (pos 31) ∷ Set (id 11) ∷ Subrange (id 6) (pos 0) (pos 31) ∷ Set (id 13) ∷ Set (id 5) ∷ []

@@ -1,5 +1,5 @@
 -- Which typed trees are such: each part has the type written at it (Free Pascal Reference Guide, "Expressions" and "Statements").
-use Rattle.std.specs.Prelude.{◌≡◌, ℤ, pos, ◌≤ℤ◌, ◌⊎◌, Bool, true, false, ◌&&◌, List, [], ◌∷◌, Option, Some, None, IsSomeAnd, IsTrue}
+use Rattle.std.specs.Prelude.{◌≡◌, ℕ, ℤ, pos, ◌≤ℤ◌, ◌⊎◌, Bool, true, false, ◌&&◌, List, [], ◌∷◌, Option, Some, None, IsSomeAnd, IsTrue}
 use Rattle.std.specs.List.{All}
 use Rattle.op_core.specs.Expression.{Expression, expression, Root, constant, variable, object, call, construct, set, eof, eoln, Steps, no_steps, steps, Action, convert, bracket, field, index, method, prefixed, operate, is, apply, copy, Elements, no_elements, elements, Element, one, range, Arguments, no_arguments, arguments, Argument, value, place, array, listed, Expressions, no_expressions, expressions}
 use Rattle.op_core.specs.Members.{There, Kind, Descends, Extends, Implements, HasField, HasMethod, AsksFor, InRun}
@@ -24,7 +24,7 @@ use Rattle.op_core.specs.declared.routine.Owner.TheVariants.{Unit as OfUnit}
 use Rattle.op_core.specs.declared.routine.Parameter.{Parameter}
 use Rattle.op_core.specs.declared.routine.Role.TheVariants.{Object as ObjectRole}
 use Rattle.op_core.specs.declared.types.CoreType.{CoreType}
-use Rattle.op_core.specs.declared.types.CoreType.TheVariants.{Integer, Boolean, Char, String, Set, Record, Array, DynamicArray, OpenArray, Class, Interface, Nil, Nothing}
+use Rattle.op_core.specs.declared.types.CoreType.TheVariants.{Integer, Boolean, Char, String, Set, Record, Array, DynamicArray, OpenArray, Class, Interface, Nil, EmptySet, Nothing}
 use Rattle.op_core.specs.declared.types.IntegerKind.TheVariants.{Signed32}
 use Rattle.op_tree.specs.declared.heading.ParameterMode.{ParameterMode}
 use Rattle.op_tree.specs.declared.heading.ParameterMode.TheVariants.{Value, Var, Const_, Out}
@@ -92,20 +92,26 @@ IsReference core of = IsTrue (is_reference (type_at core of))
 abbrev pub Within : ℤ × ℤ → ℤ → Type 0
 Within r n = (r.0 ≤ℤ n) × (n ≤ℤ r.1)
 
+-- they are values of the base of the set type
+abbrev AreMembers : Core → List ℕ → Option CoreType → Type 0
+AreMembers core [] (Some EmptySet) = Unit {0}
+AreMembers core members of = IsSomeAnd (base_of of) (λ base. IsSomeAnd (range_of (type_at core base)) (λ r. All (λ n. Within r (pos n)) members))
+
 -- the constant is a value of the type
 abbrev pub Fits : Core → Const → TypeId → Type 0
 Fits core (Ordinal n) of = IsSomeAnd (range_of (type_at core of)) (λ r. Within r n)
 Fits core (Text bytes) of = IsString core of
-Fits core (SetOf members) of = IsSomeAnd (base_of (type_at core of)) (λ base. IsSomeAnd (range_of (type_at core base)) (λ r. All (λ n. Within r (pos n)) members))
+Fits core (SetOf members) of = AreMembers core members (type_at core of)
 Fits core NilOf of = IsReference core of
 
 -- ---- conversions and operations
 
--- one type of instances to another, where no test is needed
+-- one type to another of the same values, where no test is needed
 abbrev pub IsUp : Core → Option CoreType → Option CoreType → Type 0
 IsUp core (Some (Class c)) (Some (Class d)) = Descends core c d
 IsUp core (Some (Interface i)) (Some (Interface j)) = Extends core i j
 IsUp core (Some Nil) (Some t) = IsTrue (is_reference (Some t))
+IsUp core (Some EmptySet) (Some (Set base)) = Unit {0}
 IsUp core _ _ = ⊥
 
 abbrev pub IsWider : Option (ℤ × ℤ) → Option (ℤ × ℤ) → Type 0

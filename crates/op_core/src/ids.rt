@@ -24,6 +24,16 @@ impl TypeId {
     pub const NIL: TypeId = TypeId(8);
 
     pub const NOTHING: TypeId = TypeId(9);
+
+    /// What `[]` is before its use tells.
+    pub const EMPTY_SET: TypeId = TypeId(10);
+
+    /// The Integers from 0 to 31, and the Chars of these numbers. Their set types are the next ones, as with every base.
+    pub const SMALL_INTEGERS: TypeId = TypeId(11);
+
+    pub const SMALL_CHARS: TypeId = TypeId(13);
+
+    pub const SET_OF_BOOLEANS: TypeId = TypeId(15);
 }
 
 /// A field of a record or a class.

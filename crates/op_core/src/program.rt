@@ -2,8 +2,8 @@
 ghost use Rattle.std.specs.Prelude.{◌≡◌, [], None};
 
 use crate::{
-    Class, ClassId, CoreType, Field, FieldId, Interface, InterfaceId, Method, Parameter, Property,
-    Routine, RoutineId, Run, Table, Variable,
+    Class, ClassId, CoreType, Extent, Field, FieldId, Interface, InterfaceId, Method, Parameter,
+    Property, Routine, RoutineId, Run, Table, Variable,
 };
 use op_base::Text;
 use std::alloc::Global;
@@ -40,6 +40,8 @@ pub struct ExceptionClasses {
 #[derive(Drop)]
 pub struct Core {
     pub types: Table<CoreType>,
+    /// For each type the extent of its values.
+    pub extents: Table<Extent>,
     pub fields: Table<Field>,
     pub classes: Table<Class>,
     pub interfaces: Table<Interface>,
@@ -58,10 +60,11 @@ pub struct Core {
 impl Core {
     /// The program of nothing, which rows are put into.
     pub fn new(alloc: Global) -> Core
-        ensures { result ≡ record { types = []; fields = []; classes = []; interfaces = []; listed = []; methods = []; properties = []; routines = []; parameters = []; variables = []; units = []; exceptions = None } }
+        ensures { result ≡ record { types = []; extents = []; fields = []; classes = []; interfaces = []; listed = []; methods = []; properties = []; routines = []; parameters = []; variables = []; units = []; exceptions = None } }
     {
         Core {
             types: Table::new(alloc),
+            extents: Table::new(alloc),
             fields: Table::new(alloc),
             classes: Table::new(alloc),
             interfaces: Table::new(alloc),

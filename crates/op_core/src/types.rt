@@ -16,6 +16,9 @@ pub enum IntegerKind {
 ///
 /// Records, static arrays, sets and subranges are entered behind the types that they are made of. So only a dynamic array
 /// could reach itself; where one does through records and arrays alone, it is entered as `Broken`.
+///
+/// Right behind an enumeration or a subrange of which there are sets stands its set type. Behind a larger enumeration stand the
+/// subrange of its first 32 values and the set type of that.
 #[derive(Clone, Copy, Debug, PartialEq, Eq)]
 pub enum CoreType {
     Integer(IntegerKind),
@@ -39,6 +42,8 @@ pub enum CoreType {
     Interface(InterfaceId),
     /// What `nil` is before its use tells.
     Nil,
+    /// What `[]` is before its use tells.
+    EmptySet,
     /// What a call of a procedure gives.
     Nothing,
     /// A type whose declaration breaks a rule. It is one type with itself alone.
