@@ -20,8 +20,9 @@ pub use constant::{Applied, Constant, Folded, Part, Use, fold};
 pub use operator::{application, operation, prefixed};
 pub use part::{is_folded, joined, made, number_behind, start_of};
 pub use setting::Setting;
-pub use size::{extent_of, is_managed, range_of, size_of, values_of};
+pub use size::{extent_of, is_managed, range_of, size_of, type_at, values_of};
 pub use sort::{OrdinalKind, Sort, kind_of, sort_of};
+pub use value::{bytes_of, in_range};
 pub use visible::{BuiltIn, Meaning, Visible};
 
 #[cfg(test)]

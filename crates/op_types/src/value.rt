@@ -143,7 +143,7 @@ pub fn number_of(value: &Const) -> i32
 }
 
 /// The bytes of a text, or the one of a Char.
-fn bytes_of(alloc: Global, value: &Const) -> Result<Vec<u8>, NoMemory>
+pub fn bytes_of(alloc: Global, value: &Const) -> Result<Vec<u8>, NoMemory>
     ensures { IfOk result (λ v. v.items ≡ bytes_of value.now) }
 {
     match value {
@@ -197,7 +197,7 @@ pub fn applied(
 }
 
 /// The number as a value of a type, where it is one.
-fn in_range(core: &Core, of: TypeId, n: i64) -> Option<Const>
+pub fn in_range(core: &Core, of: TypeId, n: i64) -> Option<Const>
     ensures { result ≡ in_range (range_of (type_at core.now of)) n }
 {
     match range_of(core, of) {

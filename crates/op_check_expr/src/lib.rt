@@ -1,0 +1,10 @@
+//! The checker of expressions.
+#![tactic(auto)]
+
+mod convert;
+mod sink;
+mod tree;
+mod value;
+
+pub use convert::stored;
+pub use value::Value;
