@@ -1,2 +1,5 @@
+pub mod Naming
+pub mod Operating
+pub mod Places
 pub mod Values
 pub mod Words

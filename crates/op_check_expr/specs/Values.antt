@@ -3,7 +3,7 @@
 use Rattle.std.specs.Prelude.{ℕ, ℤ, Bool, true, false, not, ◌&&◌, ◌||◌, [], ◌∷◌, Option, Some, None, if◌then◌else◌}
 use Rattle.std.specs.Option.{option_map}
 use Rattle.op_base.specs.declared.place.Place.{Place}
-use Rattle.op_core.specs.Expression.{Expression as Tree, expression, constant as constant_root, no_steps, convert, bracket, then, expr_of}
+use Rattle.op_core.specs.Expression.{Expression as Tree, expression, constant as constant_root, no_steps, convert, bracket, then as with_step, expr_of}
 use Rattle.op_core.specs.Faults.{Checked, by_test, fine}
 use Rattle.op_core.specs.Sizes.{range_of, type_at}
 use Rattle.op_core.specs.Types.{is_one_type}
@@ -48,7 +48,7 @@ type_of (computed e) = typing.type_of e
 
 abbrev pub in_brackets : Value → Value
 in_brackets (constant c) = constant (made c.value c.of (joined c.nodes 0))
-in_brackets (computed e) = computed (then e bracket (typing.type_of e))
+in_brackets (computed e) = computed (with_step e bracket (typing.type_of e))
 
 -- ---- conversions
 
@@ -83,7 +83,7 @@ conversion core checked from to =
 
 abbrev pub with_conversion : Tree → TypeId → Option Conversion → Tree
 with_conversion e to None = e
-with_conversion e to (Some c) = then e (convert c Implied) to
+with_conversion e to (Some c) = with_step e (convert c Implied) to
 
 -- the same constant as one of a type of this sort, if it is one
 abbrev pub retyped_by : Core → TypeId → Sort → Const → Option Const

@@ -11,9 +11,7 @@ use crate::tree::{constant_tree, type_of, with_conversion};
 use crate::value::Value;
 use op_base::{NoMemory, Place, Text};
 use op_core::{Const, Conversion, Core, CoreExpr, CoreType, FirstRefusal, TypeId, one_type};
-use op_types::{
-    Sort, assignable, bytes_of, in_range, made, range_of, sort_of, type_at,
-};
+use op_types::{Sort, assignable, bytes_of, in_range, made, range_of, sort_of, type_at};
 use std::alloc::Global;
 
 /// A value at a place, stored in what has a type. `checked` is whether ranges are.
@@ -61,12 +59,7 @@ pub fn as_type(
 }
 
 /// The same constant as one of another type, where it is one.
-fn retyped(
-    alloc: Global,
-    core: &Core,
-    to: TypeId,
-    value: &Const,
-) -> Result<Option<Const>, NoMemory>
+fn retyped(alloc: Global, core: &Core, to: TypeId, value: &Const) -> Result<Option<Const>, NoMemory>
     ensures { IfOk result (λ v. v ≡ retyped core.now to value.now) }
 {
     match (sort_of(core, to), value) {

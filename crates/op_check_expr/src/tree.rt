@@ -13,8 +13,8 @@ use std::alloc::Global;
 pub fn type_of(e: &CoreExpr) -> TypeId
     ensures { result ≡ typing.type_of (expr_of e.now) }
 {
-    match e.steps.last() {
-        Some(step) => step.of,
+    match e.steps.split_last() {
+        Some((step, _)) => step.of,
         None => e.of,
     }
 }

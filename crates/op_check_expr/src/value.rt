@@ -1,7 +1,8 @@
 //! Values of expressions, and how a value becomes one of another type.
 ghost use Rattle.std.specs.Prelude.{◌≡◌, IfOk};
+ghost use Rattle.std.specs.Option.{option_map};
 ghost use Rattle.op_core.specs.Expression.{expr_of};
-ghost use Rattle.op_check_expr.specs.Values.{in_brackets, tree_of, type_of, value_of};
+ghost use Rattle.op_check_expr.specs.Values.{constant, in_brackets, tree_of, type_of, value_of};
 
 use crate::tree::{constant_tree, then, type_of};
 use op_base::NoMemory;
@@ -49,5 +50,15 @@ impl Value {
                 Ok(Value::Computed(then(e, Action::Bracket, of)?))
             }
         }
+    }
+}
+
+/// A constant part as a part.
+pub fn constant_value(part: Option<Constant>) -> Option<Value>
+    ensures { option_map value_of result ≡ option_map constant part }
+{
+    match part {
+        Some(constant) => Some(Value::Constant(constant)),
+        None => None,
     }
 }
