@@ -1,3 +1,6 @@
+pub mod Calling
+pub mod Constructors
+pub mod Expressions
 pub mod Naming
 pub mod Operating
 pub mod Places

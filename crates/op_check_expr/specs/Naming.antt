@@ -25,7 +25,7 @@ use Rattle.op_check_expr.specs.Words.{by_feature, changed}
 use Rattle.op_check_expr.specs.declared.denoted.Denoted.{Denoted as RustDenoted}
 use Rattle.op_check_expr.specs.declared.denoted.Meant.{Meant as RustMeant}
 use Rattle.op_check_expr.specs.declared.denoted.Meant.TheVariants as rust
-use Rattle.op_types.specs.Constants.{made, name_means}
+use Rattle.op_types.specs.Constants.{made, name_means, nodes}
 use Rattle.op_types.specs.declared.constant.Constant.{Constant}
 use Rattle.op_types.specs.declared.visible.BuiltIn.{BuiltIn}
 use Rattle.op_types.specs.declared.visible.BuiltIn.TheVariants.{Read, ReadLn, Eof, Eoln, SetLength, Copy, Val, Str, Pos, Delete, Insert, StringOfChar, Halt, Function}

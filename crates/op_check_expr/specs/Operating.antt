@@ -19,8 +19,9 @@ use Rattle.op_tree.specs.declared.operator.PrefixOperator.{PrefixOperator}
 use Rattle.op_tree.specs.declared.position.Position.{Position}
 use Rattle.op_check_expr.specs.Values.{Value, constant, computed, as_type, is_integer, is_wider, tree_of, type_of}
 use Rattle.op_check_expr.specs.Words.{by_feature, changed}
-use Rattle.op_types.specs.Constants.{is_folded, operator_means, prefix_means, use_means}
+use Rattle.op_types.specs.Constants.{is_folded, is_ordinal, operator_means, prefix_means, use_means}
 use Rattle.op_types.specs.Operators as table
+use Rattle.op_types.specs.Sets.{common_set, set_over}
 use Rattle.op_types.specs.Sorts.{is_text, kind_of, sort_of}
 use Rattle.op_types.specs.declared.constant.Applied.{Applied}
 use Rattle.op_types.specs.declared.constant.Applied.TheVariants.{Cast, Function as Function'}
@@ -52,26 +53,34 @@ makes_strings o a b = is_text a && is_text b && (joins o || is_string a || is_st
 abbrev pub feature_of_operands : Operator → Sort → Sort → Option ℕ
 feature_of_operands o a b = if makes_strings o a b then Some 40 else None
 
--- the type that an operand goes to: integers to Integer, values of a subrange to those of its base
-abbrev pub operand_by : TypeId → Sort → TypeId
-operand_by of (sort.Ordinal kind) = type_of_kind kind
-operand_by of s = of
+-- The type that an operand goes to: integers to Integer, values of a subrange to those of its base, sets to one that holds both.
+abbrev pub operand_by : TypeId → TypeId → Sort → TypeId
+operand_by sets of (sort.Ordinal kind) = type_of_kind kind
+operand_by sets of (sort.Set kind) = sets
+operand_by sets of sort.EmptySet = sets
+operand_by sets of s = of
 
-abbrev pub operand_type : Core → Operator → TypeId → TypeId
-operand_type core In_ of = of
-operand_type core o of = operand_by of (sort_of core of)
+abbrev pub left_type : Core → Operator → TypeId → TypeId → TypeId
+left_type core In_ a b = a
+left_type core o a b = operand_by (common_set core a b) a (sort_of core a)
 
-abbrev pub operand : Core → Operator → Value → Tree
-operand core o v = as_type core true (operand_type core o (type_of v)) v
+abbrev pub set_beside : Core → TypeId → TypeId → Sort → TypeId
+set_beside core a b sort.EmptySet = set_over core a
+set_beside core a b s = b
+
+abbrev pub right_type : Core → Operator → TypeId → TypeId → TypeId
+right_type core In_ a b = set_beside core a b (sort_of core b)
+right_type core o a b = operand_by (common_set core a b) b (sort_of core b)
 
 abbrev pub operation_tree : Core → Operator → Bool → Value → Value → TypeId → Value
-operation_tree core o checked a b of = computed (with_step (operand core o a) (operate o checked (operand core o b)) of)
+operation_tree core o checked a b of =
+    computed (with_step (as_type core true (left_type core o (type_of a) (type_of b)) a) (operate o checked (as_type core true (right_type core o (type_of a) (type_of b)) b)) of)
 
 -- an operator at a position between two values that are not both constants
 abbrev pub computed_operation : Core → Operator → Position → Value → Value → Checked Value
 computed_operation core o p a b =
     by_entry 21 p.place (λ of. by_feature p.place (feature_of_operands o (sort_of core (type_of a)) (sort_of core (type_of b))) (fine (operation_tree core o p.switches.q a b of)))
-    (table.operation o (sort_of core (type_of a)) (sort_of core (type_of b)) (type_of a))
+    (table.operation o (sort_of core (type_of a)) (sort_of core (type_of b)) (common_set core (type_of a) (type_of b)))
 
 -- in an expression that begins at a place
 abbrev pub operated : Core → Place → Operator → Position → Value → Value → Checked Value
@@ -132,10 +141,6 @@ index_type _ = None
 
 abbrev pub type_if : Bool → TypeId → Option TypeId
 type_if b of = if b then Some of else None
-
-abbrev pub is_ordinal : Sort → Bool
-is_ordinal (sort.Ordinal kind) = true
-is_ordinal _ = false
 
 abbrev pub length_type : Option TypeId → Sort → TypeId → Option TypeId
 length_type (Some index) s of = Some table.integer

@@ -2,7 +2,7 @@
 ghost use Rattle.std.specs.Prelude.{◌≡◌, IfOk};
 ghost use Rattle.std.specs.Option.{option_map};
 ghost use Rattle.op_core.specs.Expression.{expr_of};
-ghost use Rattle.op_check_expr.specs.Operating.{computed_operation, feature_of_operands, makes_strings, operand, operand_type, operated, operation_of, operation_tree, prefix_of, prefix_tree, type_of_kind};
+ghost use Rattle.op_check_expr.specs.Operating.{computed_operation, feature_of_operands, left_type, makes_strings, operand_by, operated, operation_of, operation_tree, prefix_of, right_type, type_of_kind};
 ghost use Rattle.op_check_expr.specs.Values.{value_of};
 ghost use Rattle.op_check_expr.specs.Words.{Reports};
 
@@ -13,7 +13,7 @@ use crate::value::{Value, constant_value};
 use op_base::{NoMemory, Place};
 use op_core::{Action, Core, CoreExpr, FirstRefusal, TypeId};
 use op_tree::{Operator, Position, PrefixOperator};
-use op_types::{OrdinalKind, Setting, Sort, is_folded, operation, prefixed, sort_of};
+use op_types::{OrdinalKind, Setting, Sort, common_set, is_folded, operation, prefixed, set_over, sort_of};
 use std::alloc::Global;
 
 /// What an expression gives; None where a rule is broken in it.
@@ -76,7 +76,8 @@ fn computed_operation(
 {
     let core = setting.core;
     let sorts = (sort_of(core, a.type_of()), sort_of(core, b.type_of()));
-    let Some(of) = operation(operator, sorts.0, sorts.1, a.type_of()) else {
+    let sets = common_set(core, a.type_of(), b.type_of());
+    let Some(of) = operation(operator, sorts.0, sorts.1, sets) else {
         return Ok(refuse(sink, 21, position.place));
     };
     if makes_strings(operator, sorts.0, sorts.1) {
@@ -97,36 +98,45 @@ fn operation_tree(
 ) -> Result<CoreExpr, NoMemory>
     ensures { IfOk result (λ e. value_of (Value.Computed e) ≡ operation_tree core.now operator checked (value_of a) (value_of b) of) }
 {
-    let left = operand(alloc, core, operator, a)?;
-    let operand = operand(alloc, core, operator, b)?;
+    let left = left_type(core, operator, a.type_of(), b.type_of());
+    let right = right_type(core, operator, a.type_of(), b.type_of());
+    let e = as_type(alloc, core, true, left, a)?;
+    let operand = as_type(alloc, core, true, right, b)?;
     let action = Action::Operate {
         operator,
         checked,
         operand,
     };
-    then(left, action, of)
+    then(e, action, of)
 }
 
-/// A value as the operand of an operator.
-fn operand(
-    alloc: Global,
-    core: &Core,
-    operator: Operator,
-    value: Value,
-) -> Result<CoreExpr, NoMemory>
-    ensures { IfOk result (λ e. expr_of e ≡ operand core.now operator (value_of value)) }
+/// The type that the left operand goes to.
+fn left_type(core: &Core, operator: Operator, a: TypeId, b: TypeId) -> TypeId
+    ensures { result ≡ left_type core.now operator a b }
 {
-    let to = operand_type(core, operator, value.type_of());
-    as_type(alloc, core, true, to, value)
+    match operator {
+        Operator::In_ => a,
+        _ => operand_by(common_set(core, a, b), a, sort_of(core, a)),
+    }
 }
 
-/// The type that an operand goes to.
-fn operand_type(core: &Core, operator: Operator, of: TypeId) -> TypeId
-    ensures { result ≡ operand_type core.now operator of }
+fn right_type(core: &Core, operator: Operator, a: TypeId, b: TypeId) -> TypeId
+    ensures { result ≡ right_type core.now operator a b }
 {
-    match (operator, sort_of(core, of)) {
-        (Operator::In_, _) => of,
-        (_, Sort::Ordinal(kind)) => type_of_kind(kind),
+    match (operator, sort_of(core, b)) {
+        (Operator::In_, Sort::EmptySet) => set_over(core, a),
+        (Operator::In_, _) => b,
+        (_, sort) => operand_by(common_set(core, a, b), b, sort),
+    }
+}
+
+/// The type that an operand goes to, where sets go to `sets`.
+fn operand_by(sets: TypeId, of: TypeId, sort: Sort) -> TypeId
+    ensures { result ≡ operand_by sets of sort }
+{
+    match sort {
+        Sort::Ordinal(kind) => type_of_kind(kind),
+        Sort::Set(_) | Sort::EmptySet => sets,
         _ => of,
     }
 }

@@ -33,8 +33,8 @@ pub fn constant_tree(alloc: Global, c: Constant) -> CoreExpr
 {
     let root = Root::Constant {
         value: c.value,
-        nodes: c.nodes,
-        words: 0,
+        nodes: c.weight.nodes,
+        words: c.weight.words,
     };
     CoreExpr::new(alloc, root, c.of)
 }

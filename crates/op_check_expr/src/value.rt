@@ -7,7 +7,7 @@ ghost use Rattle.op_check_expr.specs.Values.{constant, in_brackets, tree_of, typ
 use crate::tree::{constant_tree, then, type_of};
 use op_base::NoMemory;
 use op_core::{Action, CoreExpr, TypeId};
-use op_types::{Constant, joined, made};
+use op_types::{Constant, joined, made, nodes};
 use std::alloc::Global;
 
 /// What an expression gives.
@@ -44,7 +44,7 @@ impl Value {
         ensures { IfOk result (λ v. value_of v ≡ in_brackets (value_of self)) }
     {
         match self {
-            Value::Constant(c) => Ok(Value::Constant(made(c.value, c.of, joined(c.nodes, 0)))),
+            Value::Constant(c) => Ok(Value::Constant(made(c.value, c.of, joined(c.weight, nodes(0))))),
             Value::Computed(e) => {
                 let of = type_of(&e);
                 Ok(Value::Computed(then(e, Action::Bracket, of)?))
