@@ -1,11 +1,14 @@
 -- What is called, and what it is given (Free Pascal Reference Guide, "Function calls" and "Parameter lists").
-use Rattle.std.specs.Prelude.{Bool, true, false, ◌||◌, List, [], ◌∷◌, Option, Some, None, is_some, slice_get, if◌then◌else◌}
+use Rattle.std.specs.Prelude.{Bool, true, false, ◌||◌, List, [], ◌∷◌, Option, Some, None, is_some, slice_get, if◌then◌else◌, Vec}
 use Rattle.std.specs.Option.{option_map}
+use Rattle.std.specs.declared.alloc.Global.{Global}
 use Rattle.op_base.specs.declared.place.Place.{Place}
 use Rattle.op_core.specs.Expression.{Expression as Tree, expression, Argument, Arguments, no_arguments, arguments, value as value_argument, place as place_argument, call as call_root, no_steps}
 use Rattle.op_core.specs.Faults.{Checked, fine, untyped}
+use Rattle.op_core.specs.Nodes.{arguments_of}
 use Rattle.op_core.specs.Rows.{rows}
 use Rattle.op_core.specs.Typing.{takes_place}
+use Rattle.op_core.specs.declared.expression.CoreArgument.{CoreArgument}
 use Rattle.op_core.specs.declared.ids.RoutineId.{RoutineId}
 use Rattle.op_core.specs.declared.ids.TypeId.{TypeId}
 use Rattle.op_core.specs.declared.operation.Function.{Function}
@@ -20,7 +23,7 @@ use Rattle.op_check_expr.specs.Values.{Value, computed, stored}
 use Rattle.op_check_expr.specs.Words.{changed}
 use Rattle.op_check_expr.specs.declared.call.Plan.{Plan}
 use Rattle.op_check_expr.specs.declared.call.Plan.TheVariants.{Bound, Sole, Routine as RoutinePlan, Wrong, Silent}
-use Rattle.op_check_expr.specs.declared.scope.Scope.{Scope}
+use Rattle.op_check_expr.specs.Scopes.{Here}
 use Rattle.op_types.specs.Constants.{only_value, type_named}
 use Rattle.op_types.specs.Operators as table
 use Rattle.op_types.specs.declared.constant.Applied.{Applied}
@@ -36,22 +39,22 @@ are_given [] source.no_arguments = true
 are_given (p ∷ ps) (source.arguments (source.value e) others) = are_given ps others
 are_given _ _ = false
 
-abbrev pub parameters_in : Scope → Option Routine → List Parameter
+abbrev pub parameters_in : Here → Option Routine → List Parameter
 parameters_in s None = []
-parameters_in s (Some r) = rows s.core.now.parameters r.parameters
+parameters_in s (Some r) = rows s.core.parameters r.parameters
 
-abbrev pub parameters_of : Scope → RoutineId → List Parameter
-parameters_of s id = parameters_in s (slice_get s.core.now.routines id.0)
+abbrev pub parameters_of : Here → RoutineId → List Parameter
+parameters_of s id = parameters_in s (slice_get s.core.routines id.0)
 
 abbrev pub given_plan : Position → RoutineId → Bool → Plan
 given_plan p id true = RoutinePlan id
 given_plan p id false = Wrong 26 p.place
 
 -- a procedure gives no value, which only a call alone does without
-abbrev pub routine_plan : Scope → Bool → Position → RoutineId → Option Routine → source.Arguments → Plan
+abbrev pub routine_plan : Here → Bool → Position → RoutineId → Option Routine → source.Arguments → Plan
 routine_plan s alone p id None args = Silent
 routine_plan s alone p id (Some r) args =
-    if alone || is_some r.result then given_plan p id (are_given (rows s.core.now.parameters r.parameters) args) else Wrong 16 p.place
+    if alone || is_some r.result then given_plan p id (are_given (rows s.core.parameters r.parameters) args) else Wrong 16 p.place
 
 -- one argument, a value
 abbrev pub sole_plan : Position → Applied → Option source.Expression → Plan
@@ -63,29 +66,32 @@ bound_plan p f e None = sole_plan p (Function' f) e
 bound_plan p f e (Some of) = Bound f of.0 of.1
 
 -- Low and High also take a type
-abbrev pub function_plan : Scope → Position → Function → source.Arguments → Plan
-function_plan s p Low args = bound_plan p Low (only_value args) (type_named s.visible.now args)
-function_plan s p High args = bound_plan p High (only_value args) (type_named s.visible.now args)
+abbrev pub function_plan : Here → Position → Function → source.Arguments → Plan
+function_plan s p Low args = bound_plan p Low (only_value args) (type_named s.visible args)
+function_plan s p High args = bound_plan p High (only_value args) (type_named s.visible args)
 function_plan s p f args = sole_plan p (Function' f) (only_value args)
 
 -- built-in procedures give no value
-abbrev pub built_in_plan : Scope → Position → BuiltIn → source.Arguments → Plan
+abbrev pub built_in_plan : Here → Position → BuiltIn → source.Arguments → Plan
 built_in_plan s p Chr args = sole_plan p (Cast table.char) (only_value args)
 built_in_plan s p (FunctionNamed f) args = function_plan s p f args
 built_in_plan s p _ args = Wrong 16 p.place
 
-abbrev pub plan_for : Scope → Bool → Position → Meant → source.Arguments → Plan
-plan_for s alone p (routine id) args = routine_plan s alone p id (slice_get s.core.now.routines id.0) args
+abbrev pub plan_for : Here → Bool → Position → Meant → source.Arguments → Plan
+plan_for s alone p (routine id) args = routine_plan s alone p id (slice_get s.core.routines id.0) args
 plan_for s alone p (type_name of) args = sole_plan p (Cast of) (only_value args)
 plan_for s alone p (built_in b) args = built_in_plan s p b args
 plan_for s alone p _ args = Wrong 16 p.place
 
 -- what is done with arguments behind what stands in front of them; `alone` is whether the call is a statement
-abbrev pub plan_of : Scope → Bool → Option Denoted → source.Arguments → Plan
+abbrev pub plan_of : Here → Bool → Option Denoted → source.Arguments → Plan
 plan_of s alone None args = Silent
 plan_of s alone (Some d) args = plan_for s alone d.position d.what args
 
 -- ---- what it is given
+
+abbrev pub given_of : Vec CoreArgument Global → Arguments
+given_of v = arguments_of v.items
 
 abbrev pub behind : Arguments → Argument → Arguments
 behind no_arguments a = arguments a no_arguments
@@ -96,13 +102,13 @@ given_behind (Some args) (Some a) = Some (behind args a)
 given_behind _ _ = None
 
 -- a value for a parameter, its expression at a position
-abbrev pub passed_value : Scope → Parameter → Position → Value → Checked Argument
+abbrev pub passed_value : Here → Parameter → Position → Value → Checked Argument
 passed_value s p at v =
     if takes_place p.mode then changed place_argument (variable_value s at.place (Some p.of) v)
-    else changed value_argument (stored s.core.now at.place at.switches.r p.of v)
+    else changed value_argument (stored s.core at.place at.switches.r p.of v)
 
 -- there may be no parameter, since what is called is not known or takes another number
-abbrev pub passed : Scope → Option Parameter → Position → Option Value → Checked Argument
+abbrev pub passed : Here → Option Parameter → Position → Option Value → Checked Argument
 passed s (Some p) at (Some v) = passed_value s p at v
 passed s _ at _ = untyped
 

@@ -1,17 +1,18 @@
 -- What set constructors mean (Free Pascal Reference Guide, "Set Constructors").
-use Rattle.std.specs.Prelude.{pos, Bool, true, false, ◌&&◌, List, [], ◌∷◌, ◌++◌, Option, Some, None, if◌then◌else◌}
+use Rattle.std.specs.Prelude.{pos, Bool, true, false, ◌&&◌, List, [], ◌∷◌, ◌++◌, Option, Some, None, if◌then◌else◌, map, Vec}
 use Rattle.std.specs.List.{list_all}
 use Rattle.std.specs.Option.{option_map}
+use Rattle.std.specs.declared.alloc.Global.{Global}
 use Rattle.op_base.specs.declared.place.Place.{Place}
 use Rattle.op_core.specs.Expression.{Expression as Tree, Element, Elements, expression, one as one_tree, range as range_tree, set as set_root, no_elements, no_steps}
 use Rattle.op_core.specs.Expression as tree
-use Rattle.op_core.specs.Faults.{Checked, after, both, by_test, fine, with_part}
+use Rattle.op_core.specs.Faults.{Checked, by_test, fine, with_part}
 use Rattle.op_core.specs.Sizes.{type_at}
 use Rattle.op_core.specs.Typing as typing
 use Rattle.op_core.specs.declared.ids.TypeId.{TypeId}
 use Rattle.op_core.specs.declared.program.Core.{Core}
 use Rattle.op_check_expr.specs.Values.{Value, constant, computed, as_type, type_of, value_of}
-use Rattle.op_check_expr.specs.Words.{changed, followed}
+use Rattle.op_check_expr.specs.Words.{changed, followed, standing}
 use Rattle.op_check_expr.specs.declared.set.Member.{Member as RustMember}
 use Rattle.op_check_expr.specs.declared.set.Member.TheVariants as rust
 use Rattle.op_types.specs.Assignable.{assignable}
@@ -30,6 +31,9 @@ pub data Member : Type 0 where
 abbrev pub member_of : RustMember → Member
 member_of (rust.One at v) = one at (value_of v)
 member_of (rust.Range at v at' v') = range at (value_of v) at' (value_of v')
+
+abbrev pub members_of : Vec RustMember Global → List Member
+members_of v = map member_of v.items
 
 abbrev pub place_of : Member → Place
 place_of (one at v) = at
@@ -55,7 +59,7 @@ constant_member core (range at v at' v') = range_means core at (constant_of v) a
 
 -- behind the elements so far
 abbrev pub constant_members : Core → Option Constant → List Member → Checked Constant
-constant_members core a [] = record { typed = a; faults = Rattle.op_core.specs.Faults.none }
+constant_members core a [] = standing a
 constant_members core a (m ∷ ms) = followed (constant_member core m) (λ b. followed (gathered_means core (place_of m) a b) (λ c. constant_members core c ms))
 
 -- ---- others
@@ -80,7 +84,7 @@ both_in_set core at a b = with_part (λ a. with_part (λ b. by_test 20 at (fine 
 
 -- the type of a set of these, behind those so far
 abbrev pub type_of_set : Core → Option TypeId → List Member → Checked TypeId
-type_of_set core a [] = record { typed = a; faults = Rattle.op_core.specs.Faults.none }
+type_of_set core a [] = standing a
 type_of_set core a (m ∷ ms) = followed (member_in_set core m) (λ b. followed (both_in_set core (place_of m) a b) (λ c. type_of_set core c ms))
 
 abbrev pub element_tree : Core → TypeId → Member → Element

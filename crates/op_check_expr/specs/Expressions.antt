@@ -28,7 +28,7 @@ use Rattle.op_check_expr.specs.Values.{Value, constant, computed, as_type, in_br
 use Rattle.op_check_expr.specs.Words.{changed, followed, left_out, standing}
 use Rattle.op_check_expr.specs.declared.call.Plan.{Plan}
 use Rattle.op_check_expr.specs.declared.call.Plan.TheVariants.{Bound, Sole, Routine as RoutinePlan, Wrong, Silent}
-use Rattle.op_check_expr.specs.declared.scope.Scope.{Scope}
+use Rattle.op_check_expr.specs.Scopes.{Here}
 use Rattle.op_types.specs.Constants.{bound_means, joined_name, literal_means, made, nodes, number_behind, numeral, start_of}
 use Rattle.op_types.specs.Names.{lower, meaning_of}
 use Rattle.op_types.specs.Operators as table
@@ -70,10 +70,16 @@ or_number (Some n) c = changed constant (numeral n.1 2 (neg_ℤ (pos n.0)))
 abbrev pub bracket_of : Position → Checked Value → Checked Denoted
 bracket_of p c = changed (λ v. valued p (in_brackets v)) c
 
--- the same place, and what is made of it
+abbrev pub position_of_denoted : Option Denoted → Option Position
+position_of_denoted d = option_map (λ d. d.position) d
+
+abbrev pub still_at_position : Option Position → Option Value → Option Denoted
+still_at_position (Some p) (Some v) = Some (valued p v)
+still_at_position _ _ = None
+
+-- at the same position, what is made of it
 abbrev pub still_at : Option Denoted → Checked Value → Checked Denoted
-still_at None c = record { typed = None; faults = c.faults }
-still_at (Some d) c = changed (valued d.position) c
+still_at d c = record { typed = still_at_position (position_of_denoted d) c.typed; faults = c.faults }
 
 -- ---- indices
 
@@ -100,34 +106,9 @@ indexed core bracket at a v = with_part (indexed_value core bracket at v) a
 
 -- ---- values
 
--- what a name stands for as a value: a function alone is called
-abbrev pub settled_by : Scope → Position → Meant → Plan → Checked Value
-settled_by s p (naming.value v) plan = fine v
-settled_by s p (naming.type_name of) plan = refused 16 p.place
-settled_by s p what (Wrong rule place) = refused rule place
-settled_by s p what (RoutinePlan id) = call_tree id (slice_get s.core.now.routines id.0) none_given
-settled_by s p what _ = untyped
-
-abbrev pub settled : Scope → Denoted → Checked Value
-settled s d = settled_by s d.position d.what (plan_of s false (Some d) no_arguments)
-
-abbrev pub as_value : Scope → Option Denoted → Checked Value
-as_value s d = with_part (settled s) d
-
-abbrev pub name_denoted : Scope → List ℕ → List ℕ → Position → Checked Denoted
-name_denoted s key text p = naming.named s.core.now text p (meaning_of s.visible.now key)
-
--- a member of a unit or of a value
-abbrev pub member_by : Scope → Name → Denoted → Meant → Checked Denoted
-member_by s m d (naming.unit text) = name_denoted s (joined_name text m.text) m.text m.position
-member_by s m d what = followed (settled s d) (with_part (field_of s.core.now m))
-
-abbrev pub member_of : Scope → Name → Denoted → Checked Denoted
-member_of s m d = member_by s m d d.what
-
 -- what arguments give, once they have types
-abbrev pub call_of : Scope → Plan → Option GivenArguments → Checked Value
-call_of s (RoutinePlan id) given = with_part (call_tree id (slice_get s.core.now.routines id.0)) given
+abbrev pub call_of : Here → Plan → Option GivenArguments → Checked Value
+call_of s (RoutinePlan id) given = with_part (call_tree id (slice_get s.core.routines id.0)) given
 call_of s (Wrong rule place) given = refused rule place
 call_of s plan given = untyped
 
@@ -135,7 +116,30 @@ abbrev pub given_first : Plan → Option GivenArguments
 given_first (RoutinePlan id) = Some none_given
 given_first plan = None
 
-abbrev pub parameters_for : Scope → Plan → List Parameter
+-- what a name stands for as a value: a function alone is called
+abbrev pub settled_by : Here → Position → Meant → Plan → Checked Value
+settled_by s p (naming.value v) plan = fine v
+settled_by s p (naming.type_name of) plan = refused 16 p.place
+settled_by s p what plan = call_of s plan (given_first plan)
+
+abbrev pub settled : Here → Denoted → Checked Value
+settled s d = settled_by s d.position d.what (plan_of s false (Some d) no_arguments)
+
+abbrev pub as_value : Here → Option Denoted → Checked Value
+as_value s d = with_part (settled s) d
+
+abbrev pub name_denoted : Here → List ℕ → List ℕ → Position → Checked Denoted
+name_denoted s key text p = naming.named s.core text p (meaning_of s.visible key)
+
+-- a member of a unit or of a value
+abbrev pub member_by : Here → Name → Denoted → Meant → Checked Denoted
+member_by s m d (naming.unit text) = name_denoted s (joined_name text m.text) m.text m.position
+member_by s m d what = followed (settled s d) (with_part (field_of s.core m))
+
+abbrev pub member_of : Here → Name → Denoted → Checked Denoted
+member_of s m d = member_by s m d d.what
+
+abbrev pub parameters_for : Here → Plan → List Parameter
 parameters_for s (RoutinePlan id) = parameters_of s id
 parameters_for s plan = []
 
@@ -154,70 +158,73 @@ with_member _ _ = None
 
 -- What an expression means; `wanted` is the type that its use fixes, which a set constructor looks at.
 abbrev mutual
-  pub value_in : Scope → Option TypeId → Expression → Checked Value
+  pub value_in : Here → Option TypeId → Expression → Checked Value
   value_in s wanted (chain first rest) = followed (value_in s None first) (λ a. operations s (position_of first).place a rest)
-  value_in s wanted (prefixed o p e) = or_number (number_behind o e) (followed (value_in s None e) (with_part (prefix_of s.core.now o p)))
+  value_in s wanted (prefixed o p e) = or_number (number_behind o e) (followed (value_in s None e) (with_part (prefix_of s.core o p)))
   value_in s wanted (number n p) = changed constant (numeral p.place 1 (pos n))
   value_in s wanted (nil p) = fine (constant (made Nil table.nil (nodes 1)))
-  value_in s wanted (set p es) = followed (members s (Some []) es) (with_part (set_of s.core.now wanted))
+  value_in s wanted (set p es) = set_in s wanted es
   value_in s wanted (literal text p no_selectors) = literal_value (literal_means text no_selectors)
   value_in s wanted (literal text p (selectors x xs)) = followed (selected s (Some (text_denoted p text)) (selectors x xs)) (as_value s)
   value_in s wanted (designated d) = followed (designator_of s d) (as_value s)
   value_in s wanted (inherited p d) = left_out 42 p.place
 
   -- behind a first operand, in an expression that begins at a place
-  pub operations : Scope → Place → Option Value → Operations → Checked Value
+  pub operations : Here → Place → Option Value → Operations → Checked Value
   operations s start a no_operations = standing a
   operations s start a (operation o p e others) =
-      followed (value_in s None e) (λ b. followed (operation_of s.core.now start o p a b) (λ c. operations s start c others))
+      followed (value_in s None e) (λ b. followed (operation_of s.core start o p a b) (λ c. operations s start c others))
+
+  pub set_in : Here → Option TypeId → Elements → Checked Value
+  set_in s wanted es = followed (members s (Some []) es) (with_part (set_of s.core wanted))
 
   -- behind the elements so far
-  pub members : Scope → Option (List Member) → Elements → Checked (List Member)
+  pub members : Here → Option (List Member) → Elements → Checked (List Member)
   members s ms no_elements = standing ms
   members s ms (elements e es) = followed (member_in s e) (λ m. members s (with_member ms m) es)
 
-  pub member_in : Scope → Element → Checked Member
+  pub member_in : Here → Element → Checked Member
   member_in s (one e) = changed (member.one (position_of e).place) (value_in s None e)
   member_in s (range e f) = followed (value_in s None e) (λ a. followed (value_in s None f) (range_member (position_of e).place (position_of f).place a))
 
-  pub designator_of : Scope → Designator → Checked Denoted
+  pub designator_of : Here → Designator → Checked Denoted
   designator_of s (designator root ss) = followed (root_of s root) (λ d. selected s d ss)
 
-  pub root_of : Scope → Root → Checked Denoted
+  pub root_of : Here → Root → Checked Denoted
   root_of s (named n) = name_denoted s (lower n.text) n.text n.position
   root_of s (string p) = left_out 40 p.place
   root_of s (bracketed p e) = bracket_of p (value_in s None e)
 
-  pub selected : Scope → Option Denoted → Selectors → Checked Denoted
+  pub selected : Here → Option Denoted → Selectors → Checked Denoted
   selected s d no_selectors = standing d
   selected s d (selectors x xs) = followed (select s d x) (λ c. selected s c xs)
 
-  pub select : Scope → Option Denoted → Selector → Checked Denoted
+  pub select : Here → Option Denoted → Selector → Checked Denoted
   select s d (member m) = with_part (member_of s m) d
   select s d (index p es) = still_at d (followed (as_value s d) (λ a. elements_at s p.place a es))
   select s d (call args) = still_at d (called s (plan_of s false d args) args)
 
   -- an element, index by index, behind a bracket at a place
-  pub elements_at : Scope → Place → Option Value → Expressions → Checked Value
+  pub elements_at : Here → Place → Option Value → Expressions → Checked Value
   elements_at s bracket a no_expressions = standing a
   elements_at s bracket a (expressions e es) =
-      followed (value_in s None e) (λ v. followed (indexed s.core.now bracket (position_of e).place a v) (λ b. elements_at s bracket b es))
+      followed (value_in s None e) (λ v. followed (indexed s.core bracket (position_of e).place a v) (λ b. elements_at s bracket b es))
 
-  pub called : Scope → Plan → Arguments → Checked Value
-  called s (Bound f of at) args = changed constant (bound_means s.core.now f (of, at))
+  pub called : Here → Plan → Arguments → Checked Value
+  called s (Bound f of at) args = changed constant (bound_means s.core f (of, at))
   called s (Sole what p) args = used_by s what p args
   called s plan args = followed (given s (parameters_for s plan) (given_first plan) args) (call_of s plan)
 
   -- the one argument of a cast or a function
-  pub used_by : Scope → Applied → Position → Arguments → Checked Value
-  used_by s what p (arguments (value e) no_arguments) = followed (value_in s None e) (with_part (used s.core.now p what (position_of e).place))
+  pub used_by : Here → Applied → Position → Arguments → Checked Value
+  used_by s what p (arguments (value e) no_arguments) = followed (value_in s None e) (with_part (used s.core p what (position_of e).place))
   used_by s what p _ = untyped
 
-  pub given : Scope → List Parameter → Option GivenArguments → Arguments → Checked GivenArguments
+  pub given : Here → List Parameter → Option GivenArguments → Arguments → Checked GivenArguments
   given s ps so_far no_arguments = standing so_far
   given s ps so_far (arguments a others) = followed (argument s (first_of ps) a) (λ b. given s (others_of ps) (given_behind so_far b) others)
 
-  pub argument : Scope → Option Parameter → Argument → Checked GivenArgument
+  pub argument : Here → Option Parameter → Argument → Checked GivenArgument
   argument s p (value e) = followed (value_in s (type_wanted p) e) (passed s p (position_of e))
   argument s p (padded e width) = followed (value_in s None e) (λ a. followed (value_in s None width) (λ b. untyped))
   argument s p (rounded e width digits) = followed (value_in s None e) (λ a. followed (value_in s None width) (λ b. followed (value_in s None digits) (λ c. untyped)))
@@ -225,8 +232,8 @@ abbrev mutual
 -- ---- what statements are made of
 
 -- a value that is stored in what has a type
-abbrev pub given_to : Scope → TypeId → Bool → Expression → Checked Tree
-given_to s to checked e = followed (value_in s (Some to) e) (with_part (stored s.core.now (position_of e).place checked to))
+abbrev pub given_to : Here → TypeId → Bool → Expression → Checked Tree
+given_to s to checked e = followed (value_in s (Some to) e) (with_part (stored s.core (position_of e).place checked to))
 
-abbrev pub variable_in : Scope → Option TypeId → Expression → Checked Tree
+abbrev pub variable_in : Here → Option TypeId → Expression → Checked Tree
 variable_in s of e = followed (value_in s None e) (with_part (variable_value s (position_of e).place of))

@@ -4,5 +4,6 @@ pub mod Expressions
 pub mod Naming
 pub mod Operating
 pub mod Places
+pub mod Scopes
 pub mod Values
 pub mod Words

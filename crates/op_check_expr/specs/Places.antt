@@ -18,7 +18,7 @@ use Rattle.op_tree.specs.declared.heading.ParameterMode.TheVariants.{Const_}
 use Rattle.op_check_expr.specs.Values.{Value, constant, computed}
 use Rattle.op_check_expr.specs.declared.scope.Around.{Around}
 use Rattle.op_check_expr.specs.declared.scope.Around.TheVariants.{Loop}
-use Rattle.op_check_expr.specs.declared.scope.Scope.{Scope}
+use Rattle.op_check_expr.specs.Scopes.{Here}
 
 abbrev pub is_written : Role → Bool
 is_written ConstantRole = false
@@ -31,15 +31,15 @@ counts id (Loop (Some counter)) = nat_eq counter.0 id.0
 counts id _ = false
 
 -- the variable of a loop round the place cannot be written
-abbrev pub is_counted : Scope → VariableId → Bool
-is_counted s id = list_any (counts id) s.around.now
+abbrev pub is_counted : Here → VariableId → Bool
+is_counted s id = list_any (counts id) s.around
 
-abbrev pub is_writable_row : Scope → VariableId → Option VariableRow → Bool
+abbrev pub is_writable_row : Here → VariableId → Option VariableRow → Bool
 is_writable_row s id None = false
 is_writable_row s id (Some v) = is_written v.role && not (is_counted s id)
 
-abbrev pub is_writable_root : Scope → Root → Bool
-is_writable_root s (variable id) = is_writable_row s id (slice_get s.core.now.variables id.0)
+abbrev pub is_writable_root : Here → Root → Bool
+is_writable_root s (variable id) = is_writable_row s id (slice_get s.core.variables id.0)
 is_writable_root s _ = false
 
 -- Whether steps lead from a root of this sort to a place. Where `chars` is set a character of a string is one.
@@ -49,24 +49,24 @@ leads chars core so_far (expression root of others) = is_place_after chars core 
 abbrev pub root_of : Tree → Root
 root_of (expression root of others) = root
 
-abbrev pub is_writable : Scope → Bool → Tree → Bool
-is_writable s chars e = leads chars s.core.now (is_writable_root s (root_of e)) e
+abbrev pub is_writable : Here → Bool → Tree → Bool
+is_writable s chars e = leads chars s.core (is_writable_root s (root_of e)) e
 
 abbrev pub is_very : Core → TypeId → Option TypeId → Bool
 is_very core from None = true
 is_very core from (Some to) = is_one_type core.types from to
 
 -- an argument at a place that must be a variable, of the very type where one is given, that may be written
-abbrev pub variable_tree : Scope → Place → Option TypeId → Tree → Checked Tree
+abbrev pub variable_tree : Here → Place → Option TypeId → Tree → Checked Tree
 variable_tree s at to e =
-    by_test 27 at (by_test 28 at (by_test 29 at (by_test 37 at (fine e) (is_place false s.core.now e)) (is_writable s true e)) (is_very s.core.now (typing.type_of e) to))
-    (is_place true s.core.now e)
+    by_test 27 at (by_test 28 at (by_test 29 at (by_test 37 at (fine e) (is_place false s.core e)) (is_writable s true e)) (is_very s.core (typing.type_of e) to))
+    (is_place true s.core e)
 
-abbrev pub variable_value : Scope → Place → Option TypeId → Value → Checked Tree
+abbrev pub variable_value : Here → Place → Option TypeId → Value → Checked Tree
 variable_value s at to (computed e) = variable_tree s at to e
 variable_value s at to (constant c) = by_test 27 at untyped false
 
 -- what is assigned to, in a statement that begins at a place
-abbrev pub target_value : Scope → Place → Value → Checked Tree
+abbrev pub target_value : Here → Place → Value → Checked Tree
 target_value s at (computed e) = by_test 29 at (fine e) (is_writable s true e)
 target_value s at (constant c) = by_test 29 at untyped false

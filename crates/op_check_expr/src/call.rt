@@ -1,15 +1,15 @@
 //! What is called, and what it is given.
 ghost use Rattle.std.specs.Prelude.{◌≡◌, [], ◌∷◌, IfOk, slice_get};
 ghost use Rattle.std.specs.Option.{option_copied, option_map};
-ghost use Rattle.op_core.specs.Expression.{argument_of, expr_of};
-ghost use Rattle.op_core.specs.Nodes as core;
+ghost use Rattle.op_core.specs.Expression.{argument_of};
 ghost use Rattle.op_core.specs.Typing.{takes_place};
-ghost use Rattle.op_tree.specs.Expression as source;
 ghost use Rattle.op_tree.specs.Lists as source_lists;
-ghost use Rattle.op_check_expr.specs.Calling.{are_given, built_in_plan, call_tree, function_plan, given_behind, parameters_of, passed, passed_value, plan_of, routine_plan, sole_plan, type_wanted};
+ghost use Rattle.op_check_expr.specs.Calling.{are_given, built_in_plan, call_tree, function_plan, given_behind, given_of, parameters_of, passed, passed_value, plan_of, routine_plan, sole_plan, type_wanted};
 ghost use Rattle.op_check_expr.specs.Naming.{denoted_of};
+ghost use Rattle.op_check_expr.specs.Scopes.{here_of};
 ghost use Rattle.op_check_expr.specs.Values.{value_of};
 ghost use Rattle.op_check_expr.specs.Words.{Reports};
+ghost use Rattle.op_types.specs.Constants.{only_value};
 
 use crate::convert::stored;
 use crate::denoted::{Denoted, Meant};
@@ -17,11 +17,9 @@ use crate::place::variable_value;
 use crate::scope::Checker;
 use crate::value::Value;
 use op_base::{NoMemory, Place};
-use op_core::{
-    CoreArgument, CoreExpr, FirstRefusal, Function, Parameter, Root, Routine, RoutineId, TypeId,
-};
+use op_core::{CoreArgument, CoreExpr, FirstRefusal, Function, Parameter, Root, RoutineId, TypeId};
 use op_tree::{Argument, ParameterMode, Position};
-use op_types::{Applied, BuiltIn};
+use op_types::{Applied, BuiltIn, only_value};
 
 /// What is done with a list of arguments.
 #[derive(Clone, Copy)]
@@ -48,7 +46,7 @@ impl<'a> Checker<'a> {
         denoted: &Option<Denoted>,
         list: &[Argument],
     ) -> Result<Plan, NoMemory>
-        ensures { IfOk result (λ p. p ≡ plan_of self.entry.scope alone (option_map denoted_of denoted.now) (source_lists.arguments_of list.now)) }
+        ensures { IfOk result (λ p. p ≡ plan_of (here_of self.entry.scope) alone (option_map denoted_of denoted.now) (source_lists.arguments_of list.now)) }
     {
         let Some(denoted) = denoted else {
             return Ok(Plan::Silent);
@@ -63,14 +61,8 @@ impl<'a> Checker<'a> {
         }
     }
 
-    fn routine_plan(
-        self,
-        alone: bool,
-        position: Position,
-        id: RoutineId,
-        list: &[Argument],
-    ) -> Plan
-        ensures { result ≡ routine_plan self.entry.scope alone position id (slice_get self.entry.scope.core.now.routines id.0) (source_lists.arguments_of list.now) }
+    fn routine_plan(self, alone: bool, position: Position, id: RoutineId, list: &[Argument]) -> Plan
+        ensures { result ≡ routine_plan (here_of self.entry.scope) alone position id (slice_get (here_of self.entry.scope).core.routines id.0) (source_lists.arguments_of list.now) }
     {
         let core = self.scope.core;
         let Some(routine) = core.routines.as_slice().get(id.0 as usize) else {
@@ -92,7 +84,7 @@ impl<'a> Checker<'a> {
         b: BuiltIn,
         list: &[Argument],
     ) -> Result<Plan, NoMemory>
-        ensures { IfOk result (λ p. p ≡ built_in_plan self.entry.scope position b (source_lists.arguments_of list.now)) }
+        ensures { IfOk result (λ p. p ≡ built_in_plan (here_of self.entry.scope) position b (source_lists.arguments_of list.now)) }
     {
         match b {
             BuiltIn::Chr => Ok(sole_plan(position, Applied::Cast(TypeId::CHAR), list)),
@@ -107,7 +99,7 @@ impl<'a> Checker<'a> {
         function: Function,
         list: &[Argument],
     ) -> Result<Plan, NoMemory>
-        ensures { IfOk result (λ p. p ≡ function_plan self.entry.scope position function (source_lists.arguments_of list.now)) }
+        ensures { IfOk result (λ p. p ≡ function_plan (here_of self.entry.scope) position function (source_lists.arguments_of list.now)) }
     {
         match function {
             Function::Low | Function::High => match self.setting().type_named(list)? {
@@ -119,7 +111,7 @@ impl<'a> Checker<'a> {
     }
 
     pub fn parameters_of(self, id: RoutineId) -> &'a [Parameter]
-        ensures { result.now ≡ parameters_of self.entry.scope id }
+        ensures { result.now ≡ parameters_of (here_of self.entry.scope) id }
     {
         let core = self.scope.core;
         match core.routines.as_slice().get(id.0 as usize) {
@@ -136,7 +128,7 @@ impl<'a> Checker<'a> {
         at: Position,
         value: Option<Value>,
     ) -> Result<Option<CoreArgument>, NoMemory>
-        ensures { IfOk result (λ a. Reports (passed self.entry.scope (option_copied parameter.entry) at (option_map value_of value)) sink.old sink.new (option_map argument_of a)) }
+        ensures { IfOk result (λ a. Reports (passed (here_of self.entry.scope) (option_copied parameter.entry) at (option_map value_of value)) sink.old sink.new (option_map argument_of a)) }
     {
         match (parameter, value) {
             (Some(parameter), Some(value)) => self.passed_value(sink, parameter, at, value),
@@ -151,7 +143,7 @@ impl<'a> Checker<'a> {
         at: Position,
         value: Value,
     ) -> Result<Option<CoreArgument>, NoMemory>
-        ensures { IfOk result (λ a. Reports (passed_value self.entry.scope parameter.now at (value_of value)) sink.old sink.new (option_map argument_of a)) }
+        ensures { IfOk result (λ a. Reports (passed_value (here_of self.entry.scope) parameter.now at (value_of value)) sink.old sink.new (option_map argument_of a)) }
     {
         let to = parameter.of;
         if takes_place(parameter.mode) {
@@ -169,8 +161,8 @@ impl<'a> Checker<'a> {
     }
 
     /// A call of a routine that is no method.
-    pub fn call_tree(self, id: RoutineId, given: Vec<CoreArgument>) -> Option<CoreExpr>
-        ensures { option_map expr_of result ≡ option_map value_tree (call_tree id (slice_get self.entry.scope.core.now.routines id.0) (core.arguments_of given.items)).typed }
+    pub fn call_tree(self, id: RoutineId, given: Vec<CoreArgument>) -> Option<Value>
+        ensures { option_map value_of result ≡ (call_tree id (slice_get (here_of self.entry.scope).core.routines id.0) (given_of given)).typed }
     {
         let routine = self.scope.core.routines.as_slice().get(id.0 as usize)?;
         let of = match routine.result {
@@ -181,7 +173,7 @@ impl<'a> Checker<'a> {
             routine: id,
             arguments: given,
         };
-        Some(CoreExpr::new(self.alloc, root, of))
+        Some(Value::Computed(CoreExpr::new(self.alloc, root, of)))
     }
 }
 

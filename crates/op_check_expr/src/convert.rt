@@ -48,7 +48,14 @@ pub fn as_type(
         Value::Constant(c) => match retyped(alloc, core, to, &c.value)? {
             Some(value) => {
                 let weight = c.weight;
-                Ok(constant_tree(alloc, Constant { value, of: to, weight }))
+                Ok(constant_tree(
+                    alloc,
+                    Constant {
+                        value,
+                        of: to,
+                        weight,
+                    },
+                ))
             }
             None => {
                 let conversion = conversion(core, checked, c.of, to);
@@ -98,7 +105,9 @@ fn are_in(core: &Core, base: Option<TypeId>, members: &[u8]) -> bool
 {
     match base {
         None => false,
-        Some(base) => members.iter().all(|n| in_range(core, base, *n as i64).is_some()),
+        Some(base) => members
+            .iter()
+            .all(|n| in_range(core, base, *n as i64).is_some()),
     }
 }
 

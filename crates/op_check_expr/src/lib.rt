@@ -2,19 +2,23 @@
 #![tactic(auto)]
 
 mod apply;
+mod call;
 mod convert;
 mod denoted;
 mod operate;
+mod part;
 mod place;
 mod scope;
+mod set;
 mod sink;
 mod tree;
 mod value;
+mod walk;
 
-pub use apply::used;
-pub use convert::stored;
-pub use denoted::{field_of, named, variable_tree};
-pub use operate::{operation_of, prefix_of};
+pub use convert::{as_type, stored};
+pub use denoted::variable_tree;
+pub use part::position_of;
 pub use place::{target_value, variable_value};
 pub use scope::{Around, Checker, Scope};
+pub use sink::{leave_out, refuse};
 pub use value::Value;

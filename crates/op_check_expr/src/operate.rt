@@ -13,7 +13,9 @@ use crate::value::{Value, constant_value};
 use op_base::{NoMemory, Place};
 use op_core::{Action, Core, CoreExpr, FirstRefusal, TypeId};
 use op_tree::{Operator, Position, PrefixOperator};
-use op_types::{OrdinalKind, Setting, Sort, common_set, is_folded, operation, prefixed, set_over, sort_of};
+use op_types::{
+    OrdinalKind, Setting, Sort, common_set, is_folded, operation, prefixed, set_over, sort_of,
+};
 use std::alloc::Global;
 
 /// What an expression gives; None where a rule is broken in it.

@@ -4,6 +4,7 @@ ghost use Rattle.std.specs.Option.{option_map};
 ghost use Rattle.op_core.specs.Expression.{action_of, expr_of, root_of as core_root_of};
 ghost use Rattle.op_core.specs.Typing.{leads_on};
 ghost use Rattle.op_check_expr.specs.Places.{is_counted, is_very, is_writable, is_writable_root, is_written, leads, target_value, variable_tree, variable_value};
+ghost use Rattle.op_check_expr.specs.Scopes.{here_of};
 ghost use Rattle.op_check_expr.specs.Values.{value_of};
 ghost use Rattle.op_check_expr.specs.Words.{Reports};
 
@@ -26,7 +27,7 @@ pub fn variable_value(
     to: Option<TypeId>,
     value: Value,
 ) -> Option<CoreExpr>
-    ensures { Reports (variable_value scope.entry at to (value_of value)) sink.old sink.new (option_map expr_of result) }
+    ensures { Reports (variable_value (here_of scope.entry) at to (value_of value)) sink.old sink.new (option_map expr_of result) }
 {
     match value {
         Value::Computed(e) => variable_tree(scope, sink, at, to, e),
@@ -41,7 +42,7 @@ fn variable_tree(
     to: Option<TypeId>,
     e: CoreExpr,
 ) -> Option<CoreExpr>
-    ensures { Reports (variable_tree scope.entry at to (expr_of e)) sink.old sink.new (option_map expr_of result) }
+    ensures { Reports (variable_tree (here_of scope.entry) at to (expr_of e)) sink.old sink.new (option_map expr_of result) }
 {
     let is_variable = matches!(e.root, Root::Variable(_));
     if !leads(true, scope.core, is_variable, &e) {
@@ -66,7 +67,7 @@ pub fn target_value(
     at: Place,
     value: Value,
 ) -> Option<CoreExpr>
-    ensures { Reports (target_value scope.entry at (value_of value)) sink.old sink.new (option_map expr_of result) }
+    ensures { Reports (target_value (here_of scope.entry) at (value_of value)) sink.old sink.new (option_map expr_of result) }
 {
     match value {
         Value::Constant(_) => refuse(sink, 29, at),
@@ -90,13 +91,13 @@ fn is_very(core: &Core, from: TypeId, to: Option<TypeId>) -> bool
 }
 
 fn is_writable(scope: Scope, chars: bool, e: &CoreExpr) -> bool
-    ensures { result ≡ is_writable scope.entry chars (expr_of e.now) }
+    ensures { result ≡ is_writable (here_of scope.entry) chars (expr_of e.now) }
 {
     leads(chars, scope.core, is_writable_root(scope, &e.root), e)
 }
 
 fn is_writable_root(scope: Scope, root: &Root) -> bool
-    ensures { result ≡ is_writable_root scope.entry (core_root_of root.now) }
+    ensures { result ≡ is_writable_root (here_of scope.entry) (core_root_of root.now) }
 {
     match root {
         Root::Variable(id) => match scope.core.variables.as_slice().get(id.0 as usize) {
@@ -118,7 +119,7 @@ fn is_written(role: Role) -> bool
 
 /// Whether it is the variable of a loop round the place.
 fn is_counted(scope: Scope, id: VariableId) -> bool
-    ensures { result ≡ is_counted scope.entry id }
+    ensures { result ≡ is_counted (here_of scope.entry) id }
 {
     scope.around.iter().any(|around| match around {
         Around::Loop(Some(counter)) => counter.0 == id.0,

@@ -44,7 +44,11 @@ impl Value {
         ensures { IfOk result (λ v. value_of v ≡ in_brackets (value_of self)) }
     {
         match self {
-            Value::Constant(c) => Ok(Value::Constant(made(c.value, c.of, joined(c.weight, nodes(0))))),
+            Value::Constant(c) => Ok(Value::Constant(made(
+                c.value,
+                c.of,
+                joined(c.weight, nodes(0)),
+            ))),
             Value::Computed(e) => {
                 let of = type_of(&e);
                 Ok(Value::Computed(then(e, Action::Bracket, of)?))
