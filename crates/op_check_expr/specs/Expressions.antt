@@ -143,6 +143,17 @@ abbrev pub parameters_for : Here → Plan → List Parameter
 parameters_for s (RoutinePlan id) = parameters_of s id
 parameters_for s plan = []
 
+-- the one argument, used
+abbrev pub used_by : Here → Applied → Position → Option (Place × Checked Value) → Checked Value
+used_by s what p None = untyped
+used_by s what p (Some e) = followed e.1 (with_part (used s.core p what e.0))
+
+-- what a call means, by what its one argument means and what its arguments mean for these parameters
+abbrev pub call_means : Here → Plan → Option (Place × Checked Value) → (List Parameter → Option GivenArguments → Checked GivenArguments) → Checked Value
+call_means s (Bound f of at) sole given = changed constant (bound_means s.core f (of, at))
+call_means s (Sole what p) sole given = used_by s what p sole
+call_means s plan sole given = followed (given (parameters_for s plan) (given_first plan)) (call_of s plan)
+
 abbrev pub ranged : Place → Place → Option Value → Option Value → Option Member
 ranged at at' (Some a) (Some b) = Some (member.range at a at' b)
 ranged at at' _ _ = None
@@ -163,7 +174,7 @@ abbrev mutual
   value_in s wanted (prefixed o p e) = or_number (number_behind o e) (followed (value_in s None e) (with_part (prefix_of s.core o p)))
   value_in s wanted (number n p) = changed constant (numeral p.place 1 (pos n))
   value_in s wanted (nil p) = fine (constant (made Nil table.nil (nodes 1)))
-  value_in s wanted (set p es) = set_in s wanted es
+  value_in s wanted (set p es) = followed (members s (Some []) es) (with_part (set_of s.core wanted))
   value_in s wanted (literal text p no_selectors) = literal_value (literal_means text no_selectors)
   value_in s wanted (literal text p (selectors x xs)) = followed (selected s (Some (text_denoted p text)) (selectors x xs)) (as_value s)
   value_in s wanted (designated d) = followed (designator_of s d) (as_value s)
@@ -174,9 +185,6 @@ abbrev mutual
   operations s start a no_operations = standing a
   operations s start a (operation o p e others) =
       followed (value_in s None e) (λ b. followed (operation_of s.core start o p a b) (λ c. operations s start c others))
-
-  pub set_in : Here → Option TypeId → Elements → Checked Value
-  set_in s wanted es = followed (members s (Some []) es) (with_part (set_of s.core wanted))
 
   -- behind the elements so far
   pub members : Here → Option (List Member) → Elements → Checked (List Member)
@@ -202,7 +210,7 @@ abbrev mutual
   pub select : Here → Option Denoted → Selector → Checked Denoted
   select s d (member m) = with_part (member_of s m) d
   select s d (index p es) = still_at d (followed (as_value s d) (λ a. elements_at s p.place a es))
-  select s d (call args) = still_at d (called s (plan_of s false d args) args)
+  select s d (call args) = still_at d (call_means s (plan_of s false d args) (sole_value s args) (λ ps so_far. given s ps so_far args))
 
   -- an element, index by index, behind a bracket at a place
   pub elements_at : Here → Place → Option Value → Expressions → Checked Value
@@ -210,15 +218,10 @@ abbrev mutual
   elements_at s bracket a (expressions e es) =
       followed (value_in s None e) (λ v. followed (indexed s.core bracket (position_of e).place a v) (λ b. elements_at s bracket b es))
 
-  pub called : Here → Plan → Arguments → Checked Value
-  called s (Bound f of at) args = changed constant (bound_means s.core f (of, at))
-  called s (Sole what p) args = used_by s what p args
-  called s plan args = followed (given s (parameters_for s plan) (given_first plan) args) (call_of s plan)
-
-  -- the one argument of a cast or a function
-  pub used_by : Here → Applied → Position → Arguments → Checked Value
-  used_by s what p (arguments (value e) no_arguments) = followed (value_in s None e) (with_part (used s.core p what (position_of e).place))
-  used_by s what p _ = untyped
+  -- the one argument of a cast or a function, with the place where it begins
+  pub sole_value : Here → Arguments → Option (Place × Checked Value)
+  sole_value s (arguments (value e) no_arguments) = Some ((position_of e).place, value_in s None e)
+  sole_value s _ = None
 
   pub given : Here → List Parameter → Option GivenArguments → Arguments → Checked GivenArguments
   given s ps so_far no_arguments = standing so_far
@@ -228,6 +231,12 @@ abbrev mutual
   argument s p (value e) = followed (value_in s (type_wanted p) e) (passed s p (position_of e))
   argument s p (padded e width) = followed (value_in s None e) (λ a. followed (value_in s None width) (λ b. untyped))
   argument s p (rounded e width digits) = followed (value_in s None e) (λ a. followed (value_in s None width) (λ b. followed (value_in s None digits) (λ c. untyped)))
+
+abbrev pub set_in : Here → Option TypeId → Elements → Checked Value
+set_in s wanted es = followed (members s (Some []) es) (with_part (set_of s.core wanted))
+
+abbrev pub called : Here → Plan → Arguments → Checked Value
+called s plan args = call_means s plan (sole_value s args) (λ ps so_far. given s ps so_far args)
 
 -- ---- what statements are made of
 

@@ -298,11 +298,11 @@ impl<'a> Checker<'a> {
         self,
         sink: &mut FirstRefusal,
         parameter: Option<&Parameter>,
-        argument: &Argument,
+        part: &Argument,
     ) -> Result<Option<CoreArgument>, NoMemory>
-        ensures { IfOk result (λ a. Reports (argument (here_of self.entry.scope) (option_copied parameter.entry) (argument_of argument.now)) sink.old sink.new (option_map tree.argument_of a)) }
+        ensures { IfOk result (λ a. Reports (argument (here_of self.entry.scope) (option_copied parameter.entry) (argument_of part.now)) sink.old sink.new (option_map tree.argument_of a)) }
     {
-        match argument {
+        match part {
             Argument::Value(e) => {
                 let v = self.value_in(sink, type_wanted(parameter), e)?;
                 self.passed(sink, parameter, position_of(e), v)
