@@ -1,6 +1,7 @@
 pub mod Calling
 pub mod Constructors
 pub mod Expressions
+pub mod Meanings
 pub mod Naming
 pub mod Operating
 pub mod Places

@@ -5,6 +5,7 @@ mod apply;
 mod call;
 mod convert;
 mod denoted;
+mod meaning;
 mod operate;
 mod part;
 mod place;
@@ -17,8 +18,12 @@ mod walk;
 
 pub use convert::{as_type, stored};
 pub use denoted::variable_tree;
+pub use meaning::{Typed, expr};
 pub use part::position_of;
 pub use place::{target_value, variable_value};
 pub use scope::{Around, Checker, Scope};
 pub use sink::{leave_out, refuse};
 pub use value::Value;
+
+#[cfg(test)]
+mod tests;

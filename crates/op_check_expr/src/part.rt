@@ -3,9 +3,10 @@ ghost use Rattle.std.specs.Prelude.{◌≡◌, IfOk};
 ghost use Rattle.std.specs.Option.{option_copied, option_map};
 ghost use Rattle.op_core.specs.Faults.{with_part};
 ghost use Rattle.op_tree.specs.Expression.{expr_of};
+ghost use Rattle.op_tree.specs.Statement.{designator_of};
 ghost use Rattle.op_check_expr.specs.Calling.{first_of, given_of, others_of, type_wanted};
 ghost use Rattle.op_check_expr.specs.Constructors.{member_of as member_in_view, members_of};
-ghost use Rattle.op_check_expr.specs.Expressions.{as_value, call_of, given_first, index_types, indexed, member_of, name_denoted, parameters_for, position_of, position_of_denoted, ranged, settled, still_at_position, text_denoted, with_member};
+ghost use Rattle.op_check_expr.specs.Expressions.{as_value, call_of, given_first, index_types, indexed, member_of, name_denoted, parameters_for, position_of, position_of_denoted, position_of_designator, ranged, settled, still_at_position, text_denoted, with_member};
 ghost use Rattle.op_check_expr.specs.Naming.{denoted_of};
 ghost use Rattle.op_check_expr.specs.Scopes.{here_of};
 ghost use Rattle.op_check_expr.specs.Values.{value_of};
@@ -23,7 +24,7 @@ use crate::tree::then;
 use crate::value::Value;
 use op_base::{NoMemory, Place, Text};
 use op_core::{Action, Const, Core, CoreType, FirstRefusal, Parameter, TypeId};
-use op_tree::{Expr, Name, Position, Root};
+use op_tree::{Designator, Expr, Name, Position, Root};
 use op_types::{made, nodes, type_at};
 use std::alloc::Global;
 
@@ -39,10 +40,18 @@ pub fn position_of(e: &Expr) -> Position
         | Expr::Set { position, .. }
         | Expr::Literal { position, .. }
         | Expr::Inherited { position, .. } => *position,
-        Expr::Designator(called) => match &called.root {
-            Root::Named(name) => name.position,
-            Root::String { position } | Root::Bracketed { position, .. } => *position,
-        },
+        Expr::Designator(called) => position_of_designator(called),
+    }
+}
+
+/// The first token of a designator.
+pub fn position_of_designator(called: &Designator) -> Position
+    ensures { result ≡ position_of_designator (designator_of called.now) }
+{
+    match &called.root {
+        Root::Named(name) => name.position,
+        Root::String { position } => *position,
+        Root::Bracketed { position, .. } => *position,
     }
 }
 

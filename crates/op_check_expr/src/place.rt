@@ -1,9 +1,9 @@
 //! Places that may be written.
-ghost use Rattle.std.specs.Prelude.{◌≡◌, IfOk};
+ghost use Rattle.std.specs.Prelude.{◌≡◌, slice_get};
 ghost use Rattle.std.specs.Option.{option_map};
 ghost use Rattle.op_core.specs.Expression.{action_of, expr_of, root_of as core_root_of};
 ghost use Rattle.op_core.specs.Typing.{leads_on};
-ghost use Rattle.op_check_expr.specs.Places.{is_counted, is_very, is_writable, is_writable_root, is_written, leads, target_value, variable_tree, variable_value};
+ghost use Rattle.op_check_expr.specs.Places.{is_counted, is_very, is_writable, is_writable_root, is_writable_row, is_written, leads, target_value, variable_tree, variable_value};
 ghost use Rattle.op_check_expr.specs.Scopes.{here_of};
 ghost use Rattle.op_check_expr.specs.Values.{value_of};
 ghost use Rattle.op_check_expr.specs.Words.{Reports};
@@ -100,11 +100,18 @@ fn is_writable_root(scope: Scope, root: &Root) -> bool
     ensures { result ≡ is_writable_root (here_of scope.entry) (core_root_of root.now) }
 {
     match root {
-        Root::Variable(id) => match scope.core.variables.as_slice().get(id.0 as usize) {
-            Some(variable) => is_written(variable.role) && !is_counted(scope, *id),
-            None => false,
-        },
+        Root::Variable(id) => is_writable_variable(scope, *id),
         _ => false,
+    }
+}
+
+/// Whether a variable may be written at a place.
+pub fn is_writable_variable(scope: Scope, id: VariableId) -> bool
+    ensures { result ≡ is_writable_row (here_of scope.entry) id (slice_get (here_of scope.entry).core.variables id.0) }
+{
+    match scope.core.variables.as_slice().get(id.0 as usize) {
+        Some(variable) => is_written(variable.role) && !is_counted(scope, id),
+        None => false,
     }
 }
 

@@ -254,7 +254,7 @@ impl Value {
     }
 
     /// Whether it is not a constant out of 0 to 31.
-    fn is_small(&self) -> bool
+    pub fn is_small(&self) -> bool
         ensures { result ≡ is_small (value_of self.now) }
     {
         match self {

@@ -177,7 +177,7 @@ impl<'a> Checker<'a> {
     }
 
     #[cycle(walk)]
-    fn root(self, sink: &mut FirstRefusal, root: &Root) -> Found
+    pub fn root(self, sink: &mut FirstRefusal, root: &Root) -> Found
         ensures { IfOk result (λ d. Reports (root_means (here_of self.entry.scope) (root_of root.now)) sink.old sink.new (option_map denoted_of d)) }
     {
         match root {
