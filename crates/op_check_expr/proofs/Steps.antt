@@ -1,7 +1,7 @@
 -- The types along the steps of a typed tree, and whether they lead to a place.
 use Rattle.std.proofs.Common.{◌≡◌, ℕ, suc, ◌<◌, ◌+◌, Bool, List, [], ◌∷◌, ◌++◌, length, drop, drop-cons, add-one, get_or, refl, sym, ap, ◌∙◌, arith, Option}
 use Rattle.op_core.proofs.Nodes.{list_nodes}
-use Rattle.op_core.specs.Expression.{expr_of, expression, root_of, action_of, steps, behind, then as with_step}
+use Rattle.op_core.specs.Expression.{Expression as Tree, expr_of, expression, root_of, action_of, steps, behind, then as with_step}
 use Rattle.op_core.specs.Nodes.{steps_of}
 use Rattle.op_core.specs.Sizes.{type_at}
 use Rattle.op_core.specs.Typing as typing
@@ -10,6 +10,7 @@ use Rattle.op_core.specs.declared.expression.Step.{Step}
 use Rattle.op_core.specs.declared.ids.TypeId.{TypeId}
 use Rattle.op_core.specs.declared.program.Core.{Core}
 use Rattle.op_core.specs.declared.types.CoreType.{CoreType}
+use Rattle.op_check_expr.specs.Places as places
 use Rattle.op_check_expr.specs.Places.{leads}
 
 last_after : (of : TypeId) (front : List Step) (x : Step) → typing.type_after of (steps_of (front ++ x ∷ [])) ≡ x.of
@@ -43,3 +44,12 @@ pub leads_next : (chars : Bool) (core : Core) (of : TypeId) (list : List Step) (
 leads_next chars core of list k x so_far next t h is e f =
     ap (typing.is_place_after chars core x.of (steps_of (drop (k + 1) list))) (f ∙ ap (λ t. typing.leads_on chars t (action_of x.action) so_far) e)
     ∙ sym (ap (λ ss. typing.is_place_after chars core of ss so_far) (next_step list k x h is))
+
+pub root_said : (e : CoreExpr) → places.root_of (expr_of e) ≡ root_of (out-CoreExpr e).root
+root_said e = ap places.root_of (list_nodes.expr_says e)
+
+place_by : (chars : Bool) (core : Core) (e : Tree) → typing.is_place chars core e ≡ leads chars core (typing.is_variable (places.root_of e)) e
+place_by chars core (expression root of others) = refl
+
+pub place_leads : (chars : Bool) (core : Core) (e : CoreExpr) → typing.is_place chars core (expr_of e) ≡ leads chars core (typing.is_variable (root_of (out-CoreExpr e).root)) (expr_of e)
+place_leads chars core e = place_by chars core (expr_of e) ∙ ap (λ r. leads chars core (typing.is_variable r) (expr_of e)) (root_said e)

@@ -1,5 +1,5 @@
 -- What is called, and what it is given (Free Pascal Reference Guide, "Function calls" and "Parameter lists").
-use Rattle.std.specs.Prelude.{Bool, true, false, ◌||◌, List, [], ◌∷◌, Option, Some, None, is_some, slice_get, if◌then◌else◌, Vec}
+use Rattle.std.specs.Prelude.{ℕ, suc, nat_eq, Bool, true, false, ◌&&◌, ◌||◌, List, [], ◌∷◌, length, Option, Some, None, is_some, slice_get, if◌then◌else◌, Vec}
 use Rattle.std.specs.Option.{option_map}
 use Rattle.std.specs.declared.alloc.Global.{Global}
 use Rattle.op_base.specs.declared.place.Place.{Place}
@@ -33,11 +33,21 @@ use Rattle.op_types.specs.declared.visible.BuiltIn.TheVariants.{Chr, Function as
 
 -- ---- what is called
 
+abbrev pub count_of : source.Arguments → ℕ
+count_of source.no_arguments = 0
+count_of (source.arguments a others) = suc (count_of others)
+
+abbrev pub is_plain : source.Argument → Bool
+is_plain (source.value e) = true
+is_plain _ = false
+
+abbrev pub are_plain : source.Arguments → Bool
+are_plain source.no_arguments = true
+are_plain (source.arguments a others) = is_plain a && are_plain others
+
 -- one argument to each parameter, none of them with a width
 abbrev pub are_given : List Parameter → source.Arguments → Bool
-are_given [] source.no_arguments = true
-are_given (p ∷ ps) (source.arguments (source.value e) others) = are_given ps others
-are_given _ _ = false
+are_given ps args = nat_eq (length ps) (count_of args) && are_plain args
 
 abbrev pub parameters_in : Here → Option Routine → List Parameter
 parameters_in s None = []

@@ -1,10 +1,11 @@
 //! What is called, and what it is given.
 ghost use Rattle.std.specs.Prelude.{◌≡◌, [], ◌∷◌, IfOk, slice_get};
 ghost use Rattle.std.specs.Option.{option_copied, option_map};
-ghost use Rattle.op_core.specs.Expression.{argument_of};
+ghost use Rattle.op_core.specs.Expression.{argument_of, call as call_root, expr_of, expression, no_steps};
 ghost use Rattle.op_core.specs.Typing.{takes_place};
+ghost use Rattle.op_tree.specs.Expression as source;
 ghost use Rattle.op_tree.specs.Lists as source_lists;
-ghost use Rattle.op_check_expr.specs.Calling.{are_given, built_in_plan, call_tree, function_plan, given_behind, given_of, parameters_of, passed, passed_value, plan_of, routine_plan, sole_plan, type_wanted};
+ghost use Rattle.op_check_expr.specs.Calling.{are_given, built_in_plan, call_tree, function_plan, given_behind, given_of, is_plain, parameters_of, passed, passed_value, plan_of, routine_plan, sole_plan, type_wanted};
 ghost use Rattle.op_check_expr.specs.Naming.{denoted_of};
 ghost use Rattle.op_check_expr.specs.Scopes.{here_of};
 ghost use Rattle.op_check_expr.specs.Values.{value_of};
@@ -20,6 +21,7 @@ use op_base::{NoMemory, Place};
 use op_core::{CoreArgument, CoreExpr, FirstRefusal, Function, Parameter, Root, RoutineId, TypeId};
 use op_tree::{Argument, ParameterMode, Position};
 use op_types::{Applied, BuiltIn, only_value};
+use std::alloc::Global;
 
 /// What is done with a list of arguments.
 #[derive(Clone, Copy)]
@@ -169,19 +171,32 @@ impl<'a> Checker<'a> {
             Some(of) => of,
             None => TypeId::NOTHING,
         };
-        let root = Root::Call {
-            routine: id,
-            arguments: given,
-        };
-        Some(Value::Computed(CoreExpr::new(self.alloc, root, of)))
+        Some(Value::Computed(call_expression(self.alloc, id, given, of)))
     }
+}
+
+fn call_expression(
+    alloc: Global,
+    routine: RoutineId,
+    arguments: Vec<CoreArgument>,
+    of: TypeId,
+) -> CoreExpr
+    ensures { expr_of result ≡ expression (call_root routine (given_of arguments)) of no_steps }
+{
+    CoreExpr::new(alloc, Root::Call { routine, arguments }, of)
 }
 
 /// Whether there is one argument to each parameter, none of them with a width.
 fn are_given(parameters: &[Parameter], list: &[Argument]) -> bool
     ensures { result ≡ are_given parameters.now (source_lists.arguments_of list.now) }
 {
-    parameters.len() == list.len() && list.iter().all(|a| matches!(a, Argument::Value(_)))
+    parameters.len() == list.len() && list.iter().all(|a| is_plain(a))
+}
+
+fn is_plain(argument: &Argument) -> bool
+    ensures { result ≡ is_plain (source.argument_of argument.now) }
+{
+    matches!(argument, Argument::Value(_))
 }
 
 fn takes_place(mode: ParameterMode) -> bool

@@ -1,11 +1,12 @@
 //! How a value becomes one of another type (Free Pascal Reference Guide, "Assignments").
-ghost use Rattle.std.specs.Prelude.{◌≡◌, IfOk};
+ghost use Rattle.std.specs.Prelude.{◌≡◌, pos, is_some, IfOk};
 ghost use Rattle.std.specs.Option.{option_map};
 ghost use Rattle.op_core.specs.Expression.{expr_of};
-ghost use Rattle.op_core.specs.Sizes.{type_at};
+ghost use Rattle.op_core.specs.Sizes.{range_of, type_at};
 ghost use Rattle.op_core.specs.Typing as typing;
 ghost use Rattle.op_check_expr.specs.Values.{are_in, as_type, conversion, is_integer, is_wider, ordinal_conversion, retyped, stored, value_of};
 ghost use Rattle.op_check_expr.specs.Words.{Reports};
+ghost use Rattle.op_types.specs.Values.{in_range};
 
 use crate::sink::refuse;
 use crate::tree::{constant_tree, type_of, with_conversion};
@@ -109,6 +110,12 @@ fn are_in(core: &Core, base: Option<TypeId>, members: &[u8]) -> bool
             .iter()
             .all(|n| in_range(core, base, *n as i64).is_some()),
     }
+}
+
+fn is_in(core: &Core, base: TypeId, n: u8) -> bool
+    ensures { result ≡ is_some (in_range (range_of (type_at core.now base)) (pos n)) }
+{
+    in_range(core, base, n as i64).is_some()
 }
 
 /// What makes of a value of one type one of another, to which it is assignable; None where the types are one.

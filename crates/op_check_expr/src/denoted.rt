@@ -1,9 +1,9 @@
 //! What names stand for in an expression, and members of it.
-ghost use Rattle.std.specs.Prelude.{◌≡◌, IfOk, slice_get};
+ghost use Rattle.std.specs.Prelude.{◌≡◌, IfOk, position, slice_get};
 ghost use Rattle.std.specs.Option.{option_copied, option_map};
 ghost use Rattle.op_core.specs.Expression.{expr_of};
 ghost use Rattle.op_core.specs.Faults.{fine};
-ghost use Rattle.op_check_expr.specs.Naming.{denoted, denoted_of, feature_of, feature_of_type, field_at, field_named, field_of, meant_of, named, thing_named, variable_named, variable_tree};
+ghost use Rattle.op_check_expr.specs.Naming.{denoted, denoted_of, feature_of, feature_of_type, field_at, field_named, field_of, is_named, meant_of, named, thing_named, variable_named, variable_tree};
 ghost use Rattle.op_check_expr.specs.Values.{value_of};
 ghost use Rattle.op_check_expr.specs.Words.{Reports, by_feature};
 
@@ -198,13 +198,18 @@ fn field_named(core: &Core, name: &[u8], of: Option<CoreType>) -> Option<(FieldI
     match of {
         Some(CoreType::Record { fields }) => {
             let rows = core.fields.rows(fields);
-            let k = rows
-                .iter()
-                .position(|f| { f.name.text.as_slice().eq_ignore_ascii_case(name) })?;
+            let k = position_named(rows, name)?;
             field_at(rows, fields, k)
         }
         _ => None,
     }
+}
+
+fn position_named(rows: &[Field], name: &[u8]) -> Option<usize>
+    ensures { result ≡ position (is_named name.now) rows.now }
+{
+    rows.iter()
+        .position(|f| f.name.text.as_slice().eq_ignore_ascii_case(name))
 }
 
 fn field_at(rows: &[Field], run: Run, k: usize) -> Option<(FieldId, TypeId)>

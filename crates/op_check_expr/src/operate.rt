@@ -8,7 +8,7 @@ ghost use Rattle.op_check_expr.specs.Words.{Reports};
 
 use crate::convert::as_type;
 use crate::sink::{leave_out, refuse};
-use crate::tree::then;
+use crate::tree::{then, type_of};
 use crate::value::{Value, constant_value};
 use op_base::{NoMemory, Place};
 use op_core::{Action, Core, CoreExpr, FirstRefusal, TypeId};
@@ -179,12 +179,12 @@ pub fn prefix_of(
         Value::Constant(c) => {
             Ok(constant_value(setting.prefix(sink, position.place, operator, c)))
         }
-        Value::Computed(_) => {
-            let Some(of) = prefixed(operator, sort_of(setting.core, value.type_of())) else {
+        Value::Computed(e) => {
+            let Some(of) = prefixed(operator, sort_of(setting.core, type_of(&e))) else {
                 return Ok(refuse(sink, 21, position.place));
             };
             let checked = position.switches.q;
-            let e = as_type(setting.alloc, setting.core, true, of, value)?;
+            let e = as_type(setting.alloc, setting.core, true, of, Value::Computed(e))?;
             let action = Action::Prefix { operator, checked };
             Ok(Some(Value::Computed(then(e, action, of)?)))
         }

@@ -2,7 +2,7 @@
 ghost use Rattle.std.specs.Prelude.{◌≡◌, slice_get};
 ghost use Rattle.std.specs.Option.{option_map};
 ghost use Rattle.op_core.specs.Expression.{action_of, expr_of, root_of as core_root_of};
-ghost use Rattle.op_core.specs.Typing.{leads_on};
+ghost use Rattle.op_core.specs.Typing.{is_place, is_variable, leads_on};
 ghost use Rattle.op_check_expr.specs.Places.{is_counted, is_very, is_writable, is_writable_root, is_writable_row, is_written, leads, target_value, variable_tree, variable_value};
 ghost use Rattle.op_check_expr.specs.Scopes.{here_of};
 ghost use Rattle.op_check_expr.specs.Values.{value_of};
@@ -44,8 +44,7 @@ fn variable_tree(
 ) -> Option<CoreExpr>
     ensures { Reports (variable_tree (here_of scope.entry) at to (expr_of e)) sink.old sink.new (option_map expr_of result) }
 {
-    let is_variable = matches!(e.root, Root::Variable(_));
-    if !leads(true, scope.core, is_variable, &e) {
+    if !is_place(true, scope.core, &e) {
         return refuse(sink, 27, at);
     }
     if !is_very(scope.core, type_of(&e), to) {
@@ -54,7 +53,7 @@ fn variable_tree(
     if !is_writable(scope, true, &e) {
         return refuse(sink, 29, at);
     }
-    if !leads(false, scope.core, is_variable, &e) {
+    if !is_place(false, scope.core, &e) {
         return refuse(sink, 37, at);
     }
     Some(e)
@@ -79,6 +78,19 @@ pub fn target_value(
             }
         }
     }
+}
+
+/// Whether it is a place. Where `chars` is set a character of a string is one.
+fn is_place(chars: bool, core: &Core, e: &CoreExpr) -> bool
+    ensures { result ≡ is_place chars core.now (expr_of e.now) }
+{
+    leads(chars, core, is_variable(&e.root), e)
+}
+
+fn is_variable(root: &Root) -> bool
+    ensures { result ≡ is_variable (core_root_of root.now) }
+{
+    matches!(root, Root::Variable(_))
 }
 
 fn is_very(core: &Core, from: TypeId, to: Option<TypeId>) -> bool
