@@ -1,5 +1,6 @@
 -- Elements of sets, one by one.
-use Rattle.std.proofs.Common.{◌≡◌, List, [], ◌∷◌, ◌++◌, map, refl, ap, sym, ◌∙◌}
+use Rattle.std.proofs.Common.{◌≡◌, Bool, ◌&&◌, List, [], ◌∷◌, ◌++◌, map, refl, ap, sym, ◌∙◌}
+use Rattle.std.specs.List.{list_all}
 use Rattle.op_core.specs.Expression.{Element, Elements, elements, element_of}
 use Rattle.op_core.specs.Nodes.{elements_of}
 use Rattle.op_core.specs.declared.expression.CoreElement.{CoreElement}
@@ -19,3 +20,7 @@ no_more (x ∷ xs) = ap (λ r. x ∷ r) (no_more xs)
 
 pub all_elements : (xs : List CoreElement) (ts : List Element) → map element_of xs ++ [] ≡ ts → elements_of xs ≡ elements_from ts
 all_elements xs ts e = elements_said xs ∙ ap elements_from (sym (no_more (map element_of xs)) ∙ e)
+
+pub all_mapped : {A B : Type 0} (p : B → Bool) (f : A → B) (xs : List A) → list_all p (map f xs) ≡ list_all (λ x. p (f x)) xs
+all_mapped p f [] = refl
+all_mapped p f (x ∷ xs) = ap (λ b. p (f x) && b) (all_mapped p f xs)

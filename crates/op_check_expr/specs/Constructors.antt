@@ -110,8 +110,10 @@ set_tree core of ms = computed (expression (set_root (elements_from (map (elemen
 abbrev pub computed_set : Core → Option TypeId → List Member → Checked Value
 computed_set core wanted ms = followed (type_of_set core (Some table.empty_set) ms) (with_part (λ own. fine (set_tree core (wanted_or core wanted own) ms)))
 
+abbrev pub set_by : Core → Option TypeId → List Member → Bool → Checked Value
+set_by core wanted ms true = changed constant (in_brackets (constant_members core (Some no_members) ms))
+set_by core wanted ms false = computed_set core wanted ms
+
 -- a constant where all its elements are
 abbrev pub set_of : Core → Option TypeId → List Member → Checked Value
-set_of core wanted ms =
-    if list_all are_constants ms then changed constant (in_brackets (constant_members core (Some no_members) ms))
-    else computed_set core wanted ms
+set_of core wanted ms = set_by core wanted ms (list_all are_constants ms)
