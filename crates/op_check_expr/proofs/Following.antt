@@ -1,6 +1,7 @@
 -- Parts one behind the other: what is made of a part stands behind the part's faults.
 use Rattle.std.proofs.Common.{◌≡◌, ℕ, suc, ◌<◌, ◌≤◌, ◌+◌, List, [], ◌∷◌, map, length, drop, drop-cons, add-one, get_or, Option, Some, None, Result, Ok, Err, IfOk, refl, sym, ap, subst, ◌∙◌}
 use Rattle.std.proofs.lemmas.List.{at_drop_all}
+use Rattle.std.specs.Option.{option_map}
 use Rattle.op_core.specs.Faults.{Checked, kept}
 use Rattle.op_core.specs.declared.first_refusal.FirstRefusal.{FirstRefusal}
 use Rattle.op_check_expr.specs.Words.{Reports, followed, standing}
@@ -37,3 +38,15 @@ finished whole F xs k first s a h e w =
 
 pub next_mapped : {A B : Type 0} (f : A → B) (list : List A) (k : ℕ) (x : A) → k < length list → x ≡ get_or list k x → map f (drop k list) ≡ f x ∷ map f (drop (k + 1) list)
 next_mapped f list k x h e = rw add-one (ap (map f) (drop-cons list k x h) ∙ ap (λ y. f y ∷ map f (drop (suc k) list)) (sym e))
+
+-- what a call that may lack memory answers, as a view sees it
+abbrev pub Answers : {A B E : Type 0} → Result (Option B) E → (B → A) → Checked A → FirstRefusal → FirstRefusal → Type 0
+Answers r view c old new = IfOk r (λ v. Reports c old new (option_map view v))
+
+pub answers_followed : {A B C E : Type 0} (r : Result (Option C) E) (view : C → A) (c : Checked B) (f : Option B → Checked A) (old mid new : FirstRefusal) (b : Option B) → Reports c old mid b → Answers r view (f b) mid new → Answers r view (followed c f) old new
+answers_followed r view c f old mid new b h k =
+    map_ok {P = λ v. Reports (f b) mid new (option_map view v)} {Q = λ v. Reports (followed c f) old new (option_map view v)} r (λ v q. reports_followed c f old mid new b (option_map view v) h q) k
+
+-- an element of a list taken off
+pub next : {A B : Type 0} (F : List A → B) (list : List A) (k : ℕ) (x : A) → k < length list → x ≡ get_or list k x → F (drop k list) ≡ F (x ∷ drop (k + 1) list)
+next F list k x h e = rw add-one (ap F (drop-cons list k x h ∙ ap (λ y. y ∷ drop (suc k) list) (sym e)))
