@@ -1,4 +1,4 @@
-use Rattle.std.proofs.Common.{◌≡◌, ◌+◌, [], Some, None, drop, refl, sym, ap, subst, ◌∙◌}
+use Rattle.std.proofs.Common.{◌≡◌, ◌+◌, false, [], Some, None, drop, refl, sym, ap, subst, ◌∙◌}
 use Rattle.std.specs.Option.{option_map}
 use Rattle.op_core.specs.Expression as typed
 use Rattle.op_core.specs.Faults.{with_part}
@@ -7,15 +7,15 @@ use Rattle.op_tree.specs.Expression.{arguments, argument_of, call, chain, design
 use Rattle.op_tree.specs.Lists.{arguments_of, expressions_of, operations_of}
 use Rattle.op_tree.specs.Statement.{designator_of, elements_of, selectors_of}
 use Rattle.op_check_expr.proofs.Following.{Answers, Completes, answers_followed, finished, goes_on, next, reports_followed, two_steps}
-use Rattle.op_check_expr.proofs.Walking.{literal_wanted, still_reports}
+use Rattle.op_check_expr.proofs.Walking.{called_given, literal_selected, literal_wanted, still_reports}
 use Rattle.op_check_expr.specs.Calling.{first_of, given_behind, given_of, others_of, plan_of}
 use Rattle.op_check_expr.specs.Constructors.{member_of, members_of, set_of}
-use Rattle.op_check_expr.specs.Expressions.{argument, as_value, called, designator_of as designator_means, elements_at, given, given_first, indexed, member_in, members, operations, parameters_for, position_of, select, selected, set_in, value_in, with_member}
+use Rattle.op_check_expr.specs.Expressions.{argument, as_value, call_of, called, designator_of as designator_means, elements_at, given, given_first, indexed, member_in, members, operations, parameters_for, position_of, select, selected, set_in, sole_value, text_denoted, used_by, value_in, with_member}
 use Rattle.op_check_expr.specs.Naming.{denoted_of}
-use Rattle.op_check_expr.specs.Operating.{operation_of}
+use Rattle.op_check_expr.specs.Operating.{operation_of, used}
 use Rattle.op_check_expr.specs.Scopes.{here_of}
 use Rattle.op_check_expr.specs.Values.{value_of}
-use Rattle.op_check_expr.specs.Words.{Reports}
+use Rattle.op_check_expr.specs.Words.{Reports, followed}
 use Rattle.op_types.proofs.Folding.{one_given}
 use Rattle.op_check_expr.proofs.scope.Checker.+walk.Goals as goal
 
@@ -81,7 +81,7 @@ select-returns-in_ok-v-in-Index t c =
     let new = c.elements_at.new.sink in
     let r = option_map denoted_of c.still_at.result in
     subst (λ x. Reports (select here d x) c.args.sink.now new r) (sym (ap selector_of c.in-Index.is ∙ index_says p c.in-Index.indices))
-    (still_reports d _ c.args.sink.now new v c.position_of_denoted-at.result r c.position_of_denoted-at.ensures c.still_at.ensures
+    (still_reports d (followed (as_value here d) (λ a. elements_at here p.place a es)) c.args.sink.now new v c.position_of_denoted-at.result r c.position_of_denoted-at.ensures c.still_at.ensures
     (reports_followed (as_value here d) (λ a. elements_at here p.place a es) c.args.sink.now mid new a v c.in_ok-a-in-Index.ensures
     (subst (λ xs. Reports (elements_at here p.place a (expressions_of xs)) mid new v) c.deref.ensures.value c.in_ok-v-in-Index.ensures)))
 
@@ -217,13 +217,60 @@ called-loop-argument-preserved t c =
     (subst (λ p. Reports (argument here p (argument_of x)) c.loop-argument.sink c.argument.new.sink b) c.first_of.ensures.first c.in_ok-more-in_default.ensures)))
 
 pub called-returns-after-loop-argument : goal.called-returns-after-loop-argument
-called-returns-after-loop-argument t c = let h = c.in_default.not-Bound in let k = c.in_default.not-Sole in ?
+called-returns-after-loop-argument t c =
+    let here = here_of c.args.self.scope in
+    let plan = c.args.plan in
+    let list = c.args.list.now in
+    let r = option_map value_of c.call_of.result in
+    let so_far = option_map given_of c.loop-argument.given in
+    let whole = given here (parameters_for here plan) (given_first plan) (arguments_of list) in
+    subst (λ x. Reports x c.args.sink.now c.call_of.new.sink r) (called_given here plan (arguments_of list) c.in_default.not-Bound c.in_default.not-Sole)
+    (reports_followed whole (call_of here plan) c.args.sink.now c.loop-argument.sink c.call_of.new.sink so_far r
+    (finished whole (λ xs. given here c.loop-argument.rest.now so_far (arguments_of xs)) list c.loop-argument.argument-index c.args.sink.now c.loop-argument.sink so_far c.loop-argument-test.false refl c.loop-argument.invariant)
+    c.call_of.ensures)
+
+-- ---- the one argument
 
 pub called-returns-in-None-split_first : goal.called-returns-in-None-split_first
-called-returns-in-None-split_first t c = ?
+called-returns-in-None-split_first t c =
+    let here = here_of c.args.self.scope in
+    let r = c.sole.result in
+    subst (λ q. Answers r value_of (called here q (arguments_of c.args.list.now)) c.args.sink.now c.sole.new.sink) (sym c.in-Sole.is)
+    (subst (λ xs. Answers r value_of (used_by here c.in-Sole.what c.in-Sole.position (sole_value here xs)) c.args.sink.now c.sole.new.sink)
+    (sym (one_given c.args.list.now c.in-Some.others.now c.in-Some.first.now c.in-Some.ensures.cases.0 c.in-None-split_first.ensures.cases)) c.sole.ensures)
 
 pub sole-returns-in-Some : goal.sole-returns-in-Some
-sole-returns-in-Some t c = ?
+sole-returns-in-Some t c =
+    let here = here_of c.args.self.scope in
+    let e = expr_of c.in-Value.e in
+    let v = value_of c.in-Some.v in
+    let r = c.used.result in
+    let mid = c.value_in.new.sink in
+    let new = c.used.new.sink in
+    subst (λ a. Answers r value_of (used_by here c.args.what c.args.position (sole_value here (arguments (argument_of a) no_arguments))) c.args.sink.now new) (sym c.in-Value.is)
+    (answers_followed r value_of (value_in here None e) (with_part (used here.core c.args.position c.args.what (position_of e).place)) c.args.sink.now mid new (Some v)
+    (subst (λ q. Reports (value_in here None e) c.args.sink.now mid (option_map value_of q)) c.in-Some.is c.in_ok-v-in-Value.ensures)
+    (subst (λ p. Answers r value_of (used here.core c.args.position c.args.what p.place v) mid new) c.position_of.ensures
+    (subst (λ core. Answers r value_of (used core c.args.position c.args.what c.position_of.result.place v) mid new) c.setting.ensures.core c.used.ensures)))
 
 pub sole-returns-in-None : goal.sole-returns-in-None
-sole-returns-in-None t c = ?
+sole-returns-in-None t c =
+    let here = here_of c.args.self.scope in
+    let e = expr_of c.in-Value.e in
+    let mid = c.value_in.new.sink in
+    subst (λ a. Reports (used_by here c.args.what c.args.position (sole_value here (arguments (argument_of a) no_arguments))) c.args.sink.now mid None) (sym c.in-Value.is)
+    (reports_followed (value_in here None e) (with_part (used here.core c.args.position c.args.what (position_of e).place)) c.args.sink.now mid mid None None
+    (subst (λ q. Reports (value_in here None e) c.args.sink.now mid (option_map value_of q)) c.in-None.is c.in_ok-v-in-Value.ensures) (refl, refl))
+
+pub literal-returns-in_ok-denoted-in-Some : goal.literal-returns-in_ok-denoted-in-Some
+literal-returns-in_ok-denoted-in-Some t c =
+    let here = here_of c.args.self.scope in
+    let list = c.args.selectors.now in
+    let text = c.args.text.now in
+    let p = c.args.position in
+    let r = c.as_value.result in
+    let d = option_map denoted_of c.in_ok-denoted-in-Some.denoted in
+    let mid = c.selected.new.sink in
+    subst (λ x. Answers r value_of x c.args.sink.now c.as_value.new.sink) (literal_selected here text p list (c.in-Some.ensures.variant.0 refl))
+    (answers_followed r value_of (selected here (Some (text_denoted p text)) (selectors_of list)) (as_value here) c.args.sink.now mid c.as_value.new.sink d
+    (subst (λ q. Reports (selected here (Some q) (selectors_of list)) c.args.sink.now mid d) c.in_ok-text_denoted-in-Some.ensures c.in_ok-denoted-in-Some.ensures) c.as_value.ensures)
