@@ -2,6 +2,7 @@
 use Rattle.std.specs.Prelude.{◌≡◌, ℕ, ◌+◌, nat_eq, position, Bool, true, false, List, Option, Some, None, Result, Ok, Err, slice_get, if◌then◌else◌}
 use Rattle.std.specs.Option.{option_and_then, option_map}
 use Rattle.op_base.specs.declared.place.Place.{Place}
+use Rattle.op_base.specs.declared.rule.Refusal.{Refusal}
 use Rattle.op_core.specs.Expression.{Expression as Tree, expr_of as tree_said}
 use Rattle.op_core.specs.Faults.{Checked, FirstIs, by_entry, by_test, fine, refused, with_part}
 use Rattle.op_core.specs.Rows.{rows}
@@ -139,6 +140,11 @@ unfoldable pub called_alone : Here → Designator → Checked Tree
 called_alone here (designator root ss) = followed (root_of here root) (λ d. alone_behind here (position_of_designator (designator root ss)).place d ss (last_call ss))
 
 -- ---- the call
+
+-- the first fault; a part without a fault has a type, unless a name in it is spoiled
+abbrev pub failure : Option Refusal → CheckError
+failure None = NoMemory
+failure (Some r) = Refused r
 
 -- the typed expression, where no rule is broken; else the first one
 abbrev pub ExprIs : Checked Value → Result CoreExpr CheckError → Type 0
