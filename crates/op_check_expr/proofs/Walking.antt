@@ -1,15 +1,17 @@
 -- Phrases of expressions, seen from their parts.
-use Rattle.std.proofs.Common.{◌≡◌, ◌<◌, List, [], ◌∷◌, ℕ, length, arith, Option, Some, None, refl, sym, ap, ◌∙◌}
+use Rattle.std.proofs.Common.{◌≡◌, ◌<◌, List, [], ◌∷◌, ◌++◌, ℕ, length, arith, Option, Some, None, refl, sym, ap, ◌∙◌}
+use Rattle.std.specs.Option.{option_map}
 use Rattle.op_core.specs.Faults.{Checked}
 use Rattle.op_core.specs.declared.first_refusal.FirstRefusal.{FirstRefusal}
 use Rattle.op_core.specs.declared.ids.TypeId.{TypeId}
 use Rattle.op_base.specs.declared.place.Place.{Place}
 use Rattle.op_core.specs.declared.operation.Function.{Function}
-use Rattle.op_tree.specs.Expression.{literal, Arguments, Selectors, no_selectors, selectors}
+use Rattle.op_tree.specs.Expression.{literal, Arguments, Selector as Phrase, selector_of, Selectors, no_selectors, selectors}
 use Rattle.op_tree.specs.Statement.{selectors_of}
 use Rattle.op_tree.specs.declared.expression.Selector.{Selector}
 use Rattle.op_tree.specs.declared.position.Position.{Position}
 use Rattle.op_check_expr.specs.Expressions.{as_value, call_of, called, given, given_first, parameters_for, position_of_denoted, selected, still_at, still_at_position, text_denoted, value_in}
+use Rattle.op_check_expr.specs.Meanings.{call_in, last_call}
 use Rattle.op_check_expr.specs.Naming.{Denoted}
 use Rattle.op_check_expr.specs.Scopes.{Here}
 use Rattle.op_check_expr.specs.Values.{Value}
@@ -36,3 +38,20 @@ called_given here (Sole what p) args h k = absurd (k what p refl)
 called_given here (Routine id) args h k = refl
 called_given here (Wrong rule place) args h k = refl
 called_given here Silent args h k = refl
+
+-- the last of a list of selectors
+
+abbrev pub beside : Selectors → Arguments → Selectors × Arguments
+beside front args = (front, args)
+
+abbrev with_front : Phrase → Selectors × Arguments → Selectors × Arguments
+with_front y r = (selectors y r.0, r.1)
+
+behind_more : (y : Phrase) (front : Selectors) (a : Option Arguments) → option_map (with_front y) (option_map (beside front) a) ≡ option_map (beside (selectors y front)) a
+behind_more y front None = refl
+behind_more y front (Some args) = refl
+
+pub last_given : (front : List Selector) (x : Selector) → last_call (selectors_of (front ++ x ∷ [])) ≡ option_map (beside (selectors_of front)) (call_in (selector_of x))
+last_given [] x = refl
+last_given (y ∷ []) x = behind_more (selector_of y) no_selectors (call_in (selector_of x))
+last_given (y ∷ (z ∷ zs)) x = ap (option_map (with_front (selector_of y))) (last_given (z ∷ zs) x) ∙ behind_more (selector_of y) (selectors_of (z ∷ zs)) (call_in (selector_of x))

@@ -19,7 +19,7 @@ use Rattle.op_core.specs.declared.routine.Role.{Role}
 use Rattle.op_core.specs.declared.routine.Role.TheVariants.{Result as ResultRole}
 use Rattle.op_core.specs.declared.routine.Routine.{Routine}
 use Rattle.op_core.specs.declared.routine.Variable.{Variable as VariableRow}
-use Rattle.op_tree.specs.Expression.{Expression, designated, Designator, designator, named, Selectors, no_selectors, selectors, call, Arguments, no_arguments}
+use Rattle.op_tree.specs.Expression.{Expression, designated, Designator, designator, named, Selector, Selectors, no_selectors, selectors, call, Arguments, no_arguments}
 use Rattle.op_check_expr.specs.Calling.{plan_of}
 use Rattle.op_check_expr.specs.Constructors.{is_small}
 use Rattle.op_check_expr.specs.Expressions.{call_of, called, given_first, given_to, position_of, position_of_designator, root_of, selected, value_in, variable_in}
@@ -103,11 +103,15 @@ target here d = target_by here d (routine_alone here d)
 
 -- ---- a call alone
 
+abbrev pub call_in : Selector → Option Arguments
+call_in (call args) = Some args
+call_in _ = None
+
 -- the last one, if it is a call, with those in front
 abbrev pub last_call : Selectors → Option (Selectors × Arguments)
 last_call no_selectors = None
-last_call (selectors (call args) no_selectors) = Some (no_selectors, args)
-last_call (selectors x xs) = option_map (λ r. (selectors x r.0, r.1)) (last_call xs)
+last_call (selectors x no_selectors) = option_map (λ args. (no_selectors, args)) (call_in x)
+last_call (selectors x (selectors y ys)) = option_map (λ r. (selectors x r.0, r.1)) (last_call (selectors y ys))
 
 -- casts and built-in functions are values and no statements
 abbrev pub is_call : Plan → Bool

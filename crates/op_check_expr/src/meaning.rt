@@ -2,10 +2,10 @@
 ghost use Rattle.std.specs.Prelude.{◌≡◌, IfOk, None, Some, position};
 ghost use Rattle.std.specs.Option.{option_map};
 ghost use Rattle.op_core.specs.Expression as typed;
-ghost use Rattle.op_tree.specs.Expression.{expr_of};
+ghost use Rattle.op_tree.specs.Expression.{expr_of, selector_of};
 ghost use Rattle.op_core.specs.Faults.{with_part};
 ghost use Rattle.op_tree.specs.Lists.{arguments_of};
-ghost use Rattle.op_tree.specs.Statement.{designator_of};
+ghost use Rattle.op_tree.specs.Statement.{designator_of, selectors_of};
 ghost use Rattle.op_check_expr.specs.Naming.{denoted_of};
 ghost use Rattle.op_check_expr.specs.Meanings as means;
 ghost use Rattle.op_check_expr.specs.Scopes.{here_of};
@@ -178,13 +178,13 @@ impl<'a> Checker<'a> {
     {
         let start = position_of_designator(called).place;
         let denoted = self.root(sink, &called.root)?;
-        match called.selectors.split_last() {
-            Some((Selector::Call { arguments }, front)) => {
+        match last_call(&called.selectors) {
+            Some((front, arguments)) => {
                 let denoted = self.selected(sink, denoted, front)?;
                 let plan = self.plan_of(true, &denoted, arguments)?;
                 self.alone_called(sink, start, plan, arguments)
             }
-            _ => {
+            None => {
                 let denoted = self.selected(sink, denoted, &called.selectors)?;
                 self.alone_denoted(sink, start, denoted)
             }
@@ -234,6 +234,29 @@ fn into_tree(alloc: Global, value: Option<Value>) -> Option<CoreExpr>
     match value {
         Some(value) => Some(value.into_tree(alloc)),
         None => None,
+    }
+}
+
+/// The last selector, if it is a call, with those in front.
+fn last_call(list: &[Selector]) -> Option<(&[Selector], &[Argument])>
+    ensures { option_map (λ r. (selectors_of r.0.now, arguments_of r.1.now)) result ≡ means.last_call (selectors_of list.now) }
+{
+    match list.split_last() {
+        None => None,
+        Some((last, front)) => match call_in(last) {
+            Some(arguments) => Some((front, arguments)),
+            None => None,
+        },
+    }
+}
+
+fn call_in(selector: &Selector) -> Option<&[Argument]>
+    ensures { option_map (λ a. arguments_of a.now) result ≡ means.call_in (selector_of selector.now) }
+{
+    match selector {
+        Selector::Call { arguments } => Some(arguments.as_slice()),
+        Selector::Member(_) => None,
+        Selector::Index { .. } => None,
     }
 }
 
