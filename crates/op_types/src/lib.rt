@@ -21,12 +21,15 @@ pub use assign::assignable;
 pub use constant::{Applied, Constant, Folded, Part, Use, Weight, fold};
 pub use enter::{enter_type, predefined};
 pub use operator::{application, operation, prefixed};
-pub use part::start_of;
+pub use part::{
+    in_brackets, is_folded, joined, made, no_members, nodes, number_behind, only_value, start_of,
+    start_of_element,
+};
 pub use set::{common_set, set_behind, set_over, widest_set};
 pub use setting::Setting;
-pub use size::{extent_of, is_managed, range_of, size_of, values_of};
+pub use size::{extent_of, is_managed, range_of, size_of, type_at, values_of};
 pub use sort::{OrdinalKind, Sort, kind_of, sort_of};
-pub use value::number_of;
+pub use value::{bytes_of, in_range, number_of};
 pub use visible::{BuiltIn, Meaning, Visible};
 
 #[cfg(test)]

@@ -177,7 +177,7 @@ pub fn number_of(value: &Const) -> i32
 }
 
 /// The bytes of a text, or the one of a Char.
-fn bytes_of(alloc: Global, value: &Const) -> Result<Vec<u8>, NoMemory>
+pub fn bytes_of(alloc: Global, value: &Const) -> Result<Vec<u8>, NoMemory>
     ensures { IfOk result (λ v. v.items ≡ bytes_of value.now) }
 {
     match value {
@@ -239,7 +239,7 @@ fn upper(n: i64) -> i64
 }
 
 /// The number as a value of a type, where it is one.
-fn in_range(core: &Core, of: TypeId, n: i64) -> Option<Const>
+pub fn in_range(core: &Core, of: TypeId, n: i64) -> Option<Const>
     ensures { result ≡ in_range (range_of (type_at core.now of)) n }
 {
     match range_of(core, of) {
