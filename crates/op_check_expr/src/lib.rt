@@ -25,6 +25,3 @@ pub use scope::{Around, Checker, Scope};
 pub use sink::{leave_out, refuse};
 pub use tree::type_of;
 pub use value::Value;
-
-#[cfg(test)]
-mod tests;
