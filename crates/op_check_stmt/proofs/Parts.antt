@@ -1,0 +1,78 @@
+-- What is reported part by part, and lists of parts.
+use Rattle.std.proofs.Common.{◌≡◌, ℕ, suc, ◌<◌, ◌+◌, List, [], ◌∷◌, ◌++◌, length, drop, drop-cons, add-one, get_or, Option, None, Some, Result, Ok, Err, IfOk, refl, sym, ap, subst, ◌∙◌, arith}
+use Rattle.std.specs.Option.{option_map}
+use Rattle.op_check_expr.specs.Words.{Reports, followed}
+use Rattle.op_check_stmt.specs.Parts.{all_typed, both_typed, of_two, of_three, with_last}
+use Rattle.op_core.specs.Faults.{Faults, Checked, fine, kept}
+use Rattle.op_core.specs.declared.first_refusal.FirstRefusal.{FirstRefusal}
+
+pub map_ok : {A E : Type 0} {P Q : A → Type 0} (r : Result A E) → ((a : A) → P a → Q a) → IfOk r P → IfOk r Q
+map_ok (Ok a) f h = f a h
+map_ok (Err e) f h = h
+
+-- ---- one part after the other
+
+pub two : {A B C : Type 0} (f : A → B → C) (a : Checked A) (b : Checked B) (old mid new : FirstRefusal) (x : Option A) (y : Option B) (t : Option C) → Reports a old mid x → Reports b mid new y → t ≡ both_typed f x y → Reports (of_two f a b) old new t
+two f a b old mid new x y t h k e =
+    (e ∙ (λ i. both_typed f (h.0 i) (k.0 i)), k.1 ∙ ap (λ s. kept s b.faults) h.1)
+
+pub three : {A B C D : Type 0} (f : A → B → C → D) (a : Checked A) (b : Checked B) (c : Checked C) (old mid far new : FirstRefusal) (x : Option A) (y : Option B) (z : Option C) (t : Option D) → Reports a old mid x → Reports b mid far y → Reports c far new z → t ≡ all_typed f x y z → Reports (of_three f a b c) old new t
+three f a b c old mid far new x y z t h k l e =
+    (e ∙ (λ i. all_typed f (h.0 i) (k.0 i) (l.0 i)), l.1 ∙ ap (λ s. kept s c.faults) (k.1 ∙ ap (λ s. kept s b.faults) h.1))
+
+-- what is made of a part that stands behind it
+pub then : {A B : Type 0} (a : Checked A) (f : Option A → Checked B) (old mid new : FirstRefusal) (x : Option A) (t : Option B) → Reports a old mid x → Reports (f x) mid new t → Reports (followed a f) old new t
+then a f old mid new x t h k =
+    let l : Reports (f a.typed) mid new t = subst (λ x. Reports (f x) mid new t) h.0 k in
+    (l.0, l.1 ∙ ap (λ s. kept s (f a.typed).faults) h.1)
+
+-- ---- lists
+
+-- the parts of a list in front of others
+abbrev pub in_front : {T A B : Type 0} → (T → A) → (A → B → B) → List T → B → B
+in_front view add [] others = others
+in_front view add (x ∷ xs) others = add (view x) (in_front view add xs others)
+
+abbrev pub gathered : {T A B : Type 0} → (T → A) → (A → B → B) → Option (List T) → Option B → Option B
+gathered view add list others = both_typed (in_front view add) list others
+
+front_last : {T A B : Type 0} (view : T → A) (add : A → B → B) (xs : List T) (x : T) (others : B) → in_front view add (xs ++ x ∷ []) others ≡ in_front view add xs (add (view x) others)
+front_last view add [] x others = refl
+front_last view add (y ∷ ys) x others = ap (add (view y)) (front_last view add ys x others)
+
+gathered_last : {T A B : Type 0} (view : T → A) (add : A → B → B) (list : Option (List T)) (x : Option T) (others : Option B) → gathered view add (with_last list x) others ≡ gathered view add list (both_typed add (option_map view x) others)
+gathered_last view add None x others = refl
+gathered_last view add (Some xs) None others = refl
+gathered_last view add (Some xs) (Some x) None = refl
+gathered_last view add (Some xs) (Some x) (Some others) = ap Some (front_last view add xs x others)
+
+-- what is left completes the whole, behind the parts so far
+pub record Completes {T A B : Type 0} (view : T → A) (add : A → B → B) (list : Option (List T)) (whole rest : Checked B) (old mid : FirstRefusal) : Type 0 where
+  pub completes : (new : FirstRefusal) (t : Option B) → Reports rest mid new t → Reports whole old new (gathered view add list t)
+
+gathered_none : {T A B : Type 0} (view : T → A) (add : A → B → B) (t : Option B) → gathered view add (Some []) t ≡ t
+gathered_none view add None = refl
+gathered_none view add (Some t) = refl
+
+pub begins : {T A B : Type 0} (view : T → A) (add : A → B → B) (whole : Checked B) (s : FirstRefusal) → Completes view add (Some []) whole whole s s
+begins view add whole s = record { completes = λ new t k. subst (Reports whole s new) (sym (gathered_none view add t)) k }
+
+pub next : {T A B : Type 0} (view : T → A) (add : A → B → B) (list more : Option (List T)) (x : Option T) (y : Option A) (whole : Checked B) (item : Checked A) (others : Checked B) (old mid far : FirstRefusal) → Completes view add list whole (of_two add item others) old mid → Reports item mid far y → y ≡ option_map view x → more ≡ with_last list x → Completes view add more whole others old far
+next view add list more x y whole item others old mid far c h v e = record {
+  completes = λ new t k.
+      subst (λ l. Reports whole old new (gathered view add l t)) (sym e)
+      (subst (Reports whole old new) (ap (λ y. gathered view add list (both_typed add y t)) v ∙ sym (gathered_last view add list x t))
+      (c.completes new (both_typed add y t) (two add item others mid far new y t (both_typed add y t) h k refl)));
+}
+
+all_gathered : {T A B : Type 0} (view : T → A) (add : A → B → B) (nil : B) (f : List T → B) → ((xs : List T) → in_front view add xs nil ≡ f xs) → (list : Option (List T)) → gathered view add list (Some nil) ≡ option_map f list
+all_gathered view add nil f h None = refl
+all_gathered view add nil f h (Some xs) = ap Some (h xs)
+
+pub ends : {T A B : Type 0} (view : T → A) (add : A → B → B) (nil : B) (f : List T → B) → ((xs : List T) → in_front view add xs nil ≡ f xs) → (list : Option (List T)) (whole : Checked B) (old new : FirstRefusal) → Completes view add list whole (fine nil) old new → Reports whole old new (option_map f list)
+ends view add nil f h list whole old new c =
+    subst (Reports whole old new) (all_gathered view add nil f h list) (c.completes new (Some nil) (refl, refl))
+
+pub same : {A : Type 0} (x : Option A) → x ≡ option_map (λ y. y) x
+same None = refl
+same (Some x) = refl

@@ -1,0 +1,6 @@
+pub mod Cases
+pub mod Leaving
+pub mod Parts
+pub mod Procedures
+pub mod Statements
+pub mod Variables
