@@ -1,2 +1,10 @@
+pub mod Calling
+pub mod Constructors
+pub mod Expressions
+pub mod Meanings
+pub mod Naming
+pub mod Operating
+pub mod Places
+pub mod Scopes
 pub mod Values
 pub mod Words

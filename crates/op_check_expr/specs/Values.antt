@@ -1,15 +1,15 @@
 -- Values of expressions, and how a value becomes one of another type (Free Pascal Reference Guide, "Assignments" and "Value
 -- typecasts").
-use Rattle.std.specs.Prelude.{ℕ, ℤ, Bool, true, false, not, ◌&&◌, ◌||◌, [], ◌∷◌, Option, Some, None, if◌then◌else◌}
-use Rattle.std.specs.Option.{option_map}
+use Rattle.std.specs.Prelude.{ℕ, ℤ, pos, Bool, true, false, not, ◌&&◌, ◌||◌, List, Option, Some, None, is_some, if◌then◌else◌}
+use Rattle.std.specs.List.{list_all}
 use Rattle.op_base.specs.declared.place.Place.{Place}
-use Rattle.op_core.specs.Expression.{Expression as Tree, expression, constant as constant_root, no_steps, convert, bracket, then, expr_of}
+use Rattle.op_core.specs.Expression.{Expression as Tree, expression, constant as constant_root, no_steps, convert, bracket, then as with_step, expr_of}
 use Rattle.op_core.specs.Faults.{Checked, by_test, fine}
 use Rattle.op_core.specs.Sizes.{range_of, type_at}
 use Rattle.op_core.specs.Types.{is_one_type}
 use Rattle.op_core.specs.Typing as typing
 use Rattle.op_core.specs.declared.constant.Const.{Const}
-use Rattle.op_core.specs.declared.constant.Const.TheVariants.{Ordinal, Text, Nil}
+use Rattle.op_core.specs.declared.constant.Const.TheVariants.{Ordinal, Text, Set, Nil}
 use Rattle.op_core.specs.declared.ids.TypeId.{TypeId}
 use Rattle.op_core.specs.declared.operation.Conversion.{Conversion}
 use Rattle.op_core.specs.declared.operation.Conversion.TheVariants.{Keep, LowBits, Check, ToString, ToInterface}
@@ -21,7 +21,7 @@ use Rattle.op_core.specs.declared.types.CoreType.TheVariants as type
 use Rattle.op_check_expr.specs.declared.value.Value.{Value as RustValue}
 use Rattle.op_check_expr.specs.declared.value.Value.TheVariants.{Constant as ConstantValue, Computed}
 use Rattle.op_types.specs.Assignable.{assignable}
-use Rattle.op_types.specs.Constants.{joined, made}
+use Rattle.op_types.specs.Constants.{joined, made, nodes}
 use Rattle.op_types.specs.Sorts.{is_reference, sort_of}
 use Rattle.op_types.specs.Values.{bytes_of, contains, in_range}
 use Rattle.op_types.specs.declared.constant.Constant.{Constant}
@@ -39,7 +39,7 @@ value_of (ConstantValue c) = constant c
 value_of (Computed e) = computed (expr_of e)
 
 abbrev pub tree_of : Value → Tree
-tree_of (constant c) = expression (constant_root c.value c.nodes 0) c.of no_steps
+tree_of (constant c) = expression (constant_root c.value c.weight.nodes c.weight.words) c.of no_steps
 tree_of (computed e) = e
 
 abbrev pub type_of : Value → TypeId
@@ -47,8 +47,8 @@ type_of (constant c) = c.of
 type_of (computed e) = typing.type_of e
 
 abbrev pub in_brackets : Value → Value
-in_brackets (constant c) = constant (made c.value c.of (joined c.nodes 0))
-in_brackets (computed e) = computed (then e bracket (typing.type_of e))
+in_brackets (constant c) = constant (made c.value c.of (joined c.weight (nodes 0)))
+in_brackets (computed e) = computed (with_step e bracket (typing.type_of e))
 
 -- ---- conversions
 
@@ -83,12 +83,18 @@ conversion core checked from to =
 
 abbrev pub with_conversion : Tree → TypeId → Option Conversion → Tree
 with_conversion e to None = e
-with_conversion e to (Some c) = then e (convert c Implied) to
+with_conversion e to (Some c) = with_step e (convert c Implied) to
+
+-- each element is a value of the base
+abbrev pub are_in : Core → Option TypeId → List ℕ → Bool
+are_in core None members = false
+are_in core (Some base) members = list_all (λ n. is_some (in_range (range_of (type_at core base)) (pos n))) members
 
 -- the same constant as one of a type of this sort, if it is one
 abbrev pub retyped_by : Core → TypeId → Sort → Const → Option Const
 retyped_by core to (sort.Ordinal kind) (Ordinal n) = in_range (range_of (type_at core to)) n
 retyped_by core to sort.String v = Some (Text (bytes_of v))
+retyped_by core to (sort.Set kind) (Set members) = if are_in core (typing.base_of (type_at core to)) members then Some (Set members) else None
 retyped_by core to s Nil = if is_reference s then Some Nil else None
 retyped_by core to _ _ = None
 
@@ -96,7 +102,7 @@ abbrev pub retyped : Core → TypeId → Const → Option Const
 retyped core to v = retyped_by core to (sort_of core to) v
 
 abbrev pub constant_tree : Core → Bool → TypeId → Constant → Option Const → Tree
-constant_tree core checked to c (Some v) = tree_of (constant (made v to c.nodes))
+constant_tree core checked to c (Some v) = tree_of (constant (record { value = v; of = to; weight = c.weight }))
 constant_tree core checked to c None = with_conversion (tree_of (constant c)) to (conversion core checked c.of to)
 
 -- a value as one of a type to which it is assignable; `checked` is whether ranges are

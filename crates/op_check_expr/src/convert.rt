@@ -1,19 +1,19 @@
 //! How a value becomes one of another type (Free Pascal Reference Guide, "Assignments").
-ghost use Rattle.std.specs.Prelude.{◌≡◌, IfOk};
+ghost use Rattle.std.specs.Prelude.{◌≡◌, pos, is_some, IfOk};
 ghost use Rattle.std.specs.Option.{option_map};
 ghost use Rattle.op_core.specs.Expression.{expr_of};
 ghost use Rattle.op_core.specs.Sizes.{range_of, type_at};
-ghost use Rattle.op_check_expr.specs.Values.{as_type, conversion, is_integer, is_wider, ordinal_conversion, retyped, stored, value_of};
+ghost use Rattle.op_core.specs.Typing as typing;
+ghost use Rattle.op_check_expr.specs.Values.{are_in, as_type, conversion, is_integer, is_wider, ordinal_conversion, retyped, stored, value_of};
 ghost use Rattle.op_check_expr.specs.Words.{Reports};
+ghost use Rattle.op_types.specs.Values.{in_range};
 
 use crate::sink::refuse;
 use crate::tree::{constant_tree, type_of, with_conversion};
 use crate::value::Value;
-use op_base::{NoMemory, Place, Text};
+use op_base::{NoMemory, Place, Sequence, Text};
 use op_core::{Const, Conversion, Core, CoreExpr, CoreType, FirstRefusal, TypeId, one_type};
-use op_types::{
-    Sort, assignable, bytes_of, in_range, made, range_of, sort_of, type_at,
-};
+use op_types::{Constant, Sort, assignable, bytes_of, in_range, range_of, sort_of, type_at};
 use std::alloc::Global;
 
 /// A value at a place, stored in what has a type. `checked` is whether ranges are.
@@ -47,7 +47,17 @@ pub fn as_type(
 {
     match value {
         Value::Constant(c) => match retyped(alloc, core, to, &c.value)? {
-            Some(value) => Ok(constant_tree(alloc, made(value, to, c.nodes))),
+            Some(value) => {
+                let weight = c.weight;
+                Ok(constant_tree(
+                    alloc,
+                    Constant {
+                        value,
+                        of: to,
+                        weight,
+                    },
+                ))
+            }
             None => {
                 let conversion = conversion(core, checked, c.of, to);
                 with_conversion(constant_tree(alloc, c), to, conversion)
@@ -61,20 +71,51 @@ pub fn as_type(
 }
 
 /// The same constant as one of another type, where it is one.
-fn retyped(
-    alloc: Global,
-    core: &Core,
-    to: TypeId,
-    value: &Const,
-) -> Result<Option<Const>, NoMemory>
+fn retyped(alloc: Global, core: &Core, to: TypeId, value: &Const) -> Result<Option<Const>, NoMemory>
     ensures { IfOk result (λ v. v ≡ retyped core.now to value.now) }
 {
     match (sort_of(core, to), value) {
         (Sort::Ordinal(_), Const::Ordinal(n)) => Ok(in_range(core, to, *n as i64)),
         (Sort::String, _) => Ok(Some(Const::Text(Text::from(bytes_of(alloc, value)?)))),
+        (Sort::Set(_), Const::Set(members)) => {
+            if are_in(core, base_of(core, to), members.as_slice()) {
+                let members = Vec::from_slice(alloc, members.as_slice())?;
+                Ok(Some(Const::Set(Sequence::from(members))))
+            } else {
+                Ok(None)
+            }
+        }
         (sort, Const::Nil) => Ok(sort.is_reference().then_some(Const::Nil)),
         _ => Ok(None),
     }
+}
+
+/// The type whose values are the elements of a set.
+pub fn base_of(core: &Core, of: TypeId) -> Option<TypeId>
+    ensures { result ≡ typing.base_of (type_at core.now of) }
+{
+    match type_at(core, of) {
+        Some(CoreType::Set { base }) => Some(base),
+        _ => None,
+    }
+}
+
+/// Whether each element is a value of the base.
+fn are_in(core: &Core, base: Option<TypeId>, members: &[u8]) -> bool
+    ensures { result ≡ are_in core.now base members.now }
+{
+    match base {
+        None => false,
+        Some(base) => members
+            .iter()
+            .all(|n| in_range(core, base, *n as i64).is_some()),
+    }
+}
+
+fn is_in(core: &Core, base: TypeId, n: u8) -> bool
+    ensures { result ≡ is_some (in_range (range_of (type_at core.now base)) (pos n)) }
+{
+    in_range(core, base, n as i64).is_some()
 }
 
 /// What makes of a value of one type one of another, to which it is assignable; None where the types are one.

@@ -13,8 +13,8 @@ use std::alloc::Global;
 pub fn type_of(e: &CoreExpr) -> TypeId
     ensures { result ≡ typing.type_of (expr_of e.now) }
 {
-    match e.steps.last() {
-        Some(step) => step.of,
+    match e.steps.split_last() {
+        Some((step, _)) => step.of,
         None => e.of,
     }
 }
@@ -33,8 +33,8 @@ pub fn constant_tree(alloc: Global, c: Constant) -> CoreExpr
 {
     let root = Root::Constant {
         value: c.value,
-        nodes: c.nodes,
-        words: 0,
+        nodes: c.weight.nodes,
+        words: c.weight.words,
     };
     CoreExpr::new(alloc, root, c.of)
 }

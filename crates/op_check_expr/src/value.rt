@@ -1,12 +1,13 @@
 //! Values of expressions, and how a value becomes one of another type.
 ghost use Rattle.std.specs.Prelude.{◌≡◌, IfOk};
+ghost use Rattle.std.specs.Option.{option_map};
 ghost use Rattle.op_core.specs.Expression.{expr_of};
-ghost use Rattle.op_check_expr.specs.Values.{in_brackets, tree_of, type_of, value_of};
+ghost use Rattle.op_check_expr.specs.Values.{constant, in_brackets, tree_of, type_of, value_of};
 
 use crate::tree::{constant_tree, then, type_of};
 use op_base::NoMemory;
 use op_core::{Action, CoreExpr, TypeId};
-use op_types::{Constant, joined, made};
+use op_types::{Constant, joined, made, nodes};
 use std::alloc::Global;
 
 /// What an expression gives.
@@ -43,11 +44,25 @@ impl Value {
         ensures { IfOk result (λ v. value_of v ≡ in_brackets (value_of self)) }
     {
         match self {
-            Value::Constant(c) => Ok(Value::Constant(made(c.value, c.of, joined(c.nodes, 0)))),
+            Value::Constant(c) => Ok(Value::Constant(made(
+                c.value,
+                c.of,
+                joined(c.weight, nodes(0)),
+            ))),
             Value::Computed(e) => {
                 let of = type_of(&e);
                 Ok(Value::Computed(then(e, Action::Bracket, of)?))
             }
         }
+    }
+}
+
+/// A constant part as a part.
+pub fn constant_value(part: Option<Constant>) -> Option<Value>
+    ensures { option_map value_of result ≡ option_map constant part }
+{
+    match part {
+        Some(constant) => Some(Value::Constant(constant)),
+        None => None,
     }
 }

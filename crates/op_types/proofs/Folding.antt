@@ -2,14 +2,16 @@
 use Rattle.std.proofs.Common.{◌≡◌, ℕ, suc, ◌<◌, ◌+◌, Bool, true, false, List, [], ◌∷◌, length, drop, drop-cons, add-one, get_or, Option, None, Some, Result, Ok, Err, IfOk, if◌then◌else◌, refl, sym, ap, subst, ◌∙◌, arith}
 use Rattle.std.specs.Option.{option_and_then, option_map}
 use Rattle.op_base.specs.declared.place.Place.{Place}
-use Rattle.op_core.specs.Faults.{Faults, both, none, Checked, after, kept}
+use Rattle.op_core.specs.Faults.{Faults, both, none, Checked, after, fine, kept, with_part}
 use Rattle.op_core.specs.declared.first_refusal.FirstRefusal.{FirstRefusal}
 use Rattle.op_core.specs.declared.program.Core.{Core}
-use Rattle.op_tree.specs.Expression.{Expression, chain, Operations, operation, Selectors, no_selectors, selectors, no_arguments, arguments, argument_of, expr_of}
+use Rattle.op_tree.specs.Expression.{Expression, chain, Operations, operation, Selectors, no_selectors, selectors, no_arguments, arguments, argument_of, element_of, expr_of}
 use Rattle.op_tree.specs.Lists.{arguments_of, operations_of}
+use Rattle.op_tree.specs.Statement.{elements_of}
 use Rattle.op_tree.specs.declared.expression.Argument.{Argument}
+use Rattle.op_tree.specs.declared.expression.Element.{Element}
 use Rattle.op_tree.specs.declared.expression.Operation.{Operation}
-use Rattle.op_types.specs.Constants.{Gives, GivesBehind, Reports, constant, followed, is_folded, literal_means, operation_means, operations, start_of}
+use Rattle.op_types.specs.Constants.{Gives, GivesBehind, Reports, constant, element, followed, gathered_means, in_brackets, joined, made, members, nodes, start_of_element, is_folded, literal_means, operation_means, operations, start_of}
 use Rattle.op_types.specs.Names.{Named}
 use Rattle.op_types.specs.declared.constant.Constant.{Constant}
 
@@ -53,7 +55,7 @@ pub ends : (core : Core) (names : List Named) (start : Place) (x : Operation) (o
 ends core names start x others old mid new a h =
     none_then (constant core names (expr_of x.operand)) (λ b. followed b.faults (operation_means core start x.operator x.position.place a b.typed) (λ c. operations core names start c others)) (is_folded x.operator) old mid new h
 
-first_ends : (x : Option (Checked Constant)) (f : Checked Constant → Option (Checked Constant)) (old mid new : FirstRefusal) → Gives x old mid None → Gives (option_and_then f x) old new None
+pub first_ends : (x : Option (Checked Constant)) (f : Checked Constant → Option (Checked Constant)) (old mid new : FirstRefusal) → Gives x old mid None → Gives (option_and_then f x) old new None
 first_ends None f old mid new h = refl
 first_ends (Some c) f old mid new h = absurd (cc)
 
@@ -63,8 +65,11 @@ chained core names first rest old mid new None given h k =
 chained core names first rest old mid new (Some a) given h k =
     begins (constant core names first) (λ a. operations core names (start_of first) a rest) old mid a h new given k
 
+pub next_of : {A : Type 0} (list : List A) (k : ℕ) (x : A) → k < length list → x ≡ get_or list k x → drop k list ≡ x ∷ drop (k + 1) list
+next_of list k x h e = rw add-one (drop-cons list k x h ∙ ap (λ y. y ∷ drop (suc k) list) (sym e))
+
 pub next_operation : (list : List Operation) (k : ℕ) (x : Operation) → k < length list → x ≡ get_or list k x → operations_of (drop k list) ≡ operation x.operator x.position (expr_of x.operand) (operations_of (drop (k + 1) list))
-next_operation list k x h e = rw add-one (ap operations_of (drop-cons list k x h) ∙ ap (λ y. operation y.operator y.position (expr_of y.operand) (operations_of (drop (suc k) list))) (sym e))
+next_operation list k x h e = ap operations_of (next_of list k x h e)
 
 pub literal_gives : (text : List ℕ) (ss : Selectors) (s : FirstRefusal) (given : Option (Option Constant)) → given ≡ literal_means text ss → Gives (option_map (λ c. record { typed = c; faults = none }) (literal_means text ss)) s s given
 literal_gives text no_selectors s given h = (h, refl)
@@ -84,3 +89,27 @@ one_given list others first e h = ap arguments_of (e ∙ ap (λ os. first ∷ os
 -- what completes the rest completes the whole
 pub record Completes (whole rest : Option (Checked Constant)) (old mid : FirstRefusal) : Type 0 where
   pub completes : (new : FirstRefusal) (given : Option (Option Constant)) → Gives rest mid new given → Gives whole old new given
+
+-- an element of a set, and the others
+pub gathers : (core : Core) (names : List Named) (x : Element) (others : List Element) (old mid far : FirstRefusal) (a b c : Option Constant) → Gives (element core names (element_of x)) old mid (Some b) → Reports (gathered_means core (start_of_element (element_of x)) a b) mid far c → (new : FirstRefusal) (given : Option (Option Constant)) → Gives (members core names c (elements_of others)) far new given → Gives (members core names a (elements_of (x ∷ others))) old new given
+gathers core names x others old mid far a b c h r new given k = continues (element core names (element_of x)) (gathered_means core (start_of_element (element_of x)) a) (λ c. members core names c (elements_of others)) old mid far b c h r new given k
+
+pub unbracketed : (x : Option (Checked Constant)) (old new : FirstRefusal) → Gives x old new None → Gives (option_map in_brackets x) old new None
+unbracketed None old new h = refl
+unbracketed (Some c) old new h = absurd (cc)
+
+-- a node round what has a meaning
+pub bracketed : (x : Option (Checked Constant)) (old new : FirstRefusal) (a b : Option Constant) → Gives x old new (Some a) → b ≡ option_map (λ a. made a.value a.of (joined a.weight (nodes 0))) a → Gives (option_map in_brackets x) old new (Some b)
+bracketed None old new a b h e = absurd (cc)
+bracketed (Some c) old new a b h e = (ap Some (e ∙ ap (option_map (λ a. made a.value a.of (joined a.weight (nodes 0)))) same ∙ boxed c.typed), h.1 ∙ untouched c.typed)
+  where
+    same : a ≡ c.typed
+    same = cc
+
+    boxed : (t : Option Constant) → option_map (λ a. made a.value a.of (joined a.weight (nodes 0))) t ≡ (with_part (λ a. fine (made a.value a.of (joined a.weight (nodes 0)))) t).typed
+    boxed None = refl
+    boxed (Some a) = refl
+
+    untouched : (t : Option Constant) → kept old.kept c.faults ≡ kept (kept old.kept c.faults) (with_part (λ a. fine (made a.value a.of (joined a.weight (nodes 0)))) t).faults
+    untouched None = refl
+    untouched (Some a) = refl

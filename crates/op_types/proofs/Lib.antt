@@ -1,3 +1,4 @@
 pub mod Folding
 pub mod Index
+pub mod Members
 pub mod Wide

@@ -1,5 +1,5 @@
 -- Which types are assignable to which (Free Pascal Reference Guide, "Assignments", "Classes" and "Interfaces").
-use Rattle.std.specs.Prelude.{Bool, false, ◌||◌, nat_eq, List, [], ◌∷◌, Option, Some, None, slice_get}
+use Rattle.std.specs.Prelude.{Bool, true, false, ◌||◌, nat_eq, List, [], ◌∷◌, Option, Some, None, slice_get}
 use Rattle.std.specs.List.{list_any}
 use Rattle.std.specs.Option.{option_and_then}
 use Rattle.op_core.specs.Rows.{rows}
@@ -12,7 +12,7 @@ use Rattle.op_core.specs.declared.ids.TypeId.{TypeId}
 use Rattle.op_core.specs.declared.program.Core.{Core}
 use Rattle.op_types.specs.Sorts.{is_reference, is_text, same_kind, sort_of}
 use Rattle.op_types.specs.declared.sort.Sort.{Sort}
-use Rattle.op_types.specs.declared.sort.Sort.TheVariants.{Ordinal, String, Set, Class, Interface, Nil}
+use Rattle.op_types.specs.declared.sort.Sort.TheVariants.{Ordinal, String, Set, EmptySet, Class, Interface, Nil}
 
 abbrev pub ancestor_of : Core → ClassId → Option ClassId
 ancestor_of core id = option_and_then (λ x. x.ancestor) (slice_get core.classes id.0)
@@ -54,6 +54,7 @@ implements_within (step ∷ steps) core a b = extends_any core (listed_by core a
 abbrev pub fits : Core → Sort → Sort → Bool
 fits core (Ordinal a) (Ordinal b) = same_kind a b
 fits core (Set a) (Set b) = same_kind a b
+fits core EmptySet (Set b) = true
 fits core (Ordinal a) String = is_text (Ordinal a)
 fits core Nil to = is_reference to
 fits core (Class a) (Class b) = descends_within core.classes core a b

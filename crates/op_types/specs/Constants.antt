@@ -5,25 +5,28 @@ use Rattle.op_base.specs.declared.place.Place.{Place}
 use Rattle.op_core.specs.Faults.{Faults, none, both, Checked, FirstIs, after, by_entry, by_test, fine, kept, refused, untyped, with_part}
 use Rattle.op_core.specs.Sizes.{capped, type_at}
 use Rattle.op_core.specs.declared.constant.Const.{Const}
-use Rattle.op_core.specs.declared.constant.Const.TheVariants.{Ordinal, Text, Nil}
+use Rattle.op_core.specs.declared.constant.Const.TheVariants.{Ordinal, Text, Set, Nil}
 use Rattle.op_core.specs.declared.error.CheckError.{CheckError}
 use Rattle.op_core.specs.declared.error.CheckError.TheVariants.{Refused, NoMemory}
 use Rattle.op_core.specs.declared.first_refusal.FirstRefusal.{FirstRefusal}
 use Rattle.op_core.specs.declared.ids.TypeId.{TypeId}
 use Rattle.op_core.specs.declared.operation.Function.{Function}
-use Rattle.op_core.specs.declared.operation.Function.TheVariants.{Length, Low, High, Ord, Succ, Pred, Abs, Sqr, Odd}
+use Rattle.op_core.specs.declared.operation.Function.TheVariants.{Length, Low, High, Ord, Succ, Pred, Abs, Sqr, Odd, UpCase}
 use Rattle.op_core.specs.declared.program.Core.{Core}
-use Rattle.op_tree.specs.Expression.{Expression, chain, prefixed, number, nil, set, literal, designated, inherited, Operations, no_operations, operation, Designator, designator, Root, named, string, bracketed, Selectors, no_selectors, selectors, member, call, Arguments, no_arguments, arguments, value}
+use Rattle.op_tree.specs.Expression.{Expression, chain, prefixed, number, nil, set, literal, designated, inherited, Operations, no_operations, operation, Elements, no_elements, elements, Element, one, range, Designator, designator, Root, named, string, bracketed, Selectors, no_selectors, selectors, member, call, Arguments, no_arguments, arguments, value}
 use Rattle.op_tree.specs.declared.operator.Operator.{Operator}
-use Rattle.op_tree.specs.declared.operator.Operator.TheVariants.{In_, Is, As_}
+use Rattle.op_tree.specs.declared.operator.Operator.TheVariants.{Is, Add, As_}
 use Rattle.op_tree.specs.declared.operator.PrefixOperator.{PrefixOperator}
 use Rattle.op_tree.specs.declared.operator.PrefixOperator.TheVariants.{Minus}
 use Rattle.op_tree.specs.declared.position.Name.{Name}
+use Rattle.op_types.specs.Assignable.{assignable}
 use Rattle.op_types.specs.Names.{Named, lower, meaning_of}
 use Rattle.op_types.specs.Operators as table
-use Rattle.op_types.specs.Sorts.{kind_of, sort_of}
-use Rattle.op_types.specs.Values.{applied, before, bound_of, cast, number_of, operated, within}
+use Rattle.op_types.specs.Sets.{between, combined, common_set, set_over}
+use Rattle.op_types.specs.Sorts.{are_sets, kind_of, sort_of}
+use Rattle.op_types.specs.Values.{applied, before, bound_of, cast, contains, number_of, operated, within}
 use Rattle.op_types.specs.declared.constant.Constant.{Constant}
+use Rattle.op_types.specs.declared.constant.Weight.{Weight}
 use Rattle.op_types.specs.declared.constant.Applied.{Applied}
 use Rattle.op_types.specs.declared.constant.Applied.TheVariants.{Cast, Function as Function'}
 use Rattle.op_types.specs.declared.constant.Use.{Use}
@@ -54,21 +57,33 @@ abbrev mutual
 
 -- ---- constants
 
-abbrev pub made : Const → TypeId → ℕ → Constant
-made v of nodes = record { value = v; of = of; nodes = nodes }
+-- so many nodes, none of which is a set
+abbrev pub nodes : ℕ → Weight
+nodes n = record { nodes = n; words = 0 }
+
+abbrev pub plus : Weight → Weight → Weight
+plus a b = record { nodes = capped (a.nodes + b.nodes); words = capped (a.words + b.words) }
 
 -- a node more than these
-abbrev pub joined : ℕ → ℕ → ℕ
-joined a b = capped (capped (a + b) + 1)
+abbrev pub joined : Weight → Weight → Weight
+joined a b = plus (plus a b) (nodes 1)
+
+-- a set takes a word
+abbrev own_words : Const → ℕ
+own_words (Set members) = 1
+own_words _ = 0
+
+abbrev pub made : Const → TypeId → Weight → Constant
+made v of w = record { value = v; of = of; weight = plus w (record { nodes = 0; words = own_words v }) }
 
 -- a constant, where there is such a value; else the rule is broken at the place
-abbrev pub entered : ℕ → Place → TypeId → ℕ → Option Const → Checked Constant
-entered rule place of nodes v = by_entry rule place (λ v. fine (made v of nodes)) v
+abbrev pub entered : ℕ → Place → TypeId → Weight → Option Const → Checked Constant
+entered rule place of w v = by_entry rule place (λ v. fine (made v of w)) v
 
 -- a text of one byte is a Char until a string is needed
 abbrev text_constant : List ℕ → Constant
-text_constant (b ∷ []) = made (Ordinal (pos b)) table.char 1
-text_constant text = made (Text text) table.string 1
+text_constant (b ∷ []) = made (Ordinal (pos b)) table.char (nodes 1)
+text_constant text = made (Text text) table.string (nodes 1)
 
 -- with selectors it is none
 abbrev pub literal_means : List ℕ → Selectors → Option (Option Constant)
@@ -77,7 +92,7 @@ literal_means text (selectors s ss) = None
 
 -- a number, behind a minus or alone
 abbrev pub numeral : Place → ℕ → ℤ → Checked Constant
-numeral place nodes n = entered 36 place table.integer nodes (within n)
+numeral place count n = entered 36 place table.integer (nodes count) (within n)
 
 abbrev pub number_behind : PrefixOperator → Expression → Option (ℕ × Place)
 number_behind Minus (number n p) = Some (n, p.place)
@@ -85,13 +100,13 @@ number_behind _ _ = None
 
 abbrev pub prefix_means : Core → Place → PrefixOperator → Constant → Checked Constant
 prefix_means core place o a =
-    by_entry 21 place (λ of. entered 33 place of (joined a.nodes 0) (before o of (number_of a.value))) (table.prefixed o (sort_of core a.of))
+    by_entry 21 place (λ of. entered 33 place of (joined a.weight (nodes 0)) (before o of (number_of a.value))) (table.prefixed o (sort_of core a.of))
 
 -- an operator at a place, in an expression that begins at another
 abbrev pub operator_means : Core → Place → Operator → Place → Constant → Constant → Checked Constant
 operator_means core start o place a b =
-    by_entry 21 place (λ of. entered 33 start of (joined a.nodes b.nodes) (operated o (sort_of core a.of) (sort_of core b.of) a.value b.value))
-    (table.operation o (sort_of core a.of) (sort_of core b.of) a.of)
+    by_entry 21 place (λ of. entered 33 start of (joined a.weight b.weight) (operated o (sort_of core a.of) (sort_of core b.of) a.value b.value))
+    (table.operation o (sort_of core a.of) (sort_of core b.of) (common_set core a.of b.of))
 
 abbrev pub operation_means : Core → Place → Operator → Place → Option Constant → Option Constant → Checked Constant
 operation_means core start o place a b = with_part (λ a. with_part (operator_means core start o place a) b) a
@@ -102,7 +117,6 @@ followed faults c others = option_map (after (both faults c.faults)) (others c.t
 
 -- constants have no such operators
 abbrev pub is_folded : Operator → Bool
-is_folded In_ = false
 is_folded Is = false
 is_folded As_ = false
 is_folded _ = true
@@ -113,7 +127,7 @@ is_folded _ = true
 abbrev pub name_means : Place → Option Meaning → Option (Checked Constant)
 name_means place None = Some (refused 15 place)
 name_means place (Some Spoiled) = Some untyped
-name_means place (Some (ConstantNamed c)) = Some (fine (made c.value c.of 1))
+name_means place (Some (ConstantNamed c)) = Some (fine (made c.value c.of (nodes 1)))
 name_means place _ = None
 
 -- a name of a unit
@@ -137,17 +151,17 @@ rule_of _ = 20
 -- a function at a place, of an argument at another
 abbrev pub application_means : Core → Place → Function → Place → Constant → Checked Constant
 application_means core place f at a =
-    by_entry (rule_of f) at (λ of. entered 33 place of (joined a.nodes 0) (applied core f a.of a.value)) (table.application f (sort_of core a.of) a.of)
+    by_entry (rule_of f) at (λ of. entered 33 place of (joined a.weight (nodes 0)) (applied core f a.of a.value)) (table.application f (sort_of core a.of) a.of)
 
 abbrev pub is_ordinal : Sort → Bool
 is_ordinal (sort.Ordinal kind) = true
 is_ordinal _ = false
 
 abbrev pub cast_means : Core → Place → TypeId → Constant → Checked Constant
-cast_means core place of a = by_test 39 place (entered 33 place of (joined a.nodes 0) (cast (type_at core of) (number_of a.value))) (is_ordinal (sort_of core a.of))
+cast_means core place of a = by_test 39 place (entered 33 place of (joined a.weight (nodes 0)) (cast (type_at core of) (number_of a.value))) (is_ordinal (sort_of core a.of))
 
 abbrev pub bound_means : Core → Function → TypeId × Place → Checked Constant
-bound_means core f of = by_entry 23 of.1 (λ b. fine (made b.0 b.1 2)) (bound_of core f of.0)
+bound_means core f of = by_entry 23 of.1 (λ b. fine (made b.0 b.1 (nodes 2))) (bound_of core f of.0)
 
 -- the one argument of a call: where it begins and what it means
 pub data Sole : Type 0 where
@@ -189,6 +203,7 @@ use_of_function Pred = Some (Apply (Function' Pred))
 use_of_function Abs = Some (Apply (Function' Abs))
 use_of_function Sqr = Some (Apply (Function' Sqr))
 use_of_function Odd = Some (Apply (Function' Odd))
+use_of_function UpCase = Some (Apply (Function' UpCase))
 use_of_function Length = Some (Apply (Function' Length))
 use_of_function _ = None
 
@@ -213,10 +228,54 @@ call_means core place of s (Some Silent) = Some untyped
 call_means core place of s (Some (Bound f)) = option_map (bound_means core f) of
 call_means core place of s (Some (Apply what)) = sole_means place (use_means core what place) s
 
+-- ---- sets
+
+-- elements that are no node of their own
+abbrev pub loose : List ℕ → TypeId → Weight → Constant
+loose members of w = record { value = Set members; of = of; weight = w }
+
+-- an element that begins at a place: of an ordinal type, from 0 to 31
+abbrev pub element_means : Core → Place → Constant → Checked Constant
+element_means core at a = by_test 23 at (by_test 34 at (fine a) (contains (pos 0, pos 31) (number_of a.value))) (is_ordinal (sort_of core a.of))
+
+abbrev pub single_means : Core → Place → Option Constant → Checked Constant
+single_means core at a =
+    let x = with_part (element_means core at) a in
+    after x.faults (with_part (λ a. fine (loose (between (number_of a.value) (number_of a.value)) (set_over core a.of) a.weight)) x.typed)
+
+-- the elements from one to another, where the second is of the first one's kind
+abbrev pub range_means : Core → Place → Option Constant → Place → Option Constant → Checked Constant
+range_means core at a at' b =
+    let x = with_part (element_means core at) a in
+    let y = with_part (element_means core at') b in
+    after (both x.faults y.faults)
+    (with_part (λ a.
+    with_part (λ b.
+    by_test 20 at' (fine (loose (between (number_of a.value) (number_of b.value)) (common_set core (set_over core a.of) (set_over core b.of)) (plus a.weight b.weight))) (assignable core b.of a.of)) y.typed) x.typed)
+
+abbrev pub members_of : Const → List ℕ
+members_of (Set members) = members
+members_of _ = []
+
+-- elements so far, and those of one that begins at a place, where these are of the same kind
+abbrev pub gathered_means : Core → Place → Option Constant → Option Constant → Checked Constant
+gathered_means core at a b =
+    with_part (λ a.
+    with_part (λ b.
+    by_test 20 at (fine (loose (combined Add (members_of a.value) (members_of b.value)) (common_set core a.of b.of) (plus a.weight b.weight))) (are_sets (sort_of core a.of) (sort_of core b.of))) b) a
+
+abbrev pub start_of_element : Element → Place
+start_of_element (one e) = start_of e
+start_of_element (range e f) = start_of e
+
+abbrev pub no_members : Constant
+no_members = loose [] table.empty_set (nodes 0)
+
 -- ---- expressions
 
+-- a node round what is inside
 abbrev pub in_brackets : Checked Constant → Checked Constant
-in_brackets c = after c.faults (with_part (λ a. fine (made a.value a.of (joined a.nodes 0))) c.typed)
+in_brackets c = after c.faults (with_part (λ a. fine (made a.value a.of (joined a.weight (nodes 0)))) c.typed)
 
 abbrev pub prefixed_means : Core → Place → PrefixOperator → Checked Constant → Checked Constant
 prefixed_means core place o c = after c.faults (with_part (prefix_means core place o) c.typed)
@@ -232,10 +291,10 @@ abbrev mutual
   constant core names (chain first rest) = option_and_then (λ a. option_map (after a.faults) (operations core names (start_of first) a.typed rest)) (constant core names first)
   constant core names (prefixed o p e) = or_number (number_behind o e) (option_map (prefixed_means core p.place o) (constant core names e))
   constant core names (number n p) = Some (numeral p.place 1 (pos n))
-  constant core names (nil p) = Some (fine (made Nil table.nil 1))
+  constant core names (nil p) = Some (fine (made Nil table.nil (nodes 1)))
   constant core names (literal text p ss) = option_map (λ c. record { typed = c; faults = none }) (literal_means text ss)
   constant core names (designated d) = designated_constant core names d
-  constant core names (set p es) = None
+  constant core names (set p es) = option_map in_brackets (members core names (Some no_members) es)
   constant core names (inherited p d) = None
 
   -- behind a first operand
@@ -243,6 +302,16 @@ abbrev mutual
   operations core names start a no_operations = Some (record { typed = a; faults = none })
   operations core names start a (operation o p e others) =
       if is_folded o then option_and_then (λ b. followed b.faults (operation_means core start o p.place a b.typed) (λ c. operations core names start c others)) (constant core names e) else None
+
+  -- behind the elements so far
+  pub members : Core → List Named → Option Constant → Elements → Option (Checked Constant)
+  members core names a no_elements = Some (record { typed = a; faults = none })
+  members core names a (elements e es) = option_and_then (λ b. followed b.faults (gathered_means core (start_of_element e) a b.typed) (λ c. members core names c es)) (element core names e)
+
+  pub element : Core → List Named → Element → Option (Checked Constant)
+  element core names (one e) = option_map (λ a. after a.faults (single_means core (start_of e) a.typed)) (constant core names e)
+  element core names (range e f) =
+      option_and_then (λ a. option_map (λ b. after (both a.faults b.faults) (range_means core (start_of e) a.typed (start_of f) b.typed)) (constant core names f)) (constant core names e)
 
   pub designated_constant : Core → List Named → Designator → Option (Checked Constant)
   designated_constant core names (designator (named n) no_selectors) = name_means n.position.place (meaning_of names (lower n.text))

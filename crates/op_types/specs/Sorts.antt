@@ -9,7 +9,7 @@ use Rattle.op_core.specs.declared.types.CoreType.TheVariants as type
 use Rattle.op_types.specs.declared.sort.OrdinalKind.{OrdinalKind}
 use Rattle.op_types.specs.declared.sort.OrdinalKind.TheVariants.{Integer, Boolean, Char, Enumeration}
 use Rattle.op_types.specs.declared.sort.Sort.{Sort}
-use Rattle.op_types.specs.declared.sort.Sort.TheVariants.{Ordinal, String, Set, DynamicArray, Class, Interface, Nil, Other}
+use Rattle.op_types.specs.declared.sort.Sort.TheVariants.{Ordinal, String, Set, EmptySet, DynamicArray, Class, Interface, Nil, Other}
 
 -- the type of which this one is a subrange, or the type itself
 abbrev root_by : TypeId → Option CoreType → TypeId
@@ -41,6 +41,7 @@ sort_by core of (Some (type.DynamicArray element)) = DynamicArray
 sort_by core of (Some (type.Class id)) = Class id
 sort_by core of (Some (type.Interface id)) = Interface id
 sort_by core of (Some type.Nil) = Nil
+sort_by core of (Some type.EmptySet) = EmptySet
 sort_by core of _ = by_kind Ordinal (kind_of core of)
 
 abbrev pub sort_of : Core → TypeId → Sort
@@ -58,6 +59,14 @@ abbrev pub is_text : Sort → Bool
 is_text String = true
 is_text (Ordinal Char) = true
 is_text _ = false
+
+-- sets of elements of one kind; one without elements is of any
+abbrev pub are_sets : Sort → Sort → Bool
+are_sets (Set a) (Set b) = same_kind a b
+are_sets (Set a) EmptySet = true
+are_sets EmptySet (Set b) = true
+are_sets EmptySet EmptySet = true
+are_sets _ _ = false
 
 -- of which nil is a value
 abbrev pub is_reference : Sort → Bool

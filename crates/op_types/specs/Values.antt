@@ -1,14 +1,16 @@
 -- The values of constant expressions (Free Pascal Reference Guide, "Ordinary constants" and "Operators").
 use Rattle.std.specs.Prelude.{ℕ, zero, suc, ◌/◌, ◌%◌, ◌^◌, ℤ, pos, negsuc, ◌+ℤ◌, ◌-ℤ◌, ◌*ℤ◌, neg_ℤ, ◌≤ℤ◌, unsigned_abs, int_lt, int_le, int_div, int_rem, nat_lt, nat_eq, Bool, true, false, not, ◌&&◌, ◌||◌, List, [], ◌∷◌, ◌++◌, length, Option, Some, None, if◌then◌else◌}
 use Rattle.std.specs.Int.{w32, cast_unsigned, cast_signed, int_bit_and, int_bit_or, int_bit_xor, int_bit_not, int_shl, int_rem_euclid}
+use Rattle.std.specs.List.{list_any}
+use Rattle.std.specs.Ordering.{int_eq}
 use Rattle.std.specs.Option.{option_and_then, option_map}
 use Rattle.op_base.specs.Arithmetic.{shift_count}
 use Rattle.op_core.specs.Sizes.{integer_range, range_of, type_at}
 use Rattle.op_core.specs.declared.constant.Const.{Const}
-use Rattle.op_core.specs.declared.constant.Const.TheVariants.{Ordinal, Text}
+use Rattle.op_core.specs.declared.constant.Const.TheVariants.{Ordinal, Text, Set}
 use Rattle.op_core.specs.declared.ids.TypeId.{TypeId}
 use Rattle.op_core.specs.declared.operation.Function.{Function}
-use Rattle.op_core.specs.declared.operation.Function.TheVariants.{Length, Low, Ord, Succ, Pred, Abs, Sqr, Odd}
+use Rattle.op_core.specs.declared.operation.Function.TheVariants.{Length, Low, Ord, Succ, Pred, Abs, Sqr, Odd, UpCase}
 use Rattle.op_core.specs.declared.program.Core.{Core}
 use Rattle.op_core.specs.declared.types.CoreType.{CoreType}
 use Rattle.op_core.specs.declared.types.CoreType.TheVariants as type
@@ -17,6 +19,7 @@ use Rattle.op_tree.specs.declared.operator.Operator.TheVariants.{Equal, NotEqual
 use Rattle.op_tree.specs.declared.operator.PrefixOperator.{PrefixOperator}
 use Rattle.op_tree.specs.declared.operator.PrefixOperator.TheVariants.{Not, Plus, Minus}
 use Rattle.op_types.specs.Operators.{boolean}
+use Rattle.op_types.specs.Sets.{combined, is_part}
 use Rattle.op_types.specs.Sorts.{is_text}
 use Rattle.op_types.specs.declared.sort.Sort.{Sort}
 
@@ -83,6 +86,20 @@ abbrev pub on_texts : Operator → List ℕ → List ℕ → Option Const
 on_texts Add a b = Some (Text (a ++ b))
 on_texts o a b = compared_by o (precedes_bytes a b) (precedes_bytes b a)
 
+-- ---- sets
+
+abbrev pub is_in : ℤ → List ℕ → Bool
+is_in n set = list_any (λ x. int_eq (pos x) n) set
+
+abbrev pub on_sets : Operator → List ℕ → List ℕ → Option Const
+on_sets Equal a b = Some (truth (is_part a b && is_part b a))
+on_sets NotEqual a b = Some (truth (not (is_part a b && is_part b a)))
+on_sets LessEqual a b = Some (truth (is_part a b))
+on_sets GreaterEqual a b = Some (truth (is_part b a))
+on_sets o a b = Some (Set (combined o a b))
+
+-- ---- constants
+
 -- the number of an ordinal value; nil is none
 abbrev pub number_of : Const → ℤ
 number_of (Ordinal n) = n
@@ -94,9 +111,14 @@ bytes_of (Text bytes) = bytes
 bytes_of (Ordinal n) = cast_unsigned w32 n % 256 ∷ []
 bytes_of _ = []
 
+abbrev pub by_values : Operator → Const → Const → Option Const
+by_values o (Set a) (Set b) = on_sets o a b
+by_values o (Ordinal n) (Set b) = Some (truth (is_in n b))
+by_values o a b = on_numbers o (number_of a) (number_of b)
+
 -- what an operator gives between two constants of these sorts, if that is in range and no divisor is 0
 abbrev pub operated : Operator → Sort → Sort → Const → Const → Option Const
-operated o s t a b = if is_text s && is_text t then on_texts o (bytes_of a) (bytes_of b) else on_numbers o (number_of a) (number_of b)
+operated o s t a b = if is_text s && is_text t then on_texts o (bytes_of a) (bytes_of b) else by_values o a b
 
 abbrev pub negated : TypeId → ℤ → Option Const
 negated of n = if nat_eq of.0 boolean.0 then within (pos 1 -ℤ n) else Some (Ordinal (int_bit_not w32 n))
@@ -117,6 +139,7 @@ applied core Pred of v = in_range (range_of (type_at core of)) (number_of v -ℤ
 applied core Abs of v = within (pos (unsigned_abs (number_of v)))
 applied core Sqr of v = within (number_of v *ℤ number_of v)
 applied core Odd of v = within (pos (cast_unsigned w32 (number_of v) % 2))
+applied core UpCase of v = within (if contains (pos 97, pos 122) (number_of v) then number_of v -ℤ pos 32 else number_of v)
 applied core Length of v = within (pos (length (bytes_of v)))
 applied core _ of v = None
 

@@ -20,6 +20,7 @@ fn fits(core: &Core, from: Sort, to: Sort) -> bool
     match (from, to) {
         (Sort::Ordinal(a), Sort::Ordinal(b)) => a.is_same(b),
         (Sort::Set(a), Sort::Set(b)) => a.is_same(b),
+        (Sort::EmptySet, Sort::Set(_)) => true,
         (Sort::Ordinal(_), Sort::String) => from.is_text(),
         (Sort::Nil, _) => to.is_reference(),
         (Sort::Class(a), Sort::Class(b)) => { descends_within(core.classes.as_slice(), core, a, b) }

@@ -1,26 +1,36 @@
 //! Constant expressions (Free Pascal Reference Guide, "Ordinary constants").
-ghost use Rattle.std.specs.Prelude.{◌≡◌, IfOk};
+ghost use Rattle.std.specs.Prelude.{◌≡◌, Some, IfOk};
 ghost use Rattle.std.specs.Option.{option_map};
-ghost use Rattle.op_tree.specs.Expression.{argument_of, arguments, call, designator, expr_of, named, no_arguments, no_selectors, prefixed, selector_of, selectors};
+ghost use Rattle.op_tree.specs.Expression.{argument_of, arguments, call, designator, element_of, expr_of, named, no_arguments, no_selectors, prefixed, selector_of, selectors};
 ghost use Rattle.op_tree.specs.Lists.{arguments_of, operations_of};
-ghost use Rattle.op_tree.specs.Statement.{designator_of};
-ghost use Rattle.op_types.specs.Constants.{FoldIs, Gives, GivesBehind, constant, designated_constant, in_brackets, sole, sole_means, use_means};
+ghost use Rattle.op_tree.specs.Statement.{designator_of, elements_of};
+ghost use Rattle.op_types.specs.Constants.{FoldIs, Gives, GivesBehind, constant, designated_constant, element, in_brackets, members, no_members, sole, sole_means, use_means};
 
-use crate::part::{is_folded, joined, made, number_behind, refuse, start_of};
+use crate::part::{
+    in_brackets, is_folded, made, no_members, nodes, number_behind, refuse, start_of,
+    start_of_element,
+};
 use crate::{Setting, Visible};
 use op_base::{NoMemory, Place};
 use op_core::{CheckError, Const, Core, FirstRefusal, Function, TypeId};
 use op_tree::{
-    Argument, Designator, Expr, Name, Operation, Position, PrefixOperator, Root, Selector,
+    Argument, Designator, Element, Expr, Name, Operation, Position, PrefixOperator, Root, Selector,
 };
 use std::alloc::Global;
 
-/// The value of a constant expression, with its type. It stands for so many nodes of the text.
+/// The value of a constant expression, with its type.
 #[derive(Drop)]
 pub struct Constant {
     pub value: Const,
     pub of: TypeId,
+    pub weight: Weight,
+}
+
+/// What an expression counts for in the charge of its routine: its nodes in the text, and a word for each of them that is a set.
+#[derive(Clone, Copy, Debug, PartialEq, Eq)]
+pub struct Weight {
     pub nodes: u32,
+    pub words: u32,
 }
 
 /// A constant; None where a rule is broken in it.
@@ -97,14 +107,14 @@ impl<'a> Setting<'a> {
             Expr::Number { value, position } => {
                 Ok(Some(self.numeral(sink, position.place, 1, *value as i64)))
             }
-            Expr::Nil { .. } => Ok(Some(Some(made(Const::Nil, TypeId::NIL, 1)))),
+            Expr::Nil { .. } => Ok(Some(Some(made(Const::Nil, TypeId::NIL, nodes(1))))),
             Expr::Literal {
                 text,
                 selectors,
                 ..
             } => self.literal(text.as_slice(), selectors),
             Expr::Designator(called) => self.designated(sink, called),
-            Expr::Set { .. } => Ok(None),
+            Expr::Set { elements, .. } => self.set(sink, elements),
             Expr::Inherited { .. } => Ok(None),
         }
     }
@@ -134,6 +144,52 @@ impl<'a> Setting<'a> {
             a = self.operation(sink, start, operation.operator, place, a, b)?;
         }
         Ok(Some(a))
+    }
+
+    #[cycle(folding)]
+    fn set(self, sink: &mut FirstRefusal, elements: &[Element]) -> Folded
+        ensures { IfOk result (Gives (option_map in_brackets (members self.entry.core.now self.entry.visible.now (Some no_members) (elements_of elements.now))) sink.old sink.new) }
+    {
+        match self.members(sink, elements)? {
+            None => Ok(None),
+            Some(a) => Ok(Some(in_brackets(a))),
+        }
+    }
+
+    /// The elements of a set.
+    #[cycle(folding)]
+    fn members(self, sink: &mut FirstRefusal, elements: &[Element]) -> Folded
+        ensures { IfOk result (Gives (members self.entry.core.now self.entry.visible.now (Some no_members) (elements_of elements.now)) sink.old sink.new) }
+    {
+        let mut set = Some(no_members(self.alloc));
+        for element in elements {
+            let Some(more) = self.element(sink, element)? else {
+                return Ok(None);
+            };
+            set = self.gather(sink, start_of_element(element), set, more)?;
+        }
+        Ok(Some(set))
+    }
+
+    #[cycle(folding)]
+    fn element(self, sink: &mut FirstRefusal, part: &Element) -> Folded
+        ensures { IfOk result (Gives (element self.entry.core.now self.entry.visible.now (element_of part.now)) sink.old sink.new) }
+    {
+        match part {
+            Element::One(e) => match self.constant(sink, e)? {
+                None => Ok(None),
+                Some(a) => Ok(Some(self.single(sink, start_of(e), a)?)),
+            },
+            Element::Range(e, f) => {
+                let Some(a) = self.constant(sink, e)? else {
+                    return Ok(None);
+                };
+                let Some(b) = self.constant(sink, f)? else {
+                    return Ok(None);
+                };
+                Ok(Some(self.range(sink, (start_of(e), a), (start_of(f), b))?))
+            }
+        }
     }
 
     /// A sign or `not` before an operand.
@@ -181,8 +237,7 @@ impl<'a> Setting<'a> {
     {
         match self.constant(sink, inside)? {
             None => Ok(None),
-            Some(None) => Ok(Some(None)),
-            Some(Some(a)) => Ok(Some(Some(made(a.value, a.of, joined(a.nodes, 0))))),
+            Some(a) => Ok(Some(in_brackets(a))),
         }
     }
 

@@ -9,6 +9,7 @@ mod assign;
 mod constant;
 mod operator;
 mod part;
+mod set;
 mod setting;
 mod size;
 mod sort;
@@ -16,9 +17,13 @@ mod value;
 mod visible;
 
 pub use assign::assignable;
-pub use constant::{Applied, Constant, Folded, Part, Use, fold};
+pub use constant::{Applied, Constant, Folded, Part, Use, Weight, fold};
 pub use operator::{application, operation, prefixed};
-pub use part::{is_folded, joined, made, number_behind, start_of};
+pub use part::{
+    in_brackets, is_folded, joined, made, no_members, nodes, number_behind, only_value, start_of,
+    start_of_element,
+};
+pub use set::{common_set, set_behind, set_over, widest_set};
 pub use setting::Setting;
 pub use size::{extent_of, is_managed, range_of, size_of, type_at, values_of};
 pub use sort::{OrdinalKind, Sort, kind_of, sort_of};

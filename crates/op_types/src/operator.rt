@@ -7,20 +7,20 @@ use crate::sort::{OrdinalKind, Sort};
 use op_core::{Function, TypeId};
 use op_tree::{Operator, PrefixOperator};
 
-/// The type of what an operator gives, where it is defined on these sorts; `first` is the type of the first operand.
+/// The type of what an operator gives, where it is defined on these sorts; operands that are sets go to the type `sets`.
 /// References are compared where one of their types is assignable to the other.
-pub fn operation(operator: Operator, a: Sort, b: Sort, first: TypeId) -> Option<TypeId>
-    ensures { result ≡ operation operator a b first }
+pub fn operation(operator: Operator, a: Sort, b: Sort, sets: TypeId) -> Option<TypeId>
+    ensures { result ≡ operation operator a b sets }
 {
     match operator {
         Operator::Add => {
             if a.is_text() && b.is_text() {
                 Some(TypeId::STRING)
             } else {
-                set_arithmetic(a, b, first)
+                set_arithmetic(a, b, sets)
             }
         }
-        Operator::Subtract | Operator::Multiply => set_arithmetic(a, b, first),
+        Operator::Subtract | Operator::Multiply => set_arithmetic(a, b, sets),
         Operator::Div | Operator::Mod_ | Operator::Shl | Operator::Shr => arithmetic(a, b),
         Operator::And | Operator::Or | Operator::Xor => logic(a, b),
         Operator::Less | Operator::Greater => compared(ordered(a, b)),
@@ -28,6 +28,7 @@ pub fn operation(operator: Operator, a: Sort, b: Sort, first: TypeId) -> Option<
         Operator::Equal | Operator::NotEqual => compared(equated(a, b)),
         Operator::In_ => match (a, b) {
             (Sort::Ordinal(x), Sort::Set(y)) => compared(x.is_same(y)),
+            (Sort::Ordinal(_), Sort::EmptySet) => Some(TypeId::BOOLEAN),
             _ => None,
         },
         Operator::Is | Operator::As_ | Operator::Slash => None,
@@ -56,6 +57,7 @@ pub fn application(function: Function, a: Sort, of: TypeId) -> Option<TypeId>
         (Function::Length, Sort::String | Sort::Ordinal(OrdinalKind::Char)) => {
             Some(TypeId::INTEGER)
         }
+        (Function::UpCase, Sort::Ordinal(OrdinalKind::Char)) => Some(TypeId::CHAR),
         _ => None,
     }
 }
@@ -82,12 +84,13 @@ fn logic(a: Sort, b: Sort) -> Option<TypeId>
     }
 }
 
-fn set_arithmetic(a: Sort, b: Sort, first: TypeId) -> Option<TypeId>
-    ensures { result ≡ set_arithmetic a b first }
+fn set_arithmetic(a: Sort, b: Sort, sets: TypeId) -> Option<TypeId>
+    ensures { result ≡ set_arithmetic a b sets }
 {
-    match (a, b) {
-        (Sort::Set(x), Sort::Set(y)) => x.is_same(y).then_some(first),
-        _ => arithmetic(a, b),
+    if a.is_set_as(b) {
+        Some(sets)
+    } else {
+        arithmetic(a, b)
     }
 }
 
@@ -109,10 +112,7 @@ fn ordered(a: Sort, b: Sort) -> bool
 fn included(a: Sort, b: Sort) -> bool
     ensures { result ≡ included a b }
 {
-    match (a, b) {
-        (Sort::Set(x), Sort::Set(y)) => x.is_same(y),
-        _ => ordered(a, b),
-    }
+    a.is_set_as(b) || ordered(a, b)
 }
 
 fn equated(a: Sort, b: Sort) -> bool

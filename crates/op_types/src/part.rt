@@ -1,21 +1,25 @@
 //! What the parts of constant expressions mean, once their own parts are constants.
 ghost use Rattle.std.specs.Prelude.{◌≡◌, [], Some, None, IfOk, if◌then◌else◌};
 ghost use Rattle.std.specs.Option.{option_copied, option_map};
-ghost use Rattle.op_core.specs.Faults.{refused};
-ghost use Rattle.op_tree.specs.Expression.{expr_of};
+ghost use Rattle.op_core.specs.Faults.{refused, with_part};
+ghost use Rattle.op_tree.specs.Expression.{element_of, expr_of};
 ghost use Rattle.op_tree.specs.Lists.{arguments_of};
-ghost use Rattle.op_types.specs.Constants.{Gives, Reports, application_means, bound_means, cast_means, entered, is_folded, joined, literal_means, made, member_means, name_means, number_behind, numeral, only_value, operation_means, prefix_means, rule_of, start_of, type_named, type_of_name, type_of_value, use_means, use_of, use_of_function};
+ghost use Rattle.op_types.specs.Constants.{Gives, Reports, application_means, bound_means, cast_means, element_means, entered, gathered_means, is_folded, joined, literal_means, loose, made, member_means, members_of, name_means, no_members, nodes, number_behind, numeral, only_value, operation_means, plus, prefix_means, range_means, rule_of, single_means, start_of, start_of_element, type_named, type_of_name, type_of_value, use_means, use_of, use_of_function};
 ghost use Rattle.op_types.specs.Names.{lower, meaning_of};
 ghost use Rattle.op_tree.specs.Statement.{designator_of, selectors_of};
 
-use crate::constant::{Applied, Constant, Folded, Part, Use};
+use crate::assign::assignable;
+use crate::constant::{Applied, Constant, Folded, Part, Use, Weight};
 use crate::operator::{application, operation, prefixed};
+use crate::set::{between, combined, common_set, set_over};
 use crate::sort::{Sort, kind_of, sort_of};
 use crate::value::{applied, before, bound_of, cast, number_of, operated, within};
 use crate::{BuiltIn, Meaning, Setting};
 use op_base::{NoMemory, Place, Refusal, Rule, Sequence, Text};
 use op_core::{Const, FirstRefusal, Function, TypeId};
-use op_tree::{Argument, Designator, Expr, Name, Operator, PrefixOperator, Root, Selector};
+use op_tree::{
+    Argument, Designator, Element, Expr, Name, Operator, PrefixOperator, Root, Selector,
+};
 use std::alloc::Global;
 
 /// Reports the rule at a place.
@@ -27,17 +31,81 @@ pub fn refuse(sink: &mut FirstRefusal, number: u8, place: Place) -> Option<Const
     None
 }
 
-pub fn made(value: Const, of: TypeId, nodes: u32) -> Constant
-    ensures { result ≡ made value of nodes }
+/// A constant, a set taking a word of its own.
+pub fn made(value: Const, of: TypeId, weight: Weight) -> Constant
+    ensures { result ≡ made value of weight }
 {
-    Constant { value, of, nodes }
+    let words = match value {
+        Const::Set(_) => 1,
+        _ => 0,
+    };
+    let weight = plus(weight, Weight { nodes: 0, words });
+    Constant { value, of, weight }
 }
 
-/// So many nodes and one more.
-pub fn joined(a: u32, b: u32) -> u32
+/// So many nodes, none of which is a set.
+pub fn nodes(count: u32) -> Weight
+    ensures { result ≡ nodes count }
+{
+    Weight {
+        nodes: count,
+        words: 0,
+    }
+}
+
+fn plus(a: Weight, b: Weight) -> Weight
+    ensures { result ≡ plus a b }
+{
+    Weight {
+        nodes: a.nodes.saturating_add(b.nodes),
+        words: a.words.saturating_add(b.words),
+    }
+}
+
+/// These and one node more.
+pub fn joined(a: Weight, b: Weight) -> Weight
     ensures { result ≡ joined a b }
 {
-    a.saturating_add(b).saturating_add(1)
+    plus(plus(a, b), nodes(1))
+}
+
+/// A node round what is inside.
+pub fn in_brackets(inside: Option<Constant>) -> Option<Constant>
+    ensures { result ≡ option_map (λ a. made a.value a.of (joined a.weight (nodes 0))) inside }
+{
+    let a = inside?;
+    Some(made(a.value, a.of, joined(a.weight, nodes(0))))
+}
+
+/// Elements that are no node of their own.
+fn loose(members: Vec<u8>, of: TypeId, weight: Weight) -> Constant
+    ensures { result ≡ loose members.items of weight }
+{
+    let value = Const::Set(Sequence::from(members));
+    Constant { value, of, weight }
+}
+
+pub fn no_members(alloc: Global) -> Constant
+    ensures { result ≡ no_members }
+{
+    loose(Vec::new(alloc), TypeId::EMPTY_SET, nodes(0))
+}
+
+fn members_of(value: &Const) -> &[u8]
+    ensures { result.now ≡ members_of value.now }
+{
+    match value {
+        Const::Set(members) => members.as_slice(),
+        _ => &[],
+    }
+}
+
+pub fn start_of_element(element: &Element) -> Place
+    ensures { result ≡ start_of_element (element_of element.now) }
+{
+    match element {
+        Element::One(e) | Element::Range(e, _) => start_of(e),
+    }
 }
 
 /// The first token of an expression.
@@ -72,7 +140,7 @@ pub fn number_behind(operator: PrefixOperator, operand: &Expr) -> Option<(u32, P
 pub fn is_folded(operator: Operator) -> bool
     ensures { result ≡ is_folded operator }
 {
-    !matches!(operator, Operator::In_ | Operator::Is | Operator::As_)
+    !matches!(operator, Operator::Is | Operator::As_)
 }
 
 /// The one argument of a call, where it is a value without a width.
@@ -91,14 +159,14 @@ fn entered(
     sink: &mut FirstRefusal,
     rule: (u8, Place),
     of: TypeId,
-    nodes: u32,
+    weight: Weight,
     value: Option<Const>,
 ) -> Option<Constant>
-    ensures { Reports (entered rule.0 rule.1 of nodes value) sink.old sink.new result }
+    ensures { Reports (entered rule.0 rule.1 of weight value) sink.old sink.new result }
 {
     match value {
         None => refuse(sink, rule.0, rule.1),
-        Some(value) => Some(made(value, of, nodes)),
+        Some(value) => Some(made(value, of, weight)),
     }
 }
 
@@ -136,23 +204,24 @@ fn use_of_function(function: Function) -> Option<Use>
         | Function::Abs
         | Function::Sqr
         | Function::Odd
+        | Function::UpCase
         | Function::Length => Some(Use::Apply(Applied::Function(function))),
         _ => None,
     }
 }
 
 impl<'a> Setting<'a> {
-    /// A number; `nodes` are one, or two with a minus before it.
+    /// A number, of one node, or of two with a minus before it.
     pub fn numeral(
         self,
         sink: &mut FirstRefusal,
         place: Place,
-        nodes: u32,
+        count: u32,
         n: i64,
     ) -> Option<Constant>
-        ensures { Reports (numeral place nodes n) sink.old sink.new result }
+        ensures { Reports (numeral place count n) sink.old sink.new result }
     {
-        entered(sink, (36, place), TypeId::INTEGER, nodes, within(n))
+        entered(sink, (36, place), TypeId::INTEGER, nodes(count), within(n))
     }
 
     /// A literal, and what is selected of it. A text of one byte is a Char until a string is needed.
@@ -161,10 +230,14 @@ impl<'a> Setting<'a> {
     {
         match (selectors.split_first(), text) {
             (Some(_), _) => Ok(None),
-            (None, [byte]) => Ok(Some(Some(made(Const::Ordinal(*byte as i32), TypeId::CHAR, 1)))),
+            (None, [byte]) => Ok(Some(Some(made(
+                Const::Ordinal(*byte as i32),
+                TypeId::CHAR,
+                nodes(1),
+            )))),
             (None, _) => {
                 let value = Const::Text(Text::copy_of(self.alloc, text)?);
-                Ok(Some(Some(made(value, TypeId::STRING, 1))))
+                Ok(Some(Some(made(value, TypeId::STRING, nodes(1)))))
             }
         }
     }
@@ -182,7 +255,7 @@ impl<'a> Setting<'a> {
             return refuse(sink, 21, place);
         };
         let value = before(operator, of, number_of(&a.value));
-        entered(sink, (33, place), of, joined(a.nodes, 0), value)
+        entered(sink, (33, place), of, joined(a.weight, nodes(0)), value)
     }
 
     /// An operator at a place between two parts, in an expression that begins at `start`.
@@ -201,11 +274,102 @@ impl<'a> Setting<'a> {
             return Ok(None);
         };
         let sorts = (sort_of(self.core, a.of), sort_of(self.core, b.of));
-        let Some(of) = operation(operator, sorts.0, sorts.1, a.of) else {
+        let sets = common_set(self.core, a.of, b.of);
+        let Some(of) = operation(operator, sorts.0, sorts.1, sets) else {
             return Ok(refuse(sink, 21, place));
         };
         let value = operated(self.alloc, operator, sorts, &a.value, &b.value)?;
-        Ok(entered(sink, (33, start), of, joined(a.nodes, b.nodes), value))
+        Ok(entered(sink, (33, start), of, joined(a.weight, b.weight), value))
+    }
+
+    /// An element of a set that begins at a place.
+    fn bound_of_set(
+        self,
+        sink: &mut FirstRefusal,
+        at: Place,
+        a: Option<Constant>,
+    ) -> Option<Constant>
+        ensures { Reports (with_part (element_means self.entry.core.now at) a) sink.old sink.new result }
+    {
+        let a = a?;
+        let n = number_of(&a.value);
+        match sort_of(self.core, a.of) {
+            Sort::Ordinal(_) => {
+                if 0 <= n && n <= 31 {
+                    Some(a)
+                } else {
+                    refuse(sink, 34, at)
+                }
+            }
+            _ => refuse(sink, 23, at),
+        }
+    }
+
+    /// One element of a set.
+    pub fn single(self, sink: &mut FirstRefusal, at: Place, a: Option<Constant>) -> Part
+        ensures { IfOk result (Reports (single_means self.entry.core.now at a) sink.old sink.new) }
+    {
+        let Some(a) = self.bound_of_set(sink, at, a) else {
+            return Ok(None);
+        };
+        let n = number_of(&a.value);
+        Ok(Some(loose(
+            between(self.alloc, n, n)?,
+            set_over(self.core, a.of),
+            a.weight,
+        )))
+    }
+
+    /// The elements of a set from one to another, each with its place.
+    pub fn range(
+        self,
+        sink: &mut FirstRefusal,
+        first: (Place, Option<Constant>),
+        last: (Place, Option<Constant>),
+    ) -> Part
+        ensures { IfOk result (Reports (range_means self.entry.core.now first.0 first.1 last.0 last.1) sink.old sink.new) }
+    {
+        let a = self.bound_of_set(sink, first.0, first.1);
+        let b = self.bound_of_set(sink, last.0, last.1);
+        let (Some(a), Some(b)) = (a, b) else {
+            return Ok(None);
+        };
+        if !assignable(self.core, b.of, a.of) {
+            return Ok(refuse(sink, 20, last.0));
+        }
+        let of = common_set(
+            self.core,
+            set_over(self.core, a.of),
+            set_over(self.core, b.of),
+        );
+        let members = between(self.alloc, number_of(&a.value), number_of(&b.value))?;
+        Ok(Some(loose(members, of, plus(a.weight, b.weight))))
+    }
+
+    /// The elements of a set so far, and more that begin at a place.
+    pub fn gather(
+        self,
+        sink: &mut FirstRefusal,
+        at: Place,
+        a: Option<Constant>,
+        b: Option<Constant>,
+    ) -> Part
+        ensures { IfOk result (Reports (gathered_means self.entry.core.now at a b) sink.old sink.new) }
+    {
+        let (Some(a), Some(b)) = (a, b) else {
+            return Ok(None);
+        };
+        if !sort_of(self.core, a.of).is_set_as(sort_of(self.core, b.of)) {
+            return Ok(refuse(sink, 20, at));
+        }
+        let of = common_set(self.core, a.of, b.of);
+        let members = combined(
+            self.alloc,
+            Operator::Add,
+            members_of(&a.value),
+            members_of(&b.value),
+        )?;
+        Ok(Some(loose(members, of, plus(a.weight, b.weight))))
     }
 
     /// What a name stands for, where that is a constant.
@@ -217,7 +381,7 @@ impl<'a> Setting<'a> {
             Some(Meaning::Spoiled) => Ok(Some(None)),
             Some(Meaning::Constant(constant)) => {
                 let value = copy_of(self.alloc, &constant.value)?;
-                Ok(Some(Some(made(value, constant.of, 1))))
+                Ok(Some(Some(made(value, constant.of, nodes(1)))))
             }
             _ => Ok(None),
         }
@@ -302,7 +466,7 @@ impl<'a> Setting<'a> {
     {
         match bound_of(self.core, function, of) {
             None => refuse(sink, 23, at),
-            Some((value, of)) => Some(made(value, of, 2)),
+            Some((value, of)) => Some(made(value, of, nodes(2))),
         }
     }
 
@@ -335,7 +499,7 @@ impl<'a> Setting<'a> {
         match sort_of(self.core, a.of) {
             Sort::Ordinal(_) => {
                 let value = cast(self.core, of, number_of(&a.value));
-                entered(sink, (33, place), of, joined(a.nodes, 0), value)
+                entered(sink, (33, place), of, joined(a.weight, nodes(0)), value)
             }
             _ => refuse(sink, 39, place),
         }
@@ -355,6 +519,6 @@ impl<'a> Setting<'a> {
             return Ok(refuse(sink, rule_of(function), at));
         };
         let value = applied(self.alloc, self.core, function, a.of, &a.value)?;
-        Ok(entered(sink, (33, place), of, joined(a.nodes, 0), value))
+        Ok(entered(sink, (33, place), of, joined(a.weight, nodes(0)), value))
     }
 }

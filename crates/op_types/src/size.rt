@@ -1,6 +1,6 @@
 //! How large the values of types are, and which types are managed (Free Pascal Reference Guide, "Types").
-ghost use Rattle.std.specs.Prelude.{◌≡◌, ◌≤ℤ◌, IfSome, slice_get};
-ghost use Rattle.op_core.specs.Sizes.{aligned, extended, extent_of, extent_within, in_order, integer_range, integer_size, is_com, plain, range_of, times, type_at, values_of};
+ghost use Rattle.std.specs.Prelude.{◌≡◌, ◌≤ℤ◌, Some, IfSome, slice_get};
+ghost use Rattle.op_core.specs.Sizes.{aligned, extended, extent_by, extent_of, in_order, integer_range, integer_size, is_com, plain, range_of, times, type_at, values_of};
 ghost use Rattle.op_types.specs.Values.{IsRange};
 
 use op_core::{Core, CoreType, Extent, Field, IntegerKind, InterfaceId, InterfaceKind, TypeId};
@@ -19,37 +19,36 @@ pub fn is_managed(core: &Core, of: TypeId) -> bool
     extent_of(core, of).managed
 }
 
+/// What is kept for a type of the core; `enter_type` has it right.
 pub fn extent_of(core: &Core, of: TypeId) -> Extent
     ensures { result ≡ extent_of core.now of }
 {
-    extent_within(core.types.as_slice(), core, of)
+    match core.extents.as_slice().get(of.0 as usize) {
+        None => plain(4, false),
+        Some(extent) => *extent,
+    }
 }
 
-/// The extent of a type in which no more records and arrays stand one in the other than there are steps.
-#[cycle(extent)]
-fn extent_within(steps: &[CoreType], core: &Core, of: TypeId) -> Extent
-    ensures { result ≡ extent_within steps.now core.now of }
+/// The extent of a type of this form, by the extents of the types that it is made of.
+pub fn extent_by(core: &Core, of: CoreType) -> Extent
+    ensures { result ≡ extent_by (extent_of core.now) core.now (Some of) }
 {
-    let Some((_, steps)) = steps.split_first() else {
-        return plain(4, false);
-    };
-    match type_at(core, of) {
-        Some(CoreType::Integer(kind)) => plain(integer_size(kind), false),
-        Some(CoreType::Boolean | CoreType::Char) => plain(1, false),
-        Some(CoreType::String | CoreType::DynamicArray { .. }) => plain(4, true),
-        Some(CoreType::Interface(id)) => plain(4, is_com(core, id)),
-        Some(CoreType::Record { fields }) => in_order(steps, core, core.fields.rows(fields)),
-        Some(CoreType::Array { index, element }) => {
-            times(values_of(core, index), extent_within(steps, core, element))
+    match of {
+        CoreType::Integer(kind) => plain(integer_size(kind), false),
+        CoreType::Boolean | CoreType::Char => plain(1, false),
+        CoreType::String | CoreType::DynamicArray { .. } => plain(4, true),
+        CoreType::Interface(id) => plain(4, is_com(core, id)),
+        CoreType::Record { fields } => in_order(core, core.fields.rows(fields)),
+        CoreType::Array { index, element } => {
+            times(values_of(core, index), extent_of(core, element))
         }
         _ => plain(4, false),
     }
 }
 
 /// The extent of a record with these fields.
-#[cycle(extent)]
-fn in_order(steps: &[CoreType], core: &Core, fields: &[Field]) -> Extent
-    ensures { result ≡ in_order (extent_within steps.now core.now) fields.now }
+fn in_order(core: &Core, fields: &[Field]) -> Extent
+    ensures { result ≡ in_order (extent_of core.now) fields.now }
 {
     let mut parts = Extent {
         size: 0,
@@ -57,7 +56,7 @@ fn in_order(steps: &[CoreType], core: &Core, fields: &[Field]) -> Extent
         managed: false,
     };
     for field in fields {
-        parts = extended(parts, extent_within(steps, core, field.of));
+        parts = extended(parts, extent_of(core, field.of));
     }
     let size = aligned(parts.alignment, parts.size);
     Extent { size, ..parts }

@@ -1,6 +1,6 @@
 //! The sorts of types: what the rules of operators and assignments ask of a type.
 ghost use Rattle.std.specs.Prelude.{◌≡◌};
-ghost use Rattle.op_types.specs.Sorts.{is_reference, is_text, kind_of, root_of, same_kind, sort_of};
+ghost use Rattle.op_types.specs.Sorts.{are_sets, is_reference, is_text, kind_of, root_of, same_kind, sort_of};
 
 use crate::size::type_at;
 use op_core::{ClassId, Core, CoreType, InterfaceId, TypeId};
@@ -21,6 +21,8 @@ pub enum Sort {
     String,
     /// A set, by its elements.
     Set(OrdinalKind),
+    /// A set without elements, of whatever type its use needs.
+    EmptySet,
     DynamicArray,
     Class(ClassId),
     Interface(InterfaceId),
@@ -66,6 +68,7 @@ pub fn sort_of(core: &Core, of: TypeId) -> Sort
         Some(CoreType::Class(id)) => Sort::Class(id),
         Some(CoreType::Interface(id)) => Sort::Interface(id),
         Some(CoreType::Nil) => Sort::Nil,
+        Some(CoreType::EmptySet) => Sort::EmptySet,
         _ => match kind_of(core, of) {
             Some(kind) => Sort::Ordinal(kind),
             None => Sort::Other,
@@ -93,6 +96,19 @@ impl Sort {
         ensures { result ≡ is_text self }
     {
         matches!(self, Sort::String | Sort::Ordinal(OrdinalKind::Char))
+    }
+
+    /// Whether both are sets, of elements of one kind.
+    pub fn is_set_as(self, other: Sort) -> bool
+        ensures { result ≡ are_sets self other }
+    {
+        match (self, other) {
+            (Sort::Set(a), Sort::Set(b)) => a.is_same(b),
+            (Sort::Set(_), Sort::EmptySet) => true,
+            (Sort::EmptySet, Sort::Set(_)) => true,
+            (Sort::EmptySet, Sort::EmptySet) => true,
+            _ => false,
+        }
     }
 
     /// Whether nil is one of its values.

@@ -1,11 +1,12 @@
 //! The values of constant expressions (Free Pascal Reference Guide, "Ordinary constants" and "Operators").
-ghost use Rattle.std.specs.Prelude.{◌≡◌, ◌≤ℤ◌, IfOk};
+ghost use Rattle.std.specs.Prelude.{◌≡◌, ◌≤ℤ◌, ◌-ℤ◌, pos, IfOk, if◌then◌else◌};
 ghost use Rattle.op_core.specs.Sizes.{range_of, type_at};
-ghost use Rattle.op_types.specs.Values.{IsRange, applied, before, bound_of, bytes_of, cast, compared_by, contains, in_range, low_bits, number_of, on_numbers, on_texts, operated, precedes_bytes, truth, within};
+ghost use Rattle.op_types.specs.Values.{IsRange, applied, before, bound_of, by_values, bytes_of, cast, compared_by, contains, in_range, is_in, low_bits, number_of, on_numbers, on_sets, on_texts, operated, precedes_bytes, truth, within};
 
+use crate::set::{combined, is_part};
 use crate::size::{integer_range, range_of, type_at};
 use crate::sort::Sort;
-use op_base::{NoMemory, Text, rem_trunc, shl5, shr_logical};
+use op_base::{NoMemory, Sequence, Text, rem_trunc, shl5, shr_logical};
 use op_core::{Const, Core, CoreType, Function, TypeId};
 use op_tree::{Operator, PrefixOperator};
 use std::alloc::Global;
@@ -24,7 +25,40 @@ pub fn operated(
         let a = bytes_of(alloc, a)?;
         on_texts(a, operator, bytes_of(alloc, b)?.as_slice())
     } else {
-        Ok(on_numbers(operator, number_of(a), number_of(b)))
+        by_values(alloc, operator, a, b)
+    }
+}
+
+fn by_values(
+    alloc: Global,
+    operator: Operator,
+    a: &Const,
+    b: &Const,
+) -> Result<Option<Const>, NoMemory>
+    ensures { IfOk result (λ v. v ≡ by_values operator a.now b.now) }
+{
+    match (a, b) {
+        (Const::Set(a), Const::Set(b)) => on_sets(alloc, operator, a.as_slice(), b.as_slice()),
+        (Const::Ordinal(n), Const::Set(b)) => Ok(Some(truth(is_in(*n, b.as_slice())))),
+        _ => Ok(on_numbers(operator, number_of(a), number_of(b))),
+    }
+}
+
+fn is_in(n: i32, set: &[u8]) -> bool
+    ensures { result ≡ is_in n set.now }
+{
+    set.iter().any(|x| *x as i32 == n)
+}
+
+fn on_sets(alloc: Global, operator: Operator, a: &[u8], b: &[u8]) -> Result<Option<Const>, NoMemory>
+    ensures { IfOk result (λ v. v ≡ on_sets operator a.now b.now) }
+{
+    match operator {
+        Operator::Equal => Ok(Some(truth(is_part(a, b) && is_part(b, a)))),
+        Operator::NotEqual => Ok(Some(truth(!(is_part(a, b) && is_part(b, a))))),
+        Operator::LessEqual => Ok(Some(truth(is_part(a, b)))),
+        Operator::GreaterEqual => Ok(Some(truth(is_part(b, a)))),
+        _ => Ok(Some(Const::Set(Sequence::from(combined(alloc, operator, a, b)?)))),
     }
 }
 
@@ -191,9 +225,17 @@ pub fn applied(
         Function::Abs => Ok(within(n.unsigned_abs() as i64)),
         Function::Sqr => Ok(product(n, n)),
         Function::Odd => Ok(within((n.cast_unsigned() % 2) as i64)),
+        Function::UpCase => Ok(within(upper(n as i64))),
         Function::Length => Ok(within(bytes_of(alloc, value)?.len() as i64)),
         _ => Ok(None),
     }
+}
+
+/// The number of the great letter, of a small letter from a to z.
+fn upper(n: i64) -> i64
+    ensures { result ≡ (if contains (pos 97, pos 122) n then n -ℤ pos 32 else n) }
+{
+    if 97 <= n && n <= 122 { n - 32 } else { n }
 }
 
 /// The number as a value of a type, where it is one.

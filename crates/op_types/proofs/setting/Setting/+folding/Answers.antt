@@ -1,10 +1,11 @@
 use Rattle.std.proofs.Common.{◌≡◌, ◌+◌, IfOk, Some, drop, sym, ap, subst, ◌∙◌, arith}
-use Rattle.op_tree.proofs.Rows.{call_says, chain_says, designated_says, literal_says}
-use Rattle.op_tree.specs.Expression.{call, chain, designator, expr_of, literal, named, no_selectors, selector_of, selectors}
+use Rattle.std.specs.Option.{option_map}
+use Rattle.op_tree.proofs.Rows.{call_says, chain_says, designated_says, literal_says, set_says}
+use Rattle.op_tree.specs.Expression.{call, chain, designator, element_of, expr_of, literal, named, no_selectors, selector_of, selectors}
 use Rattle.op_tree.specs.Lists.{arguments_of, operations_of}
-use Rattle.op_tree.specs.Statement.{selectors_of}
-use Rattle.op_types.proofs.Folding.{chained, goes_on, literal_gives, map_ok, next_operation, one_given}
-use Rattle.op_types.specs.Constants.{Gives, GivesBehind, call_means, constant, designated_constant, literal_means, operations, sole, start_of, type_named, use_of}
+use Rattle.op_tree.specs.Statement.{elements_of, selectors_of}
+use Rattle.op_types.proofs.Folding.{bracketed, chained, gathers, goes_on, literal_gives, map_ok, next_of, next_operation, one_given, unbracketed}
+use Rattle.op_types.specs.Constants.{Gives, GivesBehind, Reports, call_means, constant, designated_constant, element, gathered_means, in_brackets, literal_means, members, no_members, operations, sole, start_of, type_named, use_of}
 use Rattle.op_types.specs.Names.{lower, meaning_of}
 use Rattle.op_types.specs.declared.constant.Use.TheVariants.{Apply}
 use Rattle.op_types.proofs.setting.Setting.+folding.Goals as goal
@@ -72,3 +73,38 @@ call-returns-in-None-split_first-2 t c =
 
 pub operations-loop-operation-init : goal.operations-loop-operation-init
 operations-loop-operation-init t c = record { completes = λ new given k. k }
+
+pub constant-returns-in-Set : goal.constant-returns-in-Set
+constant-returns-in-Set t c =
+    subst (λ e. IfOk c.set.result (Gives (constant c.args.self.core.now c.args.self.visible.now e) c.args.sink.now c.set.new.sink)) (sym (ap expr_of c.in-Set.is ∙ set_says c.in-Set.position c.in-Set.elements))
+    (subst (λ es. IfOk c.set.result (Gives (option_map in_brackets (members c.args.self.core.now c.args.self.visible.now (Some no_members) (elements_of es))) c.args.sink.now c.set.new.sink)) c.deref-in-Set.ensures.value c.set.ensures)
+
+pub members-loop-element-init : goal.members-loop-element-init
+members-loop-element-init t c = record { completes = λ new given k. k }
+
+pub members-loop-element-preserved : goal.members-loop-element-preserved
+members-loop-element-preserved t c =
+    let core = c.args.self.core.now in
+    let names = c.args.self.visible.now in
+    let list = c.args.elements.now in
+    let k = c.loop-element.element-index in
+    let x = c.element-item.result in
+    record {
+      completes = λ new given h. c.loop-element.invariant.completes new given
+          (subst (λ es. Gives (members core names c.loop-element.set (elements_of es)) c.loop-element.sink new given)
+          (sym (next_of list k x c.loop-element-test.true c.element-item.is))
+          (gathers core names x (drop (k + 1) list) c.loop-element.sink c.element.new.sink c.gather.new.sink c.loop-element.set c.in-Some.more c.in_ok-set.set
+          (subst (Gives (element core names (element_of x)) c.loop-element.sink c.element.new.sink) c.in-Some.is c.in_ok-more.ensures)
+          (subst (λ p. Reports (gathered_means core p c.loop-element.set c.in-Some.more) c.element.new.sink c.gather.new.sink c.in_ok-set.set) c.start_of_element.ensures c.in_ok-set.ensures)
+          new given h));
+    }
+
+pub set-returns-in-None : goal.set-returns-in-None
+set-returns-in-None t c =
+    let x = members c.args.self.core.now c.args.self.visible.now (Some no_members) (elements_of c.args.elements.now) in
+    unbracketed x c.args.sink.now c.members.new.sink (subst (Gives x c.args.sink.now c.members.new.sink) c.in-None.is c.in_ok-members.ensures)
+
+pub set-returns-in-Some : goal.set-returns-in-Some
+set-returns-in-Some t c =
+    let x = members c.args.self.core.now c.args.self.visible.now (Some no_members) (elements_of c.args.elements.now) in
+    bracketed x c.args.sink.now c.members.new.sink c.in-Some.a c.in_brackets.result (subst (Gives x c.args.sink.now c.members.new.sink) c.in-Some.is c.in_ok-members.ensures) c.in_brackets.ensures

@@ -1,0 +1,226 @@
+//! What is called, and what it is given.
+ghost use Rattle.std.specs.Prelude.{◌≡◌, [], ◌∷◌, IfOk, slice_get};
+ghost use Rattle.std.specs.Option.{option_copied, option_map};
+ghost use Rattle.op_core.specs.Expression.{argument_of, call as call_root, expr_of, expression, no_steps};
+ghost use Rattle.op_core.specs.Typing.{takes_place};
+ghost use Rattle.op_tree.specs.Expression as source;
+ghost use Rattle.op_tree.specs.Lists as source_lists;
+ghost use Rattle.op_check_expr.specs.Calling.{are_given, built_in_plan, call_tree, function_plan, given_behind, given_of, is_plain, parameters_of, passed, passed_value, plan_of, routine_plan, sole_plan, type_wanted};
+ghost use Rattle.op_check_expr.specs.Naming.{denoted_of};
+ghost use Rattle.op_check_expr.specs.Scopes.{here_of};
+ghost use Rattle.op_check_expr.specs.Values.{value_of};
+ghost use Rattle.op_check_expr.specs.Words.{Reports};
+ghost use Rattle.op_types.specs.Constants.{only_value};
+
+use crate::convert::stored;
+use crate::denoted::{Denoted, Meant};
+use crate::place::variable_value;
+use crate::scope::Checker;
+use crate::value::Value;
+use op_base::{NoMemory, Place};
+use op_core::{CoreArgument, CoreExpr, FirstRefusal, Function, Parameter, Root, RoutineId, TypeId};
+use op_tree::{Argument, ParameterMode, Position};
+use op_types::{Applied, BuiltIn, only_value};
+use std::alloc::Global;
+
+/// What is done with a list of arguments.
+#[derive(Clone, Copy)]
+pub enum Plan {
+    /// Low or High of a type that is named at a place.
+    Bound(Function, TypeId, Place),
+    /// A cast or a function of one value, at a position.
+    Sole(Applied, Position),
+    Routine(RoutineId),
+    /// A rule is broken at a place, whatever the arguments are.
+    Wrong(u8, Place),
+    /// What is called has no meaning.
+    Silent,
+}
+
+/// What is given to a routine so far; None where a rule is broken in it.
+pub type Given = Option<Vec<CoreArgument>>;
+
+impl<'a> Checker<'a> {
+    /// What is done with arguments behind what stands in front of them. `alone` is whether the call is a statement.
+    pub fn plan_of(
+        self,
+        alone: bool,
+        denoted: &Option<Denoted>,
+        list: &[Argument],
+    ) -> Result<Plan, NoMemory>
+        ensures { IfOk result (λ p. p ≡ plan_of (here_of self.entry.scope) alone (option_map denoted_of denoted.now) (source_lists.arguments_of list.now)) }
+    {
+        let Some(denoted) = denoted else {
+            return Ok(Plan::Silent);
+        };
+        let position = denoted.position;
+        match &denoted.what {
+            Meant::Routine(id) => Ok(self.routine_plan(alone, position, *id, list)),
+            Meant::TypeName(of) => Ok(sole_plan(position, Applied::Cast(*of), list)),
+            Meant::BuiltIn(b) => self.built_in_plan(position, *b, list),
+            Meant::Value(_) => Ok(Plan::Wrong(16, position.place)),
+            Meant::Unit(_) => Ok(Plan::Wrong(16, position.place)),
+        }
+    }
+
+    fn routine_plan(self, alone: bool, position: Position, id: RoutineId, list: &[Argument]) -> Plan
+        ensures { result ≡ routine_plan (here_of self.entry.scope) alone position id (slice_get (here_of self.entry.scope).core.routines id.0) (source_lists.arguments_of list.now) }
+    {
+        let core = self.scope.core;
+        let Some(routine) = core.routines.as_slice().get(id.0 as usize) else {
+            return Plan::Silent;
+        };
+        if !alone && routine.result.is_none() {
+            return Plan::Wrong(16, position.place);
+        }
+        if are_given(core.parameters.rows(routine.parameters), list) {
+            Plan::Routine(id)
+        } else {
+            Plan::Wrong(26, position.place)
+        }
+    }
+
+    fn built_in_plan(
+        self,
+        position: Position,
+        b: BuiltIn,
+        list: &[Argument],
+    ) -> Result<Plan, NoMemory>
+        ensures { IfOk result (λ p. p ≡ built_in_plan (here_of self.entry.scope) position b (source_lists.arguments_of list.now)) }
+    {
+        match b {
+            BuiltIn::Chr => Ok(sole_plan(position, Applied::Cast(TypeId::CHAR), list)),
+            BuiltIn::Function(function) => self.function_plan(position, function, list),
+            _ => Ok(Plan::Wrong(16, position.place)),
+        }
+    }
+
+    fn function_plan(
+        self,
+        position: Position,
+        function: Function,
+        list: &[Argument],
+    ) -> Result<Plan, NoMemory>
+        ensures { IfOk result (λ p. p ≡ function_plan (here_of self.entry.scope) position function (source_lists.arguments_of list.now)) }
+    {
+        match function {
+            Function::Low | Function::High => match self.setting().type_named(list)? {
+                Some((of, at)) => Ok(Plan::Bound(function, of, at)),
+                None => Ok(sole_plan(position, Applied::Function(function), list)),
+            },
+            _ => Ok(sole_plan(position, Applied::Function(function), list)),
+        }
+    }
+
+    pub fn parameters_of(self, id: RoutineId) -> &'a [Parameter]
+        ensures { result.now ≡ parameters_of (here_of self.entry.scope) id }
+    {
+        let core = self.scope.core;
+        match core.routines.as_slice().get(id.0 as usize) {
+            Some(routine) => core.parameters.rows(routine.parameters),
+            None => &[],
+        }
+    }
+
+    /// A value for a parameter, its expression at a position; None of a parameter where there is none.
+    pub fn passed(
+        self,
+        sink: &mut FirstRefusal,
+        parameter: Option<&Parameter>,
+        at: Position,
+        value: Option<Value>,
+    ) -> Result<Option<CoreArgument>, NoMemory>
+        ensures { IfOk result (λ a. Reports (passed (here_of self.entry.scope) (option_copied parameter.entry) at (option_map value_of value)) sink.old sink.new (option_map argument_of a)) }
+    {
+        match (parameter, value) {
+            (Some(parameter), Some(value)) => self.passed_value(sink, parameter, at, value),
+            _ => Ok(None),
+        }
+    }
+
+    fn passed_value(
+        self,
+        sink: &mut FirstRefusal,
+        parameter: &Parameter,
+        at: Position,
+        value: Value,
+    ) -> Result<Option<CoreArgument>, NoMemory>
+        ensures { IfOk result (λ a. Reports (passed_value (here_of self.entry.scope) parameter.now at (value_of value)) sink.old sink.new (option_map argument_of a)) }
+    {
+        let to = parameter.of;
+        if takes_place(parameter.mode) {
+            match variable_value(self.scope, sink, at.place, Some(to), value) {
+                Some(e) => Ok(Some(CoreArgument::Place(e))),
+                None => Ok(None),
+            }
+        } else {
+            let core = self.scope.core;
+            match stored(self.alloc, core, sink, at.place, at.switches.r, to, value)? {
+                Some(e) => Ok(Some(CoreArgument::Value(e))),
+                None => Ok(None),
+            }
+        }
+    }
+
+    /// A call of a routine that is no method.
+    pub fn call_tree(self, id: RoutineId, given: Vec<CoreArgument>) -> Option<Value>
+        ensures { option_map value_of result ≡ (call_tree id (slice_get (here_of self.entry.scope).core.routines id.0) (given_of given)).typed }
+    {
+        let routine = self.scope.core.routines.as_slice().get(id.0 as usize)?;
+        let of = match routine.result {
+            Some(of) => of,
+            None => TypeId::NOTHING,
+        };
+        Some(Value::Computed(call_expression(self.alloc, id, given, of)))
+    }
+}
+
+fn call_expression(
+    alloc: Global,
+    routine: RoutineId,
+    arguments: Vec<CoreArgument>,
+    of: TypeId,
+) -> CoreExpr
+    ensures { expr_of result ≡ expression (call_root routine (given_of arguments)) of no_steps }
+{
+    CoreExpr::new(alloc, Root::Call { routine, arguments }, of)
+}
+
+/// Whether there is one argument to each parameter, none of them with a width.
+fn are_given(parameters: &[Parameter], list: &[Argument]) -> bool
+    ensures { result ≡ are_given parameters.now (source_lists.arguments_of list.now) }
+{
+    parameters.len() == list.len() && list.iter().all(|a| is_plain(a))
+}
+
+fn is_plain(argument: &Argument) -> bool
+    ensures { result ≡ is_plain (source.argument_of argument.now) }
+{
+    matches!(argument, Argument::Value(_))
+}
+
+fn takes_place(mode: ParameterMode) -> bool
+    ensures { result ≡ takes_place mode }
+{
+    matches!(mode, ParameterMode::Var | ParameterMode::Out)
+}
+
+fn sole_plan(position: Position, what: Applied, list: &[Argument]) -> Plan
+    ensures { result ≡ sole_plan position what (only_value (source_lists.arguments_of list.now)) }
+{
+    match only_value(list) {
+        Some(_) => Plan::Sole(what, position),
+        None => Plan::Wrong(26, position.place),
+    }
+}
+
+/// What is given so far, and one argument more.
+pub fn given_behind(given: Given, more: Option<CoreArgument>) -> Result<Given, NoMemory>
+    ensures { IfOk result (λ g. option_map given_of g ≡ given_behind (option_map given_of given) (option_map argument_of more)) }
+{
+    let (Some(mut given), Some(more)) = (given, more) else {
+        return Ok(None);
+    };
+    given.push(more)?;
+    Ok(Some(given))
+}

@@ -1,0 +1,223 @@
+//! What names stand for in an expression, and members of it.
+ghost use Rattle.std.specs.Prelude.{◌≡◌, IfOk, position, slice_get};
+ghost use Rattle.std.specs.Option.{option_copied, option_map};
+ghost use Rattle.op_core.specs.Expression.{expr_of};
+ghost use Rattle.op_core.specs.Faults.{fine};
+ghost use Rattle.op_check_expr.specs.Naming.{denoted, denoted_of, feature_of, feature_of_type, field_at, field_named, field_of, is_named, meant_of, named, thing_named, variable_named, variable_tree};
+ghost use Rattle.op_check_expr.specs.Values.{value_of};
+ghost use Rattle.op_check_expr.specs.Words.{Reports, by_feature};
+
+use crate::sink::{leave_out, refuse};
+use crate::tree::then;
+use crate::value::Value;
+use op_base::{NoMemory, Place, Text};
+use op_core::{
+    Action, Core, CoreExpr, CoreType, Field, FieldId, FirstRefusal, Function, Root, RoutineId, Run,
+    TypeId, VariableId,
+};
+use op_tree::{Name, Position};
+use op_types::{BuiltIn, Meaning, Setting, type_at};
+use std::alloc::Global;
+
+/// What a name stands for, or what is selected of it.
+#[derive(Drop)]
+pub enum Meant {
+    Value(Value),
+    Routine(RoutineId),
+    TypeName(TypeId),
+    /// A unit, by its name.
+    Unit(Text),
+    BuiltIn(BuiltIn),
+}
+
+/// The same, with the position of the name that it was last named by.
+#[derive(Drop)]
+pub struct Denoted {
+    pub position: Position,
+    pub what: Meant,
+}
+
+/// What is found of a designator; None where a rule is broken in it.
+pub type Found = Result<Option<Denoted>, NoMemory>;
+
+/// What a name stands for that is spelled so and stands at a position.
+pub fn named(
+    setting: Setting,
+    sink: &mut FirstRefusal,
+    name: &[u8],
+    position: Position,
+    meaning: Option<&Meaning>,
+) -> Found
+    ensures { IfOk result (λ d. Reports (named setting.entry.core.now name.now position (option_copied meaning.entry)) sink.old sink.new (option_map denoted_of d)) }
+{
+    let before = *sink;
+    match setting.name(sink, position.place, meaning)? {
+        Some(None) => Ok(None),
+        Some(Some(constant)) => Ok(Some(Denoted {
+            position,
+            what: Meant::Value(Value::Constant(constant)),
+        })),
+        None => {
+            *sink = before;
+            thing_named(setting, sink, name, position, meaning)
+        }
+    }
+}
+
+/// What a name stands for that is no constant.
+fn thing_named(
+    setting: Setting,
+    sink: &mut FirstRefusal,
+    name: &[u8],
+    position: Position,
+    meaning: Option<&Meaning>,
+) -> Found
+    ensures { IfOk result (λ d. Reports (thing_named setting.entry.core.now name.now position (option_copied meaning.entry)) sink.old sink.new (option_map denoted_of d)) }
+{
+    let place = position.place;
+    match meaning {
+        Some(Meaning::Variable { id, .. }) => {
+            Ok(variable_named(setting.alloc, setting.core, position, *id))
+        }
+        Some(Meaning::TypeName(of)) => {
+            let feature = feature_of_type(type_at(setting.core, *of));
+            Ok(unless(sink, feature, position, Meant::TypeName(*of)))
+        }
+        Some(Meaning::Routine(id)) => Ok(Some(Denoted {
+            position,
+            what: Meant::Routine(*id),
+        })),
+        Some(Meaning::Unit(_)) => {
+            let what = Meant::Unit(Text::copy_of(setting.alloc, name)?);
+            Ok(Some(Denoted { position, what }))
+        }
+        Some(Meaning::BuiltIn(b)) => {
+            Ok(unless(sink, feature_of(*b), position, Meant::BuiltIn(*b)))
+        }
+        _ => Ok(None),
+    }
+}
+
+/// What stands at a position, unless it shows a feature that is left out.
+fn unless(
+    sink: &mut FirstRefusal,
+    feature: Option<u8>,
+    position: Position,
+    what: Meant,
+) -> Option<Denoted>
+    ensures { Reports (by_feature position.place feature (fine (denoted position (meant_of what)))) sink.old sink.new (option_map denoted_of result) }
+{
+    match feature {
+        Some(feature) => leave_out(sink, feature, position.place),
+        None => Some(Denoted { position, what }),
+    }
+}
+
+fn variable_named(alloc: Global, core: &Core, position: Position, id: VariableId) -> Option<Denoted>
+    ensures { option_map denoted_of result ≡ (variable_named position id (slice_get core.now.variables id.0)).typed }
+{
+    let variable = core.variables.as_slice().get(id.0 as usize)?;
+    let e = variable_tree(alloc, id, variable.of);
+    Some(Denoted {
+        position,
+        what: Meant::Value(Value::Computed(e)),
+    })
+}
+
+/// A variable by its name.
+pub fn variable_tree(alloc: Global, id: VariableId, of: TypeId) -> CoreExpr
+    ensures { expr_of result ≡ variable_tree id of }
+{
+    CoreExpr::new(alloc, Root::Variable(id), of)
+}
+
+/// The feature that the name of a built-in routine shows.
+fn feature_of(b: BuiltIn) -> Option<u8>
+    ensures { result ≡ feature_of b }
+{
+    match b {
+        BuiltIn::Read
+        | BuiltIn::ReadLn
+        | BuiltIn::Eof
+        | BuiltIn::Eoln
+        | BuiltIn::SetLength
+        | BuiltIn::Copy
+        | BuiltIn::Val
+        | BuiltIn::Str
+        | BuiltIn::Pos
+        | BuiltIn::Delete
+        | BuiltIn::Insert
+        | BuiltIn::StringOfChar => Some(40),
+        BuiltIn::Halt => Some(39),
+        BuiltIn::Function(Function::Assigned) => Some(41),
+        _ => None,
+    }
+}
+
+/// The feature that the name of a built-in type shows.
+fn feature_of_type(of: Option<CoreType>) -> Option<u8>
+    ensures { result ≡ feature_of_type of }
+{
+    match of {
+        Some(CoreType::String) => Some(40),
+        Some(CoreType::Class(id)) => match id.0 {
+            0 => Some(42),
+            1 => Some(43),
+            _ => None,
+        },
+        Some(CoreType::Interface(id)) => (id.0 == 0).then_some(43),
+        _ => None,
+    }
+}
+
+/// A field of a value, by its name.
+pub fn field_of(
+    alloc: Global,
+    core: &Core,
+    sink: &mut FirstRefusal,
+    name: &Name,
+    value: Value,
+) -> Found
+    ensures { IfOk result (λ d. Reports (field_of core.now name.now (value_of value)) sink.old sink.new (option_map denoted_of d)) }
+{
+    let of = type_at(core, value.type_of());
+    let Some((id, of)) = field_named(core, name.text.as_slice(), of) else {
+        return Ok(refuse(sink, 25, name.position.place));
+    };
+    let e = then(value.into_tree(alloc), Action::Field(id), of)?;
+    Ok(Some(Denoted {
+        position: name.position,
+        what: Meant::Value(Value::Computed(e)),
+    }))
+}
+
+/// The field of a record by its name, and its type.
+fn field_named(core: &Core, name: &[u8], of: Option<CoreType>) -> Option<(FieldId, TypeId)>
+    ensures { result ≡ field_named core.now name.now of }
+{
+    match of {
+        Some(CoreType::Record { fields }) => {
+            let rows = core.fields.rows(fields);
+            let k = position_named(rows, name)?;
+            field_at(rows, fields, k)
+        }
+        _ => None,
+    }
+}
+
+fn position_named(rows: &[Field], name: &[u8]) -> Option<usize>
+    ensures { result ≡ position (is_named name.now) rows.now }
+{
+    rows.iter()
+        .position(|f| f.name.text.as_slice().eq_ignore_ascii_case(name))
+}
+
+fn field_at(rows: &[Field], run: Run, k: usize) -> Option<(FieldId, TypeId)>
+    ensures { result ≡ field_at rows.now run k }
+{
+    let field = rows.get(k)?;
+    let number = (run.first as usize)
+        .saturating_add(k)
+        .min(u32::MAX as usize);
+    Some((FieldId(number as u32), field.of))
+}

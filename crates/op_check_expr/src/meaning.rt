@@ -1,0 +1,248 @@
+//! What statements and declarations are made of.
+ghost use Rattle.std.specs.Prelude.{◌≡◌, IfOk, None};
+ghost use Rattle.std.specs.Option.{option_map};
+ghost use Rattle.op_core.specs.Expression as typed;
+ghost use Rattle.op_tree.specs.Expression.{expr_of};
+ghost use Rattle.op_core.specs.Faults.{with_part};
+ghost use Rattle.op_tree.specs.Lists.{arguments_of};
+ghost use Rattle.op_tree.specs.Statement.{designator_of};
+ghost use Rattle.op_check_expr.specs.Naming.{denoted_of};
+ghost use Rattle.op_check_expr.specs.Meanings as means;
+ghost use Rattle.op_check_expr.specs.Scopes.{here_of};
+ghost use Rattle.op_check_expr.specs.Values.{tree_of, value_of};
+ghost use Rattle.op_check_expr.specs.Words.{Reports};
+
+use crate::call::Plan;
+use crate::convert::{as_type, stored};
+use crate::denoted::{Denoted, Meant, variable_tree};
+use crate::operate::Valued;
+use crate::part::{given_first, position_of, position_of_designator};
+use crate::place::{is_writable_variable, target_value, variable_value};
+use crate::scope::{Checker, Scope};
+use crate::sink::refuse;
+use crate::value::Value;
+use op_base::{NoMemory, Place};
+use op_core::{
+    CheckError, CoreExpr, FirstRefusal, Role, RoutineId, Run, TypeId, Variable, VariableId,
+};
+use op_tree::{Argument, Designator, Expr, Root, Selector};
+use op_types::{Meaning, assignable};
+use std::alloc::Global;
+
+/// A typed expression; None where a rule is broken in it.
+pub type Typed = Result<Option<CoreExpr>, NoMemory>;
+
+/// The typed expression, or the first rule that it breaks.
+pub fn expr(alloc: Global, scope: &Scope, e: &Expr) -> Result<CoreExpr, CheckError>
+    ensures { means.ExprIs (means.value_of (here_of scope.now) None (expr_of e.now)) result }
+{
+    let mut sink = FirstRefusal::new();
+    let checker = Checker {
+        alloc,
+        scope: *scope,
+    };
+    match checker.value(&mut sink, None, e)? {
+        Some(value) => sink.or_typed(value.into_tree(alloc)),
+        None => match sink.kept {
+            Some(refusal) => Err(CheckError::Refused(refusal)),
+            None => Err(CheckError::NoMemory),
+        },
+    }
+}
+
+impl<'a> Checker<'a> {
+    /// What an expression means. `wanted` is the type that its use fixes: a set constructor takes its type from that.
+    pub fn value(self, sink: &mut FirstRefusal, wanted: Option<TypeId>, e: &Expr) -> Valued
+        ensures { IfOk result (λ v. Reports (means.value_of (here_of self.entry.scope) wanted (expr_of e.now)) sink.old sink.new (option_map value_of v)) }
+    {
+        self.value_in(sink, wanted, e)
+    }
+
+    /// A value that is stored in what has a type; `checked` is whether ranges are. Rule 20 stands at its first token.
+    pub fn given(self, sink: &mut FirstRefusal, to: TypeId, checked: bool, e: &Expr) -> Typed
+        ensures { IfOk result (λ v. Reports (means.given (here_of self.entry.scope) to checked (expr_of e.now)) sink.old sink.new (option_map typed.expr_of v)) }
+    {
+        match self.value_in(sink, Some(to), e)? {
+            Some(value) => {
+                let at = position_of(e).place;
+                stored(self.alloc, self.scope.core, sink, at, checked, to, value)
+            }
+            None => Ok(None),
+        }
+    }
+
+    /// An argument that must be a variable, of the very type where one is given, that may be written: rules 27, 28, 29, 37 at its
+    /// first token.
+    pub fn variable(self, sink: &mut FirstRefusal, of: Option<TypeId>, e: &Expr) -> Typed
+        ensures { IfOk result (λ v. Reports (means.variable (here_of self.entry.scope) of (expr_of e.now)) sink.old sink.new (option_map typed.expr_of v)) }
+    {
+        match self.value_in(sink, None, e)? {
+            Some(value) => {
+                let at = position_of(e).place;
+                Ok(variable_value(self.scope, sink, at, of, value))
+            }
+            None => Ok(None),
+        }
+    }
+
+    /// Whether a variable may be written here: its role, and the loops round the place.
+    pub fn is_writable_variable(self, id: VariableId) -> bool
+        ensures { result ≡ means.is_writable_variable (here_of self.entry.scope) id }
+    {
+        is_writable_variable(self.scope, id)
+    }
+
+    /// One element for a set of a base: rules 20 and 34 at its first token.
+    pub fn element(self, sink: &mut FirstRefusal, base: TypeId, e: &Expr) -> Typed
+        ensures { IfOk result (λ v. Reports (means.element (here_of self.entry.scope) base (expr_of e.now)) sink.old sink.new (option_map typed.expr_of v)) }
+    {
+        let at = position_of(e).place;
+        let Some(value) = self.value_in(sink, None, e)? else {
+            return Ok(None);
+        };
+        let core = self.scope.core;
+        if !assignable(core, value.type_of(), base) {
+            return Ok(refuse(sink, 20, at));
+        }
+        if !value.is_small() {
+            return Ok(refuse(sink, 34, at));
+        }
+        Ok(Some(as_type(self.alloc, core, true, base, value)?))
+    }
+
+    /// What is assigned to: rule 29 at its first token. A function's own name is its result.
+    pub fn target(self, sink: &mut FirstRefusal, called: &Designator) -> Typed
+        ensures { IfOk result (λ v. Reports (means.target (here_of self.entry.scope) (designator_of called.now)) sink.old sink.new (option_map typed.expr_of v)) }
+    {
+        let at = position_of_designator(called).place;
+        if let Some(id) = self.routine_alone(called)? {
+            return match self.own_result(id) {
+                Some((id, of)) => Ok(Some(variable_tree(self.alloc, id, of))),
+                None => Ok(refuse(sink, 29, at)),
+            };
+        }
+        let denoted = self.designator(sink, called)?;
+        match self.as_value(sink, denoted)? {
+            Some(value) => Ok(target_value(self.scope, sink, at, value)),
+            None => Ok(None),
+        }
+    }
+
+    /// The routine whose name stands alone.
+    fn routine_alone(self, called: &Designator) -> Result<Option<RoutineId>, NoMemory>
+        ensures { IfOk result (λ r. r ≡ means.routine_alone (here_of self.entry.scope) (designator_of called.now)) }
+    {
+        match (&called.root, called.selectors.split_first()) {
+            (Root::Named(name), None) => {
+                match self.scope.visible.look_up(name.text.as_slice())? {
+                    Some(Meaning::Routine(id)) => Ok(Some(*id)),
+                    _ => Ok(None),
+                }
+            }
+            _ => Ok(None),
+        }
+    }
+
+    /// The result of the routine whose body this is, by that routine's name.
+    fn own_result(self, id: RoutineId) -> Option<(VariableId, TypeId)>
+        ensures { result ≡ means.own_result (here_of self.entry.scope) id }
+    {
+        if !is_own(self.scope.routine, id) {
+            return None;
+        }
+        let core = self.scope.core;
+        let routine = core.routines.as_slice().get(id.0 as usize)?;
+        let variables = core.variables.rows(routine.variables);
+        let k = variables.iter().position(|v| is_result(v.role))?;
+        result_at(routine.variables, variables, k)
+    }
+
+    /// A call as a statement. Rule 35 stands at its first token where it is no call.
+    pub fn alone(self, sink: &mut FirstRefusal, called: &Designator) -> Typed
+        ensures { IfOk result (λ v. Reports (means.called_alone (here_of self.entry.scope) (designator_of called.now)) sink.old sink.new (option_map typed.expr_of v)) }
+    {
+        let start = position_of_designator(called).place;
+        let denoted = self.root(sink, &called.root)?;
+        match called.selectors.split_last() {
+            Some((Selector::Call { arguments }, front)) => {
+                let denoted = self.selected(sink, denoted, front)?;
+                let plan = self.plan_of(true, &denoted, arguments)?;
+                self.alone_called(sink, start, plan, arguments)
+            }
+            _ => {
+                let denoted = self.selected(sink, denoted, &called.selectors)?;
+                self.alone_denoted(sink, start, denoted)
+            }
+        }
+    }
+
+    fn alone_called(
+        self,
+        sink: &mut FirstRefusal,
+        start: Place,
+        plan: Plan,
+        list: &[Argument],
+    ) -> Typed
+        ensures { IfOk result (λ v. Reports (means.alone_called (here_of self.entry.scope) start plan (arguments_of list.now)) sink.old sink.new (option_map typed.expr_of v)) }
+    {
+        let value = self.called(sink, plan, list)?;
+        match plan {
+            Plan::Bound(..) | Plan::Sole(..) => Ok(refuse(sink, 35, start)),
+            _ => Ok(into_tree(self.alloc, value)),
+        }
+    }
+
+    /// What stands alone, with no arguments.
+    fn alone_denoted(self, sink: &mut FirstRefusal, start: Place, denoted: Option<Denoted>) -> Typed
+        ensures { IfOk result (λ v. Reports (with_part (means.alone_denoted (here_of self.entry.scope) start) (option_map denoted_of denoted)) sink.old sink.new (option_map typed.expr_of v)) }
+    {
+        let Some(denoted) = denoted else {
+            return Ok(None);
+        };
+        let position = denoted.position;
+        match denoted.what {
+            Meant::Value(_) => Ok(refuse(sink, 35, start)),
+            Meant::TypeName(_) => Ok(refuse(sink, 16, position.place)),
+            what => {
+                let denoted = Some(Denoted { position, what });
+                let plan = self.plan_of(true, &denoted, &[])?;
+                let value = self.call_of(sink, plan, given_first(self.alloc, plan));
+                Ok(into_tree(self.alloc, value))
+            }
+        }
+    }
+}
+
+fn into_tree(alloc: Global, value: Option<Value>) -> Option<CoreExpr>
+    ensures { option_map typed.expr_of result ≡ option_map tree_of (option_map value_of value) }
+{
+    match value {
+        Some(value) => Some(value.into_tree(alloc)),
+        None => None,
+    }
+}
+
+fn is_own(own: Option<RoutineId>, id: RoutineId) -> bool
+    ensures { result ≡ means.is_own own id }
+{
+    match own {
+        Some(own) => own.0 == id.0,
+        None => false,
+    }
+}
+
+fn is_result(role: Role) -> bool
+    ensures { result ≡ means.is_result_role role }
+{
+    matches!(role, Role::Result)
+}
+
+fn result_at(run: Run, variables: &[Variable], k: usize) -> Option<(VariableId, TypeId)>
+    ensures { result ≡ means.result_at run variables.now k }
+{
+    let variable = variables.get(k)?;
+    let number = (run.first as usize)
+        .saturating_add(k)
+        .min(u32::MAX as usize);
+    Some((VariableId(number as u32), variable.of))
+}

@@ -1,0 +1,267 @@
+//! What parts of an expression mean, once their own parts have a meaning.
+ghost use Rattle.std.specs.Prelude.{◌≡◌, IfOk};
+ghost use Rattle.std.specs.Option.{option_copied, option_map};
+ghost use Rattle.op_core.specs.Faults.{with_part};
+ghost use Rattle.op_tree.specs.Expression.{expr_of};
+ghost use Rattle.op_tree.specs.Statement.{designator_of};
+ghost use Rattle.op_check_expr.specs.Calling.{first_of, given_of, others_of, type_wanted};
+ghost use Rattle.op_check_expr.specs.Constructors.{member_of as member_in_view, members_of};
+ghost use Rattle.op_check_expr.specs.Expressions.{as_value, call_of, given_first, index_types, indexed, member_of, name_denoted, parameters_for, position_of, position_of_denoted, position_of_designator, ranged, settled, still_at_position, text_denoted, with_member};
+ghost use Rattle.op_check_expr.specs.Naming.{denoted_of};
+ghost use Rattle.op_check_expr.specs.Scopes.{here_of};
+ghost use Rattle.op_check_expr.specs.Values.{value_of};
+ghost use Rattle.op_check_expr.specs.Words.{Reports};
+ghost use Rattle.op_types.specs.Names.{lower};
+
+use crate::call::{Given, Plan};
+use crate::convert::stored;
+use crate::denoted::{Denoted, Found, Meant, field_of, named};
+use crate::operate::Valued;
+use crate::scope::Checker;
+use crate::set::Member;
+use crate::sink::refuse;
+use crate::tree::then;
+use crate::value::Value;
+use op_base::{NoMemory, Place, Text};
+use op_core::{Action, Const, Core, CoreType, FirstRefusal, Parameter, TypeId};
+use op_tree::{Designator, Expr, Name, Position, Root};
+use op_types::{made, nodes, type_at};
+use std::alloc::Global;
+
+/// The first token of an expression.
+pub fn position_of(e: &Expr) -> Position
+    ensures { result ≡ position_of (expr_of e.now) }
+{
+    match e {
+        Expr::Chain { first, .. } => position_of(first),
+        Expr::Prefix { position, .. }
+        | Expr::Number { position, .. }
+        | Expr::Nil { position }
+        | Expr::Set { position, .. }
+        | Expr::Literal { position, .. }
+        | Expr::Inherited { position, .. } => *position,
+        Expr::Designator(called) => position_of_designator(called),
+    }
+}
+
+/// The first token of a designator.
+pub fn position_of_designator(called: &Designator) -> Position
+    ensures { result ≡ position_of_designator (designator_of called.now) }
+{
+    match &called.root {
+        Root::Named(name) => name.position,
+        Root::String { position } => *position,
+        Root::Bracketed { position, .. } => *position,
+    }
+}
+
+/// The types of the index and of the elements of what can be indexed.
+fn index_types(of: Option<CoreType>) -> Option<(TypeId, TypeId)>
+    ensures { result ≡ index_types of }
+{
+    match of {
+        Some(CoreType::Array { index, element }) => Some((index, element)),
+        Some(CoreType::DynamicArray { element } | CoreType::OpenArray { element }) => {
+            Some((TypeId::INTEGER, element))
+        }
+        Some(CoreType::String) => Some((TypeId::INTEGER, TypeId::CHAR)),
+        _ => None,
+    }
+}
+
+/// Where a name stands that something is selected of.
+pub fn position_of_denoted(denoted: &Option<Denoted>) -> Option<Position>
+    ensures { result ≡ position_of_denoted (option_map denoted_of denoted.now) }
+{
+    match denoted {
+        Some(denoted) => Some(denoted.position),
+        None => None,
+    }
+}
+
+/// What is made of it, at the same position.
+pub fn still_at(position: Option<Position>, value: Option<Value>) -> Option<Denoted>
+    ensures { option_map denoted_of result ≡ still_at_position position (option_map value_of value) }
+{
+    let (Some(position), Some(value)) = (position, value) else {
+        return None;
+    };
+    let what = Meant::Value(value);
+    Some(Denoted { position, what })
+}
+
+pub fn given_first(alloc: Global, plan: Plan) -> Given
+    ensures { option_map given_of result ≡ given_first plan }
+{
+    match plan {
+        Plan::Routine(_) => Some(Vec::new(alloc)),
+        _ => None,
+    }
+}
+
+pub fn type_wanted(parameter: Option<&Parameter>) -> Option<TypeId>
+    ensures { result ≡ type_wanted (option_copied parameter.entry) }
+{
+    match parameter {
+        Some(parameter) => Some(parameter.of),
+        None => None,
+    }
+}
+
+/// The first parameter, and the others.
+pub fn first_of(parameters: &[Parameter]) -> (Option<&Parameter>, &[Parameter])
+    ensures first { option_copied result.0 ≡ first_of parameters.now }
+    ensures others { result.1.now ≡ others_of parameters.now }
+{
+    match parameters.split_first() {
+        Some((first, others)) => (Some(first), others),
+        None => (None, &[]),
+    }
+}
+
+pub fn ranged(at: Place, end: Place, a: Option<Value>, b: Option<Value>) -> Option<Member>
+    ensures { option_map member_in_view result ≡ ranged at end (option_map value_of a) (option_map value_of b) }
+{
+    match (a, b) {
+        (Some(a), Some(b)) => Some(Member::Range(at, a, end, b)),
+        _ => None,
+    }
+}
+
+/// The elements of a set so far; None where a rule is broken in one.
+pub type Members = Option<Vec<Member>>;
+
+pub fn with_member(members: Members, more: Option<Member>) -> Result<Members, NoMemory>
+    ensures { IfOk result (λ ms. option_map members_of ms ≡ with_member (option_map members_of members) (option_map member_in_view more)) }
+{
+    let (Some(mut members), Some(more)) = (members, more) else {
+        return Ok(None);
+    };
+    members.push(more)?;
+    Ok(Some(members))
+}
+
+/// A text of which something is selected.
+pub fn text_denoted(alloc: Global, position: Position, text: &[u8]) -> Result<Denoted, NoMemory>
+    ensures { IfOk result (λ d. denoted_of d ≡ text_denoted position text.now) }
+{
+    let value = Const::Text(Text::copy_of(alloc, text)?);
+    let what = Meant::Value(Value::Constant(made(value, TypeId::STRING, nodes(1))));
+    Ok(Denoted { position, what })
+}
+
+impl<'a> Checker<'a> {
+    /// What a name stands for, spelled so, which is looked up as `key`.
+    pub fn name_denoted(
+        self,
+        sink: &mut FirstRefusal,
+        key: &[u8],
+        text: &[u8],
+        position: Position,
+    ) -> Found
+        ensures { IfOk result (λ d. Reports (name_denoted (here_of self.entry.scope) (lower key.now) text.now position) sink.old sink.new (option_map denoted_of d)) }
+    {
+        let meaning = self.scope.visible.look_up(key)?;
+        named(self.setting(), sink, text, position, meaning)
+    }
+
+    /// What a name stands for as a value: a function alone is called.
+    pub fn as_value(self, sink: &mut FirstRefusal, denoted: Option<Denoted>) -> Valued
+        ensures { IfOk result (λ v. Reports (as_value (here_of self.entry.scope) (option_map denoted_of denoted)) sink.old sink.new (option_map value_of v)) }
+    {
+        match denoted {
+            Some(denoted) => self.settled(sink, denoted),
+            None => Ok(None),
+        }
+    }
+
+    fn settled(self, sink: &mut FirstRefusal, denoted: Denoted) -> Valued
+        ensures { IfOk result (λ v. Reports (settled (here_of self.entry.scope) (denoted_of denoted)) sink.old sink.new (option_map value_of v)) }
+    {
+        let position = denoted.position;
+        match denoted.what {
+            Meant::Value(v) => Ok(Some(v)),
+            Meant::TypeName(_) => Ok(refuse(sink, 16, position.place)),
+            what => {
+                let denoted = Some(Denoted { position, what });
+                let plan = self.plan_of(false, &denoted, &[])?;
+                Ok(self.call_of(sink, plan, given_first(self.alloc, plan)))
+            }
+        }
+    }
+
+    /// What arguments give, once they have types.
+    pub fn call_of(self, sink: &mut FirstRefusal, plan: Plan, given: Given) -> Option<Value>
+        ensures { Reports (call_of (here_of self.entry.scope) plan (option_map given_of given)) sink.old sink.new (option_map value_of result) }
+    {
+        match plan {
+            Plan::Routine(id) => self.call_tree(id, given?),
+            Plan::Wrong(rule, place) => refuse(sink, rule, place),
+            _ => None,
+        }
+    }
+
+    pub fn parameters_for(self, plan: Plan) -> &'a [Parameter]
+        ensures { result.now ≡ parameters_for (here_of self.entry.scope) plan }
+    {
+        match plan {
+            Plan::Routine(id) => self.parameters_of(id),
+            _ => &[],
+        }
+    }
+
+    /// A member of a unit or of a value.
+    pub fn member_of(self, sink: &mut FirstRefusal, name: &Name, denoted: Option<Denoted>) -> Found
+        ensures { IfOk result (λ d. Reports (with_part (member_of (here_of self.entry.scope) name.now) (option_map denoted_of denoted)) sink.old sink.new (option_map denoted_of d)) }
+    {
+        let Some(denoted) = denoted else {
+            return Ok(None);
+        };
+        match denoted.what {
+            Meant::Unit(unit) => {
+                let mut key = unit.into_vec();
+                key.push(b'.')?;
+                key.extend_from_slice(name.text.as_slice())?;
+                let text = name.text.as_slice();
+                self.name_denoted(sink, key.as_slice(), text, name.position)
+            }
+            what => {
+                let position = denoted.position;
+                match self.settled(sink, Denoted { position, what })? {
+                    Some(v) => field_of(self.alloc, self.scope.core, sink, name, v),
+                    None => Ok(None),
+                }
+            }
+        }
+    }
+
+    /// An element at an index that begins at a place, behind a bracket at another.
+    pub fn indexed(
+        self,
+        sink: &mut FirstRefusal,
+        bracket: Place,
+        at: Place,
+        a: Option<Value>,
+        index: Option<Value>,
+    ) -> Valued
+        ensures { IfOk result (λ v. Reports (indexed (here_of self.entry.scope).core bracket at (option_map value_of a) (option_map value_of index)) sink.old sink.new (option_map value_of v)) }
+    {
+        let Some(a) = a else {
+            return Ok(None);
+        };
+        let core = self.scope.core;
+        let Some(of) = index_types(type_at(core, a.type_of())) else {
+            return Ok(refuse(sink, 24, bracket));
+        };
+        let Some(index) = index else {
+            return Ok(None);
+        };
+        match stored(self.alloc, core, sink, at, true, of.0, index)? {
+            Some(index) => {
+                let e = then(a.into_tree(self.alloc), Action::Index(index), of.1)?;
+                Ok(Some(Value::Computed(e)))
+            }
+            None => Ok(None),
+        }
+    }
+}
