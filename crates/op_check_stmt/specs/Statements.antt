@@ -1,5 +1,5 @@
 -- What statements mean: a typed statement, or the rules that they break (Free Pascal Reference Guide, "Statements").
-use Rattle.std.specs.Prelude.{Bool, false, List, [], ◌∷◌, ◌++◌, Option, Some, None}
+use Rattle.std.specs.Prelude.{◌≡◌, Result, Ok, Err, Bool, false, List, [], ◌∷◌, ◌++◌, Option, Some, None}
 use Rattle.std.specs.Option.{option_map}
 use Rattle.op_base.specs.declared.place.Place.{Place}
 use Rattle.op_check_expr.specs.Meanings.{given, target, value_of}
@@ -9,12 +9,15 @@ use Rattle.op_check_expr.specs.Words.{changed, followed, left_out}
 use Rattle.op_check_expr.specs.declared.scope.Around.{Around}
 use Rattle.op_check_expr.specs.declared.scope.Around.TheVariants.{Loop, Handler, Finally}
 use Rattle.op_core.specs.Expression.{Expression as Tree}
-use Rattle.op_core.specs.Faults.{Checked, by_test, fine, untyped, with_part}
-use Rattle.op_core.specs.Statement.{Statement, empty, block, if_then, if_else, case_of, while_do, repeat_until, for_to, try_finally, try_on_else, assign, Statements, no_statements, statements as core_statements, Branches, no_branches, branches as core_branches, no_handlers}
+use Rattle.op_core.specs.Faults.{Checked, FirstIs, by_test, fine, untyped, with_part}
+use Rattle.op_core.specs.Statement.{Statement, empty, block, if_then, if_else, case_of, while_do, repeat_until, for_to, try_finally, try_on_else, assign, Statements, no_statements, statements as core_statements, Branches, no_branches, branches as core_branches, no_handlers, stmt_of as typed_said}
 use Rattle.op_core.specs.Typing as typing
+use Rattle.op_core.specs.declared.error.CheckError.{CheckError}
+use Rattle.op_core.specs.declared.error.CheckError.TheVariants.{Refused, NoMemory}
 use Rattle.op_core.specs.declared.ids.TypeId.{TypeId}
 use Rattle.op_core.specs.declared.ids.VariableId.{VariableId}
 use Rattle.op_core.specs.declared.program.Core.{Core}
+use Rattle.op_core.specs.declared.statement.CoreStmt.{CoreStmt}
 use Rattle.op_core.specs.declared.statement.Label.{Label}
 use Rattle.op_tree.specs.Expression.{Expression, Designator}
 use Rattle.op_tree.specs.Statement as tree
@@ -128,3 +131,11 @@ abbrev mutual
   pub statements : Here → tree.Statements → Checked Statements
   statements here tree.no_statements = fine no_statements
   statements here (tree.statements s ss) = of_two core_statements (statement here s) (statements here ss)
+
+-- ---- the call
+
+-- the typed statement, where no rule is broken; else the first one
+abbrev pub StmtIs : Checked Statement → Result CoreStmt CheckError → Type 0
+StmtIs c (Ok s) = (c.typed ≡ Some (typed_said s)) × FirstIs c.faults None
+StmtIs c (Err (Refused r)) = FirstIs c.faults (Some r)
+StmtIs c (Err NoMemory) = Unit {0}

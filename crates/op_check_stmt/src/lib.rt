@@ -13,4 +13,7 @@ mod repeated;
 mod variable;
 mod walk;
 
-pub use walk::{Typed, statement, statements};
+pub use walk::{Typed, statement, statements, stmt};
+
+#[cfg(test)]
+mod tests;

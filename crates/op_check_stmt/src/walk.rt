@@ -6,7 +6,7 @@ ghost use Rattle.op_check_expr.specs.Values.{value_of};
 ghost use Rattle.op_check_expr.specs.Words.{Reports};
 ghost use Rattle.op_check_stmt.specs.Cases.{selector};
 ghost use Rattle.op_check_stmt.specs.Parts.{bounds_of, branches_in, head_of, paired, statements_in};
-ghost use Rattle.op_check_stmt.specs.Statements.{all_spots, assign_means, bound_of, branches, condition, condition_means, handlers_mean, head_means, statement, statements, stored, type_in};
+ghost use Rattle.op_check_stmt.specs.Statements.{StmtIs, all_spots, assign_means, bound_of, branches, condition, condition_means, handlers_mean, head_means, statement, statements, stored, type_in};
 ghost use Rattle.op_core.specs.Expression.{expr_of as typed_of};
 ghost use Rattle.op_core.specs.Statement.{stmt_of as typed_statement};
 ghost use Rattle.op_tree.specs.Expression.{expr_of};
@@ -21,12 +21,32 @@ use crate::procedure::call;
 use crate::variable::{Counter, check_counter};
 use op_base::{NoMemory, Place};
 use op_check_expr::{Around, Checker, Scope, Value, as_type, leave_out, refuse, type_of};
-use op_core::{CoreBranch, CoreExpr, CoreStmt, FirstRefusal, TypeId, VariableId};
+use op_core::{CheckError, CoreBranch, CoreExpr, CoreStmt, FirstRefusal, TypeId, VariableId};
 use op_tree::{Branch, Designator, Expr, Handler, Position, Stmt};
 use op_types::{assignable, start_of};
+use std::alloc::Global;
 
 /// A typed statement; None where a rule is broken in it.
 pub type Typed = Result<Option<CoreStmt>, NoMemory>;
+
+/// The typed statement, or the first rule that it breaks. A statement without a type in which no rule is broken names what another
+/// rule was broken for: its answer is want of memory, which a checker of whole units never passes on.
+pub fn stmt(alloc: Global, scope: &Scope, s: &Stmt) -> Result<CoreStmt, CheckError>
+    ensures { StmtIs (statement (here_of scope.now) (stmt_of s.now)) result }
+{
+    let mut sink = FirstRefusal::new();
+    let here = Checker {
+        alloc,
+        scope: *scope,
+    };
+    match statement(here, &mut sink, s)? {
+        Some(typed) => sink.or_typed(typed),
+        None => match sink.kept {
+            Some(refusal) => Err(CheckError::Refused(refusal)),
+            None => Err(CheckError::NoMemory),
+        },
+    }
+}
 
 /// Checks a statement; the rules that it breaks go into the sink.
 #[cycle(statements)]
