@@ -1,8 +1,8 @@
 -- What is reported part by part, and lists of parts.
-use Rattle.std.proofs.Common.{◌≡◌, ℕ, suc, ◌<◌, ◌+◌, List, [], ◌∷◌, ◌++◌, length, drop, drop-cons, add-one, get_or, Option, None, Some, Result, Ok, Err, IfOk, refl, sym, ap, subst, ◌∙◌, arith}
+use Rattle.std.proofs.Common.{◌≡◌, ℕ, suc, ◌<◌, ◌+◌, List, [], ◌∷◌, ◌++◌, length, append_assoc, Option, None, Some, Result, Ok, Err, IfOk, refl, sym, ap, subst, ◌∙◌, arith}
 use Rattle.std.specs.Option.{option_map}
-use Rattle.op_check_expr.specs.Words.{Reports, followed}
-use Rattle.op_check_stmt.specs.Parts.{all_typed, both_typed, of_two, of_three, with_last}
+use Rattle.op_check_expr.specs.Words.{Reports, changed, followed}
+use Rattle.op_check_stmt.specs.Parts.{both_typed, of_two, paired, with_last}
 use Rattle.op_core.specs.Faults.{Faults, Checked, fine, kept}
 use Rattle.op_core.specs.declared.first_refusal.FirstRefusal.{FirstRefusal}
 
@@ -12,13 +12,25 @@ map_ok (Err e) f h = h
 
 -- ---- one part after the other
 
+pub one : {A B : Type 0} (f : A → B) (a : Checked A) (old new : FirstRefusal) (x : Option A) (t : Option B) → Reports a old new x → t ≡ option_map f x → Reports (changed f a) old new t
+one f a old new x t h e = (e ∙ ap (option_map f) h.0, h.1)
+
 pub two : {A B C : Type 0} (f : A → B → C) (a : Checked A) (b : Checked B) (old mid new : FirstRefusal) (x : Option A) (y : Option B) (t : Option C) → Reports a old mid x → Reports b mid new y → t ≡ both_typed f x y → Reports (of_two f a b) old new t
 two f a b old mid new x y t h k e =
     (e ∙ (λ i. both_typed f (h.0 i) (k.0 i)), k.1 ∙ ap (λ s. kept s b.faults) h.1)
 
-pub three : {A B C D : Type 0} (f : A → B → C → D) (a : Checked A) (b : Checked B) (c : Checked C) (old mid far new : FirstRefusal) (x : Option A) (y : Option B) (z : Option C) (t : Option D) → Reports a old mid x → Reports b mid far y → Reports c far new z → t ≡ all_typed f x y z → Reports (of_three f a b c) old new t
-three f a b c old mid far new x y z t h k l e =
-    (e ∙ (λ i. all_typed f (h.0 i) (k.0 i) (l.0 i)), l.1 ∙ ap (λ s. kept s c.faults) (k.1 ∙ ap (λ s. kept s b.faults) h.1))
+through : {X Y A B C : Type 0} (v : X → A) (w : Y → B) (f : A → B → C) (x : Option X) (y : Option Y) → option_map (λ p. f (v p.0) (w p.1)) (both_typed (λ x y. (x, y)) x y) ≡ both_typed f (option_map v x) (option_map w y)
+through v w f None y = refl
+through v w f (Some x) None = refl
+through v w f (Some x) (Some y) = refl
+
+-- a node that is made of a pair
+pub made : {X Y A B C : Type 0} (v : X → A) (w : Y → B) (f : A → B → C) (a : Checked A) (b : Checked B) (old mid new : FirstRefusal) (x : Option X) (y : Option Y) (p : Option (X × Y)) (t : Option C) → Reports a old mid (option_map v x) → Reports b mid new (option_map w y) → p ≡ both_typed (λ x y. (x, y)) x y → t ≡ option_map (λ p. f (v p.0) (w p.1)) p → Reports (of_two f a b) old new t
+made v w f a b old mid new x y p t h k e g =
+    two f a b old mid new (option_map v x) (option_map w y) t h k (g ∙ ap (option_map (λ p. f (v p.0) (w p.1))) e ∙ through v w f x y)
+
+pub pairs : {X Y A B : Type 0} (v : X → A) (w : Y → B) (a : Checked A) (b : Checked B) (old mid new : FirstRefusal) (x : Option X) (y : Option Y) (p : Option (X × Y)) → Reports a old mid (option_map v x) → Reports b mid new (option_map w y) → p ≡ both_typed (λ x y. (x, y)) x y → Reports (paired a b) old new (option_map (λ p. (v p.0, w p.1)) p)
+pairs v w a b old mid new x y p h k e = made v w (λ a b. (a, b)) a b old mid new x y p (option_map (λ p. (v p.0, w p.1)) p) h k e refl
 
 -- what is made of a part that stands behind it
 pub then : {A B : Type 0} (a : Checked A) (f : Option A → Checked B) (old mid new : FirstRefusal) (x : Option A) (t : Option B) → Reports a old mid x → Reports (f x) mid new t → Reports (followed a f) old new t
@@ -76,3 +88,8 @@ ends view add nil f h list whole old new c =
 pub same : {A : Type 0} (x : Option A) → x ≡ option_map (λ y. y) x
 same None = refl
 same (Some x) = refl
+
+-- what is noted of one more part
+pub noted : {S : Type 0} (others more whole own rest all : List S) → more ≡ others ++ own → all ≡ own ++ rest → others ++ all ≡ whole → more ++ rest ≡ whole
+noted others more whole own rest all h k e =
+    ap (λ m. m ++ rest) h ∙ append_assoc others own rest ∙ ap (λ r. others ++ r) (sym k) ∙ e

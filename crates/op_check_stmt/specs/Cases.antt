@@ -90,8 +90,9 @@ spots here of (elements e es) = option_to_list (label here of e).typed ++ spots 
 
 -- ---- labels that are there twice
 
+-- both have a value, and neither ends before the other begins
 abbrev pub overlap : Label → Label → Bool
-overlap a b = int_le a.first b.last && int_le b.first a.last
+overlap a b = int_le a.first a.last && int_le b.first b.last && int_le a.first b.last && int_le b.first a.last
 
 -- a label has a value of one in front of it
 abbrev pub is_repeated : List Spot → Spot → Bool

@@ -16,15 +16,14 @@ both_typed f None b = None
 both_typed f (Some a) None = None
 both_typed f (Some a) (Some b) = Some (f a b)
 
-abbrev pub all_typed : {A B C D : Type 0} → (A → B → C → D) → Option A → Option B → Option C → Option D
-all_typed f None b c = None
-all_typed f (Some a) b c = both_typed (f a) b c
-
 abbrev pub of_two : {A B C : Type 0} → (A → B → C) → Checked A → Checked B → Checked C
 of_two f a b = record { typed = both_typed f a.typed b.typed; faults = both a.faults b.faults }
 
+abbrev pub paired : {A B : Type 0} → Checked A → Checked B → Checked (A × B)
+paired a b = of_two (λ a b. (a, b)) a b
+
 abbrev pub of_three : {A B C D : Type 0} → (A → B → C → D) → Checked A → Checked B → Checked C → Checked D
-of_three f a b c = record { typed = all_typed f a.typed b.typed c.typed; faults = both (both a.faults b.faults) c.faults }
+of_three f a b c = of_two (λ p c. f p.0 p.1 c) (paired a b) c
 
 -- ---- lists
 
@@ -41,9 +40,6 @@ abbrev pub branches_in : Option (Vec CoreBranch Global) → Option Branches
 branches_in list = option_map (λ v. branches_of v.items) list
 
 -- ---- pairs
-
-abbrev pub paired : {A B : Type 0} → Checked A → Checked B → Checked (A × B)
-paired a b = of_two (λ a b. (a, b)) a b
 
 abbrev pub bounds_of : CoreExpr × CoreExpr → Expression × Expression
 bounds_of pair = (expr_of pair.0, expr_of pair.1)

@@ -4,7 +4,7 @@ ghost use Rattle.std.specs.Option.{option_map};
 ghost use Rattle.op_check_expr.specs.Scopes.{here_of};
 ghost use Rattle.op_check_expr.specs.Values.{value_of};
 ghost use Rattle.op_check_expr.specs.Words.{Reports};
-ghost use Rattle.op_check_stmt.specs.Parts.{both_typed, items_of};
+ghost use Rattle.op_check_stmt.specs.Parts.{items_of};
 ghost use Rattle.op_check_stmt.specs.Procedures.{base_in, change, base_of, change_means, count_means, counted, counted_means, is_text, item, items, member, place_counted, set, set_means, text, text_means, unit_amount, values_of, written};
 ghost use Rattle.op_core.specs.Expression.{expr_of as typed_of};
 ghost use Rattle.op_core.specs.Statement.{built_in, count, item_of, padded, stmt_of, target_of};
@@ -13,6 +13,7 @@ ghost use Rattle.op_tree.specs.Lists.{arguments_of};
 
 use crate::given::Given;
 use crate::list::collect;
+use crate::node::pair;
 use crate::variable::is_ordinal;
 use op_base::{NoMemory, Place};
 use op_check_expr::{
@@ -72,19 +73,19 @@ fn item(
         Argument::Padded(e, width) => {
             let e = text(here, sink, e)?;
             let width = here.given(sink, TypeId::INTEGER, false, width)?;
-            Ok(padded(e, width))
+            Ok(padded(pair(e, width)))
         }
         Argument::Rounded(_, _, digits) => Ok(leave_out(sink, 35, start_of(digits))),
     }
 }
 
-fn padded(e: Option<CoreExpr>, width: Option<CoreExpr>) -> Option<CoreItem>
-    ensures { option_map item_of result ≡ both_typed padded (option_map typed_of e) (option_map typed_of width) }
+fn padded(parts: Option<(CoreExpr, CoreExpr)>) -> Option<CoreItem>
+    ensures { option_map item_of result ≡ option_map (λ p. padded (typed_of p.0) (typed_of p.1)) parts }
 {
-    let (Some(e), Some(width)) = (e, width) else {
-        return None;
-    };
-    Some(CoreItem::Padded(e, width))
+    match parts {
+        None => None,
+        Some((e, width)) => Some(CoreItem::Padded(e, width)),
+    }
 }
 
 /// What has a text: rule 60 where it is no integer, Boolean, Char or string.
@@ -139,12 +140,12 @@ pub fn count(
         Given::One(e) => {
             let target = counted(here, sink, position_of(e).switches.r, e)?;
             let amount = unit_amount(here.alloc);
-            Ok(count_by(direction, checked, target, Some(amount)))
+            Ok(count_by(direction, checked, pair(target, Some(amount))))
         }
         Given::Two(e, by) => {
             let target = counted(here, sink, position_of(e).switches.r, e)?;
             let amount = here.given(sink, TypeId::INTEGER, false, by)?;
-            Ok(count_by(direction, checked, target, amount))
+            Ok(count_by(direction, checked, pair(target, amount)))
         }
         _ => Ok(refuse(sink, 26, name.position.place)),
     }
@@ -153,20 +154,19 @@ pub fn count(
 fn count_by(
     direction: Direction,
     checked: bool,
-    target: Option<CoreTarget>,
-    amount: Option<CoreExpr>,
+    parts: Option<(CoreTarget, CoreExpr)>,
 ) -> Option<CoreStmt>
-    ensures { option_map stmt_of result ≡ both_typed (λ t n. built_in (count direction t n checked)) (option_map target_of target) (option_map typed_of amount) }
+    ensures { option_map stmt_of result ≡ option_map (λ p. built_in (count direction (target_of p.0) (typed_of p.1) checked)) parts }
 {
-    let (Some(target), Some(amount)) = (target, amount) else {
-        return None;
-    };
-    Some(CoreStmt::Do(CoreAction::Count {
-        direction,
-        target,
-        amount,
-        checked,
-    }))
+    match parts {
+        None => None,
+        Some((target, amount)) => Some(CoreStmt::Do(CoreAction::Count {
+            direction,
+            target,
+            amount,
+            checked,
+        })),
+    }
 }
 
 /// What is not written, and so is no node of the text.
@@ -228,26 +228,23 @@ pub fn change(
             let set = check_set(here, sink, set)?;
             let base = base_in(here.scope.core, &set);
             let element = member(here, sink, base, element)?;
-            Ok(changed(includes, set, element))
+            Ok(changed(includes, pair(set, element)))
         }
         _ => Ok(refuse(sink, 26, name.position.place)),
     }
 }
 
-fn changed(
-    includes: bool,
-    set: Option<CoreExpr>,
-    element: Option<CoreExpr>,
-) -> Option<CoreStmt>
-    ensures { option_map stmt_of result ≡ both_typed (change includes) (option_map typed_of set) (option_map typed_of element) }
+fn changed(includes: bool, parts: Option<(CoreExpr, CoreExpr)>) -> Option<CoreStmt>
+    ensures { option_map stmt_of result ≡ option_map (λ p. change includes (typed_of p.0) (typed_of p.1)) parts }
 {
-    let (Some(set), Some(element)) = (set, element) else {
-        return None;
-    };
-    if includes {
-        Some(CoreStmt::Do(CoreAction::Include { set, element }))
-    } else {
-        Some(CoreStmt::Do(CoreAction::Exclude { set, element }))
+    match (parts, includes) {
+        (None, _) => None,
+        (Some((set, element)), true) => {
+            Some(CoreStmt::Do(CoreAction::Include { set, element }))
+        }
+        (Some((set, element)), false) => {
+            Some(CoreStmt::Do(CoreAction::Exclude { set, element }))
+        }
     }
 }
 

@@ -13,7 +13,8 @@ mod repeated;
 mod variable;
 mod walk;
 
-pub use walk::{Typed, statement, statements, stmt};
+pub use node::Typed;
+pub use walk::{statement, statements, stmt};
 
 #[cfg(test)]
 mod tests;

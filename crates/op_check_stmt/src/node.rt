@@ -1,7 +1,7 @@
 //! Typed statements, made of parts that may have no type.
 ghost use Rattle.std.specs.Prelude.{◌≡◌, IfOk};
 ghost use Rattle.std.specs.Option.{option_map};
-ghost use Rattle.op_check_stmt.specs.Parts.{all_typed, both_typed, bounds_of, branch_of, head_of, items_of, statements_in};
+ghost use Rattle.op_check_stmt.specs.Parts.{both_typed, bounds_of, branch_of, head_of, statements_in};
 ghost use Rattle.op_check_stmt.specs.Statements.{case_statement, for_statement, try_all};
 ghost use Rattle.op_core.specs.Expression.{expr_of};
 ghost use Rattle.op_core.specs.Nodes.{branches_of, handlers_of};
@@ -13,6 +13,9 @@ use op_core::{CoreBranch, CoreExpr, CoreHandler, CoreStmt, Label};
 use op_tree::Direction;
 use std::alloc::Global;
 
+/// A typed statement; None where a rule is broken in it.
+pub type Typed = Result<Option<CoreStmt>, NoMemory>;
+
 pub fn block(statements: Option<Vec<CoreStmt>>) -> Option<CoreStmt>
     ensures { option_map stmt_of result ≡ option_map block (statements_in statements) }
 {
@@ -22,172 +25,7 @@ pub fn block(statements: Option<Vec<CoreStmt>>) -> Option<CoreStmt>
     }
 }
 
-pub fn if_then(
-    alloc: Global,
-    condition: Option<CoreExpr>,
-    then: Option<CoreStmt>,
-) -> Result<Option<CoreStmt>, NoMemory>
-    ensures { IfOk result (λ s. option_map stmt_of s ≡ both_typed if_then (option_map expr_of condition) (option_map stmt_of then)) }
-{
-    let (Some(condition), Some(then)) = (condition, then) else {
-        return Ok(None);
-    };
-    let then = Box::new(alloc, then)?;
-    Ok(Some(CoreStmt::If { condition, then }))
-}
-
-pub fn if_else(
-    alloc: Global,
-    condition: Option<CoreExpr>,
-    then: Option<CoreStmt>,
-    otherwise: Option<CoreStmt>,
-) -> Result<Option<CoreStmt>, NoMemory>
-    ensures { IfOk result (λ s. option_map stmt_of s ≡ all_typed if_else (option_map expr_of condition) (option_map stmt_of then) (option_map stmt_of otherwise)) }
-{
-    match condition {
-        None => Ok(None),
-        Some(condition) => if_else_on(alloc, condition, then, otherwise),
-    }
-}
-
-fn if_else_on(
-    alloc: Global,
-    condition: CoreExpr,
-    then: Option<CoreStmt>,
-    otherwise: Option<CoreStmt>,
-) -> Result<Option<CoreStmt>, NoMemory>
-    ensures { IfOk result (λ s. option_map stmt_of s ≡ both_typed (if_else (expr_of condition)) (option_map stmt_of then) (option_map stmt_of otherwise)) }
-{
-    let (Some(then), Some(otherwise)) = (then, otherwise) else {
-        return Ok(None);
-    };
-    let then = Box::new(alloc, then)?;
-    let otherwise = Box::new(alloc, otherwise)?;
-    Ok(Some(CoreStmt::IfElse {
-        condition,
-        then,
-        otherwise,
-    }))
-}
-
-pub fn while_do(
-    alloc: Global,
-    condition: Option<CoreExpr>,
-    body: Option<CoreStmt>,
-) -> Result<Option<CoreStmt>, NoMemory>
-    ensures { IfOk result (λ s. option_map stmt_of s ≡ both_typed while_do (option_map expr_of condition) (option_map stmt_of body)) }
-{
-    let (Some(condition), Some(body)) = (condition, body) else {
-        return Ok(None);
-    };
-    let body = Box::new(alloc, body)?;
-    Ok(Some(CoreStmt::While { condition, body }))
-}
-
-pub fn repeat_until(body: Option<Vec<CoreStmt>>, condition: Option<CoreExpr>) -> Option<CoreStmt>
-    ensures { option_map stmt_of result ≡ both_typed repeat_until (statements_in body) (option_map expr_of condition) }
-{
-    let (Some(body), Some(condition)) = (body, condition) else {
-        return None;
-    };
-    Some(repeat_of(body, condition))
-}
-
-pub fn for_to(
-    alloc: Global,
-    direction: Direction,
-    counter: Option<Counter>,
-    bounds: Option<(CoreExpr, CoreExpr)>,
-    body: Option<CoreStmt>,
-) -> Result<Option<CoreStmt>, NoMemory>
-    ensures { IfOk result (λ s. option_map stmt_of s ≡ all_typed (for_statement direction) counter (option_map bounds_of bounds) (option_map stmt_of body)) }
-{
-    match counter {
-        None => Ok(None),
-        Some(counter) => for_with(alloc, direction, counter, bounds, body),
-    }
-}
-
-fn for_with(
-    alloc: Global,
-    direction: Direction,
-    counter: Counter,
-    bounds: Option<(CoreExpr, CoreExpr)>,
-    body: Option<CoreStmt>,
-) -> Result<Option<CoreStmt>, NoMemory>
-    ensures { IfOk result (λ s. option_map stmt_of s ≡ both_typed (for_statement direction counter) (option_map bounds_of bounds) (option_map stmt_of body)) }
-{
-    let (Some((first, last)), Some(body)) = (bounds, body) else {
-        return Ok(None);
-    };
-    let body = Box::new(alloc, body)?;
-    Ok(Some(CoreStmt::For {
-        variable: counter.variable,
-        first,
-        direction,
-        last,
-        body,
-    }))
-}
-
-pub fn try_finally(
-    body: Option<Vec<CoreStmt>>,
-    finalization: Option<Vec<CoreStmt>>,
-) -> Option<CoreStmt>
-    ensures { option_map stmt_of result ≡ both_typed try_finally (statements_in body) (statements_in finalization) }
-{
-    let (Some(body), Some(finalization)) = (body, finalization) else {
-        return None;
-    };
-    Some(finally_of(body, finalization))
-}
-
-/// With statements that take every exception.
-pub fn try_except(
-    alloc: Global,
-    body: Option<Vec<CoreStmt>>,
-    otherwise: Option<Vec<CoreStmt>>,
-) -> Option<CoreStmt>
-    ensures { option_map stmt_of result ≡ both_typed try_all (statements_in body) (statements_in otherwise) }
-{
-    let (Some(body), Some(otherwise)) = (body, otherwise) else {
-        return None;
-    };
-    Some(except_of(body, Vec::new(alloc), otherwise))
-}
-
-pub fn case_of(
-    head: Option<(CoreExpr, Vec<CoreBranch>)>,
-    otherwise: Option<Vec<CoreStmt>>,
-) -> Option<CoreStmt>
-    ensures { option_map stmt_of result ≡ both_typed case_statement (option_map head_of head) (statements_in otherwise) }
-{
-    let (Some((selector, branches)), Some(otherwise)) = (head, otherwise) else {
-        return None;
-    };
-    Some(case_with(selector, branches, otherwise))
-}
-
-pub fn branch(labels: Option<Vec<Label>>, body: Option<CoreStmt>) -> Option<CoreBranch>
-    ensures { option_map branch_of result ≡ both_typed (λ l s. (l, s)) (items_of labels) (option_map stmt_of body) }
-{
-    let (Some(labels), Some(body)) = (labels, body) else {
-        return None;
-    };
-    let labels = Sequence::from(labels);
-    Some(CoreBranch { labels, body })
-}
-
-pub fn assign(target: Option<CoreExpr>, value: Option<CoreExpr>) -> Option<CoreStmt>
-    ensures { option_map stmt_of result ≡ both_typed assign (option_map expr_of target) (option_map expr_of value) }
-{
-    let (Some(target), Some(value)) = (target, value) else {
-        return None;
-    };
-    Some(CoreStmt::Assign { target, value })
-}
-
-/// Both parts.
+/// Both parts, where both are typed.
 pub fn pair<A: Drop, B: Drop>(a: Option<A>, b: Option<B>) -> Option<(A, B)>
     ensures { result ≡ both_typed (λ a b. (a, b)) a b }
 {
@@ -195,6 +33,132 @@ pub fn pair<A: Drop, B: Drop>(a: Option<A>, b: Option<B>) -> Option<(A, B)>
         return None;
     };
     Some((a, b))
+}
+
+pub fn if_then(alloc: Global, parts: Option<(CoreExpr, CoreStmt)>) -> Typed
+    ensures { IfOk result (λ s. option_map stmt_of s ≡ option_map (λ p. if_then (expr_of p.0) (stmt_of p.1)) parts) }
+{
+    match parts {
+        None => Ok(None),
+        Some((condition, then)) => {
+            let then = Box::new(alloc, then)?;
+            Ok(Some(CoreStmt::If { condition, then }))
+        }
+    }
+}
+
+pub fn if_else(alloc: Global, parts: Option<((CoreExpr, CoreStmt), CoreStmt)>) -> Typed
+    ensures { IfOk result (λ s. option_map stmt_of s ≡ option_map (λ p. if_else (expr_of p.0.0) (stmt_of p.0.1) (stmt_of p.1)) parts) }
+{
+    match parts {
+        None => Ok(None),
+        Some(((condition, then), otherwise)) => {
+            let then = Box::new(alloc, then)?;
+            let otherwise = Box::new(alloc, otherwise)?;
+            Ok(Some(CoreStmt::IfElse {
+                condition,
+                then,
+                otherwise,
+            }))
+        }
+    }
+}
+
+pub fn while_do(alloc: Global, parts: Option<(CoreExpr, CoreStmt)>) -> Typed
+    ensures { IfOk result (λ s. option_map stmt_of s ≡ option_map (λ p. while_do (expr_of p.0) (stmt_of p.1)) parts) }
+{
+    match parts {
+        None => Ok(None),
+        Some((condition, body)) => {
+            let body = Box::new(alloc, body)?;
+            Ok(Some(CoreStmt::While { condition, body }))
+        }
+    }
+}
+
+pub fn for_to(
+    alloc: Global,
+    direction: Direction,
+    parts: Option<((Counter, (CoreExpr, CoreExpr)), CoreStmt)>,
+) -> Typed
+    ensures { IfOk result (λ s. option_map stmt_of s ≡ option_map (λ p. for_statement direction p.0.0 (bounds_of p.0.1) (stmt_of p.1)) parts) }
+{
+    match parts {
+        None => Ok(None),
+        Some(((counter, (first, last)), body)) => {
+            let body = Box::new(alloc, body)?;
+            Ok(Some(CoreStmt::For {
+                variable: counter.variable,
+                first,
+                direction,
+                last,
+                body,
+            }))
+        }
+    }
+}
+
+pub fn repeat_until(parts: Option<(Vec<CoreStmt>, CoreExpr)>) -> Option<CoreStmt>
+    ensures { option_map stmt_of result ≡ option_map (λ p. repeat_until (stmts_of p.0.items) (expr_of p.1)) parts }
+{
+    match parts {
+        None => None,
+        Some((body, condition)) => Some(repeat_of(body, condition)),
+    }
+}
+
+pub fn try_finally(parts: Option<(Vec<CoreStmt>, Vec<CoreStmt>)>) -> Option<CoreStmt>
+    ensures { option_map stmt_of result ≡ option_map (λ p. try_finally (stmts_of p.0.items) (stmts_of p.1.items)) parts }
+{
+    match parts {
+        None => None,
+        Some((body, finalization)) => Some(finally_of(body, finalization)),
+    }
+}
+
+/// With statements that take every exception.
+pub fn try_except(
+    alloc: Global,
+    parts: Option<(Vec<CoreStmt>, Vec<CoreStmt>)>,
+) -> Option<CoreStmt>
+    ensures { option_map stmt_of result ≡ option_map (λ p. try_all (stmts_of p.0.items) (stmts_of p.1.items)) parts }
+{
+    match parts {
+        None => None,
+        Some((body, otherwise)) => Some(except_of(body, Vec::new(alloc), otherwise)),
+    }
+}
+
+pub fn case_of(parts: Option<((CoreExpr, Vec<CoreBranch>), Vec<CoreStmt>)>) -> Option<CoreStmt>
+    ensures { option_map stmt_of result ≡ option_map (λ p. case_statement (head_of p.0) (stmts_of p.1.items)) parts }
+{
+    match parts {
+        None => None,
+        Some(((selector, branches), otherwise)) => {
+            Some(case_with(selector, branches, otherwise))
+        }
+    }
+}
+
+pub fn branch(parts: Option<(Vec<Label>, CoreStmt)>) -> Option<CoreBranch>
+    ensures { option_map branch_of result ≡ option_map (λ p. (p.0.items, stmt_of p.1)) parts }
+{
+    match parts {
+        None => None,
+        Some((labels, body)) => {
+            let labels = Sequence::from(labels);
+            Some(CoreBranch { labels, body })
+        }
+    }
+}
+
+pub fn assign(parts: Option<(CoreExpr, CoreExpr)>) -> Option<CoreStmt>
+    ensures { option_map stmt_of result ≡ option_map (λ p. assign (expr_of p.0) (expr_of p.1)) parts }
+{
+    match parts {
+        None => None,
+        Some((target, value)) => Some(CoreStmt::Assign { target, value }),
+    }
 }
 
 // Each node with a list alone, whose clause is a law of the typed tree.

@@ -1,6 +1,9 @@
 //! Labels that are there twice.
-ghost use Rattle.std.specs.Prelude.{◌≡◌, IfOk};
-ghost use Rattle.op_check_stmt.specs.Cases.{repeated};
+ghost use Rattle.std.specs.Prelude.{◌≡◌, ◌&&◌, ℤ, int_le, true, false, Some, IfOk};
+ghost use Rattle.std.specs.BTreeMap.{get};
+ghost use Rattle.std.specs.Ordering.{int_cmp};
+ghost use Rattle.op_check_stmt.specs.Cases.{overlap, repeated};
+ghost use Rattle.op_check_stmt.specs.Seen.{Apart, Met, from_to};
 
 use crate::case::Spot;
 use op_base::{NoMemory, Place};
@@ -17,15 +20,29 @@ pub fn repeated(alloc: Global, labels: &[Spot]) -> Result<Option<Place>, NoMemor
         if meets(&last_by_first, spot.label) {
             return Ok(Some(spot.place));
         }
-        last_by_first.insert(spot.label.first, spot.label.last)?;
+        if spot.label.first <= spot.label.last {
+            last_by_first.insert(spot.label.first, spot.label.last)?;
+        }
     }
     Ok(None)
 }
 
 /// Whether a label has a value of others, of which no two have one in common.
-fn meets(last_by_first: &BTreeMap<i32, i32>, label: Label) -> bool {
-    match last_by_first.range(..=label.last).next_back() {
+fn meets(last_by_first: &BTreeMap<i32, i32>, label: Label) -> bool
+    requires { Apart last_by_first.now }
+    ensures met { result ≡ true → Met last_by_first.now label }
+    ensures apart { result ≡ false → (first : ℤ) → (last : ℤ) → get int_cmp last_by_first.now first ≡ Some last → overlap (from_to first last) label ≡ false }
+{
+    let mut up_to = last_by_first.range(..=label.last);
+    match up_to.next_back() {
         None => false,
-        Some((_, last)) => label.first <= *last,
+        Some((_, last)) => reaches(label, *last),
     }
+}
+
+/// Whether a label has values, and begins at this number or in front of it.
+fn reaches(label: Label, last: i32) -> bool
+    ensures { result ≡ (int_le label.first last && int_le label.first label.last) }
+{
+    label.first <= last && label.first <= label.last
 }

@@ -16,7 +16,7 @@ ghost use Rattle.op_tree.specs.Statement.{designator_of, stmt_of, stmts_of};
 use crate::case::{Spot, distinct, labels, selector};
 use crate::leaving::within;
 use crate::list::collect;
-use crate::node;
+use crate::node::{self, Typed, pair};
 use crate::procedure::call;
 use crate::variable::{Counter, check_counter};
 use op_base::{NoMemory, Place};
@@ -25,9 +25,6 @@ use op_core::{CheckError, CoreBranch, CoreExpr, CoreStmt, FirstRefusal, TypeId, 
 use op_tree::{Branch, Designator, Expr, Handler, Position, Stmt};
 use op_types::{assignable, start_of};
 use std::alloc::Global;
-
-/// A typed statement; None where a rule is broken in it.
-pub type Typed = Result<Option<CoreStmt>, NoMemory>;
 
 /// The typed statement, or the first rule that it breaks. A statement without a type in which no rule is broken names what another
 /// rule was broken for: its answer is want of memory, which a checker of whole units never passes on.
@@ -59,7 +56,7 @@ pub fn statement(here: Checker, sink: &mut FirstRefusal, s: &Stmt) -> Typed
         Stmt::If { condition, then } => {
             let condition = check_condition(here, sink, condition)?;
             let then = statement(here, sink, then)?;
-            node::if_then(here.alloc, condition, then)
+            node::if_then(here.alloc, pair(condition, then))
         }
         Stmt::IfElse {
             condition,
@@ -69,11 +66,11 @@ pub fn statement(here: Checker, sink: &mut FirstRefusal, s: &Stmt) -> Typed
             let condition = check_condition(here, sink, condition)?;
             let then = statement(here, sink, then)?;
             let otherwise = statement(here, sink, otherwise)?;
-            node::if_else(here.alloc, condition, then, otherwise)
+            node::if_else(here.alloc, pair(pair(condition, then), otherwise))
         }
         Stmt::Case { selector, branches } => {
             let head = case_head(here, sink, branches, selector)?;
-            Ok(node::case_of(head, Some(Vec::new(here.alloc))))
+            Ok(node::case_of(pair(head, Some(Vec::new(here.alloc)))))
         }
         Stmt::CaseElse {
             selector,
@@ -81,18 +78,20 @@ pub fn statement(here: Checker, sink: &mut FirstRefusal, s: &Stmt) -> Typed
             otherwise,
         } => {
             let head = case_head(here, sink, branches, selector)?;
-            Ok(node::case_of(head, statements(here, sink, otherwise)?))
+            let otherwise = statements(here, sink, otherwise)?;
+            Ok(node::case_of(pair(head, otherwise)))
         }
         Stmt::While { condition, body } => {
             let condition = check_condition(here, sink, condition)?;
             let around = within(here.alloc, here.scope.around, Around::Loop(None))?;
             let body = statement(inside(here, around.as_slice()), sink, body)?;
-            node::while_do(here.alloc, condition, body)
+            node::while_do(here.alloc, pair(condition, body))
         }
         Stmt::Repeat { body, condition } => {
             let around = within(here.alloc, here.scope.around, Around::Loop(None))?;
             let body = statements(inside(here, around.as_slice()), sink, body)?;
-            Ok(node::repeat_until(body, check_condition(here, sink, condition)?))
+            let condition = check_condition(here, sink, condition)?;
+            Ok(node::repeat_until(pair(body, condition)))
         }
         Stmt::For {
             variable,
@@ -106,20 +105,20 @@ pub fn statement(here: Checker, sink: &mut FirstRefusal, s: &Stmt) -> Typed
             let part = Around::Loop(variable_of(counter));
             let around = within(here.alloc, here.scope.around, part)?;
             let body = statement(inside(here, around.as_slice()), sink, body)?;
-            node::for_to(here.alloc, *direction, counter, bounds, body)
+            node::for_to(here.alloc, *direction, pair(pair(counter, bounds), body))
         }
         Stmt::ForIn { variable, .. } => Ok(leave_out(sink, 41, variable.position.place)),
         Stmt::TryFinally { body, finalization } => {
             let body = statements(here, sink, body)?;
             let around = within(here.alloc, here.scope.around, Around::Finally)?;
             let last = statements(inside(here, around.as_slice()), sink, finalization)?;
-            Ok(node::try_finally(body, last))
+            Ok(node::try_finally(pair(body, last)))
         }
         Stmt::TryExcept { body, handler } => {
             let body = statements(here, sink, body)?;
             let around = within(here.alloc, here.scope.around, Around::Handler)?;
             let handler = statements(inside(here, around.as_slice()), sink, handler)?;
-            Ok(node::try_except(here.alloc, body, handler))
+            Ok(node::try_except(here.alloc, pair(body, handler)))
         }
         Stmt::TryOn { body, handlers } => {
             statements(here, sink, body)?;
@@ -175,7 +174,7 @@ fn case_head(
     let of = type_in(&selector);
     let mut spots = Vec::new(here.alloc);
     let branches = branches(here, sink, list, &mut spots, of)?;
-    distinct(here.alloc, sink, spots.as_slice(), node::pair(selector, branches))
+    distinct(here.alloc, sink, spots.as_slice(), pair(selector, branches))
 }
 
 /// The branches of a case, where the selector has this type. Their labels go behind the others of the case.
@@ -194,7 +193,8 @@ fn branches(
     for branch in list {
         let labels = labels(here, sink, spots, of, &branch.labels)?;
         let body = statement(here, sink, &branch.body)?;
-        collect(&mut typed, node::branch(labels, body))?;
+        let part = node::branch(pair(labels, body));
+        collect(&mut typed, part)?;
     }
     Ok(typed)
 }
@@ -307,7 +307,7 @@ fn bounds(
     };
     let first = stored(here, sink, of, false, first)?;
     let last = stored(here, sink, of, false, last)?;
-    Ok(node::pair(first, last))
+    Ok(pair(first, last))
 }
 
 /// An assignment, with the position of its `:=`, whose switch R tells whether ranges are checked.
@@ -323,5 +323,5 @@ fn assignment(
     let target = here.target(sink, target)?;
     let of = type_in(&target);
     let value = stored(here, sink, of, position.switches.r, value)?;
-    Ok(node::assign(target, value))
+    Ok(node::assign(pair(target, value)))
 }
