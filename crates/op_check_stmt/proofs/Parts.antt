@@ -1,8 +1,9 @@
 -- What is reported part by part, and lists of parts.
 use Rattle.std.proofs.Common.{◌≡◌, ℕ, suc, ◌<◌, ◌+◌, List, [], ◌∷◌, ◌++◌, length, append_assoc, Option, None, Some, Result, Ok, Err, IfOk, refl, sym, ap, subst, ◌∙◌, arith}
 use Rattle.std.specs.Option.{option_map}
+use Rattle.op_base.specs.declared.memory_error.NoMemory.{NoMemory}
 use Rattle.op_check_expr.specs.Words.{Reports, changed, followed}
-use Rattle.op_check_stmt.specs.Parts.{both_typed, of_two, paired, with_last}
+use Rattle.op_check_stmt.specs.Parts.{both_typed, joined, of_two, paired, with_last}
 use Rattle.op_core.specs.Faults.{Faults, Checked, fine, kept}
 use Rattle.op_core.specs.declared.first_refusal.FirstRefusal.{FirstRefusal}
 
@@ -31,6 +32,24 @@ made v w f a b old mid new x y p t h k e g =
 
 pub pairs : {X Y A B : Type 0} (v : X → A) (w : Y → B) (a : Checked A) (b : Checked B) (old mid new : FirstRefusal) (x : Option X) (y : Option Y) (p : Option (X × Y)) → Reports a old mid (option_map v x) → Reports b mid new (option_map w y) → p ≡ both_typed (λ x y. (x, y)) x y → Reports (paired a b) old new (option_map (λ p. (v p.0, w p.1)) p)
 pairs v w a b old mid new x y p h k e = made v w (λ a b. (a, b)) a b old mid new x y p (option_map (λ p. (v p.0, w p.1)) p) h k e refl
+
+-- the same, of a part that may want memory
+pub joins : {X Y A B : Type 0} (v : X → A) (w : Y → B) (a : Checked A) (b : Checked B) (old mid new : FirstRefusal) (x : Option X) (r : Result (Option Y) NoMemory) (p : Option (X × Y)) → Reports a old mid (option_map v x) → IfOk r (λ y. Reports b mid new (option_map w y)) → joined x r ≡ Ok p → Reports (paired a b) old new (option_map (λ p. (v p.0, w p.1)) p)
+joins v w a b old mid new x (Ok y) p h k e = let f : p ≡ both_typed (λ x y. (x, y)) x y = cc in pairs v w a b old mid new x y p h k f
+joins v w a b old mid new x (Err n) p h k e = absurd (cc)
+
+of_pair : {A B C : Type 0} (f : A → B → C) (a : Option A) (b : Option B) → option_map (λ p. f p.0 p.1) (both_typed (λ a b. (a, b)) a b) ≡ both_typed f a b
+of_pair f None b = refl
+of_pair f (Some a) None = refl
+of_pair f (Some a) (Some b) = refl
+
+viewed : {P A B C : Type 0} (u : P → A × B) (f : A → B → C) (p : Option P) → option_map (λ q. f (u q).0 (u q).1) p ≡ option_map (λ z. f z.0 z.1) (option_map u p)
+viewed u f None = refl
+viewed u f (Some p) = refl
+
+-- a node that is made of both
+pub node : {P A B C : Type 0} (u : P → A × B) (f : A → B → C) (a : Checked A) (b : Checked B) (old new : FirstRefusal) (p : Option P) (t : Option C) → Reports (paired a b) old new (option_map u p) → t ≡ option_map (λ q. f (u q).0 (u q).1) p → Reports (of_two f a b) old new t
+node u f a b old new p t h e = (e ∙ viewed u f p ∙ ap (option_map (λ z. f z.0 z.1)) h.0 ∙ of_pair f a.typed b.typed, h.1)
 
 -- what is made of a part that stands behind it
 pub then : {A B : Type 0} (a : Checked A) (f : Option A → Checked B) (old mid new : FirstRefusal) (x : Option A) (t : Option B) → Reports a old mid x → Reports (f x) mid new t → Reports (followed a f) old new t

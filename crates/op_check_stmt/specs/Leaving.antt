@@ -6,6 +6,9 @@ use Rattle.op_base.specs.declared.place.Place.{Place}
 use Rattle.op_core.specs.Faults.{Checked, by_test, fine, refused}
 use Rattle.op_check_expr.specs.declared.scope.Around.{Around}
 use Rattle.op_check_expr.specs.declared.scope.Around.TheVariants.{Loop, Handler, Finally}
+use Rattle.op_core.specs.Statement.{Statement, break, continue}
+use Rattle.op_check_stmt.specs.declared.leaving.Jump.{Jump}
+use Rattle.op_check_stmt.specs.declared.leaving.Jump.TheVariants.{Break, Continue}
 use Rattle.op_check_stmt.specs.declared.leaving.Reach.{Reach}
 use Rattle.op_check_stmt.specs.declared.leaving.Reach.TheVariants.{Nowhere, Inside, Beyond}
 
@@ -19,6 +22,10 @@ entered Beyond Finally = Beyond
 
 abbrev pub reach_of : List Around → Reach
 reach_of around = fold entered Nowhere around
+
+abbrev pub jump_of : Jump → Statement
+jump_of Break = break
+jump_of Continue = continue
 
 -- what leaves a loop, or its turn, at the word
 abbrev pub leaving_means : {A : Type 0} → Place → A → Reach → Checked A

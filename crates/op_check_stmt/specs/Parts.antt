@@ -1,7 +1,8 @@
 -- Parts that are made of parts: typed where all of these are, with the faults of each.
-use Rattle.std.specs.Prelude.{List, [], ◌∷◌, ◌++◌, Option, Some, None, Vec}
+use Rattle.std.specs.Prelude.{List, [], ◌∷◌, ◌++◌, Option, Some, None, Result, Ok, Err, Vec}
 use Rattle.std.specs.Option.{option_map}
 use Rattle.std.specs.declared.alloc.Global.{Global}
+use Rattle.op_base.specs.declared.memory_error.NoMemory.{NoMemory}
 use Rattle.op_core.specs.Expression.{Expression, expr_of}
 use Rattle.op_core.specs.Faults.{both, Checked}
 use Rattle.op_core.specs.Nodes.{branches_of}
@@ -49,3 +50,8 @@ head_of head = (expr_of head.0, branches_of head.1.items)
 
 abbrev pub branch_of : CoreBranch → List Label × Statement
 branch_of b = (b.labels, stmt_of b.body)
+
+-- both parts, the second of which may want memory
+abbrev pub joined : {A B : Type 0} → Option A → Result (Option B) NoMemory → Result (Option (A × B)) NoMemory
+joined a (Ok b) = Ok (both_typed (λ a b. (a, b)) a b)
+joined a (Err e) = Err e

@@ -10,7 +10,7 @@ use Rattle.op_check_expr.specs.Words.{changed, followed, left_out}
 use Rattle.op_core.specs.Expression.{Expression as Tree, expression, constant, no_steps}
 use Rattle.op_core.specs.Faults.{Checked, by_entry, by_test, fine, refused, with_part}
 use Rattle.op_core.specs.Sizes.{type_at}
-use Rattle.op_core.specs.Statement.{Item, plain, padded, Target, BuiltIn, write, count, include, exclude, Statement, call as call_statement, exit, exit_with, break, continue, built_in}
+use Rattle.op_core.specs.Statement.{Item, plain, padded, Target, BuiltIn, write, count, include, exclude, Statement, call as call_statement, exit, exit_with, built_in}
 use Rattle.op_core.specs.Typing as typing
 use Rattle.op_core.specs.declared.constant.Const.TheVariants.{Ordinal as OrdinalConstant}
 use Rattle.op_core.specs.declared.ids.RoutineId.{RoutineId}
@@ -35,9 +35,11 @@ use Rattle.op_types.specs.declared.visible.BuiltIn as types
 use Rattle.op_types.specs.declared.visible.BuiltIn.TheVariants as name
 use Rattle.op_types.specs.declared.visible.Meaning.{Meaning}
 use Rattle.op_types.specs.declared.visible.Meaning.TheVariants.{BuiltIn as BuiltInNamed, Unit}
-use Rattle.op_check_stmt.specs.Leaving.{in_finally, leaving_means, reach_of}
+use Rattle.op_check_stmt.specs.Leaving.{in_finally, jump_of, leaving_means, reach_of}
 use Rattle.op_check_stmt.specs.Parts.{of_two}
 use Rattle.op_check_stmt.specs.Variables.{is_ordinal}
+use Rattle.op_check_stmt.specs.declared.leaving.Jump.{Jump}
+use Rattle.op_check_stmt.specs.declared.leaving.Jump.TheVariants.{Break, Continue}
 use Rattle.op_check_stmt.specs.declared.procedure.Called.{Called as RustCalled}
 use Rattle.op_check_stmt.specs.declared.given.Given.{Given}
 use Rattle.op_check_stmt.specs.declared.given.Given.TheVariants.{Nothing, One, Two, Others}
@@ -168,8 +170,8 @@ exit_means here n none = exits here n.position.place (fine exit)
 exit_means here n (one e) = by_entry 26 n.position.place (λ of. exits here n.position.place (changed exit_with (given here of (position_of e).switches.r e))) (result_of here)
 exit_means here n _ = refused 26 n.position.place
 
-abbrev pub jump_means : Here → Statement → Name → Values → Checked Statement
-jump_means here jump n none = leaving_means n.position.place jump (reach_of here.around)
+abbrev pub jump_means : Here → Jump → Name → Values → Checked Statement
+jump_means here jump n none = leaving_means n.position.place (jump_of jump) (reach_of here.around)
 jump_means here jump n _ = refused 26 n.position.place
 
 -- ---- calls
@@ -217,8 +219,8 @@ procedure here d name.Dec c = count_means here Downto c.name (values c.given)
 procedure here d name.Include c = change_means here true c.name (values c.given)
 procedure here d name.Exclude c = change_means here false c.name (values c.given)
 procedure here d name.Exit c = exit_means here c.name (values c.given)
-procedure here d name.Break c = jump_means here break c.name (values c.given)
-procedure here d name.Continue c = jump_means here continue c.name (values c.given)
+procedure here d name.Break c = jump_means here Break c.name (values c.given)
+procedure here d name.Continue c = jump_means here Continue c.name (values c.given)
 procedure here d _ c = plain_call here d
 
 abbrev pub called_means : Here → Designator → Option Called → Checked Statement

@@ -3,7 +3,7 @@ ghost use Rattle.std.specs.Prelude.{◌≡◌, [], ◌∷◌, ◌++◌, IfOk};
 ghost use Rattle.std.specs.Option.{option_map};
 ghost use Rattle.op_core.specs.Statement.{stmt_of};
 ghost use Rattle.op_check_expr.specs.Words.{Reports};
-ghost use Rattle.op_check_stmt.specs.Leaving.{entered, in_finally, is_finally, leaving_means, reach_of};
+ghost use Rattle.op_check_stmt.specs.Leaving.{entered, in_finally, is_finally, jump_of, leaving_means, reach_of};
 
 use op_base::{NoMemory, Place};
 use op_check_expr::{Around, refuse};
@@ -30,20 +30,35 @@ pub fn within(alloc: Global, around: &[Around], part: Around) -> Result<Vec<Arou
     Ok(parts)
 }
 
-/// `statement`, which leaves a loop or its turn, at a word: rule 58 where there is no loop, 59 where it would leave a finally
-/// part.
+/// What leaves a loop, or its turn.
+#[derive(Clone, Copy, Debug, PartialEq, Eq)]
+pub enum Jump {
+    Break,
+    Continue,
+}
+
+/// A jump at a word: rule 58 where there is no loop, 59 where a finally part would be left.
 pub fn leaving(
     sink: &mut FirstRefusal,
     around: &[Around],
     place: Place,
-    statement: CoreStmt,
+    jump: Jump,
 ) -> Option<CoreStmt>
-    ensures { Reports (leaving_means place (stmt_of statement) (reach_of around.now)) sink.old sink.new (option_map stmt_of result) }
+    ensures { Reports (leaving_means place (jump_of jump) (reach_of around.now)) sink.old sink.new (option_map stmt_of result) }
 {
     match reach_of(around) {
         Reach::Nowhere => refuse(sink, 58, place),
-        Reach::Inside => Some(statement),
+        Reach::Inside => Some(jump_of(jump)),
         Reach::Beyond => refuse(sink, 59, place),
+    }
+}
+
+fn jump_of(jump: Jump) -> CoreStmt
+    ensures { stmt_of result ≡ jump_of jump }
+{
+    match jump {
+        Jump::Break => CoreStmt::Break,
+        Jump::Continue => CoreStmt::Continue,
     }
 }
 

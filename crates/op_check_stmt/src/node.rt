@@ -1,7 +1,7 @@
 //! Typed statements, made of parts that may have no type.
 ghost use Rattle.std.specs.Prelude.{◌≡◌, IfOk};
 ghost use Rattle.std.specs.Option.{option_map};
-ghost use Rattle.op_check_stmt.specs.Parts.{both_typed, bounds_of, branch_of, head_of, statements_in};
+ghost use Rattle.op_check_stmt.specs.Parts.{both_typed, bounds_of, branch_of, head_of, joined, statements_in};
 ghost use Rattle.op_check_stmt.specs.Statements.{case_statement, for_statement, try_all};
 ghost use Rattle.op_core.specs.Expression.{expr_of};
 ghost use Rattle.op_core.specs.Nodes.{branches_of, handlers_of};
@@ -33,6 +33,19 @@ pub fn pair<A: Drop, B: Drop>(a: Option<A>, b: Option<B>) -> Option<(A, B)>
         return None;
     };
     Some((a, b))
+}
+
+/// The same, where the second part was just checked.
+pub fn joined<A: Drop, B: Drop>(
+    a: Option<A>,
+    b: Result<Option<B>, NoMemory>,
+) -> Result<Option<(A, B)>, NoMemory>
+    ensures { result ≡ joined a b }
+{
+    match b {
+        Ok(b) => Ok(pair(a, b)),
+        Err(e) => Err(e),
+    }
 }
 
 pub fn if_then(alloc: Global, parts: Option<(CoreExpr, CoreStmt)>) -> Typed

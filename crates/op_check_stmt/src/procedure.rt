@@ -12,7 +12,7 @@ ghost use Rattle.op_types.specs.Names.{lower};
 
 use crate::action::{change, count, write};
 use crate::given::{Given, values};
-use crate::leaving::{in_finally, leaving};
+use crate::leaving::{Jump, in_finally, leaving};
 use op_base::NoMemory;
 use op_check_expr::{Checker, position_of, refuse};
 use op_core::{Core, CoreStmt, FirstRefusal, RoutineId, TypeId};
@@ -72,8 +72,8 @@ fn procedure(
         BuiltIn::Include => change(here, sink, true, c.name, values(c.given)),
         BuiltIn::Exclude => change(here, sink, false, c.name, values(c.given)),
         BuiltIn::Exit => exit(here, sink, c.name, values(c.given)),
-        BuiltIn::Break => Ok(jump(here, sink, CoreStmt::Break, c.name, values(c.given))),
-        BuiltIn::Continue => Ok(jump(here, sink, CoreStmt::Continue, c.name, values(c.given))),
+        BuiltIn::Break => Ok(check_jump(here, sink, Jump::Break, c.name, values(c.given))),
+        BuiltIn::Continue => Ok(check_jump(here, sink, Jump::Continue, c.name, values(c.given))),
         _ => plain_call(here, sink, d),
     }
 }
@@ -188,17 +188,17 @@ fn result_of(core: &Core, routine: Option<RoutineId>) -> Option<TypeId>
 }
 
 /// Break or Continue: rule 58 where there is no loop, 59 where a finally part would be left.
-fn jump(
+fn check_jump(
     here: Checker,
     sink: &mut FirstRefusal,
-    statement: CoreStmt,
+    jump: Jump,
     name: &Name,
     values: Given,
 ) -> Option<CoreStmt>
-    ensures { Reports (jump_means (here_of here.entry.scope) (stmt_of statement) name.now (values_of values.entry)) sink.old sink.new (option_map stmt_of result) }
+    ensures { Reports (jump_means (here_of here.entry.scope) jump name.now (values_of values.entry)) sink.old sink.new (option_map stmt_of result) }
 {
     match values {
-        Given::Nothing => leaving(sink, here.scope.around, name.position.place, statement),
+        Given::Nothing => leaving(sink, here.scope.around, name.position.place, jump),
         _ => refuse(sink, 26, name.position.place),
     }
 }

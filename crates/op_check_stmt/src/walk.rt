@@ -16,7 +16,7 @@ ghost use Rattle.op_tree.specs.Statement.{designator_of, stmt_of, stmts_of};
 use crate::case::{Spot, distinct, labels, selector};
 use crate::leaving::within;
 use crate::list::collect;
-use crate::node::{self, Typed, pair};
+use crate::node::{self, Typed, joined, pair};
 use crate::procedure::call;
 use crate::variable::{Counter, check_counter};
 use op_base::{NoMemory, Place};
@@ -55,8 +55,8 @@ pub fn statement(here: Checker, sink: &mut FirstRefusal, s: &Stmt) -> Typed
         Stmt::Block(list) => Ok(node::block(statements(here, sink, list)?)),
         Stmt::If { condition, then } => {
             let condition = check_condition(here, sink, condition)?;
-            let then = statement(here, sink, then)?;
-            node::if_then(here.alloc, pair(condition, then))
+            let parts = joined(condition, statement(here, sink, then))?;
+            node::if_then(here.alloc, parts)
         }
         Stmt::IfElse {
             condition,
@@ -64,9 +64,9 @@ pub fn statement(here: Checker, sink: &mut FirstRefusal, s: &Stmt) -> Typed
             otherwise,
         } => {
             let condition = check_condition(here, sink, condition)?;
-            let then = statement(here, sink, then)?;
-            let otherwise = statement(here, sink, otherwise)?;
-            node::if_else(here.alloc, pair(pair(condition, then), otherwise))
+            let front = joined(condition, statement(here, sink, then))?;
+            let parts = joined(front, statement(here, sink, otherwise))?;
+            node::if_else(here.alloc, parts)
         }
         Stmt::Case { selector, branches } => {
             let head = case_head(here, sink, branches, selector)?;
@@ -78,20 +78,20 @@ pub fn statement(here: Checker, sink: &mut FirstRefusal, s: &Stmt) -> Typed
             otherwise,
         } => {
             let head = case_head(here, sink, branches, selector)?;
-            let otherwise = statements(here, sink, otherwise)?;
-            Ok(node::case_of(pair(head, otherwise)))
+            let parts = joined(head, statements(here, sink, otherwise))?;
+            Ok(node::case_of(parts))
         }
         Stmt::While { condition, body } => {
-            let condition = check_condition(here, sink, condition)?;
             let around = within(here.alloc, here.scope.around, Around::Loop(None))?;
-            let body = statement(inside(here, around.as_slice()), sink, body)?;
-            node::while_do(here.alloc, pair(condition, body))
+            let condition = check_condition(here, sink, condition)?;
+            let parts = joined(condition, statement(inside(here, around.as_slice()), sink, body))?;
+            node::while_do(here.alloc, parts)
         }
         Stmt::Repeat { body, condition } => {
             let around = within(here.alloc, here.scope.around, Around::Loop(None))?;
             let body = statements(inside(here, around.as_slice()), sink, body)?;
-            let condition = check_condition(here, sink, condition)?;
-            Ok(node::repeat_until(pair(body, condition)))
+            let parts = joined(body, check_condition(here, sink, condition))?;
+            Ok(node::repeat_until(parts))
         }
         Stmt::For {
             variable,
@@ -101,31 +101,27 @@ pub fn statement(here: Checker, sink: &mut FirstRefusal, s: &Stmt) -> Typed
             body,
         } => {
             let counter = check_counter(here, sink, variable)?;
-            let bounds = bounds(here, sink, counter, first, last)?;
             let part = Around::Loop(variable_of(counter));
             let around = within(here.alloc, here.scope.around, part)?;
-            let body = statement(inside(here, around.as_slice()), sink, body)?;
-            node::for_to(here.alloc, *direction, pair(pair(counter, bounds), body))
+            let head = joined(counter, bounds(here, sink, counter, first, last))?;
+            let parts = joined(head, statement(inside(here, around.as_slice()), sink, body))?;
+            node::for_to(here.alloc, *direction, parts)
         }
         Stmt::ForIn { variable, .. } => Ok(leave_out(sink, 41, variable.position.place)),
         Stmt::TryFinally { body, finalization } => {
-            let body = statements(here, sink, body)?;
             let around = within(here.alloc, here.scope.around, Around::Finally)?;
-            let last = statements(inside(here, around.as_slice()), sink, finalization)?;
-            Ok(node::try_finally(pair(body, last)))
+            let body = statements(here, sink, body)?;
+            let last = statements(inside(here, around.as_slice()), sink, finalization);
+            Ok(node::try_finally(joined(body, last)?))
         }
         Stmt::TryExcept { body, handler } => {
-            let body = statements(here, sink, body)?;
             let around = within(here.alloc, here.scope.around, Around::Handler)?;
-            let handler = statements(inside(here, around.as_slice()), sink, handler)?;
-            Ok(node::try_except(here.alloc, pair(body, handler)))
+            let body = statements(here, sink, body)?;
+            let handler = statements(inside(here, around.as_slice()), sink, handler);
+            Ok(node::try_except(here.alloc, joined(body, handler)?))
         }
-        Stmt::TryOn { body, handlers } => {
-            statements(here, sink, body)?;
-            Ok(leave_out_handlers(sink, handlers))
-        }
-        Stmt::TryOnElse { body, handlers, .. } => {
-            statements(here, sink, body)?;
+        Stmt::TryOn { body, handlers } | Stmt::TryOnElse { body, handlers, .. } => {
+            drop(statements(here, sink, body)?);
             Ok(leave_out_handlers(sink, handlers))
         }
         Stmt::Raise { position, .. } | Stmt::Reraise { position } => {
@@ -173,8 +169,8 @@ fn case_head(
     let selector = selector(here, sink, e)?;
     let of = type_in(&selector);
     let mut spots = Vec::new(here.alloc);
-    let branches = branches(here, sink, list, &mut spots, of)?;
-    distinct(here.alloc, sink, spots.as_slice(), pair(selector, branches))
+    let head = joined(selector, branches(here, sink, list, &mut spots, of))?;
+    distinct(here.alloc, sink, spots.as_slice(), head)
 }
 
 /// The branches of a case, where the selector has this type. Their labels go behind the others of the case.
@@ -192,9 +188,8 @@ fn branches(
     let mut typed = Some(Vec::new(here.alloc));
     for branch in list {
         let labels = labels(here, sink, spots, of, &branch.labels)?;
-        let body = statement(here, sink, &branch.body)?;
-        let part = node::branch(pair(labels, body));
-        collect(&mut typed, part)?;
+        let parts = joined(labels, statement(here, sink, &branch.body))?;
+        collect(&mut typed, node::branch(parts))?;
     }
     Ok(typed)
 }
