@@ -1,5 +1,6 @@
 -- Labels that are looked up by their first values, beside the labels in front.
-use Rattle.std.proofs.Common.{◌≡◌, Bool, true, false, not, ◌&&◌, ◌||◌, List, [], ◌∷◌, ◌++◌, Option, Some, None, is_some, IsSome, if◌then◌else◌, refl, sym, ap, subst, ◌∙◌, arith}
+use Rattle.std.proofs.Math.Seq.{take-suc}
+use Rattle.std.proofs.Common.{◌≡◌, ℕ, suc, ◌+◌, ◌<◌, length, take, drop, drop-cons, add-one, get_or, rules, Bool, true, false, not, ◌&&◌, ◌||◌, List, [], ◌∷◌, ◌++◌, Option, Some, None, is_some, IsSome, if◌then◌else◌, refl, sym, ap, subst, ◌∙◌, arith}
 use Rattle.std.specs.Prelude.{ℤ, pos, ◌<ℤ◌, ◌≤ℤ◌, int_le}
 use Rattle.std.specs.BTreeMap.{BTreeMap, get, is_at, Updates}
 use Rattle.std.specs.List.{list_any}
@@ -7,8 +8,8 @@ use Rattle.std.specs.Ordering.{int_cmp, is_gt, is_lt}
 use Rattle.std.proofs.lemmas.Int.{ints, by_lt_z}
 use Rattle.std.proofs.lemmas.List.Folds.{list_any-append}
 use Rattle.op_core.specs.declared.statement.Label.{Label}
-use Rattle.op_check_stmt.specs.Cases.{overlap, repeated_after}
-use Rattle.op_check_stmt.specs.Seen.{Apart, Met, from_to}
+use Rattle.op_check_stmt.specs.Cases.{overlap, repeated, repeated_after}
+use Rattle.op_check_stmt.specs.Seen.{Apart, IsKept, Met, from_to}
 use Rattle.op_check_stmt.specs.declared.case.Spot.{Spot}
 
 pub overlaps : (a b : Label) → a.first ≤ℤ a.last → b.first ≤ℤ b.last → a.first ≤ℤ b.last → b.first ≤ℤ a.last → overlap a b ≡ true
@@ -60,7 +61,7 @@ equal q f h k = omega (arith, ints)
 
 -- The last label that does not begin behind the end of another one: where that does not reach this one, none of them does.
 pub none_met : (seen : BTreeMap ℤ ℤ) → Apart seen → (label : Label) (f l : ℤ) → get int_cmp seen f ≡ Some l → ((q : ℤ) (v : ℤ) → q ≤ℤ label.last → get int_cmp seen q ≡ Some v → q ≤ℤ f) → (int_le label.first l && int_le label.first label.last) ≡ false → (q v : ℤ) → get int_cmp seen q ≡ Some v → overlap (from_to q v) label ≡ false
-none_met seen a label f l is greatest no q v h =
+none_met seen a label f l is greatest unmet q v h =
     not_true (overlap (from_to q v) label)
     (λ t. let s = shared (from_to q v) label t in
       let le : q ≤ℤ f = greatest q v s.begins h in
@@ -68,10 +69,10 @@ none_met seen a label f l is greatest no q v h =
       by_lt_z q f
       (λ (lt : q <ℤ f). let ends : v <ℤ f = a.apart q v f l h is lt in
         let reach : label.first ≤ℤ l = reached label.first v f l s.also_begins ends filled in
-        false_true (int_le label.first l && int_le label.first label.last) no (both_true label.first l label.first label.last reach s.also_filled))
+        false_true (int_le label.first l && int_le label.first label.last) unmet (both_true label.first l label.first label.last reach s.also_filled))
       (λ (ge : f ≤ℤ q). let e : q ≡ f = equal q f le ge in
         let w : v ≡ l = one_value (get int_cmp seen q) (get int_cmp seen f) v l (ap (get int_cmp seen) e) h is in
-        false_true (int_le label.first l && int_le label.first label.last) no (both_true label.first l label.first label.last (subst (λ x. label.first ≤ℤ x) w s.also_begins) s.also_filled)))
+        false_true (int_le label.first l && int_le label.first label.last) unmet (both_true label.first l label.first label.last (subst (λ x. label.first ≤ℤ x) w s.also_begins) s.also_filled)))
 
 -- ---- the map beside the labels in front
 
@@ -119,21 +120,21 @@ never : (q r a : ℤ) → q <ℤ r → q ≡ a → r ≡ a → ⊥
 never q r a h e f = omega (arith, ints)
 
 same_place : (q v a z : ℤ) (l : Label) → q ≤ℤ v → a ≤ℤ z → l.first ≡ a → l.last ≡ z → q ≡ a → overlap (from_to q v) l ≡ false → ⊥
-same_place q v a z l h k e f g no =
+same_place q v a z l h k e f g unmet =
     let le : l.first ≤ℤ l.last = omega (arith, ints) in
     let begins : q ≤ℤ l.last = omega (arith, ints) in
     let also : l.first ≤ℤ v = omega (arith, ints) in
-    false_true (overlap (from_to q v) l) no (overlaps (from_to q v) l h le begins also)
+    false_true (overlap (from_to q v) l) unmet (overlaps (from_to q v) l h le begins also)
 
 kept_met : (seen new : BTreeMap ℤ ℤ) (a z : ℤ) → Updates int_cmp seen new a (Some z) → (x : Label) → a ≤ℤ z → (l : Label) → l.first ≡ a → l.last ≡ z → ((q v : ℤ) → get int_cmp seen q ≡ Some v → overlap (from_to q v) l ≡ false) → Apart seen → Met seen x → Met new x
-kept_met seen new a z u x filled l e f no old m =
+kept_met seen new a z u x filled l e f unmet old m =
     by_place a m.first
     (λ (lt : a <ℤ m.first). record { first = m.first; last = m.last; is_there = u.2 m.first (other a m.first lt) ∙ m.is_there; meets = m.meets })
     (λ (lt : m.first <ℤ a). record { first = m.first; last = m.last; is_there = u.2 m.first (also_other a m.first lt) ∙ m.is_there; meets = m.meets })
-    (λ (g : m.first ≡ a). absurd (same_place m.first m.last a z l (old.filled m.first m.last m.is_there) filled e f g (no m.first m.last m.is_there)))
+    (λ (g : m.first ≡ a). absurd (same_place m.first m.last a z l (old.filled m.first m.last m.is_there) filled e f g (unmet m.first m.last m.is_there)))
 
 pub added : (seen new : BTreeMap ℤ ℤ) (front : List Spot) (s : Spot) → Seen seen front → s.label.first ≤ℤ s.label.last → ((q v : ℤ) → get int_cmp seen q ≡ Some v → overlap (from_to q v) s.label ≡ false) → Updates int_cmp seen new s.label.first (Some s.label.last) → Seen new (front ++ s ∷ [])
-added seen new front s held filled no u =
+added seen new front s held filled unmet u =
     let a = s.label.first in
     let z = s.label.last in
     let old = held.is_apart in
@@ -144,9 +145,9 @@ added seen new front s held filled no u =
             entry seen new a z u q v h
             (λ (e : q ≡ a) (f : v ≡ z). entry seen new a z u r w k
               (λ (g : r ≡ a) (i : w ≡ z). absurd (never q r a lt e g))
-              (λ (there : get int_cmp seen r ≡ Some w). subst (λ v. v <ℤ r) (sym f) (before s.label (from_to r w) (swapped (from_to r w) s.label (no r w there)) filled (old.filled r w there) (subst (λ q. q <ℤ r) e lt))))
+              (λ (there : get int_cmp seen r ≡ Some w). subst (λ v. v <ℤ r) (sym f) (before s.label (from_to r w) (swapped (from_to r w) s.label (unmet r w there)) filled (old.filled r w there) (subst (λ q. q <ℤ r) e lt))))
             (λ (there : get int_cmp seen q ≡ Some v). entry seen new a z u r w k
-              (λ (g : r ≡ a) (i : w ≡ z). subst (λ r. v <ℤ r) (sym g) (before (from_to q v) s.label (no q v there) (old.filled q v there) filled (subst (λ r. q <ℤ r) g lt)))
+              (λ (g : r ≡ a) (i : w ≡ z). subst (λ r. v <ℤ r) (sym g) (before (from_to q v) s.label (unmet q v there) (old.filled q v there) filled (subst (λ r. q <ℤ r) g lt)))
               (λ (also : get int_cmp seen r ≡ Some w). old.apart q v r w there also lt));
       };
       sound = λ q v h x o. met_last front s x ∙
@@ -154,7 +155,7 @@ added seen new front s held filled no u =
           (λ (e : q ≡ a) (f : v ≡ z). or_right (is_met front x) (overlap s.label x) (subst (λ v. overlap (from_to a v) x ≡ true) f (subst (λ q. overlap (from_to q v) x ≡ true) e o)))
           (λ (k : get int_cmp seen q ≡ Some v). or_left (is_met front x) (overlap s.label x) (held.sound q v k x o));
       complete = λ x m. either (is_met front x) (overlap s.label x) (sym (met_last front s x) ∙ m)
-          (λ (k : is_met front x ≡ true). kept_met seen new a z u x filled s.label refl refl no old (held.complete x k))
+          (λ (k : is_met front x ≡ true). kept_met seen new a z u x filled s.label refl refl unmet old (held.complete x k))
           (λ (o : overlap s.label x ≡ true). record { first = a; last = z; is_there = u.1; meets = o });
     }
 
@@ -185,6 +186,40 @@ found seen front s rest held m =
     ap (λ b. if b then Some s.place else repeated_after (front ++ s ∷ []) rest) (held.sound m.first m.last m.is_there s.label m.meets)
 
 pub passed : (seen : BTreeMap ℤ ℤ) (front : List Spot) (s : Spot) (rest : List Spot) → Seen seen front → ((q v : ℤ) → get int_cmp seen q ≡ Some v → overlap (from_to q v) s.label ≡ false) → repeated_after front (s ∷ rest) ≡ repeated_after (front ++ s ∷ []) rest
-passed seen front s rest held no =
+passed seen front s rest held unmet =
     ap (λ b. if b then Some s.place else repeated_after (front ++ s ∷ []) rest)
-    (not_true (is_met front s.label) (λ (t : is_met front s.label ≡ true). let m = held.complete s.label t in false_true (overlap (from_to m.first m.last) s.label) (no m.first m.last m.is_there) m.meets))
+    (not_true (is_met front s.label) (λ (t : is_met front s.label ≡ true). let m = held.complete s.label t in false_true (overlap (from_to m.first m.last) s.label) (unmet m.first m.last m.is_there) m.meets))
+
+pub kept_more : (seen new : BTreeMap ℤ ℤ) (front : List Spot) (s : Spot) → Seen seen front → ((q v : ℤ) → get int_cmp seen q ≡ Some v → overlap (from_to q v) s.label ≡ false) → IsKept seen s.label new → Seen new (front ++ s ∷ [])
+kept_more seen new front s held unmet k =
+    by_lt_z s.label.last s.label.first (λ (lt : s.label.last <ℤ s.label.first). subst (λ m. Seen m (front ++ s ∷ [])) (sym (k.skipped lt)) (skipped seen front s held lt))
+    (λ (le : s.label.first ≤ℤ s.label.last). added seen new front s held le unmet (k.kept le))
+
+pub hold_on : (new : BTreeMap ℤ ℤ) (labels : List Spot) (k : ℕ) (d : Spot) → k < length labels → Seen new (take k labels ++ get_or labels k d ∷ []) → Seen new (take (k + 1) labels)
+hold_on new labels k d lt h = rw add-one (subst (Seen new) (sym (take-suc labels k d lt)) h)
+
+pub go_on : (seen : BTreeMap ℤ ℤ) (labels : List Spot) (k : ℕ) (d : Spot) → k < length labels → Seen seen (take k labels) → ((q v : ℤ) → get int_cmp seen q ≡ Some v → overlap (from_to q v) (get_or labels k d).label ≡ false) → repeated_after (take k labels) (drop k labels) ≡ repeated labels → repeated_after (take (k + 1) labels) (drop (k + 1) labels) ≡ repeated labels
+go_on seen labels k d lt held unmet e =
+    rw add-one
+    (ap (λ front. repeated_after front (drop (suc k) labels)) (take-suc labels k d lt)
+    ∙ sym (passed seen (take k labels) (get_or labels k d) (drop (suc k) labels) held unmet)
+    ∙ ap (repeated_after (take k labels)) (sym (drop-cons labels k d lt)) ∙ e)
+
+-- ---- what a look-up answers
+
+pub in_reach : (a b : ℤ) → a ≤ℤ b → is_gt (int_cmp a b) ≡ false
+in_reach a b h = grind (arith, ints)
+
+pub there : (o : Option ℤ) (v : ℤ) → o ≡ Some v → IsSome o
+there None v h = absurd (cc)
+there (Some x) v h = search rules
+
+pub reached_one : (a b c d : ℤ) → (int_le a b && int_le c d) ≡ true → a ≤ℤ b
+reached_one a b c d h = grind (arith, ints)
+
+pub filled_one : (a b c d : ℤ) → (int_le a b && int_le c d) ≡ true → c ≤ℤ d
+filled_one a b c d h = grind (arith, ints)
+
+pub entry_met : (seen : BTreeMap ℤ ℤ) → Apart seen → (label : Label) (f l : ℤ) → get int_cmp seen f ≡ Some l → is_gt (int_cmp f label.last) ≡ false → (int_le label.first l && int_le label.first label.last) ≡ true → overlap (from_to f l) label ≡ true
+entry_met seen a label f l is le t =
+    overlaps (from_to f l) label (a.filled f l is) (filled_one label.first l label.first label.last t) (at_most f label.last le) (reached_one label.first l label.first label.last t)

@@ -106,7 +106,7 @@ repeated_after before (s ∷ ss) = if is_repeated before s then Some s.place els
 abbrev pub repeated : List Spot → Option Place
 repeated ss = repeated_after [] ss
 
-abbrev once : {A : Type 0} → Option A → Option Place → Checked A
+abbrev pub once : {A : Type 0} → Option A → Option Place → Checked A
 once a None = standing a
 once a (Some place) = refused 32 place
 

@@ -5,6 +5,7 @@ ghost use Rattle.op_check_expr.specs.Scopes.{here_of};
 ghost use Rattle.op_check_expr.specs.Words.{Reports};
 ghost use Rattle.op_check_stmt.specs.Procedures.{arguments_behind, call_means, called, called_behind, called_of, exit_means, jump_means, plain_call, procedure, result_at, values_of};
 ghost use Rattle.op_core.specs.Statement.{stmt_of};
+ghost use Rattle.op_tree.specs.Expression.{selector_of, selectors};
 ghost use Rattle.op_tree.specs.Lists.{arguments_of};
 ghost use Rattle.op_tree.specs.Statement.{designator_of, selectors_of};
 ghost use Rattle.op_types.specs.Constants.{joined_name};
@@ -137,11 +138,19 @@ fn arguments_behind(selectors: &[Selector]) -> Option<&[Argument]>
 {
     match selectors.split_first() {
         None => Some(&[]),
-        Some((Selector::Call { arguments }, others)) => match others.split_first() {
+        Some((first, others)) => arguments_alone(first, others),
+    }
+}
+
+fn arguments_alone<'t>(first: &'t Selector, others: &[Selector]) -> Option<&'t [Argument]>
+    ensures { option_map (λ a. arguments_of a.now) result ≡ arguments_behind (selectors (selector_of first.now) (selectors_of others.now)) }
+{
+    match first {
+        Selector::Call { arguments } => match others.split_first() {
             None => Some(arguments),
             Some(_) => None,
         },
-        Some(_) => None,
+        _ => None,
     }
 }
 

@@ -3,7 +3,7 @@ ghost use Rattle.std.specs.Prelude.{◌≡◌, ◌&&◌, ℤ, int_le, true, fals
 ghost use Rattle.std.specs.BTreeMap.{get};
 ghost use Rattle.std.specs.Ordering.{int_cmp};
 ghost use Rattle.op_check_stmt.specs.Cases.{overlap, repeated};
-ghost use Rattle.op_check_stmt.specs.Seen.{Apart, Met, from_to};
+ghost use Rattle.op_check_stmt.specs.Seen.{Apart, IsKept, Met, from_to};
 
 use crate::case::Spot;
 use op_base::{NoMemory, Place};
@@ -20,11 +20,20 @@ pub fn repeated(alloc: Global, labels: &[Spot]) -> Result<Option<Place>, NoMemor
         if meets(&last_by_first, spot.label) {
             return Ok(Some(spot.place));
         }
-        if spot.label.first <= spot.label.last {
-            last_by_first.insert(spot.label.first, spot.label.last)?;
-        }
+        keep(&mut last_by_first, spot.label)?;
     }
     Ok(None)
+}
+
+/// Keeps a label, unless it has no value.
+fn keep(last_by_first: &mut BTreeMap<i32, i32>, label: Label) -> Result<(), NoMemory>
+    ensures { IfOk result (λ _. IsKept last_by_first.old label last_by_first.new) }
+{
+    if label.last < label.first {
+        return Ok(());
+    }
+    last_by_first.insert(label.first, label.last)?;
+    Ok(())
 }
 
 /// Whether a label has a value of others, of which no two have one in common.
@@ -36,13 +45,13 @@ fn meets(last_by_first: &BTreeMap<i32, i32>, label: Label) -> bool
     let mut up_to = last_by_first.range(..=label.last);
     match up_to.next_back() {
         None => false,
-        Some((_, last)) => reaches(label, *last),
+        Some((_, last)) => reaches(label, last),
     }
 }
 
 /// Whether a label has values, and begins at this number or in front of it.
-fn reaches(label: Label, last: i32) -> bool
-    ensures { result ≡ (int_le label.first last && int_le label.first label.last) }
+fn reaches(label: Label, last: &i32) -> bool
+    ensures { result ≡ (int_le label.first last.now && int_le label.first label.last) }
 {
-    label.first <= last && label.first <= label.last
+    label.first <= *last && label.first <= label.last
 }
