@@ -1,5 +1,5 @@
 -- What is reported part by part, and lists of parts.
-use Rattle.std.proofs.Common.{◌≡◌, ℕ, suc, ◌<◌, ◌+◌, List, [], ◌∷◌, ◌++◌, length, append_assoc, Option, None, Some, Result, Ok, Err, IfOk, refl, sym, ap, subst, ◌∙◌, arith}
+use Rattle.std.proofs.Common.{◌≡◌, List, [], ◌∷◌, ◌++◌, append_assoc, Option, None, Some, Result, Ok, Err, IfOk, refl, sym, ap, subst, ◌∙◌}
 use Rattle.std.specs.Option.{option_map}
 use Rattle.std.specs.Prelude.{Vec}
 use Rattle.std.specs.declared.alloc.Global.{Global}
@@ -9,7 +9,7 @@ use Rattle.op_base.specs.declared.place.Place.{Place}
 use Rattle.op_check_stmt.specs.Cases.{distinct, once, repeated}
 use Rattle.op_check_stmt.specs.declared.case.Spot.{Spot}
 use Rattle.op_check_stmt.specs.Parts.{both_typed, items_of, joined, of_two, paired, with_last}
-use Rattle.op_core.specs.Faults.{Faults, Checked, fine, kept}
+use Rattle.op_core.specs.Faults.{Checked, fine, kept}
 use Rattle.op_core.specs.declared.first_refusal.FirstRefusal.{FirstRefusal}
 
 pub map_ok : {A E : Type 0} {P Q : A → Type 0} (r : Result A E) → ((a : A) → P a → Q a) → IfOk r P → IfOk r Q

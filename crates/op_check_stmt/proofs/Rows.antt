@@ -1,11 +1,11 @@
 -- The parts of a list in a tree, from a place on.
-use Rattle.std.proofs.Common.{◌≡◌, ℕ, suc, ◌<◌, ◌+◌, ◌≤◌, List, [], ◌∷◌, length, drop, drop-cons, add-one, get_or, refl, sym, ap, ◌∙◌, map, arith}
+use Rattle.std.proofs.Common.{◌≡◌, ℕ, suc, ◌<◌, ◌+◌, ◌≤◌, List, [], ◌∷◌, length, drop, drop-cons, add-one, get_or, refl, sym, ap, ◌∙◌, map}
 use Rattle.std.proofs.lemmas.List.{at_drop_all}
 use Rattle.op_check_stmt.proofs.Parts.{in_front}
 use Rattle.op_check_stmt.specs.Parts.{branch_of}
 use Rattle.op_check_stmt.specs.Statements.{with_branch}
 use Rattle.op_core.specs.Nodes.{branches_of as typed_branches_of}
-use Rattle.op_core.specs.Statement.{Item, item_of, Statements, no_statements, statements as typed_statements, no_branches as no_typed_branches, stmt_of as typed_statement, stmts_of as typed_statements_of}
+use Rattle.op_core.specs.Statement.{item_of, no_statements, statements as typed_statements, no_branches as no_typed_branches, stmt_of as typed_statement, stmts_of as typed_statements_of}
 use Rattle.op_core.specs.declared.statement.CoreBranch.{CoreBranch}
 use Rattle.op_core.specs.declared.statement.CoreItem.{CoreItem}
 use Rattle.op_core.specs.declared.statement.CoreStmt.{CoreStmt}

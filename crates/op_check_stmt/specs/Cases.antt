@@ -1,7 +1,7 @@
 -- The selector of a case and its labels (Free Pascal Reference Guide, "The Case statement").
-use Rattle.std.specs.Prelude.{ℕ, ℤ, int_le, ◌+◌, Bool, true, false, ◌&&◌, List, [], ◌∷◌, ◌++◌, Option, Some, None, if◌then◌else◌}
+use Rattle.std.specs.Prelude.{ℕ, int_le, ◌+◌, Bool, true, false, ◌&&◌, List, [], ◌∷◌, ◌++◌, Option, Some, None, if◌then◌else◌}
 use Rattle.std.specs.List.{list_any}
-use Rattle.std.specs.Option.{option_map, option_to_list}
+use Rattle.std.specs.Option.{option_to_list}
 use Rattle.op_base.specs.declared.place.Place.{Place}
 use Rattle.op_check_expr.specs.Meanings.{value_of}
 use Rattle.op_check_expr.specs.Scopes.{Here}

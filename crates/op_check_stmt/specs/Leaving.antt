@@ -1,9 +1,9 @@
 -- Which loops and routines a statement may leave (Free Pascal Reference Guide, "The Try..finally statement", and "Break",
 -- "Continue" and "Exit" of unit System).
-use Rattle.std.specs.Prelude.{Bool, true, false, not, List}
+use Rattle.std.specs.Prelude.{Bool, true, false, List}
 use Rattle.std.specs.List.{fold, list_any}
 use Rattle.op_base.specs.declared.place.Place.{Place}
-use Rattle.op_core.specs.Faults.{Checked, by_test, fine, refused}
+use Rattle.op_core.specs.Faults.{Checked, fine, refused}
 use Rattle.op_check_expr.specs.declared.scope.Around.{Around}
 use Rattle.op_check_expr.specs.declared.scope.Around.TheVariants.{Loop, Handler, Finally}
 use Rattle.op_core.specs.Statement.{Statement, break, continue}

@@ -10,7 +10,7 @@ use Rattle.op_check_expr.specs.Words.{changed, followed, left_out}
 use Rattle.op_core.specs.Expression.{Expression as Tree, expression, constant, no_steps}
 use Rattle.op_core.specs.Faults.{Checked, by_entry, by_test, fine, refused, with_part}
 use Rattle.op_core.specs.Sizes.{type_at}
-use Rattle.op_core.specs.Statement.{Item, plain, padded, Target, BuiltIn, write, count, include, exclude, Statement, call as call_statement, exit, exit_with, built_in}
+use Rattle.op_core.specs.Statement.{Item, plain, padded, Target, write, count, include, exclude, Statement, call as call_statement, exit, exit_with, built_in}
 use Rattle.op_core.specs.Typing as typing
 use Rattle.op_core.specs.declared.constant.Const.TheVariants.{Ordinal as OrdinalConstant}
 use Rattle.op_core.specs.declared.ids.RoutineId.{RoutineId}

@@ -13,7 +13,7 @@ use Rattle.op_core.specs.declared.statement.CoreBranch.{CoreBranch}
 use Rattle.op_check_stmt.proofs.Rows.{all_branches, all_statements, next_branch, next_statement, none_left}
 use Rattle.op_check_stmt.specs.Cases.{distinct, labels, selector, spots}
 use Rattle.op_check_stmt.specs.Parts.{bounds_of, branch_of, head_of, items_of, paired, statements_in}
-use Rattle.op_check_stmt.specs.Statements.{all_spots, assign_means, bound_of, branches, case_statement, condition, counted, for_statement, handlers_mean, head_means, statement, statements, try_all, type_in, with_branch}
+use Rattle.op_check_stmt.specs.Statements.{all_spots, bound_of, branches, case_statement, condition, for_statement, handlers_mean, head_means, statement, statements, try_all, type_in, with_branch}
 use Rattle.op_check_stmt.specs.Variables.{counter}
 use Rattle.op_check_stmt.specs.declared.variable.Counter.{Counter}
 use Rattle.op_core.specs.Expression.{Expression, expr_of as typed_of}
