@@ -23,7 +23,7 @@ type_behind e front x is =
     ∙ ap (λ xs. typing.type_after (out-CoreExpr e).of (steps_of xs)) is
     ∙ last_after (out-CoreExpr e).of front x
 
-nothing : (xs : List Step) → length xs ≡ 0 → xs ≡ []
+pub nothing : {A : Type 0} (xs : List A) → length xs ≡ 0 → xs ≡ []
 nothing [] h = refl
 nothing (x ∷ xs) h = absurd (omega (arith, h))
 

@@ -91,9 +91,9 @@ abbrev pub element_tree : Core → TypeId → Member → Element
 element_tree core base (one at v) = one_tree (as_type core true base v)
 element_tree core base (range at v at' v') = range_tree (as_type core true base v) (as_type core true base v')
 
-abbrev pub element_trees : Core → TypeId → List Member → Elements
-element_trees core base [] = no_elements
-element_trees core base (m ∷ ms) = tree.elements (element_tree core base m) (element_trees core base ms)
+abbrev pub elements_from : List Element → Elements
+elements_from [] = no_elements
+elements_from (x ∷ xs) = tree.elements x (elements_from xs)
 
 abbrev pub or_own : TypeId → Option TypeId → TypeId
 or_own own None = own
@@ -105,13 +105,15 @@ wanted_or core None own = own
 wanted_or core (Some to) own = if are_sets (sort_of core own) (sort_of core to) then to else own
 
 abbrev pub set_tree : Core → TypeId → List Member → Value
-set_tree core of ms = computed (expression (set_root (element_trees core (or_own of (typing.base_of (type_at core of))) ms)) of no_steps)
+set_tree core of ms = computed (expression (set_root (elements_from (map (element_tree core (or_own of (typing.base_of (type_at core of)))) ms))) of no_steps)
 
 abbrev pub computed_set : Core → Option TypeId → List Member → Checked Value
 computed_set core wanted ms = followed (type_of_set core (Some table.empty_set) ms) (with_part (λ own. fine (set_tree core (wanted_or core wanted own) ms)))
 
+abbrev pub set_by : Core → Option TypeId → List Member → Bool → Checked Value
+set_by core wanted ms true = changed constant (in_brackets (constant_members core (Some no_members) ms))
+set_by core wanted ms false = computed_set core wanted ms
+
 -- a constant where all its elements are
 abbrev pub set_of : Core → Option TypeId → List Member → Checked Value
-set_of core wanted ms =
-    if list_all are_constants ms then changed constant (in_brackets (constant_members core (Some no_members) ms))
-    else computed_set core wanted ms
+set_of core wanted ms = set_by core wanted ms (list_all are_constants ms)

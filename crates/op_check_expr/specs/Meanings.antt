@@ -2,6 +2,7 @@
 use Rattle.std.specs.Prelude.{◌≡◌, ℕ, ◌+◌, nat_eq, position, Bool, true, false, List, Option, Some, None, Result, Ok, Err, slice_get, if◌then◌else◌}
 use Rattle.std.specs.Option.{option_and_then, option_map}
 use Rattle.op_base.specs.declared.place.Place.{Place}
+use Rattle.op_base.specs.declared.rule.Refusal.{Refusal}
 use Rattle.op_core.specs.Expression.{Expression as Tree, expr_of as tree_said}
 use Rattle.op_core.specs.Faults.{Checked, FirstIs, by_entry, by_test, fine, refused, with_part}
 use Rattle.op_core.specs.Rows.{rows}
@@ -18,7 +19,7 @@ use Rattle.op_core.specs.declared.routine.Role.{Role}
 use Rattle.op_core.specs.declared.routine.Role.TheVariants.{Result as ResultRole}
 use Rattle.op_core.specs.declared.routine.Routine.{Routine}
 use Rattle.op_core.specs.declared.routine.Variable.{Variable as VariableRow}
-use Rattle.op_tree.specs.Expression.{Expression, designated, Designator, designator, named, Selectors, no_selectors, selectors, call, Arguments, no_arguments}
+use Rattle.op_tree.specs.Expression.{Expression, designated, Designator, designator, named, Selector, Selectors, no_selectors, selectors, call, Arguments, no_arguments}
 use Rattle.op_check_expr.specs.Calling.{plan_of}
 use Rattle.op_check_expr.specs.Constructors.{is_small}
 use Rattle.op_check_expr.specs.Expressions.{call_of, called, given_first, given_to, position_of, position_of_designator, root_of, selected, value_in, variable_in}
@@ -102,11 +103,15 @@ target here d = target_by here d (routine_alone here d)
 
 -- ---- a call alone
 
+abbrev pub call_in : Selector → Option Arguments
+call_in (call args) = Some args
+call_in _ = None
+
 -- the last one, if it is a call, with those in front
 abbrev pub last_call : Selectors → Option (Selectors × Arguments)
 last_call no_selectors = None
-last_call (selectors (call args) no_selectors) = Some (no_selectors, args)
-last_call (selectors x xs) = option_map (λ r. (selectors x r.0, r.1)) (last_call xs)
+last_call (selectors x no_selectors) = option_map (λ args. (no_selectors, args)) (call_in x)
+last_call (selectors x (selectors y ys)) = option_map (λ r. (selectors x r.0, r.1)) (last_call (selectors y ys))
 
 -- casts and built-in functions are values and no statements
 abbrev pub is_call : Plan → Bool
@@ -139,6 +144,11 @@ unfoldable pub called_alone : Here → Designator → Checked Tree
 called_alone here (designator root ss) = followed (root_of here root) (λ d. alone_behind here (position_of_designator (designator root ss)).place d ss (last_call ss))
 
 -- ---- the call
+
+-- the first fault; a part without a fault has a type, unless a name in it is spoiled
+abbrev pub failure : Option Refusal → CheckError
+failure None = NoMemory
+failure (Some r) = Refused r
 
 -- the typed expression, where no rule is broken; else the first one
 abbrev pub ExprIs : Checked Value → Result CoreExpr CheckError → Type 0

@@ -85,10 +85,13 @@ abbrev pub with_conversion : Tree → TypeId → Option Conversion → Tree
 with_conversion e to None = e
 with_conversion e to (Some c) = with_step e (convert c Implied) to
 
+unfoldable pub is_in : Core → TypeId → ℕ → Bool
+is_in core base n = is_some (in_range (range_of (type_at core base)) (pos n))
+
 -- each element is a value of the base
 abbrev pub are_in : Core → Option TypeId → List ℕ → Bool
 are_in core None members = false
-are_in core (Some base) members = list_all (λ n. is_some (in_range (range_of (type_at core base)) (pos n))) members
+are_in core (Some base) members = list_all (is_in core base) members
 
 -- the same constant as one of a type of this sort, if it is one
 abbrev pub retyped_by : Core → TypeId → Sort → Const → Option Const

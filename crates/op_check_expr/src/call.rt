@@ -1,5 +1,6 @@
 //! What is called, and what it is given.
 ghost use Rattle.std.specs.Prelude.{◌≡◌, [], ◌∷◌, IfOk, slice_get};
+ghost use Rattle.std.specs.List.{list_all};
 ghost use Rattle.std.specs.Option.{option_copied, option_map};
 ghost use Rattle.op_core.specs.Expression.{argument_of, call as call_root, expr_of, expression, no_steps};
 ghost use Rattle.op_core.specs.Typing.{takes_place};
@@ -190,7 +191,14 @@ fn call_expression(
 fn are_given(parameters: &[Parameter], list: &[Argument]) -> bool
     ensures { result ≡ are_given parameters.now (source_lists.arguments_of list.now) }
 {
-    parameters.len() == list.len() && list.iter().all(|a| is_plain(a))
+    let plain = all_plain(list);
+    parameters.len() == list.len() && plain
+}
+
+fn all_plain(list: &[Argument]) -> bool
+    ensures { result ≡ list_all (λ a. is_plain (source.argument_of a)) list.now }
+{
+    list.iter().all(|a| is_plain(a))
 }
 
 fn is_plain(argument: &Argument) -> bool

@@ -1,12 +1,12 @@
 //! How a value becomes one of another type (Free Pascal Reference Guide, "Assignments").
-ghost use Rattle.std.specs.Prelude.{◌≡◌, pos, is_some, IfOk};
+ghost use Rattle.std.specs.Prelude.{◌≡◌, IfOk};
+ghost use Rattle.std.specs.List.{list_all};
 ghost use Rattle.std.specs.Option.{option_map};
 ghost use Rattle.op_core.specs.Expression.{expr_of};
-ghost use Rattle.op_core.specs.Sizes.{range_of, type_at};
+ghost use Rattle.op_core.specs.Sizes.{type_at};
 ghost use Rattle.op_core.specs.Typing as typing;
-ghost use Rattle.op_check_expr.specs.Values.{are_in, as_type, conversion, is_integer, is_wider, ordinal_conversion, retyped, stored, value_of};
+ghost use Rattle.op_check_expr.specs.Values.{are_in, as_type, conversion, is_in, is_integer, is_wider, ordinal_conversion, retyped, stored, value_of};
 ghost use Rattle.op_check_expr.specs.Words.{Reports};
-ghost use Rattle.op_types.specs.Values.{in_range};
 
 use crate::sink::refuse;
 use crate::tree::{constant_tree, type_of, with_conversion};
@@ -106,14 +106,19 @@ fn are_in(core: &Core, base: Option<TypeId>, members: &[u8]) -> bool
 {
     match base {
         None => false,
-        Some(base) => members
-            .iter()
-            .all(|n| in_range(core, base, *n as i64).is_some()),
+        Some(base) => all_in(core, base, members),
     }
 }
 
+fn all_in(core: &Core, base: TypeId, members: &[u8]) -> bool
+    ensures { result ≡ list_all (is_in core.now base) members.now }
+{
+    members.iter().all(|n| is_in(core, base, *n))
+}
+
+#[tactic(auto, unfolding(crate::specs::Values::is_in))]
 fn is_in(core: &Core, base: TypeId, n: u8) -> bool
-    ensures { result ≡ is_some (in_range (range_of (type_at core.now base)) (pos n)) }
+    ensures { result ≡ is_in core.now base n }
 {
     in_range(core, base, n as i64).is_some()
 }

@@ -1,11 +1,11 @@
 //! What statements and declarations are made of.
-ghost use Rattle.std.specs.Prelude.{◌≡◌, IfOk, None};
+ghost use Rattle.std.specs.Prelude.{◌≡◌, IfOk, None, Some, position};
 ghost use Rattle.std.specs.Option.{option_map};
 ghost use Rattle.op_core.specs.Expression as typed;
-ghost use Rattle.op_tree.specs.Expression.{expr_of};
+ghost use Rattle.op_tree.specs.Expression.{expr_of, selector_of};
 ghost use Rattle.op_core.specs.Faults.{with_part};
 ghost use Rattle.op_tree.specs.Lists.{arguments_of};
-ghost use Rattle.op_tree.specs.Statement.{designator_of};
+ghost use Rattle.op_tree.specs.Statement.{designator_of, selectors_of};
 ghost use Rattle.op_check_expr.specs.Naming.{denoted_of};
 ghost use Rattle.op_check_expr.specs.Meanings as means;
 ghost use Rattle.op_check_expr.specs.Scopes.{here_of};
@@ -23,7 +23,8 @@ use crate::sink::refuse;
 use crate::value::Value;
 use op_base::{NoMemory, Place};
 use op_core::{
-    CheckError, CoreExpr, FirstRefusal, Role, RoutineId, Run, TypeId, Variable, VariableId,
+    CheckError, Core, CoreExpr, FirstRefusal, Role, Routine, RoutineId, Run, TypeId, Variable,
+    VariableId,
 };
 use op_tree::{Argument, Designator, Expr, Root, Selector};
 use op_types::{Meaning, assignable};
@@ -43,15 +44,23 @@ pub fn expr(alloc: Global, scope: &Scope, e: &Expr) -> Result<CoreExpr, CheckErr
     };
     match checker.value(&mut sink, None, e)? {
         Some(value) => sink.or_typed(value.into_tree(alloc)),
-        None => match sink.kept {
-            Some(refusal) => Err(CheckError::Refused(refusal)),
-            None => Err(CheckError::NoMemory),
-        },
+        None => Err(failure(sink)),
+    }
+}
+
+/// Why a part has no type: its first fault, or want of memory where it has none.
+fn failure(sink: FirstRefusal) -> CheckError
+    ensures { result ≡ means.failure sink.kept }
+{
+    match sink.kept {
+        Some(refusal) => CheckError::Refused(refusal),
+        None => CheckError::NoMemory,
     }
 }
 
 impl<'a> Checker<'a> {
     /// What an expression means. `wanted` is the type that its use fixes: a set constructor takes its type from that.
+    #[tactic(auto, unfolding(crate::specs::Meanings::value_of))]
     pub fn value(self, sink: &mut FirstRefusal, wanted: Option<TypeId>, e: &Expr) -> Valued
         ensures { IfOk result (λ v. Reports (means.value_of (here_of self.entry.scope) wanted (expr_of e.now)) sink.old sink.new (option_map value_of v)) }
     {
@@ -59,6 +68,7 @@ impl<'a> Checker<'a> {
     }
 
     /// A value that is stored in what has a type; `checked` is whether ranges are. Rule 20 stands at its first token.
+    #[tactic(auto, unfolding(crate::specs::Meanings::given))]
     pub fn given(self, sink: &mut FirstRefusal, to: TypeId, checked: bool, e: &Expr) -> Typed
         ensures { IfOk result (λ v. Reports (means.given (here_of self.entry.scope) to checked (expr_of e.now)) sink.old sink.new (option_map typed.expr_of v)) }
     {
@@ -73,6 +83,7 @@ impl<'a> Checker<'a> {
 
     /// An argument that must be a variable, of the very type where one is given, that may be written: rules 27, 28, 29, 37 at its
     /// first token.
+    #[tactic(auto, unfolding(crate::specs::Meanings::variable))]
     pub fn variable(self, sink: &mut FirstRefusal, of: Option<TypeId>, e: &Expr) -> Typed
         ensures { IfOk result (λ v. Reports (means.variable (here_of self.entry.scope) of (expr_of e.now)) sink.old sink.new (option_map typed.expr_of v)) }
     {
@@ -86,6 +97,7 @@ impl<'a> Checker<'a> {
     }
 
     /// Whether a variable may be written here: its role, and the loops round the place.
+    #[tactic(auto, unfolding(crate::specs::Meanings::is_writable_variable))]
     pub fn is_writable_variable(self, id: VariableId) -> bool
         ensures { result ≡ means.is_writable_variable (here_of self.entry.scope) id }
     {
@@ -93,6 +105,7 @@ impl<'a> Checker<'a> {
     }
 
     /// One element for a set of a base: rules 20 and 34 at its first token.
+    #[tactic(auto, unfolding(crate::specs::Meanings::element))]
     pub fn element(self, sink: &mut FirstRefusal, base: TypeId, e: &Expr) -> Typed
         ensures { IfOk result (λ v. Reports (means.element (here_of self.entry.scope) base (expr_of e.now)) sink.old sink.new (option_map typed.expr_of v)) }
     {
@@ -111,6 +124,7 @@ impl<'a> Checker<'a> {
     }
 
     /// What is assigned to: rule 29 at its first token. A function's own name is its result.
+    #[tactic(auto, unfolding(crate::specs::Meanings::target))]
     pub fn target(self, sink: &mut FirstRefusal, called: &Designator) -> Typed
         ensures { IfOk result (λ v. Reports (means.target (here_of self.entry.scope) (designator_of called.now)) sink.old sink.new (option_map typed.expr_of v)) }
     {
@@ -151,25 +165,26 @@ impl<'a> Checker<'a> {
             return None;
         }
         let core = self.scope.core;
-        let routine = core.routines.as_slice().get(id.0 as usize)?;
-        let variables = core.variables.rows(routine.variables);
-        let k = variables.iter().position(|v| is_result(v.role))?;
-        result_at(routine.variables, variables, k)
+        match core.routines.as_slice().get(id.0 as usize) {
+            Some(routine) => result_in(core, routine),
+            None => None,
+        }
     }
 
     /// A call as a statement. Rule 35 stands at its first token where it is no call.
+    #[tactic(auto, unfolding(crate::specs::Meanings::called_alone))]
     pub fn alone(self, sink: &mut FirstRefusal, called: &Designator) -> Typed
         ensures { IfOk result (λ v. Reports (means.called_alone (here_of self.entry.scope) (designator_of called.now)) sink.old sink.new (option_map typed.expr_of v)) }
     {
         let start = position_of_designator(called).place;
         let denoted = self.root(sink, &called.root)?;
-        match called.selectors.split_last() {
-            Some((Selector::Call { arguments }, front)) => {
+        match last_call(&called.selectors) {
+            Some((front, arguments)) => {
                 let denoted = self.selected(sink, denoted, front)?;
                 let plan = self.plan_of(true, &denoted, arguments)?;
                 self.alone_called(sink, start, plan, arguments)
             }
-            _ => {
+            None => {
                 let denoted = self.selected(sink, denoted, &called.selectors)?;
                 self.alone_denoted(sink, start, denoted)
             }
@@ -222,6 +237,29 @@ fn into_tree(alloc: Global, value: Option<Value>) -> Option<CoreExpr>
     }
 }
 
+/// The last selector, if it is a call, with those in front.
+fn last_call(list: &[Selector]) -> Option<(&[Selector], &[Argument])>
+    ensures { option_map (λ r. (selectors_of r.0.now, arguments_of r.1.now)) result ≡ means.last_call (selectors_of list.now) }
+{
+    match list.split_last() {
+        None => None,
+        Some((last, front)) => match call_in(last) {
+            Some(arguments) => Some((front, arguments)),
+            None => None,
+        },
+    }
+}
+
+fn call_in(selector: &Selector) -> Option<&[Argument]>
+    ensures { option_map (λ a. arguments_of a.now) result ≡ means.call_in (selector_of selector.now) }
+{
+    match selector {
+        Selector::Call { arguments } => Some(arguments.as_slice()),
+        Selector::Member(_) => None,
+        Selector::Index { .. } => None,
+    }
+}
+
 fn is_own(own: Option<RoutineId>, id: RoutineId) -> bool
     ensures { result ≡ means.is_own own id }
 {
@@ -235,6 +273,21 @@ fn is_result(role: Role) -> bool
     ensures { result ≡ means.is_result_role role }
 {
     matches!(role, Role::Result)
+}
+
+/// The result of a routine, among its variables.
+fn result_in(core: &Core, routine: &Routine) -> Option<(VariableId, TypeId)>
+    ensures { result ≡ means.result_in core.now (Some routine.now) }
+{
+    let variables = core.variables.rows(routine.variables);
+    let k = result_position(variables)?;
+    result_at(routine.variables, variables, k)
+}
+
+fn result_position(variables: &[Variable]) -> Option<usize>
+    ensures { result ≡ position means.is_result variables.now }
+{
+    variables.iter().position(|v| is_result(v.role))
 }
 
 fn result_at(run: Run, variables: &[Variable], k: usize) -> Option<(VariableId, TypeId)>

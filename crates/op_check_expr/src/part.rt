@@ -2,15 +2,16 @@
 ghost use Rattle.std.specs.Prelude.{◌≡◌, IfOk};
 ghost use Rattle.std.specs.Option.{option_copied, option_map};
 ghost use Rattle.op_core.specs.Faults.{with_part};
-ghost use Rattle.op_tree.specs.Expression.{expr_of};
+ghost use Rattle.op_tree.specs.Expression.{expr_of, no_selectors};
 ghost use Rattle.op_tree.specs.Statement.{designator_of};
 ghost use Rattle.op_check_expr.specs.Calling.{first_of, given_of, others_of, type_wanted};
 ghost use Rattle.op_check_expr.specs.Constructors.{member_of as member_in_view, members_of};
-ghost use Rattle.op_check_expr.specs.Expressions.{as_value, call_of, given_first, index_types, indexed, member_of, name_denoted, parameters_for, position_of, position_of_denoted, position_of_designator, ranged, settled, still_at_position, text_denoted, with_member};
+ghost use Rattle.op_check_expr.specs.Expressions.{as_value, call_of, given_first, index_types, indexed, literal_value, member_of, name_denoted, parameters_for, position_of, position_of_denoted, position_of_designator, ranged, settled, still_at_position, text_denoted, with_member};
 ghost use Rattle.op_check_expr.specs.Naming.{denoted_of};
 ghost use Rattle.op_check_expr.specs.Scopes.{here_of};
 ghost use Rattle.op_check_expr.specs.Values.{value_of};
 ghost use Rattle.op_check_expr.specs.Words.{Reports};
+ghost use Rattle.op_types.specs.Constants.{literal_means};
 ghost use Rattle.op_types.specs.Names.{lower};
 
 use crate::call::{Given, Plan};
@@ -151,6 +152,17 @@ pub fn text_denoted(alloc: Global, position: Position, text: &[u8]) -> Result<De
 }
 
 impl<'a> Checker<'a> {
+    /// A text of which nothing is selected.
+    pub fn text_alone(self, text: &[u8]) -> Valued
+        ensures { IfOk result (λ v. option_map value_of v ≡ (literal_value (literal_means text.now no_selectors)).typed) }
+    {
+        match self.setting().literal(text, &[])? {
+            Some(Some(c)) => Ok(Some(Value::Constant(c))),
+            Some(None) => Ok(None),
+            None => Ok(None),
+        }
+    }
+
     /// What a name stands for, spelled so, which is looked up as `key`.
     pub fn name_denoted(
         self,

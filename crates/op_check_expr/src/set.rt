@@ -1,10 +1,12 @@
 //! Set constructors, once their elements have values.
-ghost use Rattle.std.specs.Prelude.{◌≡◌, ◌∷◌, [], Some, None, IfOk, map};
+ghost use Rattle.std.specs.Prelude.{◌≡◌, Some, IfOk, map};
+ghost use Rattle.std.specs.List.{list_all};
 ghost use Rattle.std.specs.Option.{option_map};
-ghost use Rattle.op_core.specs.Expression.{element_of, expr_of};
-ghost use Rattle.op_core.specs.Faults.{fine};
+ghost use Rattle.op_core.specs.Expression.{element_of, expr_of, expression, no_steps, set as set_root};
 ghost use Rattle.op_core.specs.Nodes.{elements_of};
-ghost use Rattle.op_check_expr.specs.Constructors.{are_constants, both_in_set, computed_set, constant_member, constant_members, constant_of, element_tree, element_trees, is_constant, is_small, member_in_set, member_of, place_of, set_of, set_tree, type_of_set, value_in_set, wanted_or};
+ghost use Rattle.op_core.specs.Sizes.{type_at};
+ghost use Rattle.op_core.specs.Typing as typing;
+ghost use Rattle.op_check_expr.specs.Constructors.{are_constants, both_in_set, computed_set, constant_member, constant_members, constant_of, element_tree, is_constant, is_small, member_in_set, member_of, or_own, place_of, set_by, set_of, set_tree, type_of_set, value_in_set, wanted_or};
 ghost use Rattle.op_check_expr.specs.Values.{value_of};
 ghost use Rattle.op_check_expr.specs.Words.{Reports};
 ghost use Rattle.op_types.specs.Constants.{in_brackets, no_members};
@@ -37,12 +39,31 @@ pub fn set_of(
 ) -> Valued
     ensures { IfOk result (λ v. Reports (set_of setting.entry.core.now wanted (map member_of members.items)) sink.old sink.new (option_map value_of v)) }
 {
-    if members.iter().all(|m| m.are_constants()) {
+    let constant = all_constants(members.as_slice());
+    set_by(setting, sink, wanted, members, constant)
+}
+
+fn set_by(
+    setting: Setting,
+    sink: &mut FirstRefusal,
+    wanted: Option<TypeId>,
+    members: Vec<Member>,
+    constant: bool,
+) -> Valued
+    ensures { IfOk result (λ v. Reports (set_by setting.entry.core.now wanted (map member_of members.items) constant) sink.old sink.new (option_map value_of v)) }
+{
+    if constant {
         let set = constant_members(setting, sink, members)?;
         Ok(constant_value(in_brackets(set)))
     } else {
         computed_set(setting, sink, wanted, members)
     }
+}
+
+fn all_constants(members: &[Member]) -> bool
+    ensures { result ≡ list_all (λ m. are_constants (member_of m)) members.now }
+{
+    members.iter().all(|m| m.are_constants())
 }
 
 fn constant_members(
@@ -185,15 +206,27 @@ fn set_tree(
 ) -> Result<CoreExpr, NoMemory>
     ensures { IfOk result (λ e. value_of (Value.Computed e) ≡ set_tree core.now of (map member_of members.items)) }
 {
-    let base = match base_of(core, of) {
-        Some(base) => base,
-        None => of,
-    };
+    let base = base_or_own(core, of);
     let mut elements = Vec::new(alloc);
     for member in members {
         elements.push(element_tree(alloc, core, base, member)?)?;
     }
-    Ok(CoreExpr::new(alloc, Root::Set(elements), of))
+    Ok(set_expression(alloc, elements, of))
+}
+
+fn set_expression(alloc: Global, elements: Vec<CoreElement>, of: TypeId) -> CoreExpr
+    ensures { expr_of result ≡ expression (set_root (elements_of elements.items)) of no_steps }
+{
+    CoreExpr::new(alloc, Root::Set(elements), of)
+}
+
+fn base_or_own(core: &Core, of: TypeId) -> TypeId
+    ensures { result ≡ or_own of (typing.base_of (type_at core.now of)) }
+{
+    match base_of(core, of) {
+        Some(base) => base,
+        None => of,
+    }
 }
 
 fn element_tree(

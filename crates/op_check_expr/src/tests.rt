@@ -1,12 +1,12 @@
 use crate::*;
 use op_base::{NoMemory, Place, Text};
 use op_core::{
-    CheckError, Const, Core, CoreType, Field, FirstRefusal, Function, IntegerKind, Owner,
+    CheckError, Const, Core, CoreExpr, CoreType, Field, FirstRefusal, Function, IntegerKind, Owner,
     Parameter, Role, Routine, RoutineId, Run, TypeId, UnitId, Variable, VariableId,
 };
 use op_parse_code::expression;
 use op_scan::{Switches, scan};
-use op_tree::{Expr, Name, ParameterMode, Position, RoutineKind, Visibility};
+use op_tree::{Designator, Expr, Name, ParameterMode, Position, RoutineKind, Visibility};
 use op_types::{BuiltIn, Constant, Meaning, Visible, Weight};
 use std::alloc::Global;
 use std::test::Fail;
@@ -138,7 +138,10 @@ fn push_routine(
             Some(of) => Some(TypeId(of)),
             None => None,
         },
-        variables: Run { first: 0, count: 0 },
+        variables: Run {
+            first: 13,
+            count: 1,
+        },
         body: None,
     })
 }
@@ -171,6 +174,12 @@ fn program(alloc: Global) -> Result<Core, NoMemory> {
     push_routine(alloc, &mut core, "Next", (0, 0), Some(4))?;
     push_routine(alloc, &mut core, "Move", (1, 2), Some(5))?;
     push_routine(alloc, &mut core, "Fill", (3, 1), Some(4))?;
+    core.variables.push(Variable {
+        name: name(alloc, b"result")?,
+        of: TypeId(4),
+        role: Role::Result,
+        first_value: None,
+    })?;
     Ok(core)
 }
 
@@ -292,10 +301,7 @@ fn outcome(alloc: Global, text: &str) -> Result<Outcome, NoMemory> {
         return Ok(Outcome::Nothing);
     };
     match expr(alloc, &scope, &e) {
-        Ok(e) => Ok(Outcome::Type(match e.steps.last() {
-            Some(step) => step.of.0,
-            None => e.of.0,
-        })),
+        Ok(e) => Ok(Outcome::Type(type_of(&e).0)),
         Err(CheckError::Refused(r)) => Ok(match r.rule.number {
             13 => Outcome::Feature(r.rule.feature, r.place.col),
             number => Outcome::Rule(number, r.place.col),
@@ -427,6 +433,94 @@ fn leaves_out(rt: HostRuntime) -> Result<(), Fail> {
             Outcome::Feature(feature, col),
             "{text}"
         );
+    }
+    Ok(())
+}
+
+/// What a statement asks of an expression.
+#[derive(Clone, Copy, Debug, PartialEq, Eq)]
+enum Asked {
+    /// A value stored in what has the type.
+    Given(u32),
+    /// A variable of the type.
+    Variable(u32),
+    Target,
+    Call,
+    /// An element for a set over the type.
+    Element(u32),
+}
+
+fn designator_of(e: &Expr) -> Option<&Designator> {
+    match e {
+        Expr::Designator(called) => Some(called),
+        _ => None,
+    }
+}
+
+fn answer(
+    checker: Checker,
+    sink: &mut FirstRefusal,
+    asked: Asked,
+    e: &Expr,
+) -> Result<Option<CoreExpr>, NoMemory> {
+    match (asked, designator_of(e)) {
+        (Asked::Given(of), _) => checker.given(sink, TypeId(of), false, e),
+        (Asked::Variable(of), _) => checker.variable(sink, Some(TypeId(of)), e),
+        (Asked::Element(of), _) => checker.element(sink, TypeId(of), e),
+        (Asked::Target, Some(called)) => checker.target(sink, called),
+        (Asked::Call, Some(called)) => checker.alone(sink, called),
+        (Asked::Target | Asked::Call, None) => Ok(None),
+    }
+}
+
+fn asked(alloc: Global, asked: Asked, text: &str) -> Result<Outcome, NoMemory> {
+    let core = program(alloc)?;
+    let visible = names(alloc)?;
+    let scope = Scope {
+        core: &core,
+        visible: &visible,
+        routine: Some(RoutineId(2)),
+        around: &[Around::Loop(Some(VariableId(0)))],
+    };
+    let Some(e) = parsed(alloc, text)? else {
+        return Ok(Outcome::Nothing);
+    };
+    let mut sink = FirstRefusal::new();
+    let typed = answer(Checker { alloc, scope }, &mut sink, asked, &e)?;
+    Ok(match (sink.kept, typed) {
+        (Some(r), _) => Outcome::Rule(r.rule.number, r.place.col),
+        (None, Some(e)) => Outcome::Type(type_of(&e).0),
+        (None, None) => Outcome::Nothing,
+    })
+}
+
+// Free Pascal Reference Guide, "Assignments", "Procedure statements" and "Variable parameters". The routine is Next.
+#[test]
+fn answers_statements(rt: HostRuntime) -> Result<(), Fail> {
+    for (what, text, wanted) in [
+        (Asked::Given(16), "7", Outcome::Type(16)),
+        (Asked::Given(1), "i", Outcome::Type(1)),
+        (Asked::Given(17), "[s, i]", Outcome::Type(17)),
+        (Asked::Given(5), "i", Outcome::Rule(20, 1)),
+        (Asked::Given(17), "[f]", Outcome::Rule(20, 1)),
+        (Asked::Variable(1), "b", Outcome::Type(1)),
+        (Asked::Variable(4), "a[1]", Outcome::Type(4)),
+        (Asked::Variable(4), "(b)", Outcome::Rule(27, 1)),
+        (Asked::Target, "b", Outcome::Type(1)),
+        (Asked::Target, "p.x", Outcome::Type(4)),
+        (Asked::Target, "Next", Outcome::Type(4)),
+        (Asked::Target, "i", Outcome::Rule(29, 1)),
+        (Asked::Target, "Go", Outcome::Rule(29, 1)),
+        (Asked::Call, "Go", Outcome::Type(9)),
+        (Asked::Call, "Twice(1)", Outcome::Type(4)),
+        (Asked::Call, "Go(1)", Outcome::Rule(26, 1)),
+        (Asked::Call, "b", Outcome::Rule(35, 1)),
+        (Asked::Call, "Ord(c)", Outcome::Rule(35, 1)),
+        (Asked::Element(16), "i", Outcome::Type(16)),
+        (Asked::Element(16), "32", Outcome::Rule(34, 1)),
+        (Asked::Element(16), "c", Outcome::Rule(20, 1)),
+    ] {
+        assert_eq!(rt; asked(rt.alloc(), what, text)?, wanted, "{what:?} {text}");
     }
     Ok(())
 }

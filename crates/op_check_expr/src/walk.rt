@@ -5,11 +5,11 @@
 ghost use Rattle.std.specs.Prelude.{◌≡◌, None, IfOk};
 ghost use Rattle.std.specs.Option.{option_copied, option_map};
 ghost use Rattle.op_core.specs.Expression as tree;
-ghost use Rattle.op_tree.specs.Expression.{argument_of, element_of, expr_of, literal, prefixed, root_of, selector_of};
+ghost use Rattle.op_tree.specs.Expression.{argument_of, arguments, element_of, expr_of, literal, no_arguments, prefixed, root_of, selector_of};
 ghost use Rattle.op_tree.specs.Lists.{arguments_of, expressions_of, operations_of};
 ghost use Rattle.op_tree.specs.Statement.{designator_of, elements_of, selectors_of};
 ghost use Rattle.op_check_expr.specs.Constructors.{member_of};
-ghost use Rattle.op_check_expr.specs.Expressions.{argument, called, designator_of as designator_means, elements_at, member_in, operations, root_of as root_means, select, selected, set_in, value_in};
+ghost use Rattle.op_check_expr.specs.Expressions.{argument, called, designator_of as designator_means, elements_at, member_in, operations, root_of as root_means, select, selected, set_in, sole_value, used_by, value_in};
 ghost use Rattle.op_check_expr.specs.Naming.{denoted_of};
 ghost use Rattle.op_check_expr.specs.Scopes.{here_of};
 ghost use Rattle.op_check_expr.specs.Values.{value_of};
@@ -32,7 +32,7 @@ use op_core::{Const, CoreArgument, FirstRefusal, Parameter, TypeId};
 use op_tree::{
     Argument, Designator, Element, Expr, Operation, Position, PrefixOperator, Root, Selector,
 };
-use op_types::{made, nodes, number_behind, only_value};
+use op_types::{Applied, made, nodes, number_behind};
 
 impl<'a> Checker<'a> {
     /// What an expression means. `wanted` is the type that its use fixes: a set constructor takes its type from that.
@@ -84,12 +84,14 @@ impl<'a> Checker<'a> {
     ) -> Valued
         ensures { IfOk result (λ v. Reports (value_in (here_of self.entry.scope) None (literal text.now position (selectors_of selectors.now))) sink.old sink.new (option_map value_of v)) }
     {
-        if let Some(Some(c)) = self.setting().literal(text, selectors)? {
-            return Ok(Some(Value::Constant(c)));
+        match selectors.split_first() {
+            None => self.text_alone(text),
+            Some(_) => {
+                let denoted = Some(text_denoted(self.alloc, position, text)?);
+                let denoted = self.selected(sink, denoted, selectors)?;
+                self.as_value(sink, denoted)
+            }
         }
-        let denoted = Some(text_denoted(self.alloc, position, text)?);
-        let denoted = self.selected(sink, denoted, selectors)?;
-        self.as_value(sink, denoted)
     }
 
     /// Operators and operands behind a first operand, in an expression that begins at `start`.
@@ -268,15 +270,12 @@ impl<'a> Checker<'a> {
             Plan::Bound(function, of, at) => {
                 Ok(constant_value(self.setting().bound(sink, function, of, at)))
             }
-            Plan::Sole(what, position) => match only_value(list) {
-                Some(e) => {
-                    let at = position_of(e).place;
-                    match self.value_in(sink, None, e)? {
-                        Some(v) => used(self.setting(), sink, position, what, at, v),
-                        None => Ok(None),
-                    }
-                }
+            Plan::Sole(what, position) => match list.split_first() {
                 None => Ok(None),
+                Some((first, others)) => match others.split_first() {
+                    None => self.sole(sink, what, position, first),
+                    Some(_) => Ok(None),
+                },
             },
             _ => {
                 let parameters = self.parameters_for(plan);
@@ -290,6 +289,33 @@ impl<'a> Checker<'a> {
                 }
                 Ok(self.call_of(sink, plan, given))
             }
+        }
+    }
+
+    /// A cast or a function at a position, of the one argument.
+    #[cycle(walk)]
+    fn sole(
+        self,
+        sink: &mut FirstRefusal,
+        what: Applied,
+        position: Position,
+        first: &Argument,
+    ) -> Valued
+        ensures { IfOk result (λ v. Reports (used_by (here_of self.entry.scope) what position (sole_value (here_of self.entry.scope) (arguments (argument_of first.now) no_arguments))) sink.old sink.new (option_map value_of v)) }
+    {
+        match first {
+            Argument::Value(e) => match self.value_in(sink, None, e)? {
+                Some(v) => used(
+                    self.setting(),
+                    sink,
+                    position,
+                    what,
+                    position_of(e).place,
+                    v,
+                ),
+                None => Ok(None),
+            },
+            _ => Ok(None),
         }
     }
 

@@ -105,14 +105,14 @@ abbrev pub extent_of : Core → TypeId → Extent
 extent_of core of = unwrap_or (slice_get core.extents of.0) (plain 4 false)
 
 -- what the extent of a type is made of stands in front of it
-abbrev pub IsBehind : Core → ℕ → CoreType → Type 0
-IsBehind core n (Record fields) = (fields.first + fields.count ≤ length core.fields) × All (λ f. f.of.0 < n) (rows core.fields fields)
-IsBehind core n (Array index element) = (index.0 < n) × (element.0 < n)
-IsBehind core n (Interface id) = id.0 < length core.interfaces
-IsBehind core n _ = Unit {0}
+abbrev pub IsBehind : List Field → List Face → ℕ → CoreType → Type 0
+IsBehind fields faces n (Record run) = (run.first + run.count ≤ length fields) × All (λ f. f.of.0 < n) (rows fields run)
+IsBehind fields faces n (Array index element) = (index.0 < n) × (element.0 < n)
+IsBehind fields faces n (Interface id) = id.0 < length faces
+IsBehind fields faces n _ = Unit {0}
 
 -- What is kept for each type is its extent, by what is kept for the types that it is made of.
 pub record KeepsExtents (core : Core) : Type 0 where
   pub count : length core.extents ≡ length core.types
-  pub behind : (n : ℕ) (t : CoreType) → slice_get core.types n ≡ Some t → IsBehind core n t
+  pub behind : (n : ℕ) (t : CoreType) → slice_get core.types n ≡ Some t → IsBehind core.fields core.interfaces n t
   pub each : (n : ℕ) (t : CoreType) → slice_get core.types n ≡ Some t → slice_get core.extents n ≡ Some (extent_by (extent_of core) core (Some t))

@@ -38,6 +38,15 @@ impl<T: Drop> Table<T> {
         Ok(())
     }
 
+    /// Puts the rows of another table behind the others.
+    pub fn append(&mut self, more: Table<T>) -> Result<(), NoMemory>
+        ensures { IfOk result (λ _. self.new ≡ self.old ++ more) }
+    {
+        let mut rows = more.rows;
+        self.rows.append(&mut rows)?;
+        Ok(())
+    }
+
     /// Puts a row in place of another one, as where what was declared ahead is declared.
     pub fn replace(&mut self, at: usize, row: T)
         requires { at < length self.old }

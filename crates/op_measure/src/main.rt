@@ -2,10 +2,11 @@
 //!
 //! `count FILE..` tells how many tokens each file has, and `list FILE..` each token with its place. `parse FILE..` tells what each file
 //! is, and `print FILE..` prints its tree. `words FILE..` decodes the words of code. `make N..` makes low code of N instructions, and
-//! `build N..` writes its image.
+//! `build N..` writes its image. `names N..` declares N names in one scope and looks each up.
 #![tactic(auto)]
 
 mod building;
+mod names;
 mod tokens;
 mod trees;
 mod words;
@@ -39,6 +40,7 @@ fn main(rt: HostRuntime) -> io::Result<()> {
                 let count = word.as_str().parse::<u32>().unwrap_or(0);
                 building::tell(&rt, count, command.as_str() == "build")?;
             }
+            "names" => names::tell(&rt, word.as_str().parse::<u32>().unwrap_or(0))?,
             command => tell_file(&rt, command, word.as_str())?,
         }
     }

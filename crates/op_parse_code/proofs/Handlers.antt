@@ -11,15 +11,15 @@ use Rattle.op_parse_code.proofs.Refusing.{Some_, Seq, refuses_map, refuses_first
 use Rattle.op_parse_code.proofs.StatementKnown.{known_name, known_on, known_statements}
 use Rattle.op_parse_code.proofs.Statements.{closed, ends_all, StatementsEnd}
 use Rattle.op_parse_code.specs.Opening.{is_word, spelled, is_identifier}
-use Rattle.op_parse_code.specs.Refusal.{Phrase, SameHead, Dead, Refuses, out_of_memory, syntax, nested, left_out, Decides, decides_there, decides_behind, decides_in_list, TellsList, tells_of_value, tells_of_name, tells_of_bracket, refused_at}
+use Rattle.op_parse_code.specs.Refusal.{Phrase, SameHead, Dead, Refuses, out_of_memory, syntax, nested, left_out, Decides, decides_there, decides_behind, refused_at}
 use Rattle.op_parse_code.specs.Whole.{Marked, NoMark, SomeName}
 use Rattle.op_parse_code.specs.WholeStatement.{SomeStatement, SomeStatements, SomeHandlers, SomeOn, SomeExcept, Rest, finally_rest, except_rest, on_rest, on_else_rest, try_of, IsHandled, ClassTail, class_of, Behind, front_is, begins_handler}
 use Rattle.op_parse_code.specs.declared.error.ParseError.{ParseError}
 use Rattle.op_parse_code.specs.declared.mark.Mark.TheVariants as mark
 use Rattle.op_scan.specs.declared.token.TokenKind.{TokenKind}
 use Rattle.op_scan.specs.declared.token.TokenKind.TheVariants as kind
-use Rattle.op_tree.proofs.ExpressionUnique.{behind, designator_begins, true_false, false_true, is_comma, is_colon}
-use Rattle.op_tree.proofs.StatementUnique.{is_identifier as is_identifier_there, ends, ends_closed, ends_list, no_statements_at, differ}
+use Rattle.op_tree.proofs.ExpressionUnique.{behind, designator_begins, true_false, false_true}
+use Rattle.op_tree.proofs.StatementUnique.{is_identifier as is_identifier_there, ends, ends_closed, ends_list, no_statements_at}
 use Rattle.op_tree.specs.Expression.{designator, named, no_selectors}
 use Rattle.op_tree.specs.ExpressionGrammar.{is_designator, is_named, are_no_selectors}
 use Rattle.op_tree.specs.Lists.{handlers_of}
@@ -256,15 +256,9 @@ on_front : (ks : List Terminal) → front_is (is_word (codes "on")) ks ≡ true 
 on_front [] h = false_true h
 on_front (t ∷ ks) h = let w = word_kind (codes "on") t.kind h in (spelled t.kind, t.position, ks, ap (λ z. z at t.position ∷ ks) w.0, w.1)
 
-list_at_no_name : {A : Type 0} {q m n : List Terminal} {text : List ℕ} {p : Position} → TellsList q m → m ≡ kind.Identifier text at p ∷ n → A
-list_at_no_name (tells_of_value front w f) e = differ is_comma e refl refl
-list_at_no_name tells_of_name e = differ is_colon e refl refl
-list_at_no_name (tells_of_bracket f) e = list_at_no_name f e
-
 decides_more : {q m : List Terminal} (text : List ℕ) (p : Position) (n : List Terminal) → IsWord (codes "on") text → Decides q m → m ≡ kind.Identifier text at p ∷ n → Decides q n
 decides_more text p n h decides_there e = subst (λ z. Decides z n) (sym e) (decides_behind h decides_there)
 decides_more text p n h (decides_behind w g) e = decides_behind w (decides_more text p n h g e)
-decides_more text p n h (decides_in_list f) e = list_at_no_name f e
 
 -- where the word in front is not `on`, one token tells
 dead_other : {A : Type 0} (P : A → List Terminal → List Terminal → Type 0) (Q : Rest → List Terminal → List Terminal → Type 0) (ks : List Terminal) → front_is (is_word (codes "on")) ks ≡ false → ((x : Rest) (ls r : List Terminal) → begins_handler ls ≡ false → Q x ls r → (a : A) × (r' : List Terminal) × P a ls r') → ((ls : List Terminal) (a : A) (r : List Terminal) → SameHead ks ls → P a ls r → ⊥) → Dead Q ks ks

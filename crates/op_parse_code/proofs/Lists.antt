@@ -3,7 +3,7 @@ use Rattle.std.proofs.Common.{◌≡◌, ℕ, List, [], ◌∷◌, ◌++◌, Opt
 use Rattle.op_base.specs.declared.place.Place.{Place}
 use Rattle.op_parse_code.proofs.Refusing.{Some_, Seq, Known, refuses_map, refuses_first, refuses_after, refuses_behind, no_mark_same}
 use Rattle.op_parse_code.specs.Opening.{kind_of}
-use Rattle.op_parse_code.specs.Refusal.{Phrase, SameHead, Refuses}
+use Rattle.op_parse_code.specs.Refusal.{Phrase, SameHead, Decision, Decides, RefusesBy}
 use Rattle.op_parse_code.specs.Whole.{Marked, NoMark}
 use Rattle.op_parse_code.specs.declared.error.ParseError.{ParseError}
 use Rattle.op_parse_code.specs.declared.mark.Mark.{Mark}
@@ -22,14 +22,14 @@ Tail More by close d (Some x) ks r = (p : Position) × (m : List Terminal) × (k
 abbrev pub Splits : {A X : Type 0} → Phrase A → Phrase X → Mark → Mark → Type 0
 Splits {A} {X} Item More by close = (d : ℕ) (x : X) (ls r : List Terminal) → More d x ls r → Some_ (Seq Item (Tail More by close)) d ls
 
-pub list_item : {A X : Type 0} (Item : Phrase A) (More : Phrase X) (by close : Mark) (d : ℕ) (end : Place) (ks : List Terminal) (e : ParseError) → Splits Item More by close → Refuses Item d end ks e → Refuses More d end ks e
+pub list_item : {D : Decision} {A X : Type 0} (Item : Phrase A) (More : Phrase X) (by close : Mark) (d : ℕ) (end : Place) (ks : List Terminal) (e : ParseError) → Splits Item More by close → RefusesBy D Item d end ks e → RefusesBy D More d end ks e
 list_item Item More by close d end ks e into h = refuses_map (Seq Item (Tail More by close)) More d end ks e (λ d' b ls r s x. into d' b ls r x) (refuses_first Item (Tail More by close) d end ks e h)
 
 tail_close : {X : Type 0} (More : Phrase X) (by close : Mark) (m : List Terminal) → NoMark by m → (d : ℕ) (x : Option X) (ls r : List Terminal) → SameHead m ls → Tail More by close d x ls r → Some_ (Marked close) d ls
 tail_close More by close m none d None ls r s (q, e) = (q, r, e)
 tail_close More by close m none d (Some x) ls r s (p, m1, e, f) = absurd (no_mark_same by m ls s none p m1 e)
 
-pub list_close : {A X : Type 0} (Item : Phrase A) (More : Phrase X) (by close : Mark) (d : ℕ) (end : Place) (a : A) (ks m : List Terminal) (e : ParseError) → Splits Item More by close → Known Item → Item d a ks m → NoMark by m → Refuses (Marked close) d end m e → Refuses More d end ks e
+pub list_close : {D : Decision} {A X : Type 0} (Item : Phrase A) (More : Phrase X) (by close : Mark) (d : ℕ) (end : Place) (a : A) (ks m : List Terminal) (e : ParseError) → Splits Item More by close → Known Item → Item d a ks m → NoMark by m → RefusesBy D (Marked close) d end m e → RefusesBy D More d end ks e
 list_close Item More by close d end a ks m e into known p none h = refuses_map (Seq Item (Tail More by close)) More d end ks e (λ d' b ls r s x. into d' b ls r x) (refuses_after Item (Tail More by close) d end a ks m e known p (refuses_map (Marked close) (Tail More by close) d end m e (tail_close More by close m none) h))
 
 abbrev pub first_kind : List Terminal → TokenKind
@@ -43,7 +43,7 @@ tail_more : {X : Type 0} (More : Phrase X) (by close : Mark) (p : Position) → 
 tail_more More by close p other d None ls r (q, e) = absurd (other (kind_same e))
 tail_more More by close p other d (Some x) ls r (q, m, e, f) = (x, r, subst (λ z. More d x z r) (sym (ap behind e)) f)
 
-pub list_more : {A X : Type 0} (Item : Phrase A) (More : Phrase X) (by close : Mark) (d : ℕ) (end : Place) (a : A) (ks m : List Terminal) (p : Position) (e : ParseError) → Splits Item More by close → Known Item → (kind_of by ≡ kind_of close → ⊥) → Item d a ks (kind_of by at p ∷ m) → Refuses More d end m e → Refuses More d end ks e
+pub list_more : {D : Decision} {A X : Type 0} (Item : Phrase A) (More : Phrase X) (by close : Mark) (d : ℕ) (end : Place) (a : A) (ks m : List Terminal) (p : Position) (e : ParseError) → Splits Item More by close → Known Item → (kind_of by ≡ kind_of close → ⊥) → Item d a ks (kind_of by at p ∷ m) → RefusesBy D More d end m e → RefusesBy D More d end ks e
 list_more Item More by close d end a ks m p e into known other f h = refuses_map (Seq Item (Tail More by close)) More d end ks e (λ d' b ls r s x. into d' b ls r x) (refuses_after Item (Tail More by close) d end a ks (kind_of by at p ∷ m) e known f (refuses_behind More (Tail More by close) d end (kind_of by at p) m e (tail_more More by close p other) h))
 
 -- what stands behind a part of a list that has no mark of its own at its end
@@ -54,15 +54,15 @@ Open More by d (Some x) ks r = (p : Position) × (m : List Terminal) × (ks ≡ 
 abbrev pub SplitsOpen : {A X Y : Type 0} → Phrase A → Phrase X → Phrase Y → Mark → Type 0
 SplitsOpen {A} {X} {Y} Item More Whole by = (d : ℕ) (x : Y) (ls r : List Terminal) → Whole d x ls r → Some_ (Seq Item (Open More by)) d ls
 
-pub open_item : {A X Y : Type 0} (Item : Phrase A) (More : Phrase X) (Whole : Phrase Y) (by : Mark) (d : ℕ) (end : Place) (ks : List Terminal) (e : ParseError) → SplitsOpen Item More Whole by → Refuses Item d end ks e → Refuses Whole d end ks e
+pub open_item : {D : Decision} {A X Y : Type 0} (Item : Phrase A) (More : Phrase X) (Whole : Phrase Y) (by : Mark) (d : ℕ) (end : Place) (ks : List Terminal) (e : ParseError) → SplitsOpen Item More Whole by → RefusesBy D Item d end ks e → RefusesBy D Whole d end ks e
 open_item Item More Whole by d end ks e into h = refuses_map (Seq Item (Open More by)) Whole d end ks e (λ d' b ls r s x. into d' b ls r x) (refuses_first Item (Open More by) d end ks e h)
 
 open_behind : {X : Type 0} (More : Phrase X) (by : Mark) (p : Position) (d : ℕ) (x : Option X) (ls r : List Terminal) → Open More by d x (kind_of by at p ∷ ls) r → Some_ More d ls
 open_behind More by p d None ls r none = absurd (none p ls refl)
 open_behind More by p d (Some x) ls r (q, m, e, f) = (x, r, subst (λ z. More d x z r) (sym (ap behind e)) f)
 
-pub open_more : {A X Y : Type 0} (Item : Phrase A) (More : Phrase X) (Whole : Phrase Y) (by : Mark) (d : ℕ) (end : Place) (a : A) (ks m after : List Terminal) (p : Position) (e : ParseError) → SplitsOpen Item More Whole by → Known Item → Item d a ks m → m ≡ kind_of by at p ∷ after → Refuses More d end after e → Refuses Whole d end ks e
-open_more Item More Whole by d end a ks m after p e into known f is h = refuses_map (Seq Item (Open More by)) Whole d end ks e (λ d' b ls r s x. into d' b ls r x) (refuses_after Item (Open More by) d end a ks m e known f (subst (λ z. Refuses (Open More by) d end z e) (sym is) (refuses_behind More (Open More by) d end (kind_of by at p) after e (open_behind More by p) h)))
+pub open_more : {D : Decision} {A X Y : Type 0} (Item : Phrase A) (More : Phrase X) (Whole : Phrase Y) (by : Mark) (d : ℕ) (end : Place) (a : A) (ks m after : List Terminal) (p : Position) (e : ParseError) → SplitsOpen Item More Whole by → Known Item → Item d a ks m → m ≡ kind_of by at p ∷ after → RefusesBy D More d end after e → RefusesBy D Whole d end ks e
+open_more {D = D} Item More Whole by d end a ks m after p e into known f is h = refuses_map (Seq Item (Open More by)) Whole d end ks e (λ d' b ls r s x. into d' b ls r x) (refuses_after Item (Open More by) d end a ks m e known f (subst (λ z. RefusesBy D (Open More by) d end z e) (sym is) (refuses_behind More (Open More by) d end (kind_of by at p) after e (open_behind More by p) h)))
 
 -- ---- what is read of a list so far
 
@@ -80,20 +80,23 @@ before_all add none whole z s [] = sym z
 before_all add none whole z s (x ∷ xs) = ap (add x) (before_all add none whole z s xs) ∙ sym (s x xs)
 
 -- More parts complete what is read, and a refusal of what is left is one of the whole.
-pub record Reading {X B : Type 0} (add : X → B → B) (More : Phrase B) (d : ℕ) (end : Place) (all : List Terminal) (xs : List X) (rest : List Terminal) : Type 0 where
+pub record ReadingBy {X B : Type 0} (D : Decision) (add : X → B → B) (More : Phrase B) (d : ℕ) (end : Place) (all : List Terminal) (xs : List X) (rest : List Terminal) : Type 0 where
   pub completes : (more : B) (r : List Terminal) → More d more rest r → More d (before add xs more) all r
-  pub dies : (e : ParseError) → Refuses More d end rest e → Refuses More d end all e
+  pub dies : (e : ParseError) → RefusesBy D More d end rest e → RefusesBy D More d end all e
 
-pub reading_more : {X B : Type 0} (add : X → B → B) (More : Phrase B) (d : ℕ) (end : Place) (all rest : List Terminal) (xs : List X) (x : X) (after : List Terminal) → Reading add More d end all xs rest → ((more : B) (r : List Terminal) → More d more after r → More d (add x more) rest r) → ((e : ParseError) → Refuses More d end after e → Refuses More d end rest e) → Reading add More d end all (xs ++ (x ∷ [])) after
+abbrev pub Reading : {X B : Type 0} → (X → B → B) → Phrase B → ℕ → Place → List Terminal → List X → List Terminal → Type 0
+Reading add More d end all xs rest = ReadingBy Decides add More d end all xs rest
+
+pub reading_more : {D : Decision} {X B : Type 0} (add : X → B → B) (More : Phrase B) (d : ℕ) (end : Place) (all rest : List Terminal) (xs : List X) (x : X) (after : List Terminal) → ReadingBy D add More d end all xs rest → ((more : B) (r : List Terminal) → More d more after r → More d (add x more) rest r) → ((e : ParseError) → RefusesBy D More d end after e → RefusesBy D More d end rest e) → ReadingBy D add More d end all (xs ++ (x ∷ [])) after
 reading_more add More d end all rest xs x after so_far h k = record {
   completes = λ more r w. subst (λ z. More d z all r) (sym (before_push add xs x more)) (so_far.completes (add x more) r (h more r w));
   dies = λ e w. so_far.dies e (k e w);
 }
 
-pub reading_ends : {X B : Type 0} (add : X → B → B) (none : B) (whole : List X → B) (More : Phrase B) (d : ℕ) (end : Place) (all rest r : List Terminal) (xs : List X) → whole [] ≡ none → ((x : X) (xs : List X) → whole (x ∷ xs) ≡ add x (whole xs)) → Reading add More d end all xs rest → More d none rest r → More d (whole xs) all r
+pub reading_ends : {D : Decision} {X B : Type 0} (add : X → B → B) (none : B) (whole : List X → B) (More : Phrase B) (d : ℕ) (end : Place) (all rest r : List Terminal) (xs : List X) → whole [] ≡ none → ((x : X) (xs : List X) → whole (x ∷ xs) ≡ add x (whole xs)) → ReadingBy D add More d end all xs rest → More d none rest r → More d (whole xs) all r
 reading_ends add none whole More d end all rest r xs z s so_far h = subst (λ y. More d y all r) (before_all add none whole z s xs) (so_far.completes none r h)
 
-pub reading_last : {X B : Type 0} (add : X → B → B) (none : B) (whole : List X → B) (More : Phrase B) (d : ℕ) (end : Place) (all rest r : List Terminal) (xs : List X) (x : X) → whole [] ≡ none → ((x : X) (xs : List X) → whole (x ∷ xs) ≡ add x (whole xs)) → Reading add More d end all xs rest → More d (add x none) rest r → More d (whole (xs ++ (x ∷ []))) all r
+pub reading_last : {D : Decision} {X B : Type 0} (add : X → B → B) (none : B) (whole : List X → B) (More : Phrase B) (d : ℕ) (end : Place) (all rest r : List Terminal) (xs : List X) (x : X) → whole [] ≡ none → ((x : X) (xs : List X) → whole (x ∷ xs) ≡ add x (whole xs)) → ReadingBy D add More d end all xs rest → More d (add x none) rest r → More d (whole (xs ++ (x ∷ []))) all r
 reading_last add none whole More d end all rest r xs x z s so_far h = subst (λ y. More d y all r) (sym (before_push add xs x none) ∙ before_all add none whole z s (xs ++ (x ∷ []))) (so_far.completes (add x none) r h)
 
 -- A list of parts with a mark between two of them and another behind the last: how parts are put together, and what the list of
@@ -108,16 +111,16 @@ pub record Listed {A X B : Type 0} (Item : Phrase A) (More : Phrase B) (by close
   pub empty : whole [] ≡ none
   pub added : (x : X) (xs : List X) → whole (x ∷ xs) ≡ add x (whole xs)
 
-pub listed_item : {A X B : Type 0} {Item : Phrase A} {More : Phrase B} {by close : Mark} {of : X → A} {add : X → B → B} {whole : List X → B} (l : Listed Item More by close of add whole) (d : ℕ) (end : Place) (all rest : List Terminal) (xs : List X) (e : ParseError) → Reading add More d end all xs rest → Refuses Item d end rest e → Refuses More d end all e
+pub listed_item : {D : Decision} {A X B : Type 0} {Item : Phrase A} {More : Phrase B} {by close : Mark} {of : X → A} {add : X → B → B} {whole : List X → B} (l : Listed Item More by close of add whole) (d : ℕ) (end : Place) (all rest : List Terminal) (xs : List X) (e : ParseError) → ReadingBy D add More d end all xs rest → RefusesBy D Item d end rest e → RefusesBy D More d end all e
 listed_item {Item = Item} {More = More} {by = by} {close = close} l d end all rest xs e so_far h = so_far.dies e (list_item Item More by close d end rest e l.split h)
 
-pub listed_close : {A X B : Type 0} {Item : Phrase A} {More : Phrase B} {by close : Mark} {of : X → A} {add : X → B → B} {whole : List X → B} (l : Listed Item More by close of add whole) (d : ℕ) (end : Place) (all rest m : List Terminal) (xs : List X) (a : A) (e : ParseError) → Reading add More d end all xs rest → Item d a rest m → NoMark by m → Refuses (Marked close) d end m e → Refuses More d end all e
+pub listed_close : {D : Decision} {A X B : Type 0} {Item : Phrase A} {More : Phrase B} {by close : Mark} {of : X → A} {add : X → B → B} {whole : List X → B} (l : Listed Item More by close of add whole) (d : ℕ) (end : Place) (all rest m : List Terminal) (xs : List X) (a : A) (e : ParseError) → ReadingBy D add More d end all xs rest → Item d a rest m → NoMark by m → RefusesBy D (Marked close) d end m e → RefusesBy D More d end all e
 listed_close {Item = Item} {More = More} {by = by} {close = close} l d end all rest m xs a e so_far f none h = so_far.dies e (list_close Item More by close d end a rest m e l.split l.known f none h)
 
-pub listed_more : {A X B : Type 0} {Item : Phrase A} {More : Phrase B} {by close : Mark} {of : X → A} {add : X → B → B} {whole : List X → B} (l : Listed Item More by close of add whole) (d : ℕ) (end : Place) (all rest m : List Terminal) (xs : List X) (x : X) (p : Position) (after : List Terminal) → Reading add More d end all xs rest → Item d (of x) rest m → m ≡ kind_of by at p ∷ after → Reading add More d end all (xs ++ (x ∷ [])) after
+pub listed_more : {D : Decision} {A X B : Type 0} {Item : Phrase A} {More : Phrase B} {by close : Mark} {of : X → A} {add : X → B → B} {whole : List X → B} (l : Listed Item More by close of add whole) (d : ℕ) (end : Place) (all rest m : List Terminal) (xs : List X) (x : X) (p : Position) (after : List Terminal) → ReadingBy D add More d end all xs rest → Item d (of x) rest m → m ≡ kind_of by at p ∷ after → ReadingBy D add More d end all (xs ++ (x ∷ [])) after
 listed_more {Item = Item} {More = More} {by = by} {close = close} {of = of} {add = add} l d end all rest m xs x p after so_far f is =
     let g : Item d (of x) rest (kind_of by at p ∷ after) = subst (λ z. Item d (of x) rest z) is f in
     reading_more add More d end all rest xs x after so_far (λ more r w. l.next d x more rest after r p g w) (λ e w. list_more Item More by close d end (of x) rest after p e l.split l.known l.apart g w)
 
-pub listed_ends : {A X B : Type 0} {Item : Phrase A} {More : Phrase B} {by close : Mark} {of : X → A} {add : X → B → B} {whole : List X → B} (l : Listed Item More by close of add whole) (d : ℕ) (end : Place) (all rest m : List Terminal) (xs : List X) (x : X) (p : Position) (after : List Terminal) → Reading add More d end all xs rest → Item d (of x) rest m → m ≡ kind_of close at p ∷ after → More d (whole (xs ++ (x ∷ []))) all after
+pub listed_ends : {D : Decision} {A X B : Type 0} {Item : Phrase A} {More : Phrase B} {by close : Mark} {of : X → A} {add : X → B → B} {whole : List X → B} (l : Listed Item More by close of add whole) (d : ℕ) (end : Place) (all rest m : List Terminal) (xs : List X) (x : X) (p : Position) (after : List Terminal) → ReadingBy D add More d end all xs rest → Item d (of x) rest m → m ≡ kind_of close at p ∷ after → More d (whole (xs ++ (x ∷ []))) all after
 listed_ends {Item = Item} {More = More} {of = of} {add = add} {whole = whole} l d end all rest m xs x p after so_far f is = reading_last add l.none whole More d end all rest after xs x l.empty l.added so_far (l.one d x rest after p (subst (λ z. Item d (of x) rest z) is f))

@@ -4,7 +4,7 @@ use Rattle.op_tree.proofs.ExpressionUnique.{behind, same2}
 use Rattle.op_base.specs.declared.place.Place.{Place}
 use Rattle.op_parse_code.proofs.Cuts.{IsCut, cut_seen, same_behind}
 use Rattle.op_parse_code.specs.Form.{HasForm}
-use Rattle.op_parse_code.specs.Refusal.{Phrase, SameHead, Dead, Refuses, out_of_memory, syntax, nested, left_out, refused_at}
+use Rattle.op_parse_code.specs.Refusal.{Phrase, SameHead, Dead, RefusesBy, Decision, out_of_memory, syntax, nested, left_out, refused_at}
 use Rattle.op_parse_code.specs.Whole.{Marked, NoMark}
 use Rattle.op_parse_code.specs.declared.error.ParseError.{ParseError}
 use Rattle.op_parse_code.specs.declared.mark.Mark.{Mark}
@@ -64,34 +64,34 @@ deeper_any P Q d' ks q h never =
 -- ---- refusals
 
 -- at the same depth, what stands behind a token
-pub refuses_behind : {A B : Type 0} (P : Phrase A) (Q : Phrase B) (d : ℕ) (end : Place) (t : Terminal) (ks : List Terminal) (e : ParseError) → ((d' : ℕ) (b : B) (ls r : List Terminal) → Q d' b (t ∷ ls) r → Some_ P d' ls) → Refuses P d end ks e → Refuses Q d end (t ∷ ks) e
+pub refuses_behind : {A B : Type 0} {D : Decision} (P : Phrase A) (Q : Phrase B) (d : ℕ) (end : Place) (t : Terminal) (ks : List Terminal) (e : ParseError) → ((d' : ℕ) (b : B) (ls r : List Terminal) → Q d' b (t ∷ ls) r → Some_ P d' ls) → RefusesBy D P d end ks e → RefusesBy D Q d end (t ∷ ks) e
 refuses_behind P Q d end t ks e h (out_of_memory x) = out_of_memory x
 refuses_behind P Q d end t ks e h (syntax q x never) = syntax q x (λ d'. dead_token (P d') (Q d') t ks q (h d') (never d'))
 refuses_behind P Q d end t ks e h (nested q z x w never) = nested q z x w (dead_token (P d) (Q d) t ks z (h d) never)
 refuses_behind P Q d end t ks e h (left_out feature q x f) = left_out feature q x (with_token t f)
 
 -- one deeper, what stands behind a token
-pub refuses_inside : {A B : Type 0} (P : Phrase A) (Q : Phrase B) (d : ℕ) (end : Place) (t : Terminal) (ks : List Terminal) (e : ParseError) → ((d' : ℕ) (b : B) (ls r : List Terminal) → Q d' b (t ∷ ls) r → (i : ℕ) × (d' ≡ suc i) × Some_ P i ls) → Refuses P d end ks e → Refuses Q (suc d) end (t ∷ ks) e
+pub refuses_inside : {A B : Type 0} {D : Decision} (P : Phrase A) (Q : Phrase B) (d : ℕ) (end : Place) (t : Terminal) (ks : List Terminal) (e : ParseError) → ((d' : ℕ) (b : B) (ls r : List Terminal) → Q d' b (t ∷ ls) r → (i : ℕ) × (d' ≡ suc i) × Some_ P i ls) → RefusesBy D P d end ks e → RefusesBy D Q (suc d) end (t ∷ ks) e
 refuses_inside P Q d end t ks e h (out_of_memory x) = out_of_memory x
 refuses_inside P Q d end t ks e h (syntax q x (never)) = syntax q x (λ d'. inside_any P Q d' t ks q (h d') never)
 refuses_inside P Q d end t ks e h (nested q z x w never) = nested q z x w (dead_token (P d) (Q (suc d)) t ks z (λ b ls r f. let v = h (suc d) b ls r f in subst (λ (i : ℕ). Some_ P i ls) (sym (suc_same v.1)) v.2) never)
 refuses_inside P Q d end t ks e h (left_out feature q x f) = left_out feature q x (with_token t f)
 
 -- one deeper at the same place
-pub refuses_deeper : {A B : Type 0} (P : Phrase A) (Q : Phrase B) (d : ℕ) (end : Place) (ks : List Terminal) (e : ParseError) → ((d' : ℕ) (b : B) (ls r : List Terminal) → SameHead ks ls → Q d' b ls r → (i : ℕ) × (d' ≡ suc i) × Some_ P i ls) → Refuses P d end ks e → Refuses Q (suc d) end ks e
+pub refuses_deeper : {A B : Type 0} {D : Decision} (P : Phrase A) (Q : Phrase B) (d : ℕ) (end : Place) (ks : List Terminal) (e : ParseError) → ((d' : ℕ) (b : B) (ls r : List Terminal) → SameHead ks ls → Q d' b ls r → (i : ℕ) × (d' ≡ suc i) × Some_ P i ls) → RefusesBy D P d end ks e → RefusesBy D Q (suc d) end ks e
 refuses_deeper P Q d end ks e h (out_of_memory x) = out_of_memory x
 refuses_deeper P Q d end ks e h (syntax q x never) = syntax q x (λ d'. deeper_any P Q d' ks q (h d') never)
 refuses_deeper P Q d end ks e h (nested q z x w never) = nested q z x w (dead_map (P d) (Q (suc d)) ks z (λ b ls r s f. let v = h (suc d) b ls r s f in subst (λ (i : ℕ). Some_ P i ls) (sym (suc_same v.1)) v.2) never)
 refuses_deeper P Q d end ks e h (left_out feature q x f) = left_out feature q x f
 
 -- the same place and depth
-pub refuses_map : {A B : Type 0} (P : Phrase A) (Q : Phrase B) (d : ℕ) (end : Place) (ks : List Terminal) (e : ParseError) → ((d' : ℕ) (b : B) (ls r : List Terminal) → SameHead ks ls → Q d' b ls r → Some_ P d' ls) → Refuses P d end ks e → Refuses Q d end ks e
+pub refuses_map : {A B : Type 0} {D : Decision} (P : Phrase A) (Q : Phrase B) (d : ℕ) (end : Place) (ks : List Terminal) (e : ParseError) → ((d' : ℕ) (b : B) (ls r : List Terminal) → SameHead ks ls → Q d' b ls r → Some_ P d' ls) → RefusesBy D P d end ks e → RefusesBy D Q d end ks e
 refuses_map P Q d end ks e h (out_of_memory x) = out_of_memory x
 refuses_map P Q d end ks e h (syntax q x never) = syntax q x (λ d'. dead_map (P d') (Q d') ks q (h d') (never d'))
 refuses_map P Q d end ks e h (nested q z x w never) = nested q z x w (dead_map (P d) (Q d) ks z (h d) never)
 refuses_map P Q d end ks e h (left_out feature q x f) = left_out feature q x f
 
-pub refuses_first : {A B : Type 0} (P : Phrase A) (Q : Phrase B) (d : ℕ) (end : Place) (ks : List Terminal) (e : ParseError) → Refuses P d end ks e → Refuses (Seq P Q) d end ks e
+pub refuses_first : {A B : Type 0} {D : Decision} (P : Phrase A) (Q : Phrase B) (d : ℕ) (end : Place) (ks : List Terminal) (e : ParseError) → RefusesBy D P d end ks e → RefusesBy D (Seq P Q) d end ks e
 refuses_first P Q d end ks e h = refuses_map P (Seq P Q) d end ks e (λ d' b ls r s x. (b.0, x.0, x.1)) h
 
 -- ---- what is known of a sort of parts
@@ -113,7 +113,7 @@ dead_after P Q d d' a ks m q known p (seen, e, never) =
           never ls b.1 r h (subst (λ z. Q d' b.1 z r) (sym (known.same d d' a b.0 _ _ _ whole other)) x.2),
     )
 
-pub refuses_after : {A B : Type 0} (P : Phrase A) (Q : Phrase B) (d : ℕ) (end : Place) (a : A) (ks m : List Terminal) (e : ParseError) → Known P → P d a ks m → Refuses Q d end m e → Refuses (Seq P Q) d end ks e
+pub refuses_after : {A B : Type 0} {D : Decision} (P : Phrase A) (Q : Phrase B) (d : ℕ) (end : Place) (a : A) (ks m : List Terminal) (e : ParseError) → Known P → P d a ks m → RefusesBy D Q d end m e → RefusesBy D (Seq P Q) d end ks e
 refuses_after P Q d end a ks m e known p (out_of_memory x) = out_of_memory x
 refuses_after P Q d end a ks m e known p (syntax q x never) = syntax q x (λ d'. dead_after P Q d d' a ks m q known p (never d'))
 refuses_after P Q d end a ks m e known p (nested q z x w never) = nested q z x w (dead_after P Q d d a ks m z known p never)
@@ -130,5 +130,5 @@ no_mark_same m [] (u ∷ ls) s never = absurd s
 no_mark_same m (t ∷ ks) [] s never = absurd s
 no_mark_same m (t ∷ ks) (u ∷ ls) s never = λ p r h. never p ks (ap (λ z. z ∷ ks) (s ∙ head_same h))
 
-pub no_mark_refuses : (m : Mark) (d : ℕ) (end : Place) (ks : List Terminal) (e : ParseError) → NoMark m ks → e ≡ refused_at 9 0 end ks → Refuses (Marked m) d end ks e
+pub no_mark_refuses : {D : Decision} (m : Mark) (d : ℕ) (end : Place) (ks : List Terminal) (e : ParseError) → NoMark m ks → e ≡ refused_at 9 0 end ks → RefusesBy D (Marked m) d end ks e
 no_mark_refuses m d end ks e never x = syntax ks x (λ d'. dead_here (Marked m d') ks (λ p ls r s h. no_mark_same m ks ls s never p r h))

@@ -1,19 +1,20 @@
 -- Refusals of types that begin as a bound of a subrange does.
-use Rattle.std.proofs.Common.{◌≡◌, ℕ, suc, Bool, true, false, List, [], ◌∷◌, ◌++◌, Option, Some, None, refl, sym, ap, ◌∙◌, subst, append_assoc}
+use Rattle.std.proofs.Common.{◌≡◌, ℕ, suc, true, false, List, [], ◌∷◌, ◌++◌, Option, Some, None, refl, sym, ap, ◌∙◌, subst, append_assoc}
 use Rattle.op_base.specs.declared.place.Place.{Place}
-use Rattle.op_parse_code.proofs.Cuts.{cut_seen, same_behind, same_not}
+use Rattle.op_parse_code.proofs.Cuts.{cut_seen, same_behind}
 use Rattle.op_parse_code.proofs.ExpressionKnown.{known_chain}
 use Rattle.op_parse_code.proofs.Factors.{same_begins}
-use Rattle.op_parse_code.proofs.Refusing.{Some_, Seq, Known, refuses_first, refuses_after, refuses_behind, with_front, no_mark_same}
+use Rattle.op_parse_code.proofs.Refusing.{Some_, Seq, refuses_first, refuses_after, refuses_behind, with_front, no_mark_same}
 use Rattle.op_parse_code.specs.Refusal.{SameHead, Dead, Refuses, out_of_memory, syntax, nested, left_out, refused_at}
 use Rattle.op_parse_code.specs.Whole.{Chain, NoMark}
 use Rattle.op_parse_code.specs.declared.error.ParseError.{ParseError}
 use Rattle.op_parse_code.specs.declared.mark.Mark.TheVariants as mark
+use Rattle.op_parse_decl.proofs.Combining.{head_of}
 use Rattle.op_parse_decl.specs.Opening.{lists_names}
 use Rattle.op_parse_decl.specs.Types.{SomeBounded, NoMoreType, denoted}
 use Rattle.op_scan.specs.declared.token.TokenKind.{TokenKind}
 use Rattle.op_scan.specs.declared.token.TokenKind.TheVariants as kind
-use Rattle.op_tree.proofs.DenoterUnique.{as_simple, stop_simple, as_expr, name_factor, opened, is_structure, structure_begins}
+use Rattle.op_tree.proofs.DenoterUnique.{as_simple, stop_simple, as_expr, opened, is_structure, structure_begins}
 use Rattle.op_tree.proofs.ExpressionUnique.{Begins, false_true, true_false, behind, ends_operand, is_comma, unique_chain, unique_expr}
 use Rattle.op_tree.proofs.StatementUnique.{both, differ}
 use Rattle.op_tree.specs.Denoter.{Denoter, named, subrange}
@@ -21,10 +22,9 @@ use Rattle.op_tree.specs.DenoterGrammar.{is_named, is_string, is_subrange, is_en
 use Rattle.op_tree.specs.Ends.{IsNot, StopsDenoter, begins_expression, is_dot_dot}
 use Rattle.op_tree.specs.Expression.{Expression, designated, designator, named as named_root, string as string_root, bracketed, no_selectors}
 use Rattle.op_tree.specs.ExpressionGrammar.{IsChain, IsFactor, is_designated, is_designator, is_named as is_named_root, is_string as is_string_root, is_bracketed, are_no_selectors, are_selectors, is_member}
-use Rattle.op_tree.specs.NameGrammar.{IsQualified, is_unqualified, is_qualified, AreNames, are_one_name, are_names, is_name, are_bracketed_names}
+use Rattle.op_tree.specs.NameGrammar.{IsQualified, is_unqualified, is_qualified, are_one_name, are_names, is_name, are_bracketed_names}
 use Rattle.op_tree.specs.Terminal.{Terminal, ◌at◌, name}
 use Rattle.op_tree.specs.declared.operator.Level.TheVariants.{Additive}
-use Rattle.op_tree.specs.declared.position.Name.{Name}
 use Rattle.op_tree.specs.declared.position.Position.{Position}
 use Rattle.op_tree.specs.declared.position.QualifiedName.{QualifiedName}
 
@@ -40,7 +40,7 @@ data Reading (d : ℕ) (t : Denoter) (ks r : List Terminal) : Type 0 where
   reads_bounds : (a b : Expression) (p : Position) (m : List Terminal) → Chain Additive d a ks (kind.DotDot at p ∷ m) → Chain Additive d b m r → StopsDenoter r → Reading d t ks r
   reads_list : (i : ℕ) (text : List ℕ) (p u w : Position) (m : List Terminal) → d ≡ suc i → ks ≡ kind.OpenParenthesis at p ∷ kind.Identifier text at u ∷ kind.Comma at w ∷ m → Reading d t ks r
 
-structure_no_bound : (k : TokenKind) → is_structure k ≡ true → begins_expression k ≡ false
+pub structure_no_bound : (k : TokenKind) → is_structure k ≡ true → begins_expression k ≡ false
 structure_no_bound kind.Array h = refl
 structure_no_bound kind.Record h = refl
 structure_no_bound other h = false_true h
@@ -66,9 +66,6 @@ no_death {A} i p u w text m seen q ls none never s is = by_seen seen q ls none n
 
     bracketed_name : (x y : Terminal) → x ≡ kind.OpenParenthesis at p → y ≡ kind.Identifier text at u → (a : Expression) × Chain Additive (suc i) a (x ∷ y ∷ close ∷ []) []
     bracketed_name x y h g = (designated (designator (bracketed p (designated (designator (named_root (name text u)) no_selectors))) no_selectors), subst (λ z. Chain Additive (suc i) (designated (designator (bracketed p (designated (designator (named_root (name text u)) no_selectors))) no_selectors)) (z ∷ y ∷ close ∷ []) []) (sym h) (subst (λ z. Chain Additive (suc i) (designated (designator (bracketed p (designated (designator (named_root (name text u)) no_selectors))) no_selectors)) (kind.OpenParenthesis at p ∷ z ∷ close ∷ []) []) (sym g) (as_simple (is_designated (is_designator (is_bracketed (as_expr (is_designated (is_designator is_named_root are_no_selectors)))) are_no_selectors)), (tt, tt))))
-
-    head_of : {x y : Terminal} {xs ys : List Terminal} → x ∷ xs ≡ y ∷ ys → x ≡ y
-    head_of h = cc
 
     same_head : (q ls : List Terminal) (x : Terminal) (xs ys : List Terminal) → SameHead q ls → ls ≡ x ∷ xs → SameHead q (x ∷ ys)
     same_head [] ls x xs ys s h = absurd (subst (λ z. SameHead [] z) h s)

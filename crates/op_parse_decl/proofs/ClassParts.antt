@@ -8,6 +8,8 @@ use Rattle.op_parse_code.proofs.Refusing.{Some_, dead_here, refuses_behind}
 use Rattle.op_parse_code.specs.Form.{Form, HasForm, is_array_property, is_indexed_property, is_interface_property, is_descendant_property}
 use Rattle.op_parse_code.specs.Opening.{is_word, spelled}
 use Rattle.op_parse_code.specs.Refusal.{Refuses, syntax, refused_at}
+use Rattle.op_parse_decl.proofs.Combining.{refuses_part}
+use Rattle.op_parse_decl.specs.Refusal.{RefusesPart}
 use Rattle.op_parse_code.specs.Whole.{SomeName}
 use Rattle.op_parse_code.specs.declared.error.ParseError.{ParseError}
 use Rattle.op_parse_decl.specs.Combined.{both, stands, then_, Repeats, TellsBehind}
@@ -44,8 +46,8 @@ into_accessor : (word : List ℕ) (k : TokenKind) (p : Position) → is_word wor
 into_accessor word k p h d None ls r (e, none) = true_false (sym h ∙ none)
 into_accessor word k p h d (Some n) ls r (has_accessor w f) = (n, r, f)
 
-pub accessor_refused : (word : List ℕ) (d : ℕ) (end : Place) (k : TokenKind) (p : Position) (ks : List Terminal) (e : ParseError) → is_word word k ≡ true → Refuses SomeName d end ks e → Refuses (SomeAccessor word) d end (k at p ∷ ks) e
-accessor_refused word d end k p ks e h f = refuses_behind SomeName (SomeAccessor word) d end (k at p) ks e (into_accessor word k p h) f
+pub accessor_refused : (word : List ℕ) (d : ℕ) (end : Place) (k : TokenKind) (p : Position) (ks : List Terminal) (e : ParseError) → is_word word k ≡ true → Refuses SomeName d end ks e → RefusesPart (SomeAccessor word) d end (k at p ∷ ks) e
+accessor_refused word d end k p ks e h f = refuses_behind SomeName (SomeAccessor word) d end (k at p) ks e (into_accessor word k p h) (refuses_part f)
 
 pub accessor_whole : (word : List ℕ) (d : ℕ) (k : TokenKind) (p : Position) (n : Name) (ks r : List Terminal) → is_word word k ≡ true → IsName n ks r → SomeAccessor word d (Some n) (k at p ∷ ks) r
 accessor_whole word d k p n ks r h f =
@@ -57,7 +59,7 @@ accessor_whole word d k p n ks r h f =
 literal_begins : {d : ℕ} {text : List ℕ} {ks r : List Terminal} → IsLiteral d text ks r → Begins is_literal ks
 literal_begins literal = refl
 
-pub literal_refused : (d : ℕ) (end : Place) (ks : List Terminal) (e : ParseError) → IsNot is_literal ks → e ≡ refused_at 9 0 end ks → Refuses IsLiteral d end ks e
+pub literal_refused : (d : ℕ) (end : Place) (ks : List Terminal) (e : ParseError) → IsNot is_literal ks → e ≡ refused_at 9 0 end ks → RefusesPart IsLiteral d end ks e
 literal_refused d end ks e h x = syntax ks x (λ d'. dead_here (IsLiteral d') ks (λ text ls r s f. apart is_literal ls (literal_begins f) (same_not is_literal ks ls s h)))
 
 pub literal_whole : (d : ℕ) (k : TokenKind) (p : Position) (ks : List Terminal) → is_literal k ≡ true → IsLiteral d (spelled k) (k at p ∷ ks) ks

@@ -1,17 +1,20 @@
 -- Refusals of classes.
 use Rattle.std.proofs.Common.{◌≡◌, ℕ, Bool, true, false, List, [], ◌∷◌, ◌++◌, codes, Some, None, map, refl, sym, ap, ◌∙◌, subst}
+use Rattle.std.proofs.lemmas.List.{append-nil}
 use Rattle.op_base.specs.declared.place.Place.{Place}
+use Rattle.op_parse_code.proofs.Calls.{front_not}
 use Rattle.op_parse_code.proofs.Cuts.{same_behind, same_not}
 use Rattle.op_parse_code.proofs.Refusing.{Known, Some_, Seq, refuses_map, refuses_first, refuses_after, refuses_behind, no_mark_same}
 use Rattle.op_parse_code.proofs.Names.{identifier_kind, named_at, word_kind}
 use Rattle.op_parse_code.specs.Form.{Form, HasForm, is_default_property, is_resolution, is_strict}
 use Rattle.op_parse_code.specs.Opening.{is_identifier, is_word, spelled}
 use Rattle.op_parse_code.specs.Refusal.{Phrase, SameHead, Dead, Refuses, out_of_memory, syntax, nested, left_out}
+use Rattle.op_parse_decl.specs.Refusal.{RefusesPart}
 use Rattle.op_parse_code.specs.Whole.{Marked, NoMark}
 use Rattle.op_parse_code.specs.WholeStatement.{front_is}
 use Rattle.op_parse_code.specs.declared.error.ParseError.{ParseError}
 use Rattle.op_parse_code.specs.declared.mark.Mark.TheVariants as mark
-use Rattle.op_parse_decl.proofs.Combining.{append_none, front_not}
+use Rattle.op_parse_decl.proofs.Combining.{refuses_part, same_sym, head_of}
 use Rattle.op_parse_decl.specs.Classes.{Adds, SectionsBefore, ClassRest, rest_ends, rest_directive, rest_method, rest_fields, rest_property, rest_visibility, RefusesRest, begins_resolution, IsFormBehindProperty, Resolves, goes_on_as_field, IsVisibility, is_visibility, NoVisibility, Entry, declares, opens, SomeEntry, members_behind, sections_behind, sections_before, body_with}
 use Rattle.op_parse_decl.specs.Combined.{Both, both, Stands, stands, Then, then_}
 use Rattle.op_parse_decl.specs.HeadingParts.{known_heading}
@@ -110,11 +113,11 @@ end_off {r = r} (rest_ends {q = q}) = (q, r, refl)
 end_off (rest_method h more) = false_true (heading_begins h.1)
 
 pub end_refused : (d : ℕ) (end : Place) (p : Position) (ks m : List Terminal) (x : ParseError) → ks ≡ kind.End at p ∷ m → Refuses (Marked mark.Semicolon) d end m x → RefusesRest d end ks x
-end_refused d end p ks m x is h b free = subst (λ z. Refuses (ClassRest b) d end z x) (sym is) (refuses_behind (Marked mark.Semicolon) (ClassRest b) d end (kind.End at p) m x (λ d' u ls r f. end_off f) h)
+end_refused d end p ks m x is h b free = subst (λ z. RefusesPart (ClassRest b) d end z x) (sym is) (refuses_behind (Marked mark.Semicolon) (ClassRest b) d end (kind.End at p) m x (λ d' u ls r f. end_off f) (refuses_part h))
 
 -- ---- a method
 
-pub method_refused : (d : ℕ) (end : Place) (ks : List Terminal) (x : ParseError) → NoMark mark.End ks → NoMark mark.Property ks → IsNot is_identifier ks → Refuses SomeMethod d end ks x → RefusesRest d end ks x
+pub method_refused : (d : ℕ) (end : Place) (ks : List Terminal) (x : ParseError) → NoMark mark.End ks → NoMark mark.Property ks → IsNot is_identifier ks → RefusesPart SomeMethod d end ks x → RefusesRest d end ks x
 method_refused d end ks x e f i h b free = refuses_map SomeMethod (ClassRest b) d end ks x (λ d' u ls r s g. at_heading d' ls (heading_at g (no_mark_same mark.End ks ls s e) (no_mark_same mark.Property ks ls s f) (same_not is_identifier ks ls s i))) h
   where
     at_heading : (d' : ℕ) (ls : List Terminal) → Some_ (Seq SomeHeading (ClassRest true)) d' ls → Some_ SomeMethod d' ls
@@ -131,10 +134,10 @@ directive_off (rest_visibility e more) = no_semicolon more
 abbrev Behind : Bool → List ℕ → Position → Phrase (Unit {0})
 Behind b word p d u ks r = ClassRest b d u (kind.Identifier word at p ∷ ks) r
 
-word_dies : (b : Bool) (word : List ℕ) (p : Position) (d : ℕ) (end : Place) (ks : List Terminal) (x : ParseError) → Refuses (Behind b word p) d end ks x → Refuses (ClassRest b) d end (kind.Identifier word at p ∷ ks) x
+word_dies : (b : Bool) (word : List ℕ) (p : Position) (d : ℕ) (end : Place) (ks : List Terminal) (x : ParseError) → RefusesPart (Behind b word p) d end ks x → RefusesPart (ClassRest b) d end (kind.Identifier word at p ∷ ks) x
 word_dies b word p d end ks x h = refuses_behind (Behind b word p) (ClassRest b) d end (kind.Identifier word at p) ks x (λ d' u ls r f. (u, r, f)) h
 
-directives_die : (d : ℕ) (end : Place) (ws : List Directive) (ks m : List Terminal) (x : ParseError) → AreDirectives ws ks m → Refuses (ClassRest true) d end m x → Refuses (ClassRest true) d end ks x
+directives_die : (d : ℕ) (end : Place) (ws : List Directive) (ks m : List Terminal) (x : ParseError) → AreDirectives ws ks m → RefusesPart (ClassRest true) d end m x → RefusesPart (ClassRest true) d end ks x
 directives_die d end ws ks m x are_no_directives h = h
 directives_die d end ws ks m x (are_directives {word = word} {ws = ws1} {p = p} {q = q} {ks = ls} e more) h = word_dies true word p d end (kind.Semicolon at q ∷ ls) x (refuses_behind (ClassRest true) (Behind true word p) d end (kind.Semicolon at q) ls x (λ d' u ls r f. directive_off f) (directives_die d end ws1 ls m x more h))
 
@@ -151,14 +154,14 @@ property_off : {b : Bool} {d : ℕ} {u : Unit {0}} {p : Position} {ks r : List T
 property_off (rest_method h more) = false_true (heading_begins h.1)
 property_off {r = r} (rest_property {a = a} {m = m} f more) = ((a, tt), r, (m, f, more))
 
-property_rest : (d : ℕ) (end : Place) (p : Position) (ks m : List Terminal) (x : ParseError) → ks ≡ kind.Property at p ∷ m → Refuses (Seq IsProperty (ClassRest false)) d end ks x → RefusesRest d end ks x
+property_rest : (d : ℕ) (end : Place) (p : Position) (ks m : List Terminal) (x : ParseError) → ks ≡ kind.Property at p ∷ m → RefusesPart (Seq IsProperty (ClassRest false)) d end ks x → RefusesRest d end ks x
 property_rest d end p ks m x is h b free = refuses_map (Seq IsProperty (ClassRest false)) (ClassRest b) d end ks x (λ d' u ls r s f. at_word d' u ls r (subst (λ z. SameHead z ls) is s) f) h
   where
     at_word : (d' : ℕ) (u : Unit {0}) (ls r : List Terminal) → SameHead (kind.Property at p ∷ m) ls → ClassRest b d' u ls r → Some_ (Seq IsProperty (ClassRest false)) d' ls
     at_word d' u [] r s f = absurd s
     at_word d' u (t ∷ ls) r s f = subst (λ (z : Terminal). Some_ (Seq IsProperty (ClassRest false)) d' (z ∷ ls)) s (property_off (subst (λ (z : Terminal). ClassRest b d' u (z ∷ ls) r) (sym s) f))
 
-pub property_refused : (d : ℕ) (end : Place) (p : Position) (ks m : List Terminal) (x : ParseError) → ks ≡ kind.Property at p ∷ m → Refuses IsProperty d end ks x → RefusesRest d end ks x
+pub property_refused : (d : ℕ) (end : Place) (p : Position) (ks m : List Terminal) (x : ParseError) → ks ≡ kind.Property at p ∷ m → RefusesPart IsProperty d end ks x → RefusesRest d end ks x
 property_refused d end p ks m x is h = property_rest d end p ks m x is (refuses_first IsProperty (ClassRest false) d end ks x h)
 
 property_starts : {d : ℕ} {a : Property} {ks r : List Terminal} → IsProperty d a ks r → (p : Position) × (m : List Terminal) × (ks ≡ kind.Property at p ∷ m)
@@ -198,17 +201,11 @@ FieldsRest = Seq FieldsEnd (ClassRest false)
 fields_stand : {d : ℕ} {ns : List Name} {t : Denoter} {q u : Position} {ks m n r : List Terminal} → AreNames ns ks (kind.Colon at q ∷ m) → IsDenoter d t m (kind.Semicolon at u ∷ n) → ClassRest false d tt n r → Some_ (Seq SomeNames FieldsRest) d ks
 fields_stand {ns = ns} {t = t} {q = q} {m = m} {n = n} {r = r} f g more = ((ns, (both tt (both t tt), tt)), r, (kind.Colon at q ∷ m, (f, no_mark_by mark.Comma is_comma refl refl), (n, then_ stands (then_ (g, record { operator = refl; selector = refl; range = refl }) stands), more)))
 
-head_back : (ks ls : List Terminal) → SameHead ks ls → SameHead ls ks
-head_back [] [] s = s
-head_back [] (u ∷ ls) s = absurd s
-head_back (t ∷ ks) [] s = absurd s
-head_back (t ∷ ks) (u ∷ ls) s = sym s
-
 field_off : {b : Bool} {d : ℕ} {u : Unit {0}} {word : List ℕ} {p : Position} {ls r : List Terminal} (m : List Terminal) → SameHead m ls → (b ≡ true → NoDirective (kind.Identifier word at p ∷ m)) → NoVisibility (kind.Identifier word at p ∷ m) → ClassRest b d u (kind.Identifier word at p ∷ ls) r → Some_ (Seq SomeNames FieldsRest) d (kind.Identifier word at p ∷ ls)
 field_off m s free none (rest_directive {q = q} {ks = ks} e more) = directive_there q ks m s (free refl) e
 field_off m s free none (rest_method h more) = false_true (heading_begins h.1)
 field_off m s free none (rest_fields f g more) = fields_stand f g more
-field_off {ls = ls} m s free none (rest_visibility {v = v} e more) = absurd (none v m (is_visibility e (same_not goes_on_as_field ls m (head_back m ls s) (no_field more))))
+field_off {ls = ls} m s free none (rest_visibility {v = v} e more) = absurd (none v m (is_visibility e (same_not goes_on_as_field ls m (same_sym m ls s) (no_field more))))
 
 names_end : {ns : List Name} {word : List ℕ} {p : Position} {ls m : List Terminal} → NoMark mark.Comma ls → AreNames ns (kind.Identifier word at p ∷ ls) m → ls ≡ m
 names_end none (are_one_name is_name) = refl
@@ -224,11 +221,11 @@ comma_off (rest_fields (are_names is_name f) g more) = fields_stand f g more
 comma_off (rest_visibility e more) = true_false (no_field more)
 
 -- what stands behind the names is refused
-fields_rest : (d : ℕ) (end : Place) (ns : List Name) (ks m : List Terminal) (x : ParseError) → SomeNames d ns ks m → NoVisibility ks → Refuses FieldsRest d end m x → RefusesRest d end ks x
+fields_rest : (d : ℕ) (end : Place) (ns : List Name) (ks m : List Terminal) (x : ParseError) → SomeNames d ns ks m → NoVisibility ks → RefusesPart FieldsRest d end m x → RefusesRest d end ks x
 fields_rest d end ns ks m x (are_one_name (is_name {text = word} {p = p}), comma) none h b free = word_dies b word p d end m x (refuses_map FieldsRest (Behind b word p) d end m x (λ d' u ls r s f. one_off ls (no_mark_same mark.Comma m ls s comma) (field_off m s free none f)) h)
 fields_rest d end ns ks m x (are_names {ns = ns1} {p = q} {m = n} (is_name {text = word} {p = p}) more, comma) none h b free = word_dies b word p d end (kind.Comma at q ∷ n) x (refuses_behind (Seq SomeNames FieldsRest) (Behind b word p) d end (kind.Comma at q) n x (λ d' u ls r f. comma_off f) (refuses_after SomeNames FieldsRest d end ns1 n m x known_names (more, comma) h))
 
-pub fields_end : (d : ℕ) (end : Place) (ns : List Name) (ks m : List Terminal) (x : ParseError) → SomeNames d ns ks m → NoVisibility ks → Refuses FieldsEnd d end m x → RefusesRest d end ks x
+pub fields_end : (d : ℕ) (end : Place) (ns : List Name) (ks m : List Terminal) (x : ParseError) → SomeNames d ns ks m → NoVisibility ks → RefusesPart FieldsEnd d end m x → RefusesRest d end ks x
 fields_end d end ns ks m x f none h = fields_rest d end ns ks m x f none (refuses_first FieldsEnd (ClassRest false) d end m x h)
 
 names_no_visibility : {ns : List Name} {p : Position} {ks r : List Terminal} → AreNames ns ks (kind.Colon at p ∷ r) → NoVisibility ks
@@ -242,15 +239,12 @@ dead_second P Q t ks q a z f h (v ∷ seen, e, never) = (
   v ∷ seen,
   e,
   λ ls c r s g.
-      let same : t ≡ v = front_same e in
+      let same : t ≡ v = head_of e in
       let w = h c (seen ++ ls) r (subst (λ y. SameHead y (seen ++ ls)) (sym (ap behind e)) (same_behind seen q ls s)) (subst (λ y. Q c (y ∷ (seen ++ ls)) r) (sym same) g) in
       never ls w.0 w.1 s (subst (λ y. P w.0 (y ∷ (seen ++ ls)) w.1) same w.2),
 )
-  where
-    front_same : {t u : Terminal} {ks ls : List Terminal} → t ∷ ks ≡ u ∷ ls → t ≡ u
-    front_same e = cc
 
-refuses_second : {A B : Type 0} (P : Phrase A) (Q : Phrase B) (d : ℕ) (end : Place) (t : Terminal) (ks : List Terminal) (x : ParseError) → (a : A) (z : List Terminal) → ((d' : ℕ) → P d' a (t ∷ []) z) → ((d' : ℕ) (c : B) (ls r : List Terminal) → SameHead ks ls → Q d' c (t ∷ ls) r → Some_ P d' (t ∷ ls)) → Refuses P d end (t ∷ ks) x → Refuses Q d end (t ∷ ks) x
+refuses_second : {A B : Type 0} (P : Phrase A) (Q : Phrase B) (d : ℕ) (end : Place) (t : Terminal) (ks : List Terminal) (x : ParseError) → (a : A) (z : List Terminal) → ((d' : ℕ) → P d' a (t ∷ []) z) → ((d' : ℕ) (c : B) (ls r : List Terminal) → SameHead ks ls → Q d' c (t ∷ ls) r → Some_ P d' (t ∷ ls)) → RefusesPart P d end (t ∷ ks) x → RefusesPart Q d end (t ∷ ks) x
 refuses_second P Q d end t ks x a z f h (out_of_memory e) = out_of_memory e
 refuses_second P Q d end t ks x a z f h (syntax q e never) = syntax q e (λ d'. dead_second (P d') (Q d') t ks q a z (f d') (h d') (never d'))
 refuses_second P Q d end t ks x a z f h (nested q m e w never) = nested q m e w (dead_second (P d) (Q d) t ks m a z (f d) (h d) never)
@@ -263,8 +257,8 @@ pub fields_names : (d : ℕ) (end : Place) (ks : List Terminal) (x : ParseError)
 fields_names d end [] x i none h b free = absurd i
 fields_names d end (t ∷ ks) x i none h b free = at_kind t.kind t.position i none free h
   where
-    at_kind : (k : TokenKind) (p : Position) → is_identifier k ≡ true → NoVisibility (k at p ∷ ks) → (b ≡ true → NoDirective (k at p ∷ ks)) → Refuses SomeNames d end (k at p ∷ ks) x → Refuses (ClassRest b) d end (k at p ∷ ks) x
-    at_kind (kind.Identifier word) p i none free h = refuses_second SomeNames (ClassRest b) d end (kind.Identifier word at p) ks x (name word p ∷ []) [] (λ d'. (are_one_name is_name, no_mark_by mark.Comma is_comma refl tt)) (λ d' u ls r s f. names_first (field_off ks s free none f)) h
+    at_kind : (k : TokenKind) (p : Position) → is_identifier k ≡ true → NoVisibility (k at p ∷ ks) → (b ≡ true → NoDirective (k at p ∷ ks)) → Refuses SomeNames d end (k at p ∷ ks) x → RefusesPart (ClassRest b) d end (k at p ∷ ks) x
+    at_kind (kind.Identifier word) p i none free h = refuses_second SomeNames (ClassRest b) d end (kind.Identifier word at p) ks x (name word p ∷ []) [] (λ d'. (are_one_name is_name, no_mark_by mark.Comma is_comma refl tt)) (λ d' u ls r s f. names_first (field_off ks s free none f)) (refuses_part h)
     at_kind other p i none free h = false_true i
 
 -- ---- an entry
@@ -280,7 +274,7 @@ entry_dies d end (declares (fields a)) ks m x (are_fields {ns = ns} {t = t} {p =
 -- what is read so far, and what is left
 pub record Sectioning (d : ℕ) (end : Place) (all : List Terminal) (body : Body) (rest : List Terminal) : Type 0 where
   pub completes : (ms : List Member) (ss : List Section) (p q : Position) (m r : List Terminal) → AreMembers d ms rest m → AreSections d ss m (kind.End at p ∷ kind.Semicolon at q ∷ r) → SectionsBefore d (body_with body ms ss) all r
-  pub dies : (x : ParseError) → RefusesRest d end rest x → Refuses SectionsBefore d end all x
+  pub dies : (x : ParseError) → RefusesRest d end rest x → RefusesPart SectionsBefore d end all x
 
 section_first : (d : ℕ) (ms : List Member) (ss : List Section) (p q : Position) (ks m r : List Terminal) → AreMembers d ms ks m → AreSections d ss m (kind.End at p ∷ kind.Semicolon at q ∷ r) → SectionsBefore d (sections_before None ms ss) ks r
 section_first d ms ss p q ks m r are_no_members g = (q, begins_with_visibility g)
@@ -305,7 +299,7 @@ sectioning_more d end all rest m body more e so_far f added = record {
 pub sectioning_ends : (d : ℕ) (end : Place) (all rest after : List Terminal) (body : Body) (ss : List Section) (p q : Position) (r : List Terminal) → Sectioning d end all body rest → rest ≡ kind.End at p ∷ after → after ≡ kind.Semicolon at q ∷ r → ss ≡ map section_of body.sections.items ++ sections_before body.visibility (map member_of body.members.items) [] → SectionsBefore d ss all r
 sectioning_ends d end all rest after body ss p q r so_far e e1 is =
     let whole : SectionsBefore d (body_with body [] []) all r = so_far.completes [] [] p q rest r are_no_members (subst (λ z. AreSections d [] z (kind.End at p ∷ kind.Semicolon at q ∷ r)) (sym (e ∙ ap (λ z. kind.End at p ∷ z) e1)) are_no_sections) in
-    subst (λ z. SectionsBefore d z all r) (ap (λ z. map section_of body.sections.items ++ sections_before body.visibility z []) (append_none (map member_of body.members.items)) ∙ sym is) whole
+    subst (λ z. SectionsBefore d z all r) (ap (λ z. map section_of body.sections.items ++ sections_before body.visibility z []) (append-nil (map member_of body.members.items)) ∙ sym is) whole
 
 -- ---- forms
 

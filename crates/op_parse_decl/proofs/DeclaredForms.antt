@@ -4,7 +4,6 @@ use Rattle.op_parse_code.proofs.Names.{word_kind}
 use Rattle.op_parse_code.specs.Form.{Form, HasForm, is_generic}
 use Rattle.op_parse_code.specs.Opening.{is_word}
 use Rattle.op_scan.specs.declared.token.TokenKind.{TokenKind}
-use Rattle.op_scan.specs.declared.token.TokenKind.TheVariants as kind
 use Rattle.op_tree.specs.Terminal.{Terminal, ◌at◌}
 use Rattle.op_tree.specs.declared.position.Position.{Position}
 

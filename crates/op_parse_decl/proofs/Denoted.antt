@@ -1,5 +1,5 @@
 -- An expression that names a type is that type.
-use Rattle.std.proofs.Common.{◌≡◌, ℕ, suc, List, [], ◌∷◌, ◌++◌, ◌<◌, Some, None, false, length, refl, sym, ap, ◌∙◌, subst, arith}
+use Rattle.std.proofs.Common.{◌≡◌, ℕ, suc, List, [], ◌∷◌, ◌++◌, ◌<◌, Some, None, false, length, refl, sym, ◌∙◌, subst, arith}
 use Rattle.op_parse_code.specs.Whole.{Chain, NoMark}
 use Rattle.op_parse_code.specs.declared.mark.Mark.TheVariants as mark
 use Rattle.op_parse_decl.specs.Types.{SomeBounded, denoted}
@@ -10,7 +10,7 @@ use Rattle.op_tree.specs.Denoter.{Denoter, named, string, enumeration}
 use Rattle.op_tree.specs.DenoterGrammar.{IsDenoter, is_named, is_string, is_enumeration}
 use Rattle.op_tree.specs.Ends.{IsNot, StopsDenoter, is_dot_dot, EndsChain}
 use Rattle.op_tree.specs.Expression.{Expression, designated, Designator, designator, named as named_root, string as string_root, bracketed, no_selectors, selectors, member, selector_of, Selector as PureSelector}
-use Rattle.op_tree.specs.ExpressionGrammar.{IsChain, is_chain, IsOperand, is_simple, is_term, is_factor, are_no_operations, are_operations, IsFactor, is_designated, IsDesignator, is_designator, is_named as is_named_root, is_string as is_string_root, is_bracketed, are_no_selectors, are_selectors, is_member}
+use Rattle.op_tree.specs.ExpressionGrammar.{IsChain, is_chain, is_simple, is_term, is_factor, are_no_operations, are_operations, IsFactor, is_designated, IsDesignator, is_designator, is_named as is_named_root, is_string as is_string_root, is_bracketed, are_no_selectors, are_selectors, is_member}
 use Rattle.op_tree.specs.NameGrammar.{is_name, is_unqualified, is_qualified, are_one_name, are_bracketed_names}
 use Rattle.op_tree.specs.Statement.{selectors_of}
 use Rattle.op_tree.specs.Terminal.{Terminal, ◌at◌}
@@ -85,10 +85,6 @@ named_more n xs (y ∷ ys) x e h = subst (λ z. denoted (designated (designator 
     two (member u) [] = refl
     two (member u) (z ∷ zs) = refl
     two other ys = refl
-
-pub named_last : (n : Name) (xs ys : List Selector) (x : Selector) → xs ≡ ys ++ (x ∷ []) → length ys ≡ 0 → denoted (designated (designator (named_root n) (selectors_of xs))) ≡ denoted (designated (designator (named_root n) (selectors (selector_of x) no_selectors)))
-named_last n xs [] x e h = ap (λ z. denoted (designated (designator (named_root n) (selectors_of z)))) e
-named_last n xs (y ∷ ys) x e h = absurd (omega (arith, h))
 
 pub string_more : (p : Position) (xs : List Selector) → 0 < length xs → denoted (designated (designator (string_root p) (selectors_of xs))) ≡ None
 string_more p [] h = absurd (omega (arith, h))

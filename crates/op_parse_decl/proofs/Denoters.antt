@@ -5,27 +5,27 @@ use Rattle.op_parse_code.proofs.Cuts.{same_not}
 use Rattle.op_parse_code.proofs.ExpressionKnown.{known_mark}
 use Rattle.op_parse_code.proofs.Lists.{Splits, list_item, list_close, list_more}
 use Rattle.op_parse_code.proofs.Refusing.{Some_, Seq, refuses_map, refuses_first, refuses_after, refuses_behind, refuses_inside, refuses_deeper, dead_here, no_mark_same}
-use Rattle.op_parse_code.specs.Form.{BeginsProcedural, Form, HasForm, is_procedural}
+use Rattle.op_parse_code.specs.Form.{BeginsProcedural, Form, is_procedural}
 use Rattle.op_parse_code.specs.Refusal.{SameHead, Refuses, syntax, nested, left_out, decides_there, refused_at}
 use Rattle.op_parse_code.specs.Whole.{Marked, NoMark}
 use Rattle.op_parse_code.specs.declared.error.ParseError.{ParseError}
 use Rattle.op_parse_code.specs.declared.mark.Mark.TheVariants as mark
-use Rattle.op_parse_decl.specs.KnownTypes.{known_names, known_denoter, known_denoters, known_indices}
+use Rattle.op_parse_decl.proofs.Bounds.{structure_no_bound}
+use Rattle.op_parse_decl.specs.KnownTypes.{known_denoter, known_denoters, known_indices}
 use Rattle.op_parse_decl.specs.Opening.{begins_denoter, IsProcedural}
-use Rattle.op_parse_decl.specs.Types.{SomeNames, SomeDenoter, DenoterBehind, SomeStructure, SomeBounded, DenotersBefore, SomeIndices, no_indices, some_indices, SomeFields}
+use Rattle.op_parse_decl.specs.Types.{SomeDenoter, DenoterBehind, SomeStructure, SomeBounded, DenotersBefore, SomeIndices, no_indices, some_indices}
 use Rattle.op_scan.specs.declared.token.TokenKind.{TokenKind}
 use Rattle.op_scan.specs.declared.token.TokenKind.TheVariants as kind
 use Rattle.op_tree.proofs.DenoterUnique.{is_structure, structure_begins, qualified_begins}
-use Rattle.op_tree.proofs.ExpressionUnique.{Begins, true_false, false_true, chain_begins, behind}
-use Rattle.op_tree.proofs.MethodUnique.{apart, also}
+use Rattle.op_tree.proofs.ExpressionUnique.{Begins, false_true, chain_begins, behind}
+use Rattle.op_tree.proofs.MethodUnique.{also}
 use Rattle.op_tree.proofs.StatementUnique.{both, is_identifier}
 use Rattle.op_tree.specs.Denoter.{Denoter, set, array, Denoters, no_denoters, denoters, denoter_of}
-use Rattle.op_tree.specs.DenoterGrammar.{IsDenoter, is_named, is_string, is_subrange, is_enumeration, is_set, is_unpacked, is_packed, IsStructure, is_dynamic_array, is_static_array, is_record, AreDenoters, are_one_denoter, are_denoters}
-use Rattle.op_tree.specs.Ends.{IsNot, StopsDenoter, begins_expression}
+use Rattle.op_tree.specs.DenoterGrammar.{IsDenoter, is_named, is_string, is_subrange, is_enumeration, is_set, is_unpacked, is_packed, is_dynamic_array, is_static_array, is_record, are_one_denoter, are_denoters}
+use Rattle.op_tree.specs.Ends.{IsNot, begins_expression}
 use Rattle.op_tree.specs.Lists.{denoters_of}
 use Rattle.op_tree.specs.Terminal.{Terminal, ◌at◌}
 use Rattle.op_tree.specs.declared.denoter.TypeDenoter.{TypeDenoter}
-use Rattle.op_tree.specs.declared.position.Name.{Name}
 use Rattle.op_tree.specs.declared.position.Position.{Position}
 
 -- ---- how a type begins
@@ -125,15 +125,10 @@ no_name_there kind.Array h = refl
 no_name_there kind.Record h = refl
 no_name_there other h = false_true h
 
-no_bound_there : (k : TokenKind) → is_structure k ≡ true → begins_expression k ≡ false
-no_bound_there kind.Array h = refl
-no_bound_there kind.Record h = refl
-no_bound_there other h = false_true h
-
 into_unpacked : (d : ℕ) (t : Denoter) (k : TokenKind) (p : Position) (ls r : List Terminal) → is_structure k ≡ true → SomeDenoter d t (k at p ∷ ls) r → (i : ℕ) × (d ≡ suc i) × Some_ (SomeStructure p false) i (k at p ∷ ls)
 into_unpacked d t k p ls r h (is_named q, st) = both is_identifier (k at p ∷ ls) (qualified_begins q) (no_name_there k h)
 into_unpacked d t k p ls r h (is_string, st) = false_true h
-into_unpacked d t k p ls r h (is_subrange a b, st) = both begins_expression (k at p ∷ ls) (chain_begins a) (no_bound_there k h)
+into_unpacked d t k p ls r h (is_subrange a b, st) = both begins_expression (k at p ∷ ls) (chain_begins a) (structure_no_bound k h)
 into_unpacked d t k p ls r h (is_enumeration ns, st) = false_true h
 into_unpacked d t k p ls r h (is_set f, st) = false_true h
 into_unpacked d t k p ls r h (is_unpacked {d = i} s, st) = (i, refl, (t, r, (s, st)))
@@ -256,9 +251,6 @@ types_split d x ls r (p, are_denoters {t = t} {ts = ts} {p = q} {m = m} f g) = (
 pub record Indexing (d : ℕ) (end : Place) (all : List Terminal) (xs : List TypeDenoter) (rest : List Terminal) : Type 0 where
   pub completes : (more : Denoters) (r : List Terminal) → DenotersBefore d more rest r → DenotersBefore d (types_before xs more) all r
   pub dies : (e : ParseError) → Refuses DenotersBefore d end rest e → Refuses DenotersBefore d end all e
-
-pub indexing_none : (d : ℕ) (end : Place) (all : List Terminal) → Indexing d end all [] all
-indexing_none d end all = record { completes = λ more r x. x; dies = λ e x. x }
 
 pub indexing_item : (d : ℕ) (end : Place) (all rest : List Terminal) (xs : List TypeDenoter) (e : ParseError) → Indexing d end all xs rest → Refuses SomeDenoter d end rest e → Refuses DenotersBefore d end all e
 indexing_item d end all rest xs e so_far h = so_far.dies e (list_item SomeDenoter DenotersBefore mark.Comma mark.CloseBracket d end rest e types_split h)

@@ -1,9 +1,8 @@
 -- Refusals of enumerations of several values.
-use Rattle.std.proofs.Common.{◌≡◌, ℕ, suc, Bool, true, false, List, [], ◌∷◌, ◌++◌, append_assoc, refl, sym, ap, ◌∙◌, subst, arith}
+use Rattle.std.proofs.Common.{◌≡◌, ℕ, suc, true, List, [], ◌∷◌, ◌++◌, append_assoc, refl, sym, ap, ◌∙◌, subst, arith}
 use Rattle.op_base.specs.declared.place.Place.{Place}
 use Rattle.op_parse_code.proofs.Cuts.{cut_seen, same_behind}
-use Rattle.op_parse_code.proofs.Factors.{same_begins}
-use Rattle.op_parse_code.proofs.Refusing.{Some_, Seq, dead_here, with_token, with_front, refuses_first, refuses_after}
+use Rattle.op_parse_code.proofs.Refusing.{Seq, dead_here, with_token, with_front, refuses_first, refuses_after}
 use Rattle.op_parse_code.proofs.ExpressionKnown.{known_mark}
 use Rattle.op_parse_code.specs.Form.{Form, is_given_value}
 use Rattle.op_parse_code.specs.Refusal.{Phrase, SameHead, Dead, Refuses, out_of_memory, syntax, nested, left_out, decides_there, refused_at}
@@ -11,6 +10,7 @@ use Rattle.op_parse_code.specs.Whole.{Marked, NoMark}
 use Rattle.op_parse_code.specs.declared.error.ParseError.{ParseError}
 use Rattle.op_parse_code.specs.declared.mark.Mark.TheVariants as mark
 use Rattle.op_parse_decl.proofs.Bounds.{no_list}
+use Rattle.op_parse_decl.proofs.Combining.{head_of}
 use Rattle.op_parse_decl.specs.KnownTypes.{known_names}
 use Rattle.op_parse_decl.specs.Opening.{GivesAValue, lists_names}
 use Rattle.op_parse_decl.specs.Types.{SomeNames, SomeBounded, NoMoreType}
@@ -72,9 +72,6 @@ bracketed d t p ks r (is_named q, st) = false_true (qualified_begins q)
 bracketed d t p ks r (is_subrange {first = a} {p = q} {m = m} f g, st) = encloses a (kind.DotDot at q ∷ m) f
 bracketed d t p ks r (is_enumeration (are_bracketed_names {d = i} {ns = ns} {q = q} f), st) = lists i ns q refl refl f st
 bracketed d t p ks r (is_unpacked s, st) = false_true (structure_begins s)
-
-head_of : {x y : Terminal} {xs ys : List Terminal} → x ∷ xs ≡ y ∷ ys → x ≡ y
-head_of h = cc
 
 no_depth : (t : Denoter) (p : Position) (ks r : List Terminal) → SomeBounded 0 t (kind.OpenParenthesis at p ∷ ks) r → ⊥
 no_depth t p ks r f = none (bracketed 0 t p ks r f)

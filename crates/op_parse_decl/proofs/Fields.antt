@@ -1,9 +1,9 @@
 -- Refusals of the fields of a record.
-use Rattle.std.proofs.Common.{◌≡◌, ℕ, Bool, true, false, List, [], ◌∷◌, ◌++◌, refl, sym, ap, ◌∙◌, subst}
+use Rattle.std.proofs.Common.{◌≡◌, ℕ, Bool, List, [], ◌∷◌, ◌++◌, refl, sym, ap, ◌∙◌, subst}
 use Rattle.op_base.specs.declared.place.Place.{Place}
 use Rattle.op_parse_code.proofs.ExpressionKnown.{known_mark}
 use Rattle.op_parse_code.proofs.Refusing.{Some_, Seq, refuses_map, refuses_first, refuses_after, refuses_behind, no_mark_same}
-use Rattle.op_parse_code.specs.Refusal.{SameHead, Refuses, syntax, left_out, refused_at}
+use Rattle.op_parse_code.specs.Refusal.{SameHead, Refuses, left_out, refused_at}
 use Rattle.op_parse_code.specs.Whole.{Marked, NoMark}
 use Rattle.op_parse_code.specs.declared.error.ParseError.{ParseError}
 use Rattle.op_parse_code.specs.declared.mark.Mark.TheVariants as mark
@@ -74,9 +74,6 @@ into_lists ks none d fs ls r s (p, are_fields {ns = ns} {t = t} {fs = fs1} {p = 
 pub record Fielding (d : ℕ) (end : Place) (all : List Terminal) (xs : List Fields) (rest : List Terminal) : Type 0 where
   pub completes : (more : FieldLists) (r : List Terminal) → AreFieldLists d more rest r → AreFieldLists d (lists_before xs more) all r
   pub dies : (e : ParseError) → Refuses FieldsBefore d end rest e → Refuses FieldsBefore d end all e
-
-pub fielding_none : (d : ℕ) (end : Place) (all : List Terminal) → Fielding d end all [] all
-fielding_none d end all = record { completes = λ more r x. x; dies = λ e x. x }
 
 in_record : (d : ℕ) (end : Place) (all : List Terminal) (e : ParseError) → Refuses FieldsBefore d end all e → (q : Position) → Refuses RecordFields d end (kind.Record at q ∷ all) e
 in_record d end all e h q = refuses_behind FieldsBefore RecordFields d end (kind.Record at q) all e (λ d' fs ls r f. inside d' fs ls r f) h

@@ -8,6 +8,8 @@ use Rattle.op_parse_code.proofs.Refusing.{Some_, dead_here, no_mark_same, refuse
 use Rattle.op_parse_code.specs.Form.{Form, HasForm, is_array_of_const, is_default}
 use Rattle.op_parse_code.specs.Opening.{is_identifier, is_word}
 use Rattle.op_parse_code.specs.Refusal.{Phrase, SameHead, Dead, Refuses, out_of_memory, syntax, nested, left_out, refused_at}
+use Rattle.op_parse_decl.proofs.Combining.{refuses_part, same_sym, head_of}
+use Rattle.op_parse_decl.specs.Refusal.{RefusesPart}
 use Rattle.op_parse_code.specs.Whole.{NoMark}
 use Rattle.op_parse_code.specs.declared.error.ParseError.{ParseError}
 use Rattle.op_parse_code.specs.declared.mark.Mark.TheVariants as mark
@@ -48,7 +50,7 @@ no_kind d sort (t ∷ ks) ls r h s (is_routine_kind e) = nothing_some (sym h ∙
     nothing_some : {x : RoutineKind} → None ≡ Some x → ⊥
     nothing_some g = absurd cc
 
-pub kind_refused : (d : ℕ) (end : Place) (ks : List Terminal) (e : ParseError) → kind_ahead ks ≡ None → e ≡ refused_at 9 0 end ks → Refuses IsRoutineKind d end ks e
+pub kind_refused : (d : ℕ) (end : Place) (ks : List Terminal) (e : ParseError) → kind_ahead ks ≡ None → e ≡ refused_at 9 0 end ks → RefusesPart IsRoutineKind d end ks e
 kind_refused d end ks e h x = syntax ks x (λ d'. dead_here (IsRoutineKind d') ks (λ sort ls r s f. no_kind d' sort ks ls r h s f))
 
 -- ---- how parameters are passed
@@ -86,15 +88,6 @@ same_first : (q : List Terminal) (t : Terminal) (ks ls : List Terminal) → Same
 same_first [] t ks ls s = absurd s
 same_first (u ∷ q) t ks ls s = s
 
-same_sym : (ks ls : List Terminal) → SameHead ks ls → SameHead ls ks
-same_sym [] [] s = s
-same_sym [] (u ∷ ls) s = absurd s
-same_sym (t ∷ ks) [] s = absurd s
-same_sym (t ∷ ks) (u ∷ ls) s = sym s
-
-head_of : {t u : Terminal} {ks ls : List Terminal} → t ∷ ks ≡ u ∷ ls → t ≡ u
-head_of h = cc
-
 -- where no list of names begins so, none stands behind the word `out`: behind the word itself one does
 no_out : (d : ℕ) (ks q seen ls : List Terminal) (out : List ℕ) (p : Position) (ns : List Name) (z r : List Terminal) → NoOut ks → ks ≡ seen ++ q → ((xs : List Terminal) (a : Both (List Name) (Unit {0})) (y : List Terminal) → SameHead q xs → Named d a (seen ++ xs) y → ⊥) → SameHead q ls → kind.Identifier out at p ∷ z ≡ seen ++ ls → IsWord (codes "out") out → AreNames ns z r → ⊥
 no_out d ks q [] ls out p ns z r none e never s is w n = never (kind.Identifier out at p ∷ kind.Colon at p ∷ []) (both (name out p ∷ []) tt) [] (same_first q (kind.Identifier out at p) z (kind.Colon at p ∷ []) (subst (SameHead q) (sym is) s)) (then_ (are_one_name is_name, no_mark_by mark.Comma is_comma refl refl) stands)
@@ -112,14 +105,14 @@ no_value d ks q seen ls all a r m e never s is same (some_moded (by_out {out = o
 dead_value : (d : ℕ) (ks q : List Terminal) → SomeMode mode.Value ks ks → Dead (Named d) ks q → Dead (SomeModed d) ks q
 dead_value d ks q m (seen, e, never) = (seen, e, λ ls a r s x. no_value d ks q seen ls (seen ++ ls) a r m e never s refl (subst (λ z. SameHead z (seen ++ ls)) (sym e) (same_behind seen q ls s)) x)
 
-by_value_refused : (d : ℕ) (end : Place) (ks : List Terminal) (e : ParseError) → SomeMode mode.Value ks ks → Refuses Named d end ks e → Refuses SomeModed d end ks e
+by_value_refused : (d : ℕ) (end : Place) (ks : List Terminal) (e : ParseError) → SomeMode mode.Value ks ks → RefusesPart Named d end ks e → RefusesPart SomeModed d end ks e
 by_value_refused d end ks e m (out_of_memory x) = out_of_memory x
 by_value_refused d end ks e m (syntax q x never) = syntax q x (λ d'. dead_value d' ks q m (never d'))
 by_value_refused d end ks e m (nested q z x w never) = nested q z x w (dead_value d ks z m never)
 by_value_refused d end ks e m (left_out feature q x f) = left_out feature q x f
 
-pub moded_refused : (m : ParameterMode) (d : ℕ) (end : Place) (ks z : List Terminal) (e : ParseError) → SomeMode m ks z → Refuses Named d end z e → Refuses SomeModed d end ks e
-moded_refused mode.Value d end ks z e m h = by_value_refused d end ks e (refl, m.1, m.2, m.3) (subst (λ y. Refuses Named d end y e) (sym m.0) h)
+pub moded_refused : (m : ParameterMode) (d : ℕ) (end : Place) (ks z : List Terminal) (e : ParseError) → SomeMode m ks z → RefusesPart Named d end z e → RefusesPart SomeModed d end ks e
+moded_refused mode.Value d end ks z e m h = by_value_refused d end ks e (refl, m.1, m.2, m.3) (subst (λ y. RefusesPart Named d end y e) (sym m.0) h)
 moded_refused mode.Var d end ks z e (by_var {p = p}) h = refuses_behind Named SomeModed d end (kind.Var at p) z e (into_var p) h
 moded_refused mode.Const_ d end ks z e (by_const {p = p}) h = refuses_behind Named SomeModed d end (kind.Const_ at p) z e (into_const p) h
 moded_refused mode.Out d end ks z e (by_out {out = out} {p = p} w, b) h = refuses_behind (BehindToken (kind.Identifier out at p)) SomeModed d end (kind.Identifier out at p) z e (λ d' a ls r x. (a, r, x)) (refuses_map Named (BehindToken (kind.Identifier out at p)) d end z e (λ d' a ls r s x. into_out out p d' a ls r (same_begins is_identifier z ls s b) x) h)
@@ -158,7 +151,7 @@ type_begins (is_named (is_unqualified is_name)) = refl
 type_begins (is_named (is_qualified is_name n)) = refl
 type_begins is_string = refl
 
-pub type_refused : (d : ℕ) (end : Place) (ks : List Terminal) (e : ParseError) → IsNot begins_designator ks → e ≡ refused_at 9 0 end ks → Refuses SomeParameterType d end ks e
+pub type_refused : (d : ℕ) (end : Place) (ks : List Terminal) (e : ParseError) → IsNot begins_designator ks → e ≡ refused_at 9 0 end ks → RefusesPart SomeParameterType d end ks e
 type_refused d end ks e h x = syntax ks x (λ d'. dead_here (SomeParameterType d') ks (λ t ls r s f. apart begins_designator ls (type_begins f.0) (same_not begins_designator ks ls s h)))
 
 pub string_kind : (k : TokenKind) → is_string_word k ≡ true → k ≡ kind.String
@@ -169,8 +162,8 @@ into_string : (p : Position) (d : ℕ) (t : ParameterType) (ls r : List Terminal
 into_string p d t ls r (is_named q, none) = false_true (qualified_begins q)
 into_string p d t ls r (is_string, none) = ([], r, (refl, none))
 
-pub string_refused : (d : ℕ) (end : Place) (k : TokenKind) (p : Position) (ks : List Terminal) (e : ParseError) → k ≡ kind.String → Refuses NoDot d end ks e → Refuses SomeParameterType d end (k at p ∷ ks) e
-string_refused d end k p ks e is h = subst (λ z. Refuses SomeParameterType d end (z at p ∷ ks) e) (sym is) (refuses_behind NoDot SomeParameterType d end (kind.String at p) ks e (into_string p) h)
+pub string_refused : (d : ℕ) (end : Place) (k : TokenKind) (p : Position) (ks : List Terminal) (e : ParseError) → k ≡ kind.String → Refuses NoDot d end ks e → RefusesPart SomeParameterType d end (k at p ∷ ks) e
+string_refused d end k p ks e is h = subst (λ z. RefusesPart SomeParameterType d end (z at p ∷ ks) e) (sym is) (refuses_behind NoDot SomeParameterType d end (kind.String at p) ks e (into_string p) (refuses_part h))
 
 pub string_whole : (d : ℕ) {k : TokenKind} {p : Position} {ks : List Terminal} → k ≡ kind.String → NoMark mark.Dot ks → SomeParameterType d (string_type.String p) (k at p ∷ ks) ks
 string_whole d {p = p} {ks = ks} is none = (subst (λ z. IsParameterType (string_type.String p) (z at p ∷ ks) ks) (sym is) is_string, none)
@@ -179,8 +172,8 @@ into_named : (ks : List Terminal) → IsNot is_string_word ks → (d : ℕ) (t :
 into_named ks h d t ls r s (is_named {q = q} f, none) = (q, r, (f, none))
 into_named ks h d t ls r s (is_string, none) = true_false (same_not is_string_word ks ls s h)
 
-pub named_refused : (d : ℕ) (end : Place) (ks : List Terminal) (e : ParseError) → IsNot is_string_word ks → Refuses SomeQualified d end ks e → Refuses SomeParameterType d end ks e
-named_refused d end ks e h f = refuses_map SomeQualified SomeParameterType d end ks e (into_named ks h) f
+pub named_refused : (d : ℕ) (end : Place) (ks : List Terminal) (e : ParseError) → IsNot is_string_word ks → Refuses SomeQualified d end ks e → RefusesPart SomeParameterType d end ks e
+named_refused d end ks e h f = refuses_map SomeQualified SomeParameterType d end ks e (into_named ks h) (refuses_part f)
 
 -- ---- forms
 

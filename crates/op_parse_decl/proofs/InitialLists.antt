@@ -3,11 +3,13 @@ use Rattle.std.proofs.Common.{◌≡◌, ℕ, List, [], ◌∷◌, ◌++◌, Som
 use Rattle.op_base.specs.declared.place.Place.{Place}
 use Rattle.op_parse_code.proofs.Cuts.{IsCut, cut_none, cut_one, cut_join}
 use Rattle.op_parse_code.proofs.ExpressionKnown.{known_mark}
-use Rattle.op_parse_code.proofs.Lists.{Splits, Listed, Reading, reading_ends, reading_more}
+use Rattle.op_parse_code.proofs.Lists.{Splits, Listed, ReadingBy, reading_ends, reading_more}
 use Rattle.op_parse_code.proofs.Refusing.{Some_, Seq, Known, refuses_map, refuses_first, refuses_after, refuses_behind, no_mark_same}
 use Rattle.op_parse_code.proofs.StatementFronts.{front_name}
 use Rattle.op_parse_code.proofs.StatementKnown.{known_name}
 use Rattle.op_parse_code.specs.Refusal.{Phrase, SameHead, Refuses}
+use Rattle.op_parse_decl.proofs.Combining.{refuses_part}
+use Rattle.op_parse_decl.specs.Refusal.{DecidesInPart, RefusesPart}
 use Rattle.op_parse_code.specs.Whole.{Marked, NoMark, SomeName}
 use Rattle.op_parse_code.specs.declared.error.ParseError.{ParseError}
 use Rattle.op_parse_code.specs.declared.mark.Mark.TheVariants as mark
@@ -57,11 +59,11 @@ known_items = record {
   same = λ d d' is is' ks m m' f f'. ap behind (unique_initials f.1 f'.1 (refl, refl) (refl, refl) refl refl).1;
 }
 
-pub items_refuse : (d : ℕ) (end : Place) (ks : List Terminal) (e : ParseError) → Refuses InitialsBefore d end ks e → Refuses (Seq InitialsBefore NoMoreExpression) d end ks e
+pub items_refuse : (d : ℕ) (end : Place) (ks : List Terminal) (e : ParseError) → RefusesPart InitialsBefore d end ks e → RefusesPart (Seq InitialsBefore NoMoreExpression) d end ks e
 items_refuse d end ks e h = refuses_first InitialsBefore NoMoreExpression d end ks e h
 
-pub items_go_on : (d : ℕ) (end : Place) (is : Initials) (ks m : List Terminal) (e : ParseError) → InitialsBefore d is ks m → Refuses NoMoreExpression d end m e → Refuses (Seq InitialsBefore NoMoreExpression) d end ks e
-items_go_on d end is ks m e f h = refuses_after InitialsBefore NoMoreExpression d end is ks m e known_items f h
+pub items_go_on : (d : ℕ) (end : Place) (is : Initials) (ks m : List Terminal) (e : ParseError) → InitialsBefore d is ks m → Refuses NoMoreExpression d end m e → RefusesPart (Seq InitialsBefore NoMoreExpression) d end ks e
+items_go_on d end is ks m e f h = refuses_after InitialsBefore NoMoreExpression d end is ks m e known_items f (refuses_part h)
 
 -- ---- the fields behind one
 
@@ -91,35 +93,35 @@ ColonParts = Seq (Marked mark.Colon) (Seq SomeInitial FieldsBehind)
 into_fields : (p : Position) (d : ℕ) (fs : FieldInitials) (ls r : List Terminal) → FieldsBehind d fs (kind.Semicolon at p ∷ ls) r → Some_ (Seq SomeName ColonParts) d ls
 into_fields p d fs ls r (fields_behind {n = n} {i = i} {fs = gs} {q = q} {m = m} {l = l} f g h) = ((n, (q, (i, gs))), r, (kind.Colon at q ∷ m, f, (m, refl, (l, g, h))))
 
-fields_refuse : (d : ℕ) (end : Place) (p : Position) (ks after : List Terminal) (e : ParseError) → ks ≡ kind.Semicolon at p ∷ after → Refuses (Seq SomeName ColonParts) d end after e → Refuses FieldsBehind d end ks e
-fields_refuse d end p ks after e is h = subst (λ z. Refuses FieldsBehind d end z e) (sym is) (refuses_behind (Seq SomeName ColonParts) FieldsBehind d end (kind.Semicolon at p) after e (into_fields p) h)
+fields_refuse : (d : ℕ) (end : Place) (p : Position) (ks after : List Terminal) (e : ParseError) → ks ≡ kind.Semicolon at p ∷ after → RefusesPart (Seq SomeName ColonParts) d end after e → RefusesPart FieldsBehind d end ks e
+fields_refuse d end p ks after e is h = subst (λ z. RefusesPart FieldsBehind d end z e) (sym is) (refuses_behind (Seq SomeName ColonParts) FieldsBehind d end (kind.Semicolon at p) after e (into_fields p) h)
 
-name_refuses : (d : ℕ) (end : Place) (p : Position) (n : Name) (ks after m : List Terminal) (e : ParseError) → ks ≡ kind.Semicolon at p ∷ after → IsName n after m → Refuses ColonParts d end m e → Refuses FieldsBehind d end ks e
+name_refuses : (d : ℕ) (end : Place) (p : Position) (n : Name) (ks after m : List Terminal) (e : ParseError) → ks ≡ kind.Semicolon at p ∷ after → IsName n after m → RefusesPart ColonParts d end m e → RefusesPart FieldsBehind d end ks e
 name_refuses d end p n ks after m e is f h = fields_refuse d end p ks after e is (refuses_after SomeName ColonParts d end n after m e known_name f h)
 
-colon_refuses : (d : ℕ) (end : Place) (p q : Position) (n : Name) (ks after m k : List Terminal) (e : ParseError) → ks ≡ kind.Semicolon at p ∷ after → IsName n after m → m ≡ kind.Colon at q ∷ k → Refuses (Seq SomeInitial FieldsBehind) d end k e → Refuses FieldsBehind d end ks e
+colon_refuses : (d : ℕ) (end : Place) (p q : Position) (n : Name) (ks after m k : List Terminal) (e : ParseError) → ks ≡ kind.Semicolon at p ∷ after → IsName n after m → m ≡ kind.Colon at q ∷ k → RefusesPart (Seq SomeInitial FieldsBehind) d end k e → RefusesPart FieldsBehind d end ks e
 colon_refuses d end p q n ks after m k e is f c h = name_refuses d end p n ks after m e is f (refuses_after (Marked mark.Colon) (Seq SomeInitial FieldsBehind) d end q m k e (known_mark mark.Colon) c h)
 
 only_close : (ks : List Terminal) → NoMark mark.Semicolon ks → (d : ℕ) (fs : FieldInitials) (ls r : List Terminal) → SameHead ks ls → FieldsBehind d fs ls r → Some_ (Marked mark.CloseParenthesis) d ls
 only_close ks none d fs ls r s (no_fields_behind {p = p}) = (p, r, refl)
 only_close ks none d fs ls r s (fields_behind {p = p} f g h) = absurd (no_mark_same mark.Semicolon ks ls s none p _ refl)
 
-pub more_name : (d : ℕ) (end : Place) (p : Position) (all rest after : List Terminal) (xs : List FieldInitializer) (e : ParseError) → Reading add_field FieldsBehind d end all xs rest → rest ≡ kind.Semicolon at p ∷ after → Refuses SomeName d end after e → Refuses FieldsBehind d end all e
-more_name d end p all rest after xs e so_far is h = so_far.dies e (fields_refuse d end p rest after e is (refuses_first SomeName ColonParts d end after e h))
+pub more_name : (d : ℕ) (end : Place) (p : Position) (all rest after : List Terminal) (xs : List FieldInitializer) (e : ParseError) → ReadingBy DecidesInPart add_field FieldsBehind d end all xs rest → rest ≡ kind.Semicolon at p ∷ after → Refuses SomeName d end after e → RefusesPart FieldsBehind d end all e
+more_name d end p all rest after xs e so_far is h = so_far.dies e (fields_refuse d end p rest after e is (refuses_first SomeName ColonParts d end after e (refuses_part h)))
 
-pub more_colon : (d : ℕ) (end : Place) (p : Position) (n : Name) (all rest after m : List Terminal) (xs : List FieldInitializer) (e : ParseError) → Reading add_field FieldsBehind d end all xs rest → rest ≡ kind.Semicolon at p ∷ after → IsName n after m → Refuses (Marked mark.Colon) d end m e → Refuses FieldsBehind d end all e
-more_colon d end p n all rest after m xs e so_far is f h = so_far.dies e (name_refuses d end p n rest after m e is f (refuses_first (Marked mark.Colon) (Seq SomeInitial FieldsBehind) d end m e h))
+pub more_colon : (d : ℕ) (end : Place) (p : Position) (n : Name) (all rest after m : List Terminal) (xs : List FieldInitializer) (e : ParseError) → ReadingBy DecidesInPart add_field FieldsBehind d end all xs rest → rest ≡ kind.Semicolon at p ∷ after → IsName n after m → Refuses (Marked mark.Colon) d end m e → RefusesPart FieldsBehind d end all e
+more_colon d end p n all rest after m xs e so_far is f h = so_far.dies e (name_refuses d end p n rest after m e is f (refuses_first (Marked mark.Colon) (Seq SomeInitial FieldsBehind) d end m e (refuses_part h)))
 
-pub more_value : (d : ℕ) (end : Place) (p q : Position) (n : Name) (all rest after m k : List Terminal) (xs : List FieldInitializer) (e : ParseError) → Reading add_field FieldsBehind d end all xs rest → rest ≡ kind.Semicolon at p ∷ after → IsName n after m → m ≡ kind.Colon at q ∷ k → Refuses SomeInitial d end k e → Refuses FieldsBehind d end all e
+pub more_value : (d : ℕ) (end : Place) (p q : Position) (n : Name) (all rest after m k : List Terminal) (xs : List FieldInitializer) (e : ParseError) → ReadingBy DecidesInPart add_field FieldsBehind d end all xs rest → rest ≡ kind.Semicolon at p ∷ after → IsName n after m → m ≡ kind.Colon at q ∷ k → RefusesPart SomeInitial d end k e → RefusesPart FieldsBehind d end all e
 more_value d end p q n all rest after m k xs e so_far is f c h = so_far.dies e (colon_refuses d end p q n rest after m k e is f c (refuses_first SomeInitial FieldsBehind d end k e h))
 
-pub more_goes_on : (d : ℕ) (end : Place) (p q : Position) (all rest after m k l : List Terminal) (xs : List FieldInitializer) (x : FieldInitializer) → Reading add_field FieldsBehind d end all xs rest → rest ≡ kind.Semicolon at p ∷ after → IsName x.name after m → m ≡ kind.Colon at q ∷ k → SomeInitial d (initial_of x.value) k l → Reading add_field FieldsBehind d end all (xs ++ (x ∷ [])) l
+pub more_goes_on : (d : ℕ) (end : Place) (p q : Position) (all rest after m k l : List Terminal) (xs : List FieldInitializer) (x : FieldInitializer) → ReadingBy DecidesInPart add_field FieldsBehind d end all xs rest → rest ≡ kind.Semicolon at p ∷ after → IsName x.name after m → m ≡ kind.Colon at q ∷ k → SomeInitial d (initial_of x.value) k l → ReadingBy DecidesInPart add_field FieldsBehind d end all (xs ++ (x ∷ [])) l
 more_goes_on d end p q all rest after m k l xs x so_far is f c g = reading_more add_field FieldsBehind d end all rest xs x l so_far (λ more r h. subst (λ z. FieldsBehind d (add_field x more) z r) (sym is) (fields_behind (subst (λ z. IsName x.name after z) c f) g h)) (λ e h. colon_refuses d end p q x.name rest after m k e is f c (refuses_after SomeInitial FieldsBehind d end (initial_of x.value) k l e known_initial g h))
 
-pub more_close : (d : ℕ) (end : Place) (all rest : List Terminal) (xs : List FieldInitializer) (e : ParseError) → Reading add_field FieldsBehind d end all xs rest → NoMark mark.Semicolon rest → Refuses (Marked mark.CloseParenthesis) d end rest e → Refuses FieldsBehind d end all e
-more_close d end all rest xs e so_far none h = so_far.dies e (refuses_map (Marked mark.CloseParenthesis) FieldsBehind d end rest e (only_close rest none) h)
+pub more_close : (d : ℕ) (end : Place) (all rest : List Terminal) (xs : List FieldInitializer) (e : ParseError) → ReadingBy DecidesInPart add_field FieldsBehind d end all xs rest → NoMark mark.Semicolon rest → Refuses (Marked mark.CloseParenthesis) d end rest e → RefusesPart FieldsBehind d end all e
+more_close d end all rest xs e so_far none h = so_far.dies e (refuses_map (Marked mark.CloseParenthesis) FieldsBehind d end rest e (only_close rest none) (refuses_part h))
 
-pub more_ends : (d : ℕ) (end : Place) (p : Position) (all rest after : List Terminal) (xs : List FieldInitializer) → Reading add_field FieldsBehind d end all xs rest → rest ≡ kind.CloseParenthesis at p ∷ after → FieldsBehind d (field_initials_of xs) all after
+pub more_ends : (d : ℕ) (end : Place) (p : Position) (all rest after : List Terminal) (xs : List FieldInitializer) → ReadingBy DecidesInPart add_field FieldsBehind d end all xs rest → rest ≡ kind.CloseParenthesis at p ∷ after → FieldsBehind d (field_initials_of xs) all after
 more_ends d end p all rest after xs so_far is = reading_ends add_field no_field_initials field_initials_of FieldsBehind d end all rest after xs refl (λ x xs. refl) so_far (subst (λ z. FieldsBehind d no_field_initials z after) (sym is) no_fields_behind)
 
 -- ---- a record
@@ -135,17 +137,17 @@ fields_out n f (fields_behind g h k) = let w = fields_out g h k in (w.0, are_fie
 into_record : (n : Name) (q : Position) (d : ℕ) (fs : FieldInitials) (ls r : List Terminal) → RecordBehind n q d fs ls r → Some_ (Seq SomeInitial (Seq FieldsBehind NoMoreExpression)) d ls
 into_record n q d fs ls r (p, f, st) = let w = fields_in f in ((w.1, (w.2, [])), r, (w.5, subst (λ z. SomeInitial d w.1 z w.5) (ap behind (unique_name w.6 is_name).1) w.7, (r, w.8, (refl, st))))
 
-pub record_value_refuses : (n : Name) (q : Position) (d : ℕ) (end : Place) (ks : List Terminal) (e : ParseError) → Refuses SomeInitial d end ks e → Refuses (RecordBehind n q) d end ks e
+pub record_value_refuses : (n : Name) (q : Position) (d : ℕ) (end : Place) (ks : List Terminal) (e : ParseError) → RefusesPart SomeInitial d end ks e → RefusesPart (RecordBehind n q) d end ks e
 record_value_refuses n q d end ks e h = refuses_map (Seq SomeInitial (Seq FieldsBehind NoMoreExpression)) (RecordBehind n q) d end ks e (λ d' b ls r s f. into_record n q d' b ls r f) (refuses_first SomeInitial (Seq FieldsBehind NoMoreExpression) d end ks e h)
 
-record_behind_value : (n : Name) (q : Position) (d : ℕ) (end : Place) (i : Initial) (ks m : List Terminal) (e : ParseError) → SomeInitial d i ks m → Refuses (Seq FieldsBehind NoMoreExpression) d end m e → Refuses (RecordBehind n q) d end ks e
+record_behind_value : (n : Name) (q : Position) (d : ℕ) (end : Place) (i : Initial) (ks m : List Terminal) (e : ParseError) → SomeInitial d i ks m → RefusesPart (Seq FieldsBehind NoMoreExpression) d end m e → RefusesPart (RecordBehind n q) d end ks e
 record_behind_value n q d end i ks m e f h = refuses_map (Seq SomeInitial (Seq FieldsBehind NoMoreExpression)) (RecordBehind n q) d end ks e (λ d' b ls r s f. into_record n q d' b ls r f) (refuses_after SomeInitial (Seq FieldsBehind NoMoreExpression) d end i ks m e known_initial f h)
 
-pub record_more_refuses : (n : Name) (q : Position) (d : ℕ) (end : Place) (i : Initial) (ks m : List Terminal) (e : ParseError) → SomeInitial d i ks m → Refuses FieldsBehind d end m e → Refuses (RecordBehind n q) d end ks e
+pub record_more_refuses : (n : Name) (q : Position) (d : ℕ) (end : Place) (i : Initial) (ks m : List Terminal) (e : ParseError) → SomeInitial d i ks m → RefusesPart FieldsBehind d end m e → RefusesPart (RecordBehind n q) d end ks e
 record_more_refuses n q d end i ks m e f h = record_behind_value n q d end i ks m e f (refuses_first FieldsBehind NoMoreExpression d end m e h)
 
-pub record_goes_on : (n : Name) (q : Position) (d : ℕ) (end : Place) (i : Initial) (fs : FieldInitials) (ks m r : List Terminal) (e : ParseError) → SomeInitial d i ks m → FieldsBehind d fs m r → Refuses NoMoreExpression d end r e → Refuses (RecordBehind n q) d end ks e
-record_goes_on n q d end i fs ks m r e f g h = record_behind_value n q d end i ks m e f (refuses_after FieldsBehind NoMoreExpression d end fs m r e known_more g h)
+pub record_goes_on : (n : Name) (q : Position) (d : ℕ) (end : Place) (i : Initial) (fs : FieldInitials) (ks m r : List Terminal) (e : ParseError) → SomeInitial d i ks m → FieldsBehind d fs m r → Refuses NoMoreExpression d end r e → RefusesPart (RecordBehind n q) d end ks e
+record_goes_on n q d end i fs ks m r e f g h = record_behind_value n q d end i ks m e f (refuses_after FieldsBehind NoMoreExpression d end fs m r e known_more g (refuses_part h))
 
 pub record_behind_whole : (n : Name) (q : Position) (d : ℕ) (i : Initial) (fs : FieldInitials) (ks m r : List Terminal) → SomeInitial d i ks m → FieldsBehind d fs m r → Stops r → RecordBehind n q d (field_initials n i fs) ks r
 record_behind_whole n q d i fs ks m r f g st = let w = fields_out is_name f g in (w.0, w.1, st)

@@ -9,10 +9,12 @@ use Rattle.op_parse_code.proofs.Cuts.{IsCut, cut_one, cut_join, cut_none, cut_se
 use Rattle.op_parse_code.proofs.ExpressionFronts.{front_chain}
 use Rattle.op_parse_code.proofs.ExpressionKnown.{known_chain}
 use Rattle.op_parse_code.proofs.Refusing.{Some_, Seq, suc_same, with_token, with_front, inside_seen, dead_here, refuses_map, refuses_first, refuses_after, refuses_behind, refuses_inside, refuses_deeper, no_mark_same}
-use Rattle.op_parse_code.specs.Refusal.{Phrase, SameHead, Dead, Decides, decides_there, decides_in_list, TellsList, tells_of_value, tells_of_bracket, tells_of_name, Refuses, out_of_memory, syntax, nested, left_out, refused_at}
+use Rattle.op_parse_code.specs.Refusal.{Phrase, SameHead, Dead, Decides, decides_there, Refuses, out_of_memory, syntax, nested, left_out, refused_at}
+use Rattle.op_parse_decl.specs.Refusal.{DecidesInPart, RefusesPart, TellsList, decides_in_code, decides_in_list, tells_of_bracket, tells_of_name, tells_of_value}
 use Rattle.op_parse_code.specs.Whole.{Chain, Marked, NoMark, Operand, SomeSelectors}
 use Rattle.op_parse_code.specs.declared.error.ParseError.{ParseError}
 use Rattle.op_parse_code.specs.declared.mark.Mark.TheVariants as mark
+use Rattle.op_parse_decl.proofs.Combining.{refuses_part, same_sym, head_of}
 use Rattle.op_parse_decl.proofs.Deeper.{chain_at}
 use Rattle.op_parse_decl.proofs.Denoted.{by_expr}
 use Rattle.op_parse_decl.specs.InitialKnown.{known_initial}
@@ -109,12 +111,6 @@ opening k d (record_ q fs) p ls r (l, h, (is_record_value {d = n} {q = u} (are_f
 
 -- ---- what is behind the first value dies
 
-same_sym : (ks ls : List Terminal) → SameHead ks ls → SameHead ls ks
-same_sym [] [] s = s
-same_sym [] (u ∷ ls) s = s
-same_sym (t ∷ ks) [] s = s
-same_sym (t ∷ ks) (u ∷ ls) s = sym s
-
 -- a first value whose rest begins with the same token
 before_others : (l : ℕ) (i : Initial) (front ls m : List Terminal) → SomeInitial l i (front ++ ls) ls → SameHead ls m → SomeInitial l i (front ++ m) m
 before_others l i front ls m f s =
@@ -143,7 +139,7 @@ dead_after_first k i d a p ks m q (l, h, f) (seen, e, never) =
           never ls tt [] g (o.depth, here, subst (λ z. Tail k d o.depth a z) u.1 (subst (λ z. Tail k d o.depth z o.rest) u.0 o.tail)),
     )
 
-after_first : (k i : ℕ) (a : Initial) (p : Position) (ks m : List Terminal) (end : Place) (e : ParseError) → Within (suc k) i a ks m → Refuses (After k a ks m) (suc i) end m e → Refuses (Within k) (suc i) end (kind.OpenParenthesis at p ∷ ks) e
+after_first : (k i : ℕ) (a : Initial) (p : Position) (ks m : List Terminal) (end : Place) (e : ParseError) → Within (suc k) i a ks m → RefusesPart (After k a ks m) (suc i) end m e → RefusesPart (Within k) (suc i) end (kind.OpenParenthesis at p ∷ ks) e
 after_first k i a p ks m end e f (out_of_memory x) = out_of_memory x
 after_first k i a p ks m end e f (syntax q x never) = syntax q x (λ d'. dead_after_first k i d' a p ks m q f (never d'))
 after_first k i a p ks m end e f (nested q z x w never) = nested q z x w (dead_after_first k i (suc i) a p ks m z f never)
@@ -153,7 +149,7 @@ after_first k i a p ks m end e (l, h, f) (left_out feature q x g) =
     left_out feature q x (with_token (kind.OpenParenthesis at p) (with_front s.0 (w.2 ∙ s.1 m) g))
 
 -- behind a token, at a depth that the outer one tells
-under : {A B : Type 0} (P : Phrase A) (Q : Phrase B) (n d : ℕ) (end : Place) (t : Terminal) (ks : List Terminal) (e : ParseError) → ((d' : ℕ) (b : B) (ls r : List Terminal) → Q d' b (t ∷ ls) r → (i : ℕ) × (d' ≡ d → i ≡ n) × Some_ P i ls) → Refuses P n end ks e → Refuses Q d end (t ∷ ks) e
+under : {A B : Type 0} (P : Phrase A) (Q : Phrase B) (n d : ℕ) (end : Place) (t : Terminal) (ks : List Terminal) (e : ParseError) → ((d' : ℕ) (b : B) (ls r : List Terminal) → Q d' b (t ∷ ls) r → (i : ℕ) × (d' ≡ d → i ≡ n) × Some_ P i ls) → RefusesPart P n end ks e → RefusesPart Q d end (t ∷ ks) e
 under P Q n d end t ks e h (out_of_memory x) = out_of_memory x
 under P Q n d end t ks e h (syntax q x never) = syntax q x (λ d'. let first = never n in (t ∷ first.0, ap (λ z. t ∷ z) first.1, λ ls b r s f. let w = h d' b (first.0 ++ ls) r f in inside_seen (P w.0) ks q first.0 first.1 (never w.0) ls w.2.0 w.2.1 s w.2.2))
 under P Q n d end t ks e h (nested q z x w (seen, same, never)) = nested q z x w (t ∷ seen, ap (λ y. t ∷ y) same, λ ls b r s f. let v = h d b (seen ++ ls) r f in never ls v.2.0 v.2.1 s (subst (λ (y : ℕ). P y v.2.0 (seen ++ ls) v.2.1) (v.1 refl) v.2.2))
@@ -174,14 +170,14 @@ dead_none P ks q a r p (seen, e, never) = never q a r (same_refl q) (subst (λ z
 after_comma : (k d l : ℕ) (a : Initial) (u : Position) (ls : List Terminal) → Tail k d l a (kind.Comma at u ∷ ls) → (suc (suc l) + k ≡ suc d) × Some_ (Seq InitialsBefore NoMoreExpression) l ls
 after_comma k d l a u ls (tail_list {others = others} {r = r} h f) = (h, ((others, []), r, f))
 
-pub list_refuses : (k i l : ℕ) (a : Initial) (p u : Position) (ks m after : List Terminal) (end : Place) (e : ParseError) → l + suc k ≡ suc i → Within (suc k) i a ks m → m ≡ kind.Comma at u ∷ after → Refuses (Seq InitialsBefore NoMoreExpression) l end after e → Refuses (Within k) (suc i) end (kind.OpenParenthesis at p ∷ ks) e
-list_refuses k i l a p u ks m after end e h f is g = after_first k i a p ks m end e f (subst (λ z. Refuses (After k a ks m) (suc i) end z e) (sym is) (under (Seq InitialsBefore NoMoreExpression) (After k a ks m) l (suc i) end (kind.Comma at u) after e into g))
+pub list_refuses : (k i l : ℕ) (a : Initial) (p u : Position) (ks m after : List Terminal) (end : Place) (e : ParseError) → l + suc k ≡ suc i → Within (suc k) i a ks m → m ≡ kind.Comma at u ∷ after → RefusesPart (Seq InitialsBefore NoMoreExpression) l end after e → RefusesPart (Within k) (suc i) end (kind.OpenParenthesis at p ∷ ks) e
+list_refuses k i l a p u ks m after end e h f is g = after_first k i a p ks m end e f (subst (λ z. RefusesPart (After k a ks m) (suc i) end z e) (sym is) (under (Seq InitialsBefore NoMoreExpression) (After k a ks m) l (suc i) end (kind.Comma at u) after e into g))
   where
     into : (d' : ℕ) (b : Unit {0}) (ls r : List Terminal) → After k a ks m d' b (kind.Comma at u ∷ ls) r → (x : ℕ) × (d' ≡ suc i → x ≡ l) × Some_ (Seq InitialsBefore NoMoreExpression) x ls
     into d' b ls r (x, s, t) = let v = after_comma k d' x a u ls t in (x, λ e. omega (arith, h, v.0, e), v.1)
 
 -- an item that is too deep
-pub item_refuses : (k i l : ℕ) (a : Initial) (x : Expression) (p u : Position) (ks m after : List Terminal) (end : Place) (e : ParseError) → l + suc k ≡ suc i → Within (suc k) i a ks m → m ≡ kind.Comma at u ∷ after → a ≡ value x → Refuses ValueOf l end ks e → Refuses (Within k) (suc i) end (kind.OpenParenthesis at p ∷ ks) e
+pub item_refuses : (k i l : ℕ) (a : Initial) (x : Expression) (p u : Position) (ks m after : List Terminal) (end : Place) (e : ParseError) → l + suc k ≡ suc i → Within (suc k) i a ks m → m ≡ kind.Comma at u ∷ after → a ≡ value x → Refuses ValueOf l end ks e → RefusesPart (Within k) (suc i) end (kind.OpenParenthesis at p ∷ ks) e
 item_refuses k i l a x p u ks m after end e h f is same g = by g
   where
     whole : Within (suc k) i (value x) ks (kind.Comma at u ∷ after)
@@ -190,22 +186,22 @@ item_refuses k i l a x p u ks m after end e h f is same g = by g
     at_depth : (b : Unit {0}) (ls r n : List Terminal) → Dead (ValueOf l) ks n → After k (value x) ks (kind.Comma at u ∷ after) (suc i) b (kind.Comma at u ∷ ls) r → ⊥
     at_depth b ls r n dead (y, s, t) = let v = after_comma k (suc i) y (value x) u ls t in let deep : y ≡ l = omega (arith, h, v.0) in dead_none (ValueOf l) ks n x _ (subst (λ (z : ℕ). SomeInitial z (value x) ks (kind.Comma at u ∷ after)) deep s) dead
 
-    decided : (q n : List Terminal) → Decides q n → Dead (ValueOf l) ks n → Decides q (kind.Comma at u ∷ after)
+    decided : (q n : List Terminal) → Decides q n → Dead (ValueOf l) ks n → DecidesInPart q (kind.Comma at u ∷ after)
     decided q n w (seen, e1, never) = decides_in_list (tells_of_value seen w (subst (λ z. IsInitial whole.0 (value x) z (kind.Comma at u ∷ after)) e1 whole.2.0))
 
-    by : Refuses ValueOf l end ks e → Refuses (Within k) (suc i) end (kind.OpenParenthesis at p ∷ ks) e
+    by : Refuses ValueOf l end ks e → RefusesPart (Within k) (suc i) end (kind.OpenParenthesis at p ∷ ks) e
     by (out_of_memory y) = out_of_memory y
     by (syntax q y never) = absurd (dead_none (ValueOf whole.0) ks q x _ whole.2 (never whole.0))
     by (nested q n y w never) = nested q (kind.Comma at u ∷ after) y (decided q n w never) (dead_after_first k i (suc i) (value x) p ks (kind.Comma at u ∷ after) (kind.Comma at u ∷ after) whole (dead_token (After k (value x) ks (kind.Comma at u ∷ after) (suc i)) (kind.Comma at u) after (λ b ls r t. at_depth b ls r n never t)))
     by (left_out feature q y z) = left_out feature q y (with_token (kind.OpenParenthesis at p) z)
 
 -- an opening bracket that is too deep for a list or a record
-spent : (k i : ℕ) (a : Initial) (p : Position) (ks m after : List Terminal) (t : Terminal) (place : Place) (end : Place) (e : ParseError) → FitsRoom (room.Spent place) (suc k) i ks → Within (suc k) i a ks m → m ≡ t ∷ after → TellsList ks m → ((d l : ℕ) (ls : List Terminal) → Tail k d l a (t ∷ ls) → (n : ℕ) × (suc (suc n) + k ≡ suc d)) → e ≡ refused_at 61 0 place [] → Refuses (Within k) (suc i) end (kind.OpenParenthesis at p ∷ ks) e
+spent : (k i : ℕ) (a : Initial) (p : Position) (ks m after : List Terminal) (t : Terminal) (place : Place) (end : Place) (e : ParseError) → FitsRoom (room.Spent place) (suc k) i ks → Within (suc k) i a ks m → m ≡ t ∷ after → TellsList ks m → ((d l : ℕ) (ls : List Terminal) → Tail k d l a (t ∷ ls) → (n : ℕ) × (suc (suc n) + k ≡ suc d)) → e ≡ refused_at 61 0 place [] → RefusesPart (Within k) (suc i) end (kind.OpenParenthesis at p ∷ ks) e
 spent k i a p ks m after t place end e (h, tells) f is w deep x =
     let v = tells m w in
     nested (v.0 ∷ v.1) m (x ∙ ap (λ (z : Place). refused_at 61 0 z []) v.2) (decides_in_list v.3) (dead_after_first k i (suc i) a p ks m m f (subst (λ z. Dead (After k a ks m (suc i)) z z) (sym is) (dead_token (After k a ks m (suc i)) t after (λ b ls r y. let n = deep (suc i) y.0 ls y.2 in absurd (omega (arith, h, n.1))))))
 
-pub list_too_deep : (k i : ℕ) (a : Initial) (p u : Position) (ks m after : List Terminal) (place : Place) (room' : Room) (end : Place) (e : ParseError) → FitsRoom room' (suc k) i ks → Within (suc k) i a ks m → m ≡ kind.Comma at u ∷ after → room' ≡ room.Spent place → e ≡ refused_at 61 0 place [] → Refuses (Within k) (suc i) end (kind.OpenParenthesis at p ∷ ks) e
+pub list_too_deep : (k i : ℕ) (a : Initial) (p u : Position) (ks m after : List Terminal) (place : Place) (room' : Room) (end : Place) (e : ParseError) → FitsRoom room' (suc k) i ks → Within (suc k) i a ks m → m ≡ kind.Comma at u ∷ after → room' ≡ room.Spent place → e ≡ refused_at 61 0 place [] → RefusesPart (Within k) (suc i) end (kind.OpenParenthesis at p ∷ ks) e
 list_too_deep k i a p u ks m after place room' end e h f is same x = spent k i a p ks m after (kind.Comma at u) place end e (subst (λ z. FitsRoom z (suc k) i ks) same h) f is (subst (λ z. TellsList ks z) (sym is) (tells_of_value [] decides_there (subst (λ z. IsInitial f.0 a ks z) is f.2.0))) (λ d l ls t. (l, (after_comma k d l a u ls t).0)) x
 
 -- ---- records
@@ -213,8 +209,8 @@ list_too_deep k i a p u ks m after place room' end e h f is same x = spent k i a
 after_colon : (k d l : ℕ) (a : Initial) (u : Position) (ls : List Terminal) → Tail k d l a (kind.Colon at u ∷ ls) → (x : ℕ) × (n : Name) × (name_alone a ≡ Some n) × (suc (suc x) + k ≡ suc d) × Some_ (RecordBehind n u) x ls
 after_colon k d l a u ls (tail_record {l = x} {n = n} {fs = fs} {r = r} h f) = (x, n, refl, h, (fs, r, f))
 
-pub record_refuses : (k i l : ℕ) (a : Initial) (n : Name) (p u : Position) (ks m after : List Terminal) (end : Place) (e : ParseError) → l + suc k ≡ suc i → Within (suc k) i a ks m → m ≡ kind.Colon at u ∷ after → name_alone a ≡ Some n → Refuses (RecordBehind n u) l end after e → Refuses (Within k) (suc i) end (kind.OpenParenthesis at p ∷ ks) e
-record_refuses k i l a n p u ks m after end e h f is same g = after_first k i a p ks m end e f (subst (λ z. Refuses (After k a ks m) (suc i) end z e) (sym is) (under (RecordBehind n u) (After k a ks m) l (suc i) end (kind.Colon at u) after e into g))
+pub record_refuses : (k i l : ℕ) (a : Initial) (n : Name) (p u : Position) (ks m after : List Terminal) (end : Place) (e : ParseError) → l + suc k ≡ suc i → Within (suc k) i a ks m → m ≡ kind.Colon at u ∷ after → name_alone a ≡ Some n → RefusesPart (RecordBehind n u) l end after e → RefusesPart (Within k) (suc i) end (kind.OpenParenthesis at p ∷ ks) e
+record_refuses k i l a n p u ks m after end e h f is same g = after_first k i a p ks m end e f (subst (λ z. RefusesPart (After k a ks m) (suc i) end z e) (sym is) (under (RecordBehind n u) (After k a ks m) l (suc i) end (kind.Colon at u) after e into g))
   where
     into : (d' : ℕ) (b : Unit {0}) (ls r : List Terminal) → After k a ks m d' b (kind.Colon at u ∷ ls) r → (x : ℕ) × (d' ≡ suc i → x ≡ l) × Some_ (RecordBehind n u) x ls
     into d' b ls r (x, s, t) = let v = after_colon k d' x a u ls t in (v.0, λ e. omega (arith, h, v.3, e), subst (λ z. Some_ (RecordBehind z u) v.0 ls) (some_same (sym v.2 ∙ same)) v.4)
@@ -222,7 +218,7 @@ record_refuses k i l a n p u ks m after end e h f is same g = after_first k i a 
 none_some : {A : Type 0} {n : Name} → None ≡ Some n → A
 none_some h = absurd cc
 
-pub no_record : (k i : ℕ) (a : Initial) (p u : Position) (ks m after : List Terminal) (end : Place) (e : ParseError) → Within (suc k) i a ks m → m ≡ kind.Colon at u ∷ after → name_alone a ≡ None → e ≡ refused_at 9 0 end m → Refuses (Within k) (suc i) end (kind.OpenParenthesis at p ∷ ks) e
+pub no_record : (k i : ℕ) (a : Initial) (p u : Position) (ks m after : List Terminal) (end : Place) (e : ParseError) → Within (suc k) i a ks m → m ≡ kind.Colon at u ∷ after → name_alone a ≡ None → e ≡ refused_at 9 0 end m → RefusesPart (Within k) (suc i) end (kind.OpenParenthesis at p ∷ ks) e
 no_record k i a p u ks m after end e f is none x = after_first k i a p ks m end e f (syntax m x (λ d. subst (λ z. Dead (After k a ks m d) z z) (sym is) (dead_token (After k a ks m d) (kind.Colon at u) after (λ b ls r y. let v = after_colon k d y.0 a u ls y.2 in none_some (sym none ∙ v.2)))))
 
 of_designator : {d : ℕ} {n : Name} {ks r : List Terminal} → IsDesignator d (designator (named n) no_selectors) ks r → ks ≡ kind.Identifier n.text at n.position ∷ r
@@ -232,7 +228,7 @@ name_front : (a : Initial) (n : Name) (l : ℕ) (ks m : List Terminal) → name_
 name_front (value (designated (designator (named n') no_selectors))) n l ks m h (is_value f, st) = subst (λ (z : Name). ks ≡ kind.Identifier z.text at z.position ∷ m) (some_same h) (of_designator (by_expr refl f))
 name_front other n l ks m h f = absurd cc
 
-pub record_too_deep : (k i : ℕ) (a : Initial) (n : Name) (p u : Position) (ks m after : List Terminal) (place : Place) (room' : Room) (end : Place) (e : ParseError) → FitsRoom room' (suc k) i ks → Within (suc k) i a ks m → m ≡ kind.Colon at u ∷ after → name_alone a ≡ Some n → room' ≡ room.Spent place → e ≡ refused_at 61 0 place [] → Refuses (Within k) (suc i) end (kind.OpenParenthesis at p ∷ ks) e
+pub record_too_deep : (k i : ℕ) (a : Initial) (n : Name) (p u : Position) (ks m after : List Terminal) (place : Place) (room' : Room) (end : Place) (e : ParseError) → FitsRoom room' (suc k) i ks → Within (suc k) i a ks m → m ≡ kind.Colon at u ∷ after → name_alone a ≡ Some n → room' ≡ room.Spent place → e ≡ refused_at 61 0 place [] → RefusesPart (Within k) (suc i) end (kind.OpenParenthesis at p ∷ ks) e
 record_too_deep k i a n p u ks m after place room' end e h f is alone same x = spent k i a p ks m after (kind.Colon at u) place end e (subst (λ z. FitsRoom z (suc k) i ks) same h) f is (subst (λ z. TellsList z m) (sym (name_front a n f.0 ks m alone f.2)) (subst (λ z. TellsList (kind.Identifier n.text at n.position ∷ z) z) (sym is) tells_of_name)) (λ d l ls t. let v = after_colon k d l a u ls t in (v.0, v.3)) x
 
 -- ---- no comma, no colon and no closing bracket
@@ -243,8 +239,8 @@ only_comma k d l a m (tail_one {q = q} {m = r} single st) close colon = absurd (
 only_comma k d l a m (tail_list {q = q} {m = r} h f) close colon = (q, r, refl)
 only_comma k d l a m (tail_record {q = q} {m = r} h f) close colon = absurd (colon q r refl)
 
-pub no_comma_refuses : (k i : ℕ) (a : Initial) (p : Position) (ks m : List Terminal) (end : Place) (e : ParseError) → Within (suc k) i a ks m → NoMark mark.CloseParenthesis m → NoMark mark.Colon m → Refuses (Marked mark.Comma) (suc i) end m e → Refuses (Within k) (suc i) end (kind.OpenParenthesis at p ∷ ks) e
-no_comma_refuses k i a p ks m end e f close colon h = after_first k i a p ks m end e f (refuses_map (Marked mark.Comma) (After k a ks m) (suc i) end m e (λ d' b ls r s x. only_comma k d' x.0 a ls x.2 (no_mark_same mark.CloseParenthesis m ls s close) (no_mark_same mark.Colon m ls s colon)) h)
+pub no_comma_refuses : (k i : ℕ) (a : Initial) (p : Position) (ks m : List Terminal) (end : Place) (e : ParseError) → Within (suc k) i a ks m → NoMark mark.CloseParenthesis m → NoMark mark.Colon m → Refuses (Marked mark.Comma) (suc i) end m e → RefusesPart (Within k) (suc i) end (kind.OpenParenthesis at p ∷ ks) e
+no_comma_refuses k i a p ks m end e f close colon h = after_first k i a p ks m end e f (refuses_map (Marked mark.Comma) (After k a ks m) (suc i) end m e (λ d' b ls r s x. only_comma k d' x.0 a ls x.2 (no_mark_same mark.CloseParenthesis m ls s close) (no_mark_same mark.Colon m ls s colon)) (refuses_part h))
 
 -- ---- a list of one
 
@@ -252,8 +248,8 @@ after_close : (k d l : ℕ) (a : Initial) (u : Position) (ls : List Terminal) �
 after_close k d l a u ls single tail_expression = absurd single
 after_close k d l a u ls single (tail_one n st) = st
 
-pub one_refuses : (k d i : ℕ) (a : Initial) (p u : Position) (ks after : List Terminal) (end : Place) (e : ParseError) → d ≡ suc i → Within (suc k) i a ks (kind.CloseParenthesis at u ∷ after) → IsNoExpression (initials a no_initials) → ((d' : ℕ) → Refuses NoMoreExpression d' end after e) → Refuses (Within k) d end (kind.OpenParenthesis at p ∷ ks) e
-one_refuses k d i a p u ks after end e z f single h = subst (λ (y : ℕ). Refuses (Within k) y end (kind.OpenParenthesis at p ∷ ks) e) (sym z) (after_first k i a p ks (kind.CloseParenthesis at u ∷ after) end e f (refuses_behind NoMoreExpression (After k a ks (kind.CloseParenthesis at u ∷ after)) (suc i) end (kind.CloseParenthesis at u) after e (λ d' b ls r x. ([], ls, (refl, after_close k d' x.0 a u ls single x.2))) (h (suc i))))
+pub one_refuses : (k d i : ℕ) (a : Initial) (p u : Position) (ks after : List Terminal) (end : Place) (e : ParseError) → d ≡ suc i → Within (suc k) i a ks (kind.CloseParenthesis at u ∷ after) → IsNoExpression (initials a no_initials) → ((d' : ℕ) → Refuses NoMoreExpression d' end after e) → RefusesPart (Within k) d end (kind.OpenParenthesis at p ∷ ks) e
+one_refuses k d i a p u ks after end e z f single h = subst (λ (y : ℕ). RefusesPart (Within k) y end (kind.OpenParenthesis at p ∷ ks) e) (sym z) (after_first k i a p ks (kind.CloseParenthesis at u ∷ after) end e f (refuses_behind NoMoreExpression (After k a ks (kind.CloseParenthesis at u ∷ after)) (suc i) end (kind.CloseParenthesis at u) after e (λ d' b ls r x. ([], ls, (refl, after_close k d' x.0 a u ls single x.2))) (refuses_part (h (suc i)))))
 
 has_depth : (k i l : ℕ) (a : Initial) → IsNoExpression (initials a no_initials) → HasDepth (suc k) i l a → suc (suc l) + k ≡ suc (suc i)
 has_depth k i l (value e) single h = absurd single
@@ -275,9 +271,6 @@ overlap [] after seen q e = overlap_past seen refl
 overlap (t ∷ whole) after [] q e = overlap_in t whole refl (subst (λ z. SameHead z (t ∷ whole)) e refl)
 overlap (t ∷ whole) after (u ∷ seen) q e = also (overlap whole after seen q (ap behind e))
   where
-    head_of : {x y : Terminal} {xs ys : List Terminal} → x ∷ xs ≡ y ∷ ys → x ≡ y
-    head_of h = cc
-
     also : Overlap whole seen q → Overlap (t ∷ whole) (u ∷ seen) q
     also (overlap_past more h) = overlap_past more (subst (λ z. z ∷ seen ≡ t ∷ (whole ++ more)) (head_of e) (ap (λ z. t ∷ z) h))
     also (overlap_in v more h s) = overlap_in v more (subst (λ z. t ∷ whole ≡ z ∷ (seen ++ (v ∷ more))) (head_of e) (ap (λ z. t ∷ z) h)) s
@@ -315,10 +308,10 @@ dead_expression k d i x p q ks after z f (seen, e, never) dead = (seen, e, λ ls
         let there : kind.OpenParenthesis at p ∷ w.0 (kind.CloseParenthesis at q ∷ []) ≡ seen ++ (t ∷ more) = c.1 [] ∙ append-nil c.0 ∙ h in
         inside_seen (SomeValue (suc i)) (kind.OpenParenthesis at p ∷ ks) z seen e dead (t ∷ more) _ [] same (subst (λ y. IsChain Relational (suc i) (designated (designator (bracketed p x) no_selectors)) y []) there whole, (tt, tt))
 
-expression_refuses : (k i : ℕ) (x : Expression) (p q : Position) (ks after : List Terminal) (end : Place) (e : ParseError) → Within (suc k) i (value x) ks (kind.CloseParenthesis at q ∷ after) → Refuses SomeValue (suc i) end (kind.OpenParenthesis at p ∷ ks) e → Refuses (Within k) (suc i) end (kind.OpenParenthesis at p ∷ ks) e
+expression_refuses : (k i : ℕ) (x : Expression) (p q : Position) (ks after : List Terminal) (end : Place) (e : ParseError) → Within (suc k) i (value x) ks (kind.CloseParenthesis at q ∷ after) → Refuses SomeValue (suc i) end (kind.OpenParenthesis at p ∷ ks) e → RefusesPart (Within k) (suc i) end (kind.OpenParenthesis at p ∷ ks) e
 expression_refuses k i x p q ks after end e f (out_of_memory y) = out_of_memory y
 expression_refuses k i x p q ks after end e f (syntax z y never) = syntax z y (λ d. dead_expression k d i x p q ks after z (value_inside (suc k) i x ks _ f).0 (never d) (never (suc i)))
-expression_refuses k i x p q ks after end e f (nested z m y w never) = nested z m y w (dead_expression k (suc i) i x p q ks after m (value_inside (suc k) i x ks _ f).0 never never)
+expression_refuses k i x p q ks after end e f (nested z m y w never) = nested z m y (decides_in_code w) (dead_expression k (suc i) i x p q ks after m (value_inside (suc k) i x ks _ f).0 never never)
 expression_refuses k i x p q ks after end e f (left_out feature z y g) = left_out feature z y g
 
 pub expression_whole : (k d : ℕ) (x : Expression) (ks r : List Terminal) → SomeValue d x ks r → Within k d (value x) ks r
@@ -327,8 +320,8 @@ expression_whole k d x ks r f = (suc d, refl, (is_value f.0, f.1))
 pub root_whole : (k d i : ℕ) (a : Initial) (x : Expression) (p q : Position) (ks after : List Terminal) → d ≡ suc i → a ≡ value x → Within (suc k) i a ks (kind.CloseParenthesis at q ∷ after) → IsRoot d (bracketed p x) (kind.OpenParenthesis at p ∷ ks) after
 root_whole k d i a x p q ks after z same f = subst (λ (y : ℕ). IsRoot y (bracketed p x) (kind.OpenParenthesis at p ∷ ks) after) (sym z) (is_bracketed (value_inside (suc k) i x ks _ (subst (λ y. Within (suc k) i y ks (kind.CloseParenthesis at q ∷ after)) same f)).0)
 
-pub root_refuses : (k d i : ℕ) (a : Initial) (x : Expression) (p q : Position) (ks after : List Terminal) (end : Place) (e : ParseError) → d ≡ suc i → a ≡ value x → Within (suc k) i a ks (kind.CloseParenthesis at q ∷ after) → Refuses SomeValue d end (kind.OpenParenthesis at p ∷ ks) e → Refuses (Within k) d end (kind.OpenParenthesis at p ∷ ks) e
-root_refuses k d i a x p q ks after end e z same f h = subst (λ (y : ℕ). Refuses (Within k) y end (kind.OpenParenthesis at p ∷ ks) e) (sym z) (expression_refuses k i x p q ks after end e (subst (λ y. Within (suc k) i y ks (kind.CloseParenthesis at q ∷ after)) same f) (subst (λ (y : ℕ). Refuses SomeValue y end (kind.OpenParenthesis at p ∷ ks) e) z h))
+pub root_refuses : (k d i : ℕ) (a : Initial) (x : Expression) (p q : Position) (ks after : List Terminal) (end : Place) (e : ParseError) → d ≡ suc i → a ≡ value x → Within (suc k) i a ks (kind.CloseParenthesis at q ∷ after) → Refuses SomeValue d end (kind.OpenParenthesis at p ∷ ks) e → RefusesPart (Within k) d end (kind.OpenParenthesis at p ∷ ks) e
+root_refuses k d i a x p q ks after end e z same f h = subst (λ (y : ℕ). RefusesPart (Within k) y end (kind.OpenParenthesis at p ∷ ks) e) (sym z) (expression_refuses k i x p q ks after end e (subst (λ y. Within (suc k) i y ks (kind.CloseParenthesis at q ∷ after)) same f) (subst (λ (y : ℕ). Refuses SomeValue y end (kind.OpenParenthesis at p ∷ ks) e) z h))
 
 -- ---- lists and records
 
@@ -356,17 +349,17 @@ no_bracket k ks none d (value e) ls r s f = (e, r, value_inside k d e ls r f)
 no_bracket k ks none d (list p is) ls r s (l, h, (is_list f single, st)) = absurd (no_mark_same mark.OpenParenthesis ks ls s none p _ refl)
 no_bracket k ks none d (record_ p fs) ls r s (l, h, (is_record_value f, st)) = absurd (no_mark_same mark.OpenParenthesis ks ls s none p _ refl)
 
-pub value_refuses : (k d : ℕ) (end : Place) (ks : List Terminal) (e : ParseError) → NoMark mark.OpenParenthesis ks → Refuses SomeValue d end ks e → Refuses (Within k) d end ks e
-value_refuses k d end ks e none h = refuses_map SomeValue (Within k) d end ks e (no_bracket k ks none) h
+pub value_refuses : (k d : ℕ) (end : Place) (ks : List Terminal) (e : ParseError) → NoMark mark.OpenParenthesis ks → Refuses SomeValue d end ks e → RefusesPart (Within k) d end ks e
+value_refuses k d end ks e none h = refuses_map SomeValue (Within k) d end ks e (no_bracket k ks none) (refuses_part h)
 
-pub bracket_too_deep : (k d : ℕ) (end : Place) (p : Position) (ks m : List Terminal) (e : ParseError) → ks ≡ kind.OpenParenthesis at p ∷ m → d ≡ 0 → e ≡ refused_at 61 0 end ks → Refuses (Within k) d end ks e
-bracket_too_deep k d end p ks m e is z x = nested ks ks x decides_there (subst (λ y. Dead (Within k d) y y) (sym is) (dead_token (Within k d) (kind.OpenParenthesis at p) m (λ b ls r f. let o = opening k d b p ls r f in absurd (omega (arith, z, o.is_inner)))))
+pub bracket_too_deep : (k d : ℕ) (end : Place) (p : Position) (ks m : List Terminal) (e : ParseError) → ks ≡ kind.OpenParenthesis at p ∷ m → d ≡ 0 → e ≡ refused_at 61 0 end ks → RefusesPart (Within k) d end ks e
+bracket_too_deep k d end p ks m e is z x = nested ks ks x (decides_in_code decides_there) (subst (λ y. Dead (Within k d) y y) (sym is) (dead_token (Within k d) (kind.OpenParenthesis at p) m (λ b ls r f. let o = opening k d b p ls r f in absurd (omega (arith, z, o.is_inner)))))
 
-pub inside_refuses : (k d i : ℕ) (end : Place) (p : Position) (ks m : List Terminal) (e : ParseError) → ks ≡ kind.OpenParenthesis at p ∷ m → d ≡ suc i → Refuses (Within (suc k)) i end m e → Refuses (Within k) d end ks e
-inside_refuses k d i end p ks m e is z h = subst (λ (y : ℕ). Refuses (Within k) y end ks e) (sym z) (subst (λ y. Refuses (Within k) (suc i) end y e) (sym is) (refuses_inside (Within (suc k)) (Within k) i end (kind.OpenParenthesis at p) m e (λ d' b ls r f. let o = opening k d' b p ls r f in (o.inner, o.is_inner, (o.first, o.rest, o.fits))) h))
+pub inside_refuses : (k d i : ℕ) (end : Place) (p : Position) (ks m : List Terminal) (e : ParseError) → ks ≡ kind.OpenParenthesis at p ∷ m → d ≡ suc i → RefusesPart (Within (suc k)) i end m e → RefusesPart (Within k) d end ks e
+inside_refuses k d i end p ks m e is z h = subst (λ (y : ℕ). RefusesPart (Within k) y end ks e) (sym z) (subst (λ y. RefusesPart (Within k) (suc i) end y e) (sym is) (refuses_inside (Within (suc k)) (Within k) i end (kind.OpenParenthesis at p) m e (λ d' b ls r f. let o = opening k d' b p ls r f in (o.inner, o.is_inner, (o.first, o.rest, o.fits))) h))
 
-pub bracket_refuses : (k d i : ℕ) (end : Place) (p : Position) (ks m : List Terminal) (e : ParseError) → ks ≡ kind.OpenParenthesis at p ∷ m → d ≡ suc i → Refuses (Within k) (suc i) end (kind.OpenParenthesis at p ∷ m) e → Refuses (Within k) d end ks e
-bracket_refuses k d i end p ks m e is z h = subst (λ (y : ℕ). Refuses (Within k) y end ks e) (sym z) (subst (λ y. Refuses (Within k) (suc i) end y e) (sym is) h)
+pub bracket_refuses : (k d i : ℕ) (end : Place) (p : Position) (ks m : List Terminal) (e : ParseError) → ks ≡ kind.OpenParenthesis at p ∷ m → d ≡ suc i → RefusesPart (Within k) (suc i) end (kind.OpenParenthesis at p ∷ m) e → RefusesPart (Within k) d end ks e
+bracket_refuses k d i end p ks m e is z h = subst (λ (y : ℕ). RefusesPart (Within k) y end ks e) (sym z) (subst (λ y. RefusesPart (Within k) (suc i) end y e) (sym is) h)
 
 pub bracket_whole : (k d i : ℕ) (b : Initial) (p : Position) (ks m r : List Terminal) → ks ≡ kind.OpenParenthesis at p ∷ m → d ≡ suc i → Within k (suc i) b (kind.OpenParenthesis at p ∷ m) r → Within k d b ks r
 bracket_whole k d i b p ks m r is z f = subst (λ (y : ℕ). Within k y b ks r) (sym z) (subst (λ y. Within k (suc i) b y r) (sym is) f)
@@ -378,14 +371,14 @@ initial_begins (is_value f) = chain_begins f
 initial_begins (is_list f single) = refl
 initial_begins (is_record_value f) = refl
 
-pub initial_none : (d : ℕ) (end : Place) (ks : List Terminal) (e : ParseError) → IsNot begins_expression ks → e ≡ refused_at 9 0 end ks → Refuses SomeInitial d end ks e
+pub initial_none : (d : ℕ) (end : Place) (ks : List Terminal) (e : ParseError) → IsNot begins_expression ks → e ≡ refused_at 9 0 end ks → RefusesPart SomeInitial d end ks e
 initial_none d end ks e h x = syntax ks x (λ d'. dead_here (SomeInitial d') ks (λ a ls r s f. both begins_expression ls (initial_begins f.0) (same_not begins_expression ks ls s h)))
 
 no_initial : {i : Initial} {ks r : List Terminal} → IsInitial 0 i ks r → ⊥
 no_initial f = elim f [ ]
 
-pub initial_too_deep : (d : ℕ) (end : Place) (ks : List Terminal) (e : ParseError) → d ≡ 0 → e ≡ refused_at 61 0 end ks → Refuses SomeInitial d end ks e
-initial_too_deep d end ks e z x = subst (λ (w : ℕ). Refuses SomeInitial w end ks e) (sym z) (nested ks ks x decides_there (dead_here (SomeInitial 0) ks (λ a ls r s f. no_initial f.0)))
+pub initial_too_deep : (d : ℕ) (end : Place) (ks : List Terminal) (e : ParseError) → d ≡ 0 → e ≡ refused_at 61 0 end ks → RefusesPart SomeInitial d end ks e
+initial_too_deep d end ks e z x = subst (λ (w : ℕ). RefusesPart SomeInitial w end ks e) (sym z) (nested ks ks x (decides_in_code decides_there) (dead_here (SomeInitial 0) ks (λ a ls r s f. no_initial f.0)))
 
 pub value_too_deep : (d : ℕ) (end : Place) (ks : List Terminal) (e : ParseError) → d ≡ 0 → e ≡ refused_at 61 0 end ks → Refuses ValueOf d end ks e
 value_too_deep d end ks e z x = subst (λ (w : ℕ). Refuses ValueOf w end ks e) (sym z) (nested ks ks x decides_there (dead_here (ValueOf 0) ks (λ a ls r s f. no_initial f.0)))
@@ -404,8 +397,8 @@ into_brackets d (value e) ls r (is_value {d = i} f, st) = (i, refl, (value e, r,
 into_brackets d (list p is) ls r (is_list {d = i} f single, st) = (suc i, refl, (list p is, r, (suc (suc i), omega arith, (is_list f single, st))))
 into_brackets d (record_ p fs) ls r (is_record_value {d = i} f, st) = (suc i, refl, (record_ p fs, r, (suc (suc i), omega arith, (is_record_value f, st))))
 
-pub initial_refuses : (d i : ℕ) (end : Place) (ks : List Terminal) (e : ParseError) → d ≡ suc i → Refuses (Within 0) i end ks e → Refuses SomeInitial d end ks e
-initial_refuses d i end ks e z h = subst (λ (w : ℕ). Refuses SomeInitial w end ks e) (sym z) (refuses_deeper (Within 0) SomeInitial i end ks e (λ d' b ls r s f. into_brackets d' b ls r f) h)
+pub initial_refuses : (d i : ℕ) (end : Place) (ks : List Terminal) (e : ParseError) → d ≡ suc i → RefusesPart (Within 0) i end ks e → RefusesPart SomeInitial d end ks e
+initial_refuses d i end ks e z h = subst (λ (w : ℕ). RefusesPart SomeInitial w end ks e) (sym z) (refuses_deeper (Within 0) SomeInitial i end ks e (λ d' b ls r s f. into_brackets d' b ls r f) h)
 
 pub initial_whole : (d i : ℕ) (b : Initial) (ks r : List Terminal) → d ≡ suc i → Within 0 i b ks r → SomeInitial d b ks r
 initial_whole d i (value e) ks r z (l, h, f) = subst (λ (w : ℕ). SomeInitial w (value e) ks r) (h ∙ sym z) f
@@ -467,13 +460,6 @@ selectors_refuse d end root ks m e f h = term_refuses d end ks e (chain_operand 
 
 pub root_operand : (d : ℕ) (root : Root) (ss : Selectors) (ks m r : List Terminal) → IsRoot d root ks m → SomeSelectors d ss m r → Operand Multiplicative d (designated (designator root ss)) ks r
 root_operand d root ss ks m r f g = multiplicative_operand d _ ks r (factor_designated d _ ks r (designator_whole d root ss ks m r f g))
-
-abbrev first_position : Position → List Terminal → Position
-first_position p [] = p
-first_position p (t ∷ ts) = t.position
-
-pub same_position : {k k' : TokenKind} {p q : Position} {ks m m' : List Terminal} → ks ≡ k at p ∷ m → ks ≡ k' at q ∷ m' → p ≡ q
-same_position {p = p} e e' = ap (first_position p) (sym e ∙ e')
 
 pub alone : (n : Name) (xs : List Selector) → length xs ≡ 0 → name_alone (value (designated (designator (named n) (selectors_of xs)))) ≡ Some n
 alone n [] h = refl

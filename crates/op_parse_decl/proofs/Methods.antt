@@ -1,9 +1,11 @@
 -- Refusals of methods, and the directives behind a heading.
 use Rattle.std.proofs.Common.{◌≡◌, ℕ, List, [], ◌∷◌, ◌++◌, append_assoc, Some, refl, sym, ap, ◌∙◌, subst}
+use Rattle.std.proofs.lemmas.List.{append-nil}
 use Rattle.op_base.specs.declared.place.Place.{Place}
 use Rattle.op_parse_code.proofs.Refusing.{Some_, Seq, refuses_map, refuses_first, refuses_after}
 use Rattle.op_parse_code.specs.Form.{Form, is_inline}
-use Rattle.op_parse_code.specs.Refusal.{Refuses, left_out, refused_at}
+use Rattle.op_parse_code.specs.Refusal.{left_out, refused_at}
+use Rattle.op_parse_decl.specs.Refusal.{RefusesPart}
 use Rattle.op_parse_code.specs.declared.error.ParseError.{ParseError}
 use Rattle.op_parse_decl.specs.HeadingParts.{known_heading}
 use Rattle.op_parse_decl.specs.Headings.{SomeHeading, SomeDirectives, SomeMethod, IsDirective}
@@ -27,25 +29,17 @@ pub record Directing (all : List Terminal) (ws : List Directive) (rest : List Te
 pub directing_none : (all : List Terminal) → Directing all [] all
 directing_none all = record { completes = λ more r x. x; seen = []; reaches = refl }
 
-push_back : (ws : List Directive) (w : Directive) (more : List Directive) → (ws ++ (w ∷ [])) ++ more ≡ ws ++ (w ∷ more)
-push_back [] w more = refl
-push_back (v ∷ ws) w more = ap (λ z. v ∷ z) (push_back ws w more)
-
 pub directing_more : (all rest m : List Terminal) (ws : List Directive) (w : Directive) → Directing all ws rest → IsDirective w rest m → Directing all (ws ++ (w ∷ [])) m
 directing_more all rest m ws w so_far (are_directives {word = word} {p = p} {q = q} e are_no_directives) = record {
-  completes = λ more r f. subst (λ z. AreDirectives z all r) (sym (push_back ws w more)) (so_far.completes (w ∷ more) r (are_directives e f));
+  completes = λ more r f. subst (λ z. AreDirectives z all r) (sym (append_assoc ws (w ∷ []) more)) (so_far.completes (w ∷ more) r (are_directives e f));
   seen = so_far.seen ++ (kind.Identifier word at p ∷ kind.Semicolon at q ∷ []);
   reaches = so_far.reaches ∙ sym (append_assoc so_far.seen (kind.Identifier word at p ∷ kind.Semicolon at q ∷ []) m);
 }
 
-none_more : (ws : List Directive) → ws ++ [] ≡ ws
-none_more [] = refl
-none_more (w ∷ ws) = ap (λ z. w ∷ z) (none_more ws)
-
 pub directing_ends : (d : ℕ) (all rest : List Terminal) (ws : List Directive) → Directing all ws rest → NoDirective rest → SomeDirectives d ws all rest
-directing_ends d all rest ws so_far none = (subst (λ z. AreDirectives z all rest) (none_more ws) (so_far.completes [] rest are_no_directives), none)
+directing_ends d all rest ws so_far none = (subst (λ z. AreDirectives z all rest) (append-nil ws) (so_far.completes [] rest are_no_directives), none)
 
-pub directing_inline : (d : ℕ) (end : Place) (all rest : List Terminal) (ws : List Directive) (p : Position) (r : List Terminal) (e : ParseError) → Directing all ws rest → rest ≡ kind.Inline at p ∷ r → e ≡ refused_at 13 17 end rest → Refuses SomeDirectives d end all e
+pub directing_inline : (d : ℕ) (end : Place) (all rest : List Terminal) (ws : List Directive) (p : Position) (r : List Terminal) (e : ParseError) → Directing all ws rest → rest ≡ kind.Inline at p ∷ r → e ≡ refused_at 13 17 end rest → RefusesPart SomeDirectives d end all e
 directing_inline d end all rest ws p r e so_far is x = left_out 17 rest x (so_far.seen, rest, so_far.reaches, subst (λ z. Form 17 z z) (sym is) is_inline)
 
 -- ---- a method
@@ -53,10 +47,10 @@ directing_inline d end all rest ws p r e so_far is x = left_out 17 rest x (so_fa
 into_method : (d : ℕ) (a : Method) (ls r : List Terminal) → SomeMethod d a ls r → Some_ (Seq SomeHeading SomeDirectives) d ls
 into_method d a ls r (is_method {h = h} {ws = ws} {p = p} {m = m} f g, none) = ((h, ws), r, (m, (p, f), (g, none)))
 
-pub method_heading : (d : ℕ) (end : Place) (ks : List Terminal) (e : ParseError) → Refuses SomeHeading d end ks e → Refuses SomeMethod d end ks e
+pub method_heading : (d : ℕ) (end : Place) (ks : List Terminal) (e : ParseError) → RefusesPart SomeHeading d end ks e → RefusesPart SomeMethod d end ks e
 method_heading d end ks e h = refuses_map (Seq SomeHeading SomeDirectives) SomeMethod d end ks e (λ d' b ls r s x. into_method d' b ls r x) (refuses_first SomeHeading SomeDirectives d end ks e h)
 
-pub method_directives : (d : ℕ) (end : Place) (h : Heading) (ks m : List Terminal) (e : ParseError) → SomeHeading d h ks m → Refuses SomeDirectives d end m e → Refuses SomeMethod d end ks e
+pub method_directives : (d : ℕ) (end : Place) (h : Heading) (ks m : List Terminal) (e : ParseError) → SomeHeading d h ks m → RefusesPart SomeDirectives d end m e → RefusesPart SomeMethod d end ks e
 method_directives d end h ks m e f g = refuses_map (Seq SomeHeading SomeDirectives) SomeMethod d end ks e (λ d' b ls r s x. into_method d' b ls r x) (refuses_after SomeHeading SomeDirectives d end h ks m e known_heading f g)
 
 pub method_whole : (d : ℕ) (h : Heading) (ws : List Directive) (ks m r : List Terminal) → SomeHeading d h ks m → SomeDirectives d ws m r → SomeMethod d (record { heading = h; directives = ws }) ks r

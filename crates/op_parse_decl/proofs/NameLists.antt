@@ -1,14 +1,14 @@
 -- Refusals of names and of lists of names.
-use Rattle.std.proofs.Common.{◌≡◌, ℕ, suc, List, [], ◌∷◌, ◌++◌, Option, Some, None, refl, sym, ap, ◌∙◌, subst}
+use Rattle.std.proofs.Common.{◌≡◌, ℕ, suc, List, [], ◌∷◌, ◌++◌, Option, Some, None, refl, sym, ap, subst, append_assoc}
 use Rattle.op_base.specs.declared.place.Place.{Place}
-use Rattle.op_parse_code.proofs.ExpressionKnown.{known_mark}
-use Rattle.op_parse_code.proofs.Lists.{Open, SplitsOpen, open_item, open_more}
+use Rattle.op_parse_code.proofs.Lists.{SplitsOpen, open_item, open_more}
 use Rattle.op_parse_code.proofs.Refusing.{Some_, Seq, refuses_map, refuses_first, refuses_after, refuses_behind, refuses_inside, dead_here, no_mark_same}
 use Rattle.op_parse_code.proofs.StatementKnown.{known_name}
-use Rattle.op_parse_code.specs.Refusal.{SameHead, Refuses, syntax, nested, decides_there, refused_at}
+use Rattle.op_parse_code.specs.Refusal.{Refuses, syntax, nested, decides_there, refused_at}
 use Rattle.op_parse_code.specs.Whole.{Marked, NoMark, SomeName}
 use Rattle.op_parse_code.specs.declared.error.ParseError.{ParseError}
 use Rattle.op_parse_code.specs.declared.mark.Mark.TheVariants as mark
+use Rattle.op_parse_decl.proofs.Combining.{same_sym}
 use Rattle.op_parse_decl.specs.KnownTypes.{known_names}
 use Rattle.op_parse_decl.specs.Types.{NoDot, SomeBracketedNames, SomeNames, SomeQualified}
 use Rattle.op_scan.specs.declared.token.TokenKind.TheVariants as kind
@@ -37,13 +37,9 @@ naming_none all = record { completes = λ d more r x. x; dies = λ d end e x. x 
 pub naming_item : (d : ℕ) (end : Place) (all rest : List Terminal) (xs : List Name) (e : ParseError) → Naming all xs rest → Refuses SomeName d end rest e → Refuses SomeNames d end all e
 naming_item d end all rest xs e so_far h = so_far.dies d end e (open_item SomeName SomeNames SomeNames mark.Comma d end rest e names_split h)
 
-push_back : (xs : List Name) (x : Name) (more : List Name) → (xs ++ (x ∷ [])) ++ more ≡ xs ++ (x ∷ more)
-push_back [] x more = refl
-push_back (y ∷ xs) x more = ap (λ z. y ∷ z) (push_back xs x more)
-
 pub naming_more : (all rest m : List Terminal) (xs : List Name) (x : Name) (p : Position) (after : List Terminal) → Naming all xs rest → IsName x rest m → m ≡ kind.Comma at p ∷ after → Naming all (xs ++ (x ∷ [])) after
 naming_more all rest m xs x p after so_far f is = record {
-  completes = λ d more r h. subst (λ z. SomeNames d z all r) (sym (push_back xs x more)) (so_far.completes d (x ∷ more) r (are_names (subst (λ z. IsName x rest z) is f) h.0, h.1));
+  completes = λ d more r h. subst (λ z. SomeNames d z all r) (sym (append_assoc xs (x ∷ []) more)) (so_far.completes d (x ∷ more) r (are_names (subst (λ z. IsName x rest z) is f) h.0, h.1));
   dies = λ d end e h. so_far.dies d end e (open_more SomeName SomeNames SomeNames mark.Comma d end x rest m after p e names_split known_name f is h);
 }
 
@@ -114,9 +110,3 @@ qualified_whole d n n' ks m p after r f is g none = (is_qualified (subst (λ z. 
 
 pub dot_stands : (d : ℕ) (end : Place) (p : Position) (ks after : List Terminal) (e : ParseError) → ks ≡ kind.Dot at p ∷ after → e ≡ refused_at 9 0 end ks → Refuses NoDot d end ks e
 dot_stands d end p ks after e is x = syntax ks x (λ d'. dead_here (NoDot d') ks (λ a ls r s f. no_mark_same mark.Dot ls ks (same_sym ks ls s) (subst (λ z. NoMark mark.Dot z) (sym f.0) f.1) p after is))
-  where
-    same_sym : (ks ls : List Terminal) → SameHead ks ls → SameHead ls ks
-    same_sym [] [] s = s
-    same_sym [] (u ∷ ls) s = s
-    same_sym (t ∷ ks) [] s = s
-    same_sym (t ∷ ks) (u ∷ ls) s = sym s

@@ -6,7 +6,8 @@ use Rattle.op_parse_code.proofs.Cuts.{same_not}
 use Rattle.op_parse_code.proofs.Names.{word_kind}
 use Rattle.op_parse_code.proofs.Refusing.{Some_, refuses_map, refuses_behind}
 use Rattle.op_parse_code.specs.Opening.{is_word, spelled}
-use Rattle.op_parse_code.specs.Refusal.{Phrase, SameHead, Refuses}
+use Rattle.op_parse_code.specs.Refusal.{Phrase, SameHead}
+use Rattle.op_parse_decl.specs.Refusal.{RefusesPart}
 use Rattle.op_parse_code.specs.declared.error.ParseError.{ParseError}
 use Rattle.op_parse_code.specs.declared.mark.Mark.TheVariants as mark
 use Rattle.op_parse_decl.proofs.Combining.{first, after}
@@ -41,10 +42,10 @@ into_block : (ks : List Terminal) → IsNot is_forward ks → (d : ℕ) (b : Bod
 into_block ks n d b ls r s (q, is_body {es = es} f (is_begin_end {ss = ss} g)) = (both es (both (both tt (both ss tt)) tt), r, then_ (block_in f refl) (then_ (block_in_parts (is_begin_end g)) stands))
 into_block ks n d b ls r s (q, is_forward_body {word = word} e) = true_false (sym (forward_test word e) ∙ same_not is_forward ks ls s n)
 
-pub body_declarations : {d : ℕ} {end : Place} {ks : List Terminal} {e : ParseError} → IsNot is_forward ks → Refuses (AllOf BlockDeclaration) d end ks e → Refuses BodyBefore d end ks e
+pub body_declarations : {d : ℕ} {end : Place} {ks : List Terminal} {e : ParseError} → IsNot is_forward ks → RefusesPart (AllOf BlockDeclaration) d end ks e → RefusesPart BodyBefore d end ks e
 body_declarations {ks = ks} n h = refuses_map (Then (AllOf BlockDeclaration) BlockBefore) BodyBefore _ _ _ _ (into_block ks n) (first h)
 
-pub body_block : {d : ℕ} {end : Place} (es : Declarations) {ks m : List Terminal} {e : ParseError} → IsNot is_forward ks → AllOf BlockDeclaration d es ks m → Refuses BlockBefore d end m e → Refuses BodyBefore d end ks e
+pub body_block : {d : ℕ} {end : Place} (es : Declarations) {ks m : List Terminal} {e : ParseError} → IsNot is_forward ks → AllOf BlockDeclaration d es ks m → RefusesPart BlockBefore d end m e → RefusesPart BodyBefore d end ks e
 body_block es {ks = ks} n f h = refuses_map (Then (AllOf BlockDeclaration) BlockBefore) BodyBefore _ _ _ _ (into_block ks n) (after {a = es} known_declarations f h)
 
 pub body_whole : {d : ℕ} {es : Declarations} {ss : Statements} {ks m r : List Terminal} → AllOf BlockDeclaration d es ks m → BlockBefore d (both (both tt (both ss tt)) tt) m r → BodyBefore d (body es ss) ks r
@@ -57,8 +58,8 @@ into_forward : (word : List ℕ) (p : Position) (d : ℕ) (b : Body) (ls r : Lis
 into_forward word p d b ls r (q, is_body es (is_begin_end ss)) = true_false (body_no_name es refl)
 into_forward word p d b ls r (q, is_forward_body e) = (tt, r, stands)
 
-pub forward_refused : {d : ℕ} {end : Place} {ks m : List Terminal} {e : ParseError} → BehindForward ks m → Refuses (Stands mark.Semicolon) d end m e → Refuses BodyBefore d end ks e
-forward_refused {d = d} {end = end} {m = m} {e = e} (word, p, w, is) h = subst (λ z. Refuses BodyBefore d end z e) (sym is) (refuses_behind (Stands mark.Semicolon) BodyBefore d end (kind.Identifier word at p) m e (into_forward word p) h)
+pub forward_refused : {d : ℕ} {end : Place} {ks m : List Terminal} {e : ParseError} → BehindForward ks m → RefusesPart (Stands mark.Semicolon) d end m e → RefusesPart BodyBefore d end ks e
+forward_refused {d = d} {end = end} {m = m} {e = e} (word, p, w, is) h = subst (λ z. RefusesPart BodyBefore d end z e) (sym is) (refuses_behind (Stands mark.Semicolon) BodyBefore d end (kind.Identifier word at p) m e (into_forward word p) h)
 
 pub forward_whole : {d : ℕ} {u : Unit {0}} {ks m r : List Terminal} → BehindForward ks m → Stands mark.Semicolon d u m r → BodyBefore d forward ks r
 forward_whole {d = d} {r = r} (word, p, w, is) (stands {p = q}) = subst (λ z. BodyBefore d forward z r) (sym is) (q, is_forward_body w)

@@ -2,7 +2,8 @@
 use Rattle.std.specs.Prelude.{◌≡◌, ℕ, Bool, true, false, List, [], ◌∷◌, ◌++◌, Option, Some, None, map}
 use Rattle.op_base.specs.declared.place.Place.{Place}
 use Rattle.op_parse_code.specs.Form.{Form}
-use Rattle.op_parse_code.specs.Refusal.{Phrase, Refuses}
+use Rattle.op_parse_code.specs.Refusal.{Phrase}
+use Rattle.op_parse_decl.specs.Refusal.{RefusesPart}
 use Rattle.op_parse_code.specs.declared.error.ParseError.{ParseError}
 use Rattle.op_parse_decl.specs.Headings.{SomeHeading}
 use Rattle.op_parse_decl.specs.declared.class.Body.{Body}
@@ -39,7 +40,7 @@ pub data ClassRest : Bool → ℕ → Unit {0} → List Terminal → List Termin
 
 -- no rest of a class stands there, also not behind a method that has no more directives there
 abbrev pub RefusesRest : ℕ → Place → List Terminal → ParseError → Type 0
-RefusesRest d end ks e = (b : Bool) → (b ≡ true → NoDirective ks) → Refuses (ClassRest b) d end ks e
+RefusesRest d end ks e = (b : Bool) → (b ≡ true → NoDirective ks) → RefusesPart (ClassRest b) d end ks e
 
 -- ---- an entry
 

@@ -105,10 +105,6 @@ abbrev is_class_word : TokenKind → Bool
 is_class_word kind.Class = true
 is_class_word other = false
 
-abbrev is_interface_word : TokenKind → Bool
-is_interface_word kind.Interface = true
-is_interface_word other = false
-
 abbrev begins_object : TokenKind → Bool
 begins_object kind.Class = true
 begins_object kind.Interface = true

@@ -1,11 +1,10 @@
 -- Declarations and files that are whole: nothing that follows would belong to them.
-use Rattle.std.specs.Prelude.{◌≡◌, ℕ, suc, Bool, ◌||◌, codes, List, [], ◌∷◌, Option, Some, None, is_some}
+use Rattle.std.specs.Prelude.{◌≡◌, ℕ, Bool, ◌||◌, codes, List, [], ◌∷◌, Option, Some, None, is_some}
 use Rattle.op_parse_code.specs.Opening.{is_identifier, is_word}
 use Rattle.op_parse_code.specs.Refusal.{Phrase}
 use Rattle.op_parse_code.specs.Whole.{NoMark}
 use Rattle.op_parse_code.specs.declared.mark.Mark.TheVariants as mark
-use Rattle.op_parse_decl.specs.Combined.{Behind, Repeats}
-use Rattle.op_parse_decl.specs.Types.{SomeInitial}
+use Rattle.op_parse_decl.specs.Combined.{Repeats}
 use Rattle.op_scan.specs.declared.token.TokenKind.{TokenKind}
 use Rattle.op_scan.specs.declared.token.TokenKind.TheVariants as kind
 use Rattle.op_tree.proofs.DeclarationUnique.{begins_data}
@@ -16,7 +15,6 @@ use Rattle.op_tree.specs.Ends.{IsNot}
 use Rattle.op_tree.specs.File.{File, Program, program, UnitFile, unit}
 use Rattle.op_tree.specs.FileGrammar.{BeginAt, IsFile, IsProgramHeading}
 use Rattle.op_tree.specs.HeadingGrammar.{AreDirectives, IsMethod, directive_of}
-use Rattle.op_tree.specs.Initial.{Initial}
 use Rattle.op_tree.specs.NameGrammar.{AreNames}
 use Rattle.op_tree.specs.Terminal.{Terminal, ◌at◌, IsWord}
 use Rattle.op_tree.specs.declared.file.ProgramHeading.{ProgramHeading}
@@ -43,10 +41,6 @@ abbrev pub WholeMethod : Phrase Method
 WholeMethod d a ks r = IsMethod d a ks r × IsNot is_directive r
 
 -- ---- types
-
--- ["=" init]
-abbrev pub SomeFirstValue : Phrase (Option Initial)
-SomeFirstValue = Behind mark.Equal SomeInitial
 
 -- what a name stands for, and the semicolon behind it
 abbrev pub DefinitionBefore : Phrase TypeDefinition

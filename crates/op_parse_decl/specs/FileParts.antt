@@ -20,7 +20,7 @@ use Rattle.op_tree.specs.Declaration.{Declaration, Declarations, declaration_of,
 use Rattle.op_tree.specs.DeclarationGrammar.{AreDeclarations}
 use Rattle.op_tree.specs.declared.declaration.Declaration.{Declaration as RustDeclaration}
 use Rattle.op_tree.specs.Ends.{EndsDeclarations, IsNot}
-use Rattle.op_tree.specs.File.{Program, program, UnitFile, unit, Tail}
+use Rattle.op_tree.specs.File.{Program, program, UnitFile, Tail}
 use Rattle.op_tree.specs.FileGrammar.{IsFile, is_program, is_unit, IsUses, has_no_uses, has_uses, IsProgramHeading, has_no_heading, has_name, has_name_and_list, IsTail, has_end_alone, has_block, has_finalization, has_initialization, has_both}
 use Rattle.op_tree.specs.NameGrammar.{are_bracketed_names}
 use Rattle.op_tree.specs.Statement.{Statements, stmts_of}

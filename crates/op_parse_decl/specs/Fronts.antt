@@ -1,5 +1,5 @@
 -- Names, types, first values and headings keep their derivations, whatever stands behind them.
-use Rattle.std.proofs.Common.{◌≡◌, ℕ, Bool, false, List, [], ◌∷◌, Option, refl, ap, ◌∙◌}
+use Rattle.std.proofs.Common.{◌≡◌, ℕ, Bool, List, [], ◌∷◌, refl, ap, ◌∙◌}
 use Rattle.op_parse_code.proofs.Cuts.{IsCut, cut_none, cut_one, cut_join, Front}
 use Rattle.op_parse_code.proofs.ExpressionFronts.{front_chain}
 use Rattle.op_parse_code.proofs.StatementFronts.{front_name, front_qualified}

@@ -1,6 +1,7 @@
 -- Parts of first values.
 use Rattle.std.specs.Prelude.{◌≡◌, ◌<◌, ◌+◌, ℕ, suc, List, ◌∷◌, Option, Some, None}
-use Rattle.op_parse_code.specs.Refusal.{Phrase, TellsList}
+use Rattle.op_parse_code.specs.Refusal.{Phrase}
+use Rattle.op_parse_decl.specs.Refusal.{TellsList}
 use Rattle.op_parse_decl.specs.Types.{SomeInitial}
 use Rattle.op_parse_decl.specs.declared.initializer.Room.{Room}
 use Rattle.op_parse_decl.specs.declared.initializer.Room.TheVariants as room

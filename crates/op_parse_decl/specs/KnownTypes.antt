@@ -1,24 +1,20 @@
 -- The sorts of names and types: each stands whatever follows that begins so, and ends at one place.
-use Rattle.std.proofs.Common.{◌≡◌, ℕ, Bool, false, List, [], ◌∷◌, refl, sym, ap, ◌∙◌, subst}
-use Rattle.op_parse_code.proofs.Cuts.{IsCut, cut_none, cut_one, cut_join, Front, same_not}
-use Rattle.op_parse_code.proofs.Refusing.{Known, Seq, no_mark_same}
-use Rattle.op_parse_code.proofs.StatementFronts.{front_qualified}
-use Rattle.op_parse_code.specs.Refusal.{Phrase, SameHead}
+use Rattle.std.proofs.Common.{◌≡◌, ℕ, false, List, [], ◌∷◌, refl, sym, ap, ◌∙◌, subst}
+use Rattle.op_parse_code.proofs.Cuts.{IsCut, cut_none, cut_one, cut_join, same_not}
+use Rattle.op_parse_code.proofs.Refusing.{Known, no_mark_same}
+use Rattle.op_parse_code.specs.Refusal.{SameHead}
 use Rattle.op_parse_code.specs.Whole.{NoMark}
 use Rattle.op_parse_code.specs.declared.mark.Mark.TheVariants as mark
-use Rattle.op_parse_decl.specs.Known.{same_cut}
 use Rattle.op_parse_decl.specs.Fronts.{front_names, front_bracketed_names, front_denoter, front_denoters, front_field_lists}
-use Rattle.op_parse_decl.specs.Types.{SomeNames, SomeBracketedNames, SomeQualified, SomeDenoter, DenotersBefore, FieldsBefore, RecordFields, record_fields, SomeIndices, no_indices, some_indices, SomeFields}
+use Rattle.op_parse_decl.specs.Types.{SomeNames, SomeBracketedNames, SomeDenoter, DenotersBefore, FieldsBefore, RecordFields, record_fields, SomeIndices, no_indices, some_indices, SomeFields}
 use Rattle.op_scan.specs.declared.token.TokenKind.{TokenKind}
 use Rattle.op_scan.specs.declared.token.TokenKind.TheVariants as kind
 use Rattle.op_tree.proofs.DenoterUnique.{unique_names, unique_bracketed_names, unique_denoter, unique_denoters, unique_field_lists}
 use Rattle.op_tree.proofs.ExpressionUnique.{behind, is_comma}
-use Rattle.op_tree.proofs.StatementUnique.{is_dot, unique_qualified}
-use Rattle.op_tree.specs.Denoter.{Denoter, Denoters, FieldLists}
+use Rattle.op_tree.proofs.StatementUnique.{is_dot}
+use Rattle.op_tree.specs.Denoter.{Denoters, FieldLists}
 use Rattle.op_tree.specs.Ends.{IsNot, StopsDenoter}
-use Rattle.op_tree.specs.NameGrammar.{AreNames}
 use Rattle.op_tree.specs.Terminal.{Terminal, ◌at◌}
-use Rattle.op_tree.specs.declared.position.Name.{Name}
 use Rattle.op_tree.specs.declared.position.Position.{Position}
 
 -- ---- what may follow
@@ -44,27 +40,12 @@ not_dot (t ∷ r) h = at_kind t.kind t.position h
 
 -- ---- two parts
 
-pub known_seq : {A B : Type 0} (P : Phrase A) (Q : Phrase B) → Known P → Known Q → Known (Seq P Q)
-known_seq P Q p q = record {
-  front = λ d a ks m f.
-      let s = p.front d a.0 ks f.0 f.1 in
-      let u = q.front d a.1 f.0 m f.2 in
-      (λ x. s.0 (u.0 x), cut_join s.1 u.1, s.2 ∙ ap s.0 u.2, λ x h. (u.0 x, s.3 (u.0 x) (subst (λ z. SameHead z (u.0 x)) (sym u.2) (same_cut u.1 m x h)), u.3 x h));
-  same = λ d d' a a' ks m m' f f'. q.same d d' a.1 a'.1 f.0 m m' f.2 (subst (λ z. Q d' a'.1 z m') (sym (p.same d d' a.0 a'.0 ks f.0 f'.0 f.1 f'.1)) f'.2);
-}
-
 -- ---- names
 
 pub known_names : Known SomeNames
 known_names = record {
   front = λ d ns ks m p. let s = front_names p.0 in (s.0, s.1, s.2, λ x h. (s.3 x, no_mark_same mark.Comma m x h p.1));
   same = λ d d' ns ns' ks m m' p p'. (unique_names p.0 p'.0 (not_comma m p.1) (not_comma m' p'.1)).1;
-}
-
-pub known_qualified : Known SomeQualified
-known_qualified = record {
-  front = λ d q ks m p. let s = front_qualified p.0 in (s.0, s.1, s.2, λ x h. (s.3 x, no_mark_same mark.Dot m x h p.1));
-  same = λ d d' q q' ks m m' p p'. (unique_qualified p.0 p'.0 (not_dot m p.1) (not_dot m' p'.1)).1;
 }
 
 pub known_bracketed_names : Known SomeBracketedNames

@@ -1,3 +1,4 @@
+pub mod Refusal
 pub mod Combined
 pub mod Known
 pub mod Declarations

@@ -18,7 +18,6 @@ use Rattle.op_parse_decl.specs.Types.{SomeDenoter}
 use Rattle.op_scan.specs.declared.token.TokenKind.TheVariants as kind
 use Rattle.op_tree.proofs.ExpressionUnique.{true_false}
 use Rattle.op_tree.proofs.StatementUnique.{unique_name}
-use Rattle.op_tree.specs.Declaration.{Property}
 use Rattle.op_tree.specs.Denoter.{Denoter}
 use Rattle.op_tree.specs.Ends.{IsNot, StopsDenoter}
 use Rattle.op_tree.specs.HeadingGrammar.{IsAccessor, has_no_accessor, has_accessor, IsProperty, is_property}

@@ -1,5 +1,5 @@
 -- Names, types and first values that are whole: nothing that follows would belong to them.
-use Rattle.std.specs.Prelude.{◌≡◌, ℕ, Bool, true, false, List, [], ◌∷◌, Option, Some, None, suc}
+use Rattle.std.specs.Prelude.{◌≡◌, ℕ, Bool, List, [], ◌∷◌, Option, Some, None, suc}
 use Rattle.op_parse_code.specs.Refusal.{Phrase}
 use Rattle.op_parse_code.specs.Whole.{NoMark}
 use Rattle.op_parse_code.specs.declared.mark.Mark.TheVariants as mark

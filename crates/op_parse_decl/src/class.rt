@@ -1,12 +1,15 @@
 //! Classes (Free Pascal Reference Guide, "Classes").
-ghost use Rattle.std.specs.Prelude.{◌≡◌, ◌++◌, ◌<◌, IfOk, IfErr, IfSome, List, MatchOption, [], length, map};
+ghost use Rattle.std.specs.Prelude.{IfErr, IfOk, IfSome, List, MatchOption, [], length, map, ◌++◌, ◌<◌, ◌≡◌};
 ghost use Rattle.op_parse_code.specs.Opening.{is_identifier};
 ghost use Rattle.op_parse_code.specs.Whole.{NoMark};
 ghost use Rattle.op_parse_code.specs.WholeStatement.{front_is};
 ghost use Rattle.op_parse_code.specs.declared.mark.Mark.TheVariants as mark;
+ghost use Rattle.op_parse_decl.specs.ClassKnown.{known_class, known_sections};
 ghost use Rattle.op_parse_decl.specs.Classes.{Adds, IsVisibility, NoVisibility, RefusesRest, SectionsBefore, SomeEntry, SomeMember, entry_of, goes_on_as_field, sections_before};
+ghost use Rattle.op_parse_decl.specs.Declarations.{DefinitionBehind};
+ghost use Rattle.op_scan.specs.declared.token.TokenKind.TheVariants as kind;
 ghost use Rattle.op_tree.proofs.ExpressionUnique.{Begins};
-ghost use Rattle.op_tree.specs.Declaration.{Section, class, definition_of, member_of, section_of};
+ghost use Rattle.op_tree.specs.Declaration.{Section, TypeDefinition, class, definition_of, member_of, section_of};
 ghost use Rattle.op_tree.specs.HeadingGrammar.{IsMember, visibility_of};
 ghost use Rattle.op_tree.specs.Terminal.{terminals};
 ghost use Rattle.op_tree.specs.declared.class.Member.TheVariants as members;
@@ -39,11 +42,6 @@ type ClassParts = (
 );
 
 impl Part for ClassBehind {
-    ghost use Rattle.op_parse_decl.specs.ClassKnown.{known_class};
-    ghost use Rattle.op_parse_decl.specs.Declarations.{DefinitionBehind};
-    ghost use Rattle.op_scan.specs.declared.token.TokenKind.TheVariants as kind;
-    ghost use Rattle.op_tree.specs.Declaration.{TypeDefinition, definition_of};
-
     ghost Said = { TypeDefinition };
 
     ghost says = { λ x. definition_of x.definition };
@@ -97,15 +95,11 @@ enum Entry {
 }
 
 impl Part for Sections {
-    ghost use Rattle.op_parse_decl.specs.ClassKnown.{known_sections};
-
     ghost Said = { List Section };
 
     ghost says = { λ x. map section_of x.sections.items };
 
     ghost phrase = { SectionsBefore };
-
-    ghost least = { 1 };
 
     fn read<'a>(setting: Setting, tokens: &'a [Token]) -> Answer<'a, Sections> {
         let mut body = Body {
@@ -265,7 +259,7 @@ fn member<'a>(setting: Setting, tokens: &'a [Token]) -> Answer<'a, Member>
         let (fields, rest) = fields(setting, tokens)?;
         return Ok((Member::Fields(fields), rest));
     }
-    let (method, rest) = method(setting.alloc, setting.left, setting.end, tokens)?;
+    let (method, rest) = method(setting, tokens)?;
     Ok((Member::Method(method), rest))
 }
 
@@ -277,7 +271,7 @@ fn fields<'a>(setting: Setting, tokens: &'a [Token]) -> Answer<'a, Fields>
     ensures refused { IfErr result (RefusesRest setting.left setting.end (terminals tokens.now)) }
     ensures shorter { IfOk result (λ f. length f.1.now < length tokens.now) }
 {
-    let (names, rest) = names(setting.alloc, setting.end, tokens)?;
+    let (names, rest) = names(setting, tokens)?;
     let ((_, (denoter, _)), rest) = FieldsEnd::read(setting, rest)?;
     Ok((Fields { names, denoter }, rest))
 }

@@ -1,5 +1,13 @@
 //! Constants, types and variables (Free Pascal Reference Guide, "Constants", "Types", "Variables").
-ghost use Rattle.std.specs.Prelude.{◌≡◌, ℕ, List};
+ghost use Rattle.std.proofs.Common.{suc-le-suc, zero-le};
+ghost use Rattle.std.specs.Prelude.{List, ℕ, ◌≡◌};
+ghost use Rattle.op_parse_code.specs.Opening.{is_identifier};
+ghost use Rattle.op_parse_decl.specs.Blocks.{known_data};
+ghost use Rattle.op_parse_decl.specs.DeclarationParts.{made_constant, made_definition, made_type, made_variables};
+ghost use Rattle.op_parse_decl.specs.Declarations.{DefinitionBefore, SomeData};
+ghost use Rattle.op_tree.proofs.DeclarationUnique.{begins_data};
+ghost use Rattle.op_tree.specs.Declaration.{Constant, Declaration, TypeDeclaration, TypeDefinition, Variables, constant_of, declaration_of, definition_of, type_of, variables_of};
+ghost use Rattle.op_tree.specs.DeclarationGrammar.{AreVariablesOfOneType, IsConstant, IsTypeDeclaration};
 
 use crate::choice::{Ahead, Fork, Form, Several, Unless};
 use crate::class::ClassBehind;
@@ -17,10 +25,6 @@ use std::alloc::Global;
 
 /// A constant, and the semicolon behind it.
 impl Made for Constant {
-    ghost use Rattle.op_parse_decl.specs.DeclarationParts.{made_constant};
-    ghost use Rattle.op_tree.specs.Declaration.{Constant, constant_of};
-    ghost use Rattle.op_tree.specs.DeclarationGrammar.{IsConstant};
-
     type Parts = (
         Name,
         (
@@ -48,9 +52,6 @@ impl Made for Constant {
 }
 
 impl Item for Constant {
-    ghost use Rattle.std.proofs.Common.{suc-le-suc, zero-le};
-    ghost use Rattle.op_parse_code.specs.Opening.{is_identifier};
-
     ghost test = { is_identifier };
 
     fn opens(kind: &TokenKind) -> bool {
@@ -62,10 +63,6 @@ impl Item for Constant {
 
 /// Variables of one type, and the semicolon behind them.
 impl Made for Variables {
-    ghost use Rattle.op_parse_decl.specs.DeclarationParts.{made_variables};
-    ghost use Rattle.op_tree.specs.Declaration.{Variables, variables_of};
-    ghost use Rattle.op_tree.specs.DeclarationGrammar.{AreVariablesOfOneType};
-
     type Parts = (
         Names,
         (
@@ -96,9 +93,6 @@ impl Made for Variables {
 }
 
 impl Item for Variables {
-    ghost use Rattle.std.proofs.Common.{suc-le-suc, zero-le};
-    ghost use Rattle.op_parse_code.specs.Opening.{is_identifier};
-
     ghost test = { is_identifier };
 
     fn opens(kind: &TokenKind) -> bool {
@@ -119,10 +113,6 @@ impl Form for GenericType {
 
 /// A type's name and what it stands for, and the semicolon behind them.
 impl Made for TypeDeclaration {
-    ghost use Rattle.op_parse_decl.specs.DeclarationParts.{made_type};
-    ghost use Rattle.op_tree.specs.Declaration.{TypeDeclaration, type_of};
-    ghost use Rattle.op_tree.specs.DeclarationGrammar.{IsTypeDeclaration};
-
     type Parts = Unless<GenericType, (Name, (Stands<sign::Equal>, TypeDefinition))>;
 
     ghost Said = { TypeDeclaration };
@@ -141,9 +131,6 @@ impl Made for TypeDeclaration {
 }
 
 impl Item for TypeDeclaration {
-    ghost use Rattle.std.proofs.Common.{suc-le-suc, zero-le};
-    ghost use Rattle.op_parse_code.specs.Opening.{is_identifier};
-
     ghost test = { is_identifier };
 
     fn opens(kind: &TokenKind) -> bool {
@@ -164,10 +151,6 @@ impl Form for Metaclass {
 
 /// A type, a class or an interface, and the semicolon behind it.
 impl Made for TypeDefinition {
-    ghost use Rattle.op_parse_decl.specs.Declarations.{DefinitionBefore};
-    ghost use Rattle.op_parse_decl.specs.DeclarationParts.{made_definition};
-    ghost use Rattle.op_tree.specs.Declaration.{TypeDefinition, definition_of};
-
     type Parts = Unless<
         Metaclass,
         Fork<
@@ -202,17 +185,11 @@ pub struct Data {
 }
 
 impl Part for Data {
-    ghost use Rattle.op_parse_decl.specs.Declarations.{SomeData};
-    ghost use Rattle.op_parse_decl.specs.Blocks.{known_data};
-    ghost use Rattle.op_tree.specs.Declaration.{Declaration, declaration_of};
-
     ghost Said = { Declaration };
 
     ghost says = { λ x. declaration_of x.declaration };
 
     ghost phrase = { SomeData };
-
-    ghost least = { 1 };
 
     fn read<'a>(setting: Setting, tokens: &'a [Token]) -> Answer<'a, Data> {
         if let Some(after) = behind_mark(Mark::Const_, tokens) {
@@ -235,9 +212,6 @@ impl Part for Data {
 }
 
 impl Item for Data {
-    ghost use Rattle.std.proofs.Common.{suc-le-suc, zero-le};
-    ghost use Rattle.op_tree.proofs.DeclarationUnique.{begins_data};
-
     ghost test = { begins_data };
 
     fn opens(kind: &TokenKind) -> bool {

@@ -17,6 +17,7 @@ use crate::form::{
 use crate::names::names;
 use crate::nodes::{array_node, denoted, record_node, set_node};
 use crate::opening::{DenoterOpening, denoter_opening};
+use crate::part::{Answer, Setting};
 use crate::stops::stop_type;
 use op_base::Place;
 use op_parse_code::ParseError;
@@ -25,93 +26,75 @@ use op_parse_code::shared::{
 };
 use op_scan::Token;
 use op_tree::{Fields, Level, Position, TypeDenoter};
-use std::alloc::Global;
 
 /// A type, before what belongs to none.
 #[cycle(denoter)]
-pub fn denoter<'a>(
-    alloc: Global,
-    left: u32,
-    end: Place,
-    tokens: &'a [Token],
-) -> Result<(TypeDenoter, &'a [Token]), ParseError>
-    ensures whole { IfOk result (λ f. SomeDenoter left (denoter_of f.0) (terminals tokens.now) (terminals f.1.now)) }
-    ensures refused { IfErr result (Refuses SomeDenoter left end (terminals tokens.now)) }
+pub fn denoter<'a>(setting: Setting, tokens: &'a [Token]) -> Answer<'a, TypeDenoter>
+    ensures whole { IfOk result (λ f. SomeDenoter setting.left (denoter_of f.0) (terminals tokens.now) (terminals f.1.now)) }
+    ensures refused { IfErr result (Refuses SomeDenoter setting.left setting.end (terminals tokens.now)) }
     ensures shorter { IfOk result (λ f. length f.1.now < length tokens.now) }
 {
     let Some((first, rest)) = tokens.split_first() else {
-        return Err(syntax(end, tokens));
+        return Err(syntax(setting.end, tokens));
     };
     let position = position_of(first);
     match denoter_opening(&first.kind) {
-        DenoterOpening::Nothing => Err(syntax(end, tokens)),
-        DenoterOpening::LeftOut(feature) => Err(left_out(feature, end, tokens)),
+        DenoterOpening::Nothing => Err(syntax(setting.end, tokens)),
+        DenoterOpening::LeftOut(feature) => Err(left_out(feature, setting.end, tokens)),
         DenoterOpening::Procedural => {
             if is_procedural(tokens) {
-                return Err(left_out(PROCEDURAL_TYPE, end, tokens));
+                return Err(left_out(PROCEDURAL_TYPE, setting.end, tokens));
             }
-            Err(syntax(end, tokens))
+            Err(syntax(setting.end, tokens))
         }
         DenoterOpening::Bound => {
-            let inner = enter(left, end, tokens)?;
-            bounded(alloc, inner, end, tokens)
+            let left = enter(setting.left, setting.end, tokens)?;
+            bounded(Setting { left, ..setting }, tokens)
         }
         DenoterOpening::Set => {
-            let inner = enter(left, end, tokens)?;
-            set(alloc, position, inner, end, rest)
+            let left = enter(setting.left, setting.end, tokens)?;
+            set(Setting { left, ..setting }, position, rest)
         }
         DenoterOpening::Array => {
-            let inner = enter(left, end, tokens)?;
-            array(alloc, position, false, inner, end, rest)
+            let left = enter(setting.left, setting.end, tokens)?;
+            array(Setting { left, ..setting }, position, false, rest)
         }
         DenoterOpening::Record => {
-            let inner = enter(left, end, tokens)?;
-            record(alloc, position, false, inner, end, rest)
+            let left = enter(setting.left, setting.end, tokens)?;
+            record(Setting { left, ..setting }, position, false, rest)
         }
         DenoterOpening::Packed => {
-            let inner = enter(left, end, tokens)?;
-            packed(alloc, position, inner, end, rest)
+            let left = enter(setting.left, setting.end, tokens)?;
+            packed(Setting { left, ..setting }, position, rest)
         }
     }
 }
 
 /// What stands behind `set`.
 #[cycle(denoter)]
-fn set<'a>(
-    alloc: Global,
-    position: Position,
-    left: u32,
-    end: Place,
-    tokens: &'a [Token],
-) -> Result<(TypeDenoter, &'a [Token]), ParseError>
-    ensures whole { IfOk result (λ f. DenoterBehind kind.Set position left (denoter_of f.0) (terminals tokens.now) (terminals f.1.now)) }
-    ensures refused { IfErr result (Refuses (DenoterBehind kind.Set position) left end (terminals tokens.now)) }
+fn set<'a>(setting: Setting, position: Position, tokens: &'a [Token]) -> Answer<'a, TypeDenoter>
+    ensures whole { IfOk result (λ f. DenoterBehind kind.Set position setting.left (denoter_of f.0) (terminals tokens.now) (terminals f.1.now)) }
+    ensures refused { IfErr result (Refuses (DenoterBehind kind.Set position) setting.left setting.end (terminals tokens.now)) }
     ensures shorter { IfOk result (λ f. length f.1.now < length tokens.now) }
 {
-    let rest = after_mark(Mark::Of, end, tokens)?;
-    let (base, rest) = denoter(alloc, left, end, rest)?;
-    let node = set_node(alloc, position, base)?;
+    let rest = after_mark(Mark::Of, setting.end, tokens)?;
+    let (base, rest) = denoter(setting, rest)?;
+    let node = set_node(setting.alloc, position, base)?;
     Ok((node, rest))
 }
 
 /// What stands behind `packed`: an array or a record.
 #[cycle(denoter)]
-fn packed<'a>(
-    alloc: Global,
-    position: Position,
-    left: u32,
-    end: Place,
-    tokens: &'a [Token],
-) -> Result<(TypeDenoter, &'a [Token]), ParseError>
-    ensures whole { IfOk result (λ f. SomeStructure position true left (denoter_of f.0) (terminals tokens.now) (terminals f.1.now)) }
-    ensures refused { IfErr result (Refuses (SomeStructure position true) left end (terminals tokens.now)) }
+fn packed<'a>(setting: Setting, position: Position, tokens: &'a [Token]) -> Answer<'a, TypeDenoter>
+    ensures whole { IfOk result (λ f. SomeStructure position true setting.left (denoter_of f.0) (terminals tokens.now) (terminals f.1.now)) }
+    ensures refused { IfErr result (Refuses (SomeStructure position true) setting.left setting.end (terminals tokens.now)) }
     ensures shorter { IfOk result (λ f. length f.1.now < length tokens.now) }
 {
     match behind_mark(Mark::Array, tokens) {
-        Some(rest) => array(alloc, position, true, left, end, rest),
+        Some(rest) => array(setting, position, true, rest),
         None => {
-            let rest = after_mark(Mark::Record, end, tokens)?;
-            record(alloc, position, true, left, end, rest)
+            let rest = after_mark(Mark::Record, setting.end, tokens)?;
+            record(setting, position, true, rest)
         }
     }
 }
@@ -119,44 +102,37 @@ fn packed<'a>(
 /// What stands behind `array`.
 #[cycle(denoter)]
 fn array<'a>(
-    alloc: Global,
+    setting: Setting,
     position: Position,
     packed: bool,
-    left: u32,
-    end: Place,
     tokens: &'a [Token],
-) -> Result<(TypeDenoter, &'a [Token]), ParseError>
-    ensures whole { IfOk result (λ f. (q : Position) → SomeStructure position packed left (denoter_of f.0) (kind.Array at q ∷ terminals tokens.now) (terminals f.1.now)) }
-    ensures refused { IfErr result (λ e. (q : Position) → Refuses (SomeStructure position packed) left end (kind.Array at q ∷ terminals tokens.now) e) }
+) -> Answer<'a, TypeDenoter>
+    ensures whole { IfOk result (λ f. (q : Position) → SomeStructure position packed setting.left (denoter_of f.0) (kind.Array at q ∷ terminals tokens.now) (terminals f.1.now)) }
+    ensures refused { IfErr result (λ e. (q : Position) → Refuses (SomeStructure position packed) setting.left setting.end (kind.Array at q ∷ terminals tokens.now) e) }
     ensures shorter { IfOk result (λ f. length f.1.now < length tokens.now) }
 {
-    let (indices, rest) = indices(alloc, left, end, tokens)?;
-    let (element, rest) = denoter(alloc, left, end, rest)?;
-    let node = array_node(alloc, position, packed, indices, element)?;
+    let (indices, rest) = indices(setting, tokens)?;
+    let (element, rest) = denoter(setting, rest)?;
+    let node = array_node(setting.alloc, position, packed, indices, element)?;
     Ok((node, rest))
 }
 
 /// What stands between `array` and the type of its elements.
 #[cycle(denoter)]
-fn indices<'a>(
-    alloc: Global,
-    left: u32,
-    end: Place,
-    tokens: &'a [Token],
-) -> Result<(Vec<TypeDenoter>, &'a [Token]), ParseError>
-    ensures whole { IfOk result (λ f. SomeIndices left (denoters_of f.0.items) (terminals tokens.now) (terminals f.1.now)) }
-    ensures refused { IfErr result (Refuses SomeIndices left end (terminals tokens.now)) }
+fn indices<'a>(setting: Setting, tokens: &'a [Token]) -> Answer<'a, Vec<TypeDenoter>>
+    ensures whole { IfOk result (λ f. SomeIndices setting.left (denoters_of f.0.items) (terminals tokens.now) (terminals f.1.now)) }
+    ensures refused { IfErr result (Refuses SomeIndices setting.left setting.end (terminals tokens.now)) }
     ensures shorter { IfOk result (λ f. length f.1.now < length tokens.now) }
 {
     match behind_mark(Mark::OpenBracket, tokens) {
         None => {
-            let rest = after_mark(Mark::Of, end, tokens)?;
-            Ok((Vec::new(alloc), rest))
+            let rest = after_mark(Mark::Of, setting.end, tokens)?;
+            Ok((Vec::new(setting.alloc), rest))
         }
         Some(rest) => {
-            let inner = enter(left, end, tokens)?;
-            let (indices, rest) = index_types(alloc, inner, end, rest)?;
-            let rest = after_mark(Mark::Of, end, rest)?;
+            let left = enter(setting.left, setting.end, tokens)?;
+            let (indices, rest) = index_types(Setting { left, ..setting }, rest)?;
+            let rest = after_mark(Mark::Of, setting.end, rest)?;
             Ok((indices, rest))
         }
     }
@@ -164,25 +140,20 @@ fn indices<'a>(
 
 /// Types, up to the closing bracket, and what stands behind it.
 #[cycle(denoter)]
-fn index_types<'a>(
-    alloc: Global,
-    left: u32,
-    end: Place,
-    tokens: &'a [Token],
-) -> Result<(Vec<TypeDenoter>, &'a [Token]), ParseError>
-    ensures whole { IfOk result (λ f. DenotersBefore left (denoters_of f.0.items) (terminals tokens.now) (terminals f.1.now)) }
-    ensures refused { IfErr result (Refuses DenotersBefore left end (terminals tokens.now)) }
+fn index_types<'a>(setting: Setting, tokens: &'a [Token]) -> Answer<'a, Vec<TypeDenoter>>
+    ensures whole { IfOk result (λ f. DenotersBefore setting.left (denoters_of f.0.items) (terminals tokens.now) (terminals f.1.now)) }
+    ensures refused { IfErr result (Refuses DenotersBefore setting.left setting.end (terminals tokens.now)) }
     ensures shorter { IfOk result (λ f. length f.1.now < length tokens.now) }
 {
-    let mut types = Vec::new(alloc);
+    let mut types = Vec::new(setting.alloc);
     let mut rest = tokens;
     loop {
-        let (index, behind) = denoter(alloc, left, end, rest)?;
+        let (index, behind) = denoter(setting, rest)?;
         types.push(index)?;
         match behind_mark(Mark::Comma, behind) {
             Some(after) => rest = after,
             None => {
-                let rest = after_mark(Mark::CloseBracket, end, behind)?;
+                let rest = after_mark(Mark::CloseBracket, setting.end, behind)?;
                 return Ok((types, rest));
             }
         }
@@ -192,49 +163,42 @@ fn index_types<'a>(
 /// What stands behind `record`.
 #[cycle(denoter)]
 fn record<'a>(
-    alloc: Global,
+    setting: Setting,
     position: Position,
     packed: bool,
-    left: u32,
-    end: Place,
     tokens: &'a [Token],
-) -> Result<(TypeDenoter, &'a [Token]), ParseError>
-    ensures whole { IfOk result (λ f. (q : Position) → SomeStructure position packed left (denoter_of f.0) (kind.Record at q ∷ terminals tokens.now) (terminals f.1.now)) }
-    ensures refused { IfErr result (λ e. (q : Position) → Refuses (SomeStructure position packed) left end (kind.Record at q ∷ terminals tokens.now) e) }
+) -> Answer<'a, TypeDenoter>
+    ensures whole { IfOk result (λ f. (q : Position) → SomeStructure position packed setting.left (denoter_of f.0) (kind.Record at q ∷ terminals tokens.now) (terminals f.1.now)) }
+    ensures refused { IfErr result (λ e. (q : Position) → Refuses (SomeStructure position packed) setting.left setting.end (kind.Record at q ∷ terminals tokens.now) e) }
     ensures shorter { IfOk result (λ f. length f.1.now < length tokens.now) }
 {
-    let (fields, rest) = field_lists(alloc, left, end, tokens)?;
-    stop_type(end, rest)?;
+    let (fields, rest) = field_lists(setting, tokens)?;
+    stop_type(setting.end, rest)?;
     Ok((record_node(position, packed, fields), rest))
 }
 
 /// The fields of a record, up to its end. The last semicolon may be missing.
 #[cycle(denoter)]
-fn field_lists<'a>(
-    alloc: Global,
-    left: u32,
-    end: Place,
-    tokens: &'a [Token],
-) -> Result<(Vec<Fields>, &'a [Token]), ParseError>
-    ensures whole { IfOk result (λ f. FieldsBefore left (field_lists_of f.0.items) (terminals tokens.now) (terminals f.1.now)) }
-    ensures refused { IfErr result (λ e. (q : Position) → Refuses RecordFields left end (kind.Record at q ∷ terminals tokens.now) e) }
+fn field_lists<'a>(setting: Setting, tokens: &'a [Token]) -> Answer<'a, Vec<Fields>>
+    ensures whole { IfOk result (λ f. FieldsBefore setting.left (field_lists_of f.0.items) (terminals tokens.now) (terminals f.1.now)) }
+    ensures refused { IfErr result (λ e. (q : Position) → Refuses RecordFields setting.left setting.end (kind.Record at q ∷ terminals tokens.now) e) }
     ensures shorter { IfOk result (λ f. length f.1.now < length tokens.now) }
 {
-    let mut lists = Vec::new(alloc);
+    let mut lists = Vec::new(setting.alloc);
     let mut rest = tokens;
     loop {
         if let Some(after) = behind_mark(Mark::End, rest) {
             return Ok((lists, after));
         }
         if let Some(feature) = form_of_record(rest) {
-            return Err(left_out(feature, end, rest));
+            return Err(left_out(feature, setting.end, rest));
         }
-        let (fields, behind) = fields_of_one_type(alloc, left, end, rest)?;
+        let (fields, behind) = fields_of_one_type(setting, rest)?;
         lists.push(fields)?;
         match behind_mark(Mark::Semicolon, behind) {
             Some(after) => rest = after,
             None => {
-                let rest = after_mark(Mark::End, end, behind)?;
+                let rest = after_mark(Mark::End, setting.end, behind)?;
                 return Ok((lists, rest));
             }
         }
@@ -243,40 +207,30 @@ fn field_lists<'a>(
 
 /// Names, a colon and a type.
 #[cycle(denoter)]
-pub fn fields_of_one_type<'a>(
-    alloc: Global,
-    left: u32,
-    end: Place,
-    tokens: &'a [Token],
-) -> Result<(Fields, &'a [Token]), ParseError>
-    ensures whole { IfOk result (λ f. SomeFields left (f.0.names, denoter_of f.0.denoter) (terminals tokens.now) (terminals f.1.now)) }
-    ensures refused { IfErr result (Refuses SomeFields left end (terminals tokens.now)) }
+pub fn fields_of_one_type<'a>(setting: Setting, tokens: &'a [Token]) -> Answer<'a, Fields>
+    ensures whole { IfOk result (λ f. SomeFields setting.left (f.0.names, denoter_of f.0.denoter) (terminals tokens.now) (terminals f.1.now)) }
+    ensures refused { IfErr result (Refuses SomeFields setting.left setting.end (terminals tokens.now)) }
     ensures shorter { IfOk result (λ f. length f.1.now < length tokens.now) }
 {
-    let (names, rest) = names(alloc, end, tokens)?;
-    let rest = after_mark(Mark::Colon, end, rest)?;
-    let (denoter, rest) = denoter(alloc, left, end, rest)?;
+    let (names, rest) = names(setting, tokens)?;
+    let rest = after_mark(Mark::Colon, setting.end, rest)?;
+    let (denoter, rest) = denoter(setting, rest)?;
     Ok((Fields { names, denoter }, rest))
 }
 
 /// A type that begins as a bound of a subrange does: an enumeration, a subrange or a name.
-fn bounded<'a>(
-    alloc: Global,
-    left: u32,
-    end: Place,
-    tokens: &'a [Token],
-) -> Result<(TypeDenoter, &'a [Token]), ParseError>
+fn bounded<'a>(setting: Setting, tokens: &'a [Token]) -> Answer<'a, TypeDenoter>
     requires { Begins begins_expression (terminals tokens.now) }
-    ensures whole { IfOk result (λ f. SomeBounded left (denoter_of f.0) (terminals tokens.now) (terminals f.1.now)) }
-    ensures refused { IfErr result (Refuses SomeBounded left end (terminals tokens.now)) }
+    ensures whole { IfOk result (λ f. SomeBounded setting.left (denoter_of f.0) (terminals tokens.now) (terminals f.1.now)) }
+    ensures refused { IfErr result (Refuses SomeBounded setting.left setting.end (terminals tokens.now)) }
     ensures shorter { IfOk result (λ f. length f.1.now < length tokens.now) }
 {
     if lists_names(tokens) {
-        return enumeration(alloc, left, end, tokens);
+        return enumeration(setting, tokens);
     }
-    match subrange_or_name(alloc, left, end, tokens) {
+    match subrange_or_name(setting, tokens) {
         Ok(found) => Ok(found),
-        Err(error) => Err(or_form(error, end, tokens)),
+        Err(error) => Err(or_form(error, setting.end, tokens)),
     }
 }
 
@@ -300,53 +254,55 @@ fn lists_names(tokens: &[Token]) -> bool
 }
 
 /// Names in brackets, before what belongs to no type.
-fn enumeration<'a>(
-    alloc: Global,
-    left: u32,
-    end: Place,
-    tokens: &'a [Token],
-) -> Result<(TypeDenoter, &'a [Token]), ParseError>
+fn enumeration<'a>(setting: Setting, tokens: &'a [Token]) -> Answer<'a, TypeDenoter>
     requires { lists_names (terminals tokens.now) ≡ true }
-    ensures whole { IfOk result (λ f. SomeBounded left (denoter_of f.0) (terminals tokens.now) (terminals f.1.now)) }
-    ensures refused { IfErr result (Refuses SomeBounded left end (terminals tokens.now)) }
+    ensures whole { IfOk result (λ f. SomeBounded setting.left (denoter_of f.0) (terminals tokens.now) (terminals f.1.now)) }
+    ensures refused { IfErr result (Refuses SomeBounded setting.left setting.end (terminals tokens.now)) }
     ensures shorter { IfOk result (λ f. length f.1.now < length tokens.now) }
 {
     let Some((first, rest)) = tokens.split_first() else {
-        return Err(syntax(end, tokens));
+        return Err(syntax(setting.end, tokens));
     };
     let position = position_of(first);
-    enter(left, end, tokens)?;
-    let (values, rest) = names(alloc, end, rest)?;
+    enter(setting.left, setting.end, tokens)?;
+    let (values, rest) = names(setting, rest)?;
     if gives_value(rest) {
-        return Err(left_out(GIVEN_VALUE, end, rest));
+        return Err(left_out(GIVEN_VALUE, setting.end, rest));
     }
-    let rest = after_mark(Mark::CloseParenthesis, end, rest)?;
-    stop_type(end, rest)?;
+    let rest = after_mark(Mark::CloseParenthesis, setting.end, rest)?;
+    stop_type(setting.end, rest)?;
     Ok((TypeDenoter::Enumeration { position, values }, rest))
 }
 
 /// A bound, and another one behind `..`; or what names a type and reads as a bound.
-fn subrange_or_name<'a>(
-    alloc: Global,
-    left: u32,
-    end: Place,
-    tokens: &'a [Token],
-) -> Result<(TypeDenoter, &'a [Token]), ParseError>
+fn subrange_or_name<'a>(setting: Setting, tokens: &'a [Token]) -> Answer<'a, TypeDenoter>
     requires begins { Begins begins_expression (terminals tokens.now) }
     requires lists { lists_names (terminals tokens.now) ≡ false }
-    ensures whole { IfOk result (λ f. SomeBounded left (denoter_of f.0) (terminals tokens.now) (terminals f.1.now)) }
-    ensures refused { IfErr result (Refuses SomeBounded left end (terminals tokens.now)) }
+    ensures whole { IfOk result (λ f. SomeBounded setting.left (denoter_of f.0) (terminals tokens.now) (terminals f.1.now)) }
+    ensures refused { IfErr result (Refuses SomeBounded setting.left setting.end (terminals tokens.now)) }
     ensures shorter { IfOk result (λ f. length f.1.now < length tokens.now) }
 {
-    let (first, rest) = chain(alloc, Level::Additive, left, end, tokens)?;
+    let (first, rest) = chain(
+        setting.alloc,
+        Level::Additive,
+        setting.left,
+        setting.end,
+        tokens,
+    )?;
     if let Some(after) = behind_mark(Mark::DotDot, rest) {
-        let (last, rest) = chain(alloc, Level::Additive, left, end, after)?;
-        stop_type(end, rest)?;
+        let (last, rest) = chain(
+            setting.alloc,
+            Level::Additive,
+            setting.left,
+            setting.end,
+            after,
+        )?;
+        stop_type(setting.end, rest)?;
         return Ok((TypeDenoter::Subrange { first, last }, rest));
     }
-    match denoted(alloc, first)? {
+    match denoted(setting.alloc, first)? {
         Some(denoter) => Ok((denoter, rest)),
-        None => Err(syntax(end, rest)),
+        None => Err(syntax(setting.end, rest)),
     }
 }
 

@@ -1,10 +1,14 @@
 //! Whole files (Free Pascal Reference Guide, "Programs, units, blocks").
-ghost use Rattle.std.specs.Prelude.{◌≡◌, ℕ, IfOk, IfErr, List, [], MatchResult, Option};
-ghost use Rattle.op_parse_code.specs.Refusal.{IsFree, Refuses};
-ghost use Rattle.op_parse_decl.specs.Declarations.{Whole, WholeFile};
-ghost use Rattle.op_tree.specs.File.{File, file_of};
-ghost use Rattle.op_tree.specs.FileGrammar.{IsFile, Spells};
+ghost use Rattle.std.specs.Prelude.{IfErr, IfOk, List, MatchResult, Option, [], ℕ, ◌≡◌};
+ghost use Rattle.op_parse_code.specs.Refusal.{IsFree};
+ghost use Rattle.op_parse_decl.specs.Declarations.{SomeProgram, SomeProgramHeading, SomeUnit, SomeUses, Whole, WholeFile};
+ghost use Rattle.op_parse_decl.specs.FileParts.{made_heading, made_program, made_tail, made_unit, made_uses, tail_of};
+ghost use Rattle.op_parse_decl.specs.Refusal.{RefusesPart};
+ghost use Rattle.op_tree.specs.File.{File, Program, Tail, UnitFile, file_of, program_of, unit_of};
+ghost use Rattle.op_tree.specs.FileGrammar.{IsFile, IsTail, Spells};
 ghost use Rattle.op_tree.specs.Terminal.{terminals};
+ghost use Rattle.op_tree.specs.declared.file.ProgramHeading.{ProgramHeading};
+ghost use Rattle.op_tree.specs.declared.position.Name.{Name};
 
 use crate::choice::{Either, Empty, Fork, Unless};
 use crate::declared_form::form_of_file;
@@ -29,7 +33,7 @@ pub fn parse(alloc: Global, tokens: &Tokens) -> Result<Tree, ParseError>
     // The grammar derives it from these tokens, with nothing left.
     ensures spells { IfOk result (λ tree. Spells (file_of tree) (terminals tokens.now.list)) }
     // There is none, or a form that is left out.
-    ensures refused { IfErr result (Refuses WholeFile 200 tokens.now.end (terminals tokens.now.list)) }
+    ensures refused { IfErr result (RefusesPart WholeFile 200 tokens.now.end (terminals tokens.now.list)) }
     // No other tree does, and where one does the tokens are refused for a form that is left out alone.
     ensures only { (file : File) → Spells file (terminals tokens.now.list) → MatchResult result (λ tree. file_of tree ≡ file) IsFree }
 {
@@ -43,7 +47,7 @@ pub fn parse(alloc: Global, tokens: &Tokens) -> Result<Tree, ParseError>
 
 fn file(setting: Setting, tokens: &[Token]) -> Result<Tree, ParseError>
     ensures whole { IfOk result (λ tree. IsFile setting.left (file_of tree) (terminals tokens.now) []) }
-    ensures refused { IfErr result (Refuses WholeFile setting.left setting.end (terminals tokens.now)) }
+    ensures refused { IfErr result (RefusesPart WholeFile setting.left setting.end (terminals tokens.now)) }
 {
     if let Some(feature) = form_of_file(tokens) {
         return Err(left_out(feature, setting.end, tokens));
@@ -63,7 +67,7 @@ fn file(setting: Setting, tokens: &[Token]) -> Result<Tree, ParseError>
 /// The part that all of the tokens are.
 fn whole<A: Part>(setting: Setting, tokens: &[Token]) -> Result<A, ParseError>
     ensures whole { IfOk result (λ a. A.phrase setting.left (A.says a) (terminals tokens.now) []) }
-    ensures refused { IfErr result (Refuses (Whole A.phrase) setting.left setting.end (terminals tokens.now)) }
+    ensures refused { IfErr result (RefusesPart (Whole A.phrase) setting.left setting.end (terminals tokens.now)) }
 {
     let (part, rest) = A::read(setting, tokens)?;
     match rest.split_first() {
@@ -79,10 +83,6 @@ pub struct Used {
 }
 
 impl Made for Used {
-    ghost use Rattle.op_parse_decl.specs.Declarations.{SomeUses};
-    ghost use Rattle.op_parse_decl.specs.FileParts.{made_uses};
-    ghost use Rattle.op_tree.specs.declared.position.Name.{Name};
-
     type Parts = Behind<sign::Uses, (Names, Stands<sign::Semicolon>)>;
 
     ghost Said = { List Name };
@@ -111,10 +111,6 @@ pub struct FileHeading {
 }
 
 impl Made for FileHeading {
-    ghost use Rattle.op_parse_decl.specs.Declarations.{SomeProgramHeading};
-    ghost use Rattle.op_parse_decl.specs.FileParts.{made_heading};
-    ghost use Rattle.op_tree.specs.declared.file.ProgramHeading.{ProgramHeading};
-
     type Parts = Behind<
         sign::Program,
         (
@@ -165,10 +161,6 @@ pub struct Tail {
 }
 
 impl Made for Tail {
-    ghost use Rattle.op_parse_decl.specs.FileParts.{made_tail, tail_of};
-    ghost use Rattle.op_tree.specs.File.{Tail};
-    ghost use Rattle.op_tree.specs.FileGrammar.{IsTail};
-
     type Parts = Fork<
         sign::End,
         Empty,
@@ -228,10 +220,6 @@ impl Made for Tail {
 
 /// A program, up to its dot.
 impl Made for Program {
-    ghost use Rattle.op_parse_decl.specs.Declarations.{SomeProgram};
-    ghost use Rattle.op_parse_decl.specs.FileParts.{made_program};
-    ghost use Rattle.op_tree.specs.File.{Program, program_of};
-
     type Parts = (
         Here,
         (FileHeading, (Used, (InBlock, (Block, Stands<sign::Dot>)))),
@@ -262,10 +250,6 @@ impl Made for Program {
 
 /// A unit, up to its dot.
 impl Made for Unit {
-    ghost use Rattle.op_parse_decl.specs.Declarations.{SomeUnit};
-    ghost use Rattle.op_parse_decl.specs.FileParts.{made_unit};
-    ghost use Rattle.op_tree.specs.File.{UnitFile, unit_of};
-
     type Parts = (
         (
             (Here, Stands<sign::Unit>),

@@ -1,17 +1,20 @@
 //! Headings of routines (Free Pascal Reference Guide, "Using functions and procedures").
-ghost use Rattle.std.specs.Prelude.{◌≡◌, ◌≤◌, ◌<◌, ℕ, IfOk, IfErr, IfSome, MatchOption, Option, length};
-ghost use Rattle.op_parse_code.specs.Refusal.{Refuses};
-ghost use Rattle.op_parse_decl.specs.Headings.{IsDirective, SomeDirectives, SomeMethod};
-ghost use Rattle.op_tree.specs.Declaration.{method_of};
+ghost use Rattle.std.specs.Prelude.{IfErr, IfOk, IfSome, MatchOption, Option, length, ℕ, ◌<◌, ◌≡◌, ◌≤◌};
+ghost use Rattle.op_parse_decl.specs.Combined.{Both, both};
+ghost use Rattle.op_parse_decl.specs.HeadingKnown.{known_routine_kind};
+ghost use Rattle.op_parse_decl.specs.HeadingParts.{known_heading, made_heading, made_name};
+ghost use Rattle.op_parse_decl.specs.Headings.{IsDirective, IsRoutineKind, SomeDirectives, SomeHeading, SomeMethod, SomeRoutineName};
+ghost use Rattle.op_parse_decl.specs.Refusal.{RefusesPart};
+ghost use Rattle.op_tree.specs.Declaration.{Heading, heading_of, method_of};
 ghost use Rattle.op_tree.specs.Ends.{NoDirective};
 ghost use Rattle.op_tree.specs.HeadingGrammar.{directive_of, routine_kind_of};
 ghost use Rattle.op_tree.specs.Terminal.{terminals};
+ghost use Rattle.op_tree.specs.declared.heading.RoutineKind.{RoutineKind};
+ghost use Rattle.op_tree.specs.declared.position.Name.{Name};
 
 use crate::form::ASSEMBLY;
 use crate::part::{Answer, Behind, Made, Part, Setting, Stands};
 use crate::sign;
-use op_base::Place;
-use op_parse_code::ParseError;
 use op_parse_code::shared::{Mark, behind_mark, left_out, syntax};
 use op_scan::{Token, TokenKind};
 use op_tree::{Directive, Directives, Heading, Method, Name, Parameters, RoutineKind, TypeDenoter};
@@ -19,17 +22,11 @@ use std::alloc::Global;
 
 /// The word with which a heading begins.
 impl Part for RoutineKind {
-    ghost use Rattle.op_parse_decl.specs.HeadingKnown.{known_routine_kind};
-    ghost use Rattle.op_parse_decl.specs.Headings.{IsRoutineKind};
-    ghost use Rattle.op_tree.specs.declared.heading.RoutineKind.{RoutineKind};
-
     ghost Said = { RoutineKind };
 
     ghost says = { λ x. x };
 
     ghost phrase = { IsRoutineKind };
-
-    ghost least = { 1 };
 
     fn read<'a>(setting: Setting, tokens: &'a [Token]) -> Answer<'a, RoutineKind> {
         let Some((first, rest)) = tokens.split_first() else {
@@ -52,11 +49,6 @@ pub struct RoutineName {
 }
 
 impl Made for RoutineName {
-    ghost use Rattle.op_parse_decl.specs.Combined.{Both, both};
-    ghost use Rattle.op_parse_decl.specs.HeadingParts.{made_name};
-    ghost use Rattle.op_parse_decl.specs.Headings.{SomeRoutineName};
-    ghost use Rattle.op_tree.specs.declared.position.Name.{Name};
-
     type Parts = (Name, Behind<sign::Dot, Name>);
 
     ghost Said = { Both (Option Name) Name };
@@ -89,10 +81,6 @@ struct WholeHeading {
 }
 
 impl Made for WholeHeading {
-    ghost use Rattle.op_parse_decl.specs.HeadingParts.{made_heading};
-    ghost use Rattle.op_parse_decl.specs.Headings.{SomeHeading};
-    ghost use Rattle.op_tree.specs.Declaration.{Heading, heading_of};
-
     type Parts = (
         RoutineKind,
         (
@@ -131,17 +119,11 @@ impl Made for WholeHeading {
 
 /// A heading, and the semicolon behind it.
 impl Part for Heading {
-    ghost use Rattle.op_parse_decl.specs.HeadingParts.{known_heading};
-    ghost use Rattle.op_parse_decl.specs.Headings.{SomeHeading};
-    ghost use Rattle.op_tree.specs.Declaration.{Heading, heading_of};
-
     ghost Said = { Heading };
 
     ghost says = { heading_of };
 
     ghost phrase = { SomeHeading };
-
-    ghost least = { 1 };
 
     fn read<'a>(setting: Setting, tokens: &'a [Token]) -> Answer<'a, Heading> {
         let (whole, rest) = WholeHeading::read(setting, tokens)?;
@@ -152,18 +134,13 @@ impl Part for Heading {
 }
 
 /// A heading, a semicolon, and the directives behind it.
-pub fn method<'a>(
-    alloc: Global,
-    left: u32,
-    end: Place,
-    tokens: &'a [Token],
-) -> Result<(Method, &'a [Token]), ParseError>
-    ensures whole { IfOk result (λ f. SomeMethod left (method_of f.0) (terminals tokens.now) (terminals f.1.now)) }
-    ensures refused { IfErr result (Refuses SomeMethod left end (terminals tokens.now)) }
+pub fn method<'a>(setting: Setting, tokens: &'a [Token]) -> Answer<'a, Method>
+    ensures whole { IfOk result (λ f. SomeMethod setting.left (method_of f.0) (terminals tokens.now) (terminals f.1.now)) }
+    ensures refused { IfErr result (RefusesPart SomeMethod setting.left setting.end (terminals tokens.now)) }
     ensures shorter { IfOk result (λ f. length f.1.now < length tokens.now) }
 {
-    let (heading, rest) = Heading::read(Setting { alloc, left, end }, tokens)?;
-    let (directives, rest) = directives(alloc, end, rest)?;
+    let (heading, rest) = Heading::read(setting, tokens)?;
+    let (directives, rest) = directives(setting, rest)?;
     Ok((
         Method {
             heading,
@@ -174,23 +151,19 @@ pub fn method<'a>(
 }
 
 /// All directives at the front. The word `inline` is a form that is left out.
-pub fn directives<'a>(
-    alloc: Global,
-    end: Place,
-    tokens: &'a [Token],
-) -> Result<(Directives, &'a [Token]), ParseError>
+pub fn directives<'a>(setting: Setting, tokens: &'a [Token]) -> Answer<'a, Directives>
     ensures whole { IfOk result (λ f. (d : ℕ) → SomeDirectives d f.0 (terminals tokens.now) (terminals f.1.now)) }
-    ensures refused { IfErr result (λ e. (d : ℕ) → Refuses SomeDirectives d end (terminals tokens.now) e) }
+    ensures refused { IfErr result (λ e. (d : ℕ) → RefusesPart SomeDirectives d setting.end (terminals tokens.now) e) }
     ensures shorter { IfOk result (λ f. length f.1.now ≤ length tokens.now) }
 {
-    let mut directives = Vec::new(alloc);
+    let mut directives = Vec::new(setting.alloc);
     let mut rest = tokens;
     while let Some((directive, behind)) = directive_at(rest) {
         directives.push(directive)?;
         rest = behind;
     }
     match behind_mark(Mark::Inline, rest) {
-        Some(_) => Err(left_out(ASSEMBLY, end, rest)),
+        Some(_) => Err(left_out(ASSEMBLY, setting.end, rest)),
         None => Ok((Directives::from(directives), rest)),
     }
 }

@@ -4,6 +4,7 @@ ghost use Rattle.op_base.specs.declared.place.Place.{Place};
 ghost use Rattle.op_parse_code.proofs.Refusing.{Seq};
 ghost use Rattle.op_parse_code.specs.Opening.{NotTighter};
 ghost use Rattle.op_parse_code.specs.Refusal.{Refuses, refused_at};
+ghost use Rattle.op_parse_decl.specs.Refusal.{RefusesPart};
 ghost use Rattle.op_parse_code.specs.Whole.{Chain, NoMark, Operand};
 ghost use Rattle.op_parse_code.specs.declared.mark.Mark.TheVariants as mark;
 ghost use Rattle.op_parse_decl.specs.Initials.{Around, AroundFirst, AroundOne, FieldsBehind, FitsItem, FitsRoom, InitialsBefore, RecordBehind, SomeValue, ValueOf, Within};
@@ -20,6 +21,7 @@ ghost use Rattle.op_tree.specs.declared.position.Position.{Position};
 
 use crate::nodes::{list_node, name_alone, record_value_node};
 use crate::opening::begins_expression;
+use crate::part::{Answer, Setting};
 use crate::stops::stop_expression;
 use op_base::Place;
 use op_parse_code::ParseError;
@@ -29,7 +31,6 @@ use op_parse_code::shared::{
 };
 use op_scan::Token;
 use op_tree::{Designator, Expr, FieldInitializer, Initializer, Level, Name, Position, Root};
-use std::alloc::Global;
 
 /// How deep lists and records may stand in one another where brackets may be those of an expression.
 #[derive(Clone, Copy, Debug)]
@@ -42,52 +43,45 @@ enum Room {
 
 /// A first value, before what belongs to no expression.
 #[cycle(initializer)]
-pub fn initial<'a>(
-    alloc: Global,
-    left: u32,
-    end: Place,
-    tokens: &'a [Token],
-) -> Result<(Initializer, &'a [Token]), ParseError>
-    ensures whole { IfOk result (λ f. SomeInitial left (initial_of f.0) (terminals tokens.now) (terminals f.1.now)) }
-    ensures refused { IfErr result (Refuses SomeInitial left end (terminals tokens.now)) }
+pub fn initial<'a>(setting: Setting, tokens: &'a [Token]) -> Answer<'a, Initializer>
+    ensures whole { IfOk result (λ f. SomeInitial setting.left (initial_of f.0) (terminals tokens.now) (terminals f.1.now)) }
+    ensures refused { IfErr result (RefusesPart SomeInitial setting.left setting.end (terminals tokens.now)) }
     ensures shorter { IfOk result (λ f. length f.1.now < length tokens.now) }
 {
     let Some((first, _)) = tokens.split_first() else {
-        return Err(syntax(end, tokens));
+        return Err(syntax(setting.end, tokens));
     };
     if !begins_expression(&first.kind) {
-        return Err(syntax(end, tokens));
+        return Err(syntax(setting.end, tokens));
     }
-    let inner = enter(left, end, tokens)?;
-    in_brackets(alloc, inner, Room::Left(left), end, tokens)
+    let left = enter(setting.left, setting.end, tokens)?;
+    in_brackets(
+        Setting { left, ..setting },
+        Room::Left(setting.left),
+        tokens,
+    )
 }
 
 /// A first value inside of brackets that may be those of an expression or of lists: what follows tells. `left` is the depth
 /// for an expression, `room` that for a list or a record.
 #[cycle(initializer)]
-fn in_brackets<'a>(
-    alloc: Global,
-    left: u32,
-    room: Room,
-    end: Place,
-    tokens: &'a [Token],
-) -> Result<(Initializer, &'a [Token]), ParseError>
-    ensures whole { IfOk result (λ f. Around room left (terminals tokens.now) (λ k. Within k left (initial_of f.0) (terminals tokens.now) (terminals f.1.now))) }
-    ensures refused { IfErr result (λ e. Around room left (terminals tokens.now) (λ k. Refuses (Within k) left end (terminals tokens.now) e)) }
+fn in_brackets<'a>(setting: Setting, room: Room, tokens: &'a [Token]) -> Answer<'a, Initializer>
+    ensures whole { IfOk result (λ f. Around room setting.left (terminals tokens.now) (λ k. Within k setting.left (initial_of f.0) (terminals tokens.now) (terminals f.1.now))) }
+    ensures refused { IfErr result (λ e. Around room setting.left (terminals tokens.now) (λ k. RefusesPart (Within k) setting.left setting.end (terminals tokens.now) e)) }
     ensures shorter { IfOk result (λ f. length f.1.now < length tokens.now) }
 {
     match behind_bracket(tokens) {
         None => {
-            let (value, rest) = value(alloc, left, end, tokens)?;
+            let (value, rest) = value(setting, tokens)?;
             Ok((Initializer::Value(value), rest))
         }
         Some((position, inside)) => {
-            let inner = enter(left, end, tokens)?;
+            let left = enter(setting.left, setting.end, tokens)?;
             let room = inside_bracket(room, position);
-            let (first, rest) = in_brackets(alloc, inner, room, end, inside)?;
+            let (first, rest) = in_brackets(Setting { left, ..setting }, room, inside)?;
             match behind_mark(Mark::CloseParenthesis, rest) {
-                Some(after) => closed(alloc, position, first, left, end, after),
-                None => list_or_record(alloc, position, first, room, end, inside, rest),
+                Some(after) => closed(setting, position, first, after),
+                None => list_or_record(setting, position, first, room, inside, rest),
             }
         }
     }
@@ -131,43 +125,42 @@ fn listed(room: Room) -> Result<u32, ParseError>
 }
 
 /// An expression, before what belongs to none.
-fn value<'a>(
-    alloc: Global,
-    left: u32,
-    end: Place,
-    tokens: &'a [Token],
-) -> Result<(Expr, &'a [Token]), ParseError>
-    ensures whole { IfOk result (λ f. SomeValue left (expr_of f.0) (terminals tokens.now) (terminals f.1.now)) }
-    ensures refused { IfErr result (Refuses SomeValue left end (terminals tokens.now)) }
+fn value<'a>(setting: Setting, tokens: &'a [Token]) -> Answer<'a, Expr>
+    ensures whole { IfOk result (λ f. SomeValue setting.left (expr_of f.0) (terminals tokens.now) (terminals f.1.now)) }
+    ensures refused { IfErr result (Refuses SomeValue setting.left setting.end (terminals tokens.now)) }
     ensures shorter { IfOk result (λ f. length f.1.now < length tokens.now) }
 {
-    let (value, rest) = chain(alloc, Level::Relational, left, end, tokens)?;
-    stop_expression(end, rest)?;
+    let (value, rest) = chain(
+        setting.alloc,
+        Level::Relational,
+        setting.left,
+        setting.end,
+        tokens,
+    )?;
+    stop_expression(setting.end, rest)?;
     Ok((value, rest))
 }
 
 /// What a first value and brackets round it are: the expression in brackets, with what belongs to it, or a list of one.
 fn closed<'a>(
-    alloc: Global,
+    setting: Setting,
     position: Position,
     inside: Initializer,
-    left: u32,
-    end: Place,
     tokens: &'a [Token],
-) -> Result<(Initializer, &'a [Token]), ParseError>
-    ensures whole { IfOk result (λ f. AroundOne position left (initial_of inside) (terminals tokens.now) (λ k ks. Within k left (initial_of f.0) ks (terminals f.1.now))) }
-    ensures refused { IfErr result (λ e. AroundOne position left (initial_of inside) (terminals tokens.now) (λ k ks. Refuses (Within k) left end ks e)) }
+) -> Answer<'a, Initializer>
+    ensures whole { IfOk result (λ f. AroundOne position setting.left (initial_of inside) (terminals tokens.now) (λ k ks. Within k setting.left (initial_of f.0) ks (terminals f.1.now))) }
+    ensures refused { IfErr result (λ e. AroundOne position setting.left (initial_of inside) (terminals tokens.now) (λ k ks. RefusesPart (Within k) setting.left setting.end ks e)) }
     ensures shorter { IfOk result (λ f. length f.1.now ≤ length tokens.now) }
 {
     match inside {
         Initializer::Value(expression) => {
-            let root = bracketed_node(alloc, position, expression)?;
-            let (value, rest) = behind_root(alloc, root, left, end, tokens)?;
+            let root = bracketed_node(setting.alloc, position, expression)?;
+            let (value, rest) = behind_root(setting, root, tokens)?;
             Ok((Initializer::Value(value), rest))
         }
         item => {
-            stop_expression(end, tokens)?;
-            let list = list_node(position, item, Vec::new(alloc))?;
+            stop_expression(setting.end, tokens)?;
+            let list = list_node(position, item, Vec::new(setting.alloc))?;
             Ok((list, tokens))
         }
     }
@@ -176,51 +169,45 @@ fn closed<'a>(
 /// A list or a record, from what follows the first value in its brackets, which is no closing bracket.
 #[cycle(initializer)]
 fn list_or_record<'a>(
-    alloc: Global,
+    setting: Setting,
     position: Position,
     first: Initializer,
     room: Room,
-    end: Place,
     inside: &'a [Token],
     tokens: &'a [Token],
-) -> Result<(Initializer, &'a [Token]), ParseError>
+) -> Answer<'a, Initializer>
     requires closes { NoMark mark.CloseParenthesis (terminals tokens.now) }
     ensures whole { IfOk result (λ f. AroundFirst position room (initial_of first) (terminals inside.now) (terminals tokens.now) (λ k d ks. Within k d (initial_of f.0) ks (terminals f.1.now))) }
-    ensures refused { IfErr result (λ e. AroundFirst position room (initial_of first) (terminals inside.now) (terminals tokens.now) (λ k d ks. Refuses (Within k) d end ks e)) }
+    ensures refused { IfErr result (λ e. AroundFirst position room (initial_of first) (terminals inside.now) (terminals tokens.now) (λ k d ks. RefusesPart (Within k) d setting.end ks e)) }
     ensures shorter { IfOk result (λ f. length f.1.now < length tokens.now) }
 {
     match behind_mark(Mark::Colon, tokens) {
         Some(after) => {
             let Some(name) = name_alone(first) else {
-                return Err(syntax(end, tokens));
+                return Err(syntax(setting.end, tokens));
             };
             let left = listed(room)?;
-            record(alloc, position, name, left, end, after)
+            record(Setting { left, ..setting }, position, name, after)
         }
         None => {
-            let after = after_mark(Mark::Comma, end, tokens)?;
+            let after = after_mark(Mark::Comma, setting.end, tokens)?;
             let left = listed(room)?;
-            fits(alloc, &first, left, end, inside)?;
-            list(alloc, position, first, left, end, after)
+            let setting = Setting { left, ..setting };
+            fits(setting, &first, inside)?;
+            list(setting, position, first, after)
         }
     }
 }
 
 /// An expression at the front is not too deep for an item of a list: that is seen when it is read again, to that depth.
-fn fits(
-    alloc: Global,
-    first: &Initializer,
-    left: u32,
-    end: Place,
-    tokens: &[Token],
-) -> Result<(), ParseError>
-    ensures fits { IfOk result (λ _. FitsItem left (initial_of first.now) (terminals tokens.now)) }
-    ensures refused { IfErr result (λ e. (x : Expression) × (initial_of first.now ≡ value x) × Refuses ValueOf left end (terminals tokens.now) e) }
+fn fits(setting: Setting, first: &Initializer, tokens: &[Token]) -> Result<(), ParseError>
+    ensures fits { IfOk result (λ _. FitsItem setting.left (initial_of first.now) (terminals tokens.now)) }
+    ensures refused { IfErr result (λ e. (x : Expression) × (initial_of first.now ≡ value x) × Refuses ValueOf setting.left setting.end (terminals tokens.now) e) }
 {
     match first {
         Initializer::Value(_) => {
-            let inner = enter(left, end, tokens)?;
-            value(alloc, inner, end, tokens)?;
+            let left = enter(setting.left, setting.end, tokens)?;
+            value(Setting { left, ..setting }, tokens)?;
             Ok(())
         }
         _ => Ok(()),
@@ -230,44 +217,37 @@ fn fits(
 /// A list, from what stands behind the comma after its first item.
 #[cycle(initializer)]
 fn list<'a>(
-    alloc: Global,
+    setting: Setting,
     position: Position,
     first: Initializer,
-    left: u32,
-    end: Place,
     tokens: &'a [Token],
-) -> Result<(Initializer, &'a [Token]), ParseError>
-    ensures whole { IfOk result (λ f. (others : Initials) × (initial_of f.0 ≡ list position (initials (initial_of first) others)) × InitialsBefore left others (terminals tokens.now) (terminals f.1.now) × Stops (terminals f.1.now)) }
-    ensures refused { IfErr result (Refuses (Seq InitialsBefore NoMoreExpression) left end (terminals tokens.now)) }
+) -> Answer<'a, Initializer>
+    ensures whole { IfOk result (λ f. (others : Initials) × (initial_of f.0 ≡ list position (initials (initial_of first) others)) × InitialsBefore setting.left others (terminals tokens.now) (terminals f.1.now) × Stops (terminals f.1.now)) }
+    ensures refused { IfErr result (RefusesPart (Seq InitialsBefore NoMoreExpression) setting.left setting.end (terminals tokens.now)) }
     ensures shorter { IfOk result (λ f. length f.1.now < length tokens.now) }
 {
-    let (others, rest) = items(alloc, left, end, tokens)?;
-    stop_expression(end, rest)?;
+    let (others, rest) = items(setting, tokens)?;
+    stop_expression(setting.end, rest)?;
     let list = list_node(position, first, others)?;
     Ok((list, rest))
 }
 
 /// Items of a list, up to the closing bracket, and what stands behind it.
 #[cycle(initializer)]
-fn items<'a>(
-    alloc: Global,
-    left: u32,
-    end: Place,
-    tokens: &'a [Token],
-) -> Result<(Vec<Initializer>, &'a [Token]), ParseError>
-    ensures whole { IfOk result (λ f. InitialsBefore left (initials_of f.0.items) (terminals tokens.now) (terminals f.1.now)) }
-    ensures refused { IfErr result (Refuses InitialsBefore left end (terminals tokens.now)) }
+fn items<'a>(setting: Setting, tokens: &'a [Token]) -> Answer<'a, Vec<Initializer>>
+    ensures whole { IfOk result (λ f. InitialsBefore setting.left (initials_of f.0.items) (terminals tokens.now) (terminals f.1.now)) }
+    ensures refused { IfErr result (RefusesPart InitialsBefore setting.left setting.end (terminals tokens.now)) }
     ensures shorter { IfOk result (λ f. length f.1.now < length tokens.now) }
 {
-    let mut items = Vec::new(alloc);
+    let mut items = Vec::new(setting.alloc);
     let mut rest = tokens;
     loop {
-        let (item, behind) = initial(alloc, left, end, rest)?;
+        let (item, behind) = initial(setting, rest)?;
         items.push(item)?;
         match behind_mark(Mark::Comma, behind) {
             Some(after) => rest = after,
             None => {
-                let rest = after_mark(Mark::CloseParenthesis, end, behind)?;
+                let rest = after_mark(Mark::CloseParenthesis, setting.end, behind)?;
                 return Ok((items, rest));
             }
         }
@@ -277,86 +257,71 @@ fn items<'a>(
 /// A record, from what stands behind the colon after the name of its first field.
 #[cycle(initializer)]
 fn record<'a>(
-    alloc: Global,
+    setting: Setting,
     position: Position,
     name: Name,
-    left: u32,
-    end: Place,
     tokens: &'a [Token],
-) -> Result<(Initializer, &'a [Token]), ParseError>
-    ensures whole { IfOk result (λ f. (q : Position) → (fs : FieldInitials) × (initial_of f.0 ≡ record_ position fs) × RecordBehind name q left fs (terminals tokens.now) (terminals f.1.now)) }
-    ensures refused { IfErr result (λ e. (q : Position) → Refuses (RecordBehind name q) left end (terminals tokens.now) e) }
+) -> Answer<'a, Initializer>
+    ensures whole { IfOk result (λ f. (q : Position) → (fs : FieldInitials) × (initial_of f.0 ≡ record_ position fs) × RecordBehind name q setting.left fs (terminals tokens.now) (terminals f.1.now)) }
+    ensures refused { IfErr result (λ e. (q : Position) → RefusesPart (RecordBehind name q) setting.left setting.end (terminals tokens.now) e) }
     ensures shorter { IfOk result (λ f. length f.1.now < length tokens.now) }
 {
-    let (value, rest) = initial(alloc, left, end, tokens)?;
-    let (others, rest) = more_fields(alloc, left, end, rest)?;
-    stop_expression(end, rest)?;
+    let (value, rest) = initial(setting, tokens)?;
+    let (others, rest) = more_fields(setting, rest)?;
+    stop_expression(setting.end, rest)?;
     let record = record_value_node(position, FieldInitializer { name, value }, others)?;
     Ok((record, rest))
 }
 
 /// The fields behind one, up to the closing bracket, and what stands behind it.
 #[cycle(initializer)]
-fn more_fields<'a>(
-    alloc: Global,
-    left: u32,
-    end: Place,
-    tokens: &'a [Token],
-) -> Result<(Vec<FieldInitializer>, &'a [Token]), ParseError>
-    ensures whole { IfOk result (λ f. FieldsBehind left (field_initials_of f.0.items) (terminals tokens.now) (terminals f.1.now)) }
-    ensures refused { IfErr result (Refuses FieldsBehind left end (terminals tokens.now)) }
+fn more_fields<'a>(setting: Setting, tokens: &'a [Token]) -> Answer<'a, Vec<FieldInitializer>>
+    ensures whole { IfOk result (λ f. FieldsBehind setting.left (field_initials_of f.0.items) (terminals tokens.now) (terminals f.1.now)) }
+    ensures refused { IfErr result (RefusesPart FieldsBehind setting.left setting.end (terminals tokens.now)) }
     ensures shorter { IfOk result (λ f. length f.1.now < length tokens.now) }
 {
-    let mut fields = Vec::new(alloc);
+    let mut fields = Vec::new(setting.alloc);
     let mut rest = tokens;
     while let Some(after) = behind_mark(Mark::Semicolon, rest) {
-        let (name, behind) = name(alloc, end, after)?;
-        let behind = after_mark(Mark::Colon, end, behind)?;
-        let (value, behind) = initial(alloc, left, end, behind)?;
+        let (name, behind) = name(setting.alloc, setting.end, after)?;
+        let behind = after_mark(Mark::Colon, setting.end, behind)?;
+        let (value, behind) = initial(setting, behind)?;
         fields.push(FieldInitializer { name, value })?;
         rest = behind;
     }
-    let rest = after_mark(Mark::CloseParenthesis, end, rest)?;
+    let rest = after_mark(Mark::CloseParenthesis, setting.end, rest)?;
     Ok((fields, rest))
 }
 
 /// The expression that begins with a root in brackets, from the tokens behind the root.
-fn behind_root<'a>(
-    alloc: Global,
-    root: Root,
-    left: u32,
-    end: Place,
-    tokens: &'a [Token],
-) -> Result<(Expr, &'a [Token]), ParseError>
-    ensures whole { IfOk result (λ f. (ks : List Terminal) → IsRoot left (root_of root) ks (terminals tokens.now) → SomeValue left (expr_of f.0) ks (terminals f.1.now)) }
-    ensures refused { IfErr result (λ e. (ks : List Terminal) → IsRoot left (root_of root) ks (terminals tokens.now) → Refuses SomeValue left end ks e) }
+fn behind_root<'a>(setting: Setting, root: Root, tokens: &'a [Token]) -> Answer<'a, Expr>
+    ensures whole { IfOk result (λ f. (ks : List Terminal) → IsRoot setting.left (root_of root) ks (terminals tokens.now) → SomeValue setting.left (expr_of f.0) ks (terminals f.1.now)) }
+    ensures refused { IfErr result (λ e. (ks : List Terminal) → IsRoot setting.left (root_of root) ks (terminals tokens.now) → Refuses SomeValue setting.left setting.end ks e) }
     ensures shorter { IfOk result (λ f. length f.1.now ≤ length tokens.now) }
 {
-    let (selectors, rest) = selectors(alloc, left, end, tokens)?;
+    let (selectors, rest) = selectors(setting.alloc, setting.left, setting.end, tokens)?;
     let factor = designator_node(Designator { root, selectors });
-    let (term, rest) = behind_operand(alloc, Level::Multiplicative, factor, left, end, rest)?;
-    let (simple, rest) = behind_operand(alloc, Level::Additive, term, left, end, rest)?;
-    let (value, rest) = behind_operand(alloc, Level::Relational, simple, left, end, rest)?;
-    stop_expression(end, rest)?;
+    let (term, rest) = behind_operand(setting, Level::Multiplicative, factor, rest)?;
+    let (simple, rest) = behind_operand(setting, Level::Additive, term, rest)?;
+    let (value, rest) = behind_operand(setting, Level::Relational, simple, rest)?;
+    stop_expression(setting.end, rest)?;
     Ok((value, rest))
 }
 
 /// The chain of a level that begins with an operand, from the tokens behind the operand.
 fn behind_operand<'a>(
-    alloc: Global,
+    setting: Setting,
     level: Level,
     first: Expr,
-    left: u32,
-    end: Place,
     tokens: &'a [Token],
-) -> Result<(Expr, &'a [Token]), ParseError>
+) -> Answer<'a, Expr>
     requires follows { NotTighter level (terminals tokens.now) }
-    ensures whole { IfOk result (λ f. (ks : List Terminal) → Operand level left (expr_of first) ks (terminals tokens.now) → Chain level left (expr_of f.0) ks (terminals f.1.now)) }
-    ensures refused { IfErr result (λ e. (ks : List Terminal) → Operand level left (expr_of first) ks (terminals tokens.now) → Refuses (Chain level) left end ks e) }
+    ensures whole { IfOk result (λ f. (ks : List Terminal) → Operand level setting.left (expr_of first) ks (terminals tokens.now) → Chain level setting.left (expr_of f.0) ks (terminals f.1.now)) }
+    ensures refused { IfErr result (λ e. (ks : List Terminal) → Operand level setting.left (expr_of first) ks (terminals tokens.now) → Refuses (Chain level) setting.left setting.end ks e) }
     ensures ends { IfOk result (λ f. IsNot (binds level) (terminals f.1.now)) }
     ensures shorter { IfOk result (λ f. length f.1.now ≤ length tokens.now) }
 {
-    let (others, rest) = operations(alloc, level, left, end, tokens)?;
-    let chain = chain_node(alloc, first, others)?;
+    let (others, rest) = operations(setting.alloc, level, setting.left, setting.end, tokens)?;
+    let chain = chain_node(setting.alloc, first, others)?;
     Ok((chain, rest))
 }

@@ -1,9 +1,12 @@
 //! Interfaces (Free Pascal Reference Guide, "Interfaces").
-ghost use Rattle.std.specs.Prelude.{◌≡◌, ◌+◌, ◌≤◌, ℕ, IfOk, IfErr, List, Option, length};
+ghost use Rattle.std.specs.Prelude.{IfErr, IfOk, List, Option, length, ℕ, ◌+◌, ◌≡◌, ◌≤◌};
 ghost use Rattle.op_parse_code.specs.Refusal.{Refuses};
-ghost use Rattle.op_parse_decl.specs.Interfaces.{InterfaceBefore, bodiless, is_literal};
+ghost use Rattle.op_parse_decl.specs.Combined.{Both, both};
+ghost use Rattle.op_parse_decl.specs.InterfaceParts.{known_interface, known_literal, made_head};
+ghost use Rattle.op_parse_decl.specs.Interfaces.{InterfaceBefore, IsLiteral, SomeInterfaceHead, bodiless, is_literal};
 ghost use Rattle.op_tree.specs.Declaration.{TypeDefinition, definition_of};
 ghost use Rattle.op_tree.specs.Terminal.{terminals};
+ghost use Rattle.op_tree.specs.declared.position.Name.{Name};
 
 use crate::choice::{Ahead, Empty, Nested, Unless};
 use crate::declared_form::INTERFACE_PROPERTY;
@@ -23,16 +26,11 @@ pub struct Literal {
 }
 
 impl Part for Literal {
-    ghost use Rattle.op_parse_decl.specs.InterfaceParts.{known_literal};
-    ghost use Rattle.op_parse_decl.specs.Interfaces.{IsLiteral};
-
     ghost Said = { List ℕ };
 
     ghost says = { λ x. x.text };
 
     ghost phrase = { IsLiteral };
-
-    ghost least = { 1 };
 
     fn read<'a>(setting: Setting, tokens: &'a [Token]) -> Answer<'a, Literal> {
         let Some((first, rest)) = tokens.split_first() else {
@@ -62,11 +60,6 @@ pub struct InterfaceHead {
 }
 
 impl Made for InterfaceHead {
-    ghost use Rattle.op_parse_decl.specs.Combined.{Both, both};
-    ghost use Rattle.op_parse_decl.specs.InterfaceParts.{made_head};
-    ghost use Rattle.op_parse_decl.specs.Interfaces.{SomeInterfaceHead};
-    ghost use Rattle.op_tree.specs.declared.position.Name.{Name};
-
     type Parts = (
         Stands<sign::Interface>,
         (
@@ -135,15 +128,11 @@ pub struct InterfaceWhole {
 }
 
 impl Part for InterfaceWhole {
-    ghost use Rattle.op_parse_decl.specs.InterfaceParts.{known_interface};
-
     ghost Said = { TypeDefinition };
 
     ghost says = { λ x. definition_of x.definition };
 
     ghost phrase = { InterfaceBefore };
-
-    ghost least = { 1 };
 
     fn read<'a>(setting: Setting, tokens: &'a [Token]) -> Answer<'a, InterfaceWhole> {
         let (head, behind) = InterfaceHead::read(setting, tokens)?;

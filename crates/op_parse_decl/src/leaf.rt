@@ -1,7 +1,22 @@
 //! The parts that are no others put together.
-ghost use Rattle.std.specs.Prelude.{◌≡◌, ℕ, List};
-ghost use Rattle.op_parse_decl.specs.Declarations.{directive_at};
+ghost use Rattle.std.proofs.Common.{suc-le-suc, zero-le};
+ghost use Rattle.std.specs.Prelude.{List, ℕ, ◌≡◌};
+ghost use Rattle.op_parse_code.proofs.StatementKnown.{known_name, known_statements};
+ghost use Rattle.op_parse_code.specs.Whole.{SomeName};
+ghost use Rattle.op_parse_code.specs.WholeStatement.{SomeStatements};
+ghost use Rattle.op_parse_decl.specs.Declarations.{OneDirective, StandsHere, directive_at, is_directive};
+ghost use Rattle.op_parse_decl.specs.InitialKnown.{known_initial};
+ghost use Rattle.op_parse_decl.specs.KnownLeaves.{known_directive, known_here};
+ghost use Rattle.op_parse_decl.specs.KnownTypes.{known_bracketed_names, known_denoter, known_names};
+ghost use Rattle.op_parse_decl.specs.Opening.{is_open};
+ghost use Rattle.op_parse_decl.specs.Types.{SomeBracketedNames, SomeDenoter, SomeInitial, SomeNames};
+ghost use Rattle.op_tree.specs.Denoter.{Denoter, denoter_of};
+ghost use Rattle.op_tree.specs.Initial.{Initial, initial_of};
+ghost use Rattle.op_tree.specs.Statement.{Statements, stmts_of};
 ghost use Rattle.op_tree.specs.Terminal.{terminals};
+ghost use Rattle.op_tree.specs.declared.heading.Directive.{Directive};
+ghost use Rattle.op_tree.specs.declared.position.Name.{Name};
+ghost use Rattle.op_tree.specs.declared.position.Position.{Position};
 
 use crate::denoter::denoter;
 use crate::heading::directive_of;
@@ -13,17 +28,11 @@ use op_scan::{Token, TokenKind};
 use op_tree::{Directive, Initializer, Name, Names, Position, Stmt, TypeDenoter};
 
 impl Part for Name {
-    ghost use Rattle.op_parse_code.specs.Whole.{SomeName};
-    ghost use Rattle.op_parse_code.proofs.StatementKnown.{known_name};
-    ghost use Rattle.op_tree.specs.declared.position.Name.{Name};
-
     ghost Said = { Name };
 
     ghost says = { λ x. x };
 
     ghost phrase = { SomeName };
-
-    ghost least = { 1 };
 
     fn read<'a>(setting: Setting, tokens: &'a [Token]) -> Answer<'a, Name> {
         name(setting.alloc, setting.end, tokens)
@@ -33,20 +42,14 @@ impl Part for Name {
 }
 
 impl Part for Names {
-    ghost use Rattle.op_parse_decl.specs.KnownTypes.{known_names};
-    ghost use Rattle.op_parse_decl.specs.Types.{SomeNames};
-    ghost use Rattle.op_tree.specs.declared.position.Name.{Name};
-
     ghost Said = { List Name };
 
     ghost says = { λ x. x };
 
     ghost phrase = { SomeNames };
 
-    ghost least = { 1 };
-
     fn read<'a>(setting: Setting, tokens: &'a [Token]) -> Answer<'a, Names> {
-        let (names, rest) = names(setting.alloc, setting.end, tokens)?;
+        let (names, rest) = names(setting, tokens)?;
         Ok((names, rest))
     }
 
@@ -54,40 +57,28 @@ impl Part for Names {
 }
 
 impl Part for TypeDenoter {
-    ghost use Rattle.op_parse_decl.specs.KnownTypes.{known_denoter};
-    ghost use Rattle.op_parse_decl.specs.Types.{SomeDenoter};
-    ghost use Rattle.op_tree.specs.Denoter.{Denoter, denoter_of};
-
     ghost Said = { Denoter };
 
     ghost says = { denoter_of };
 
     ghost phrase = { SomeDenoter };
 
-    ghost least = { 1 };
-
     fn read<'a>(setting: Setting, tokens: &'a [Token]) -> Answer<'a, TypeDenoter> {
-        denoter(setting.alloc, setting.left, setting.end, tokens)
+        denoter(setting, tokens)
     }
 
     ghost known = { known_denoter };
 }
 
 impl Part for Initializer {
-    ghost use Rattle.op_parse_decl.specs.InitialKnown.{known_initial};
-    ghost use Rattle.op_parse_decl.specs.Types.{SomeInitial};
-    ghost use Rattle.op_tree.specs.Initial.{Initial, initial_of};
-
     ghost Said = { Initial };
 
     ghost says = { initial_of };
 
     ghost phrase = { SomeInitial };
 
-    ghost least = { 1 };
-
     fn read<'a>(setting: Setting, tokens: &'a [Token]) -> Answer<'a, Initializer> {
-        initial(setting.alloc, setting.left, setting.end, tokens)
+        initial(setting, tokens)
     }
 
     ghost known = { known_initial };
@@ -100,20 +91,14 @@ pub struct BracketedNames {
 }
 
 impl Part for BracketedNames {
-    ghost use Rattle.op_parse_decl.specs.KnownTypes.{known_bracketed_names};
-    ghost use Rattle.op_parse_decl.specs.Types.{SomeBracketedNames};
-    ghost use Rattle.op_tree.specs.declared.position.Name.{Name};
-
     ghost Said = { List Name };
 
     ghost says = { λ x. x.names };
 
     ghost phrase = { SomeBracketedNames };
 
-    ghost least = { 1 };
-
     fn read<'a>(setting: Setting, tokens: &'a [Token]) -> Answer<'a, BracketedNames> {
-        let (names, rest) = bracketed_names(setting.alloc, setting.left, setting.end, tokens)?;
+        let (names, rest) = bracketed_names(setting, tokens)?;
         Ok((BracketedNames { names }, rest))
     }
 
@@ -121,9 +106,6 @@ impl Part for BracketedNames {
 }
 
 impl Item for BracketedNames {
-    ghost use Rattle.std.proofs.Common.{suc-le-suc, zero-le};
-    ghost use Rattle.op_parse_decl.specs.Opening.{is_open};
-
     ghost test = { is_open };
 
     fn opens(kind: &TokenKind) -> bool {
@@ -140,10 +122,6 @@ pub struct Statements {
 }
 
 impl Part for Statements {
-    ghost use Rattle.op_parse_code.specs.WholeStatement.{SomeStatements};
-    ghost use Rattle.op_parse_code.proofs.StatementKnown.{known_statements};
-    ghost use Rattle.op_tree.specs.Statement.{Statements, stmts_of};
-
     ghost Said = { Statements };
 
     ghost says = { λ x. stmts_of x.items.items };
@@ -171,17 +149,11 @@ fn directive_at(kind: &TokenKind) -> Option<Directive>
 }
 
 impl Part for Directive {
-    ghost use Rattle.op_parse_decl.specs.Declarations.{OneDirective};
-    ghost use Rattle.op_parse_decl.specs.KnownLeaves.{known_directive};
-    ghost use Rattle.op_tree.specs.declared.heading.Directive.{Directive};
-
     ghost Said = { Directive };
 
     ghost says = { λ x. x };
 
     ghost phrase = { OneDirective };
-
-    ghost least = { 1 };
 
     fn read<'a>(setting: Setting, tokens: &'a [Token]) -> Answer<'a, Directive> {
         let Some((first, rest)) = tokens.split_first() else {
@@ -198,9 +170,6 @@ impl Part for Directive {
 }
 
 impl Item for Directive {
-    ghost use Rattle.std.proofs.Common.{suc-le-suc, zero-le};
-    ghost use Rattle.op_parse_decl.specs.Declarations.{is_directive};
-
     ghost test = { is_directive };
 
     fn opens(kind: &TokenKind) -> bool {
@@ -217,10 +186,6 @@ pub struct Here {
 }
 
 impl Part for Here {
-    ghost use Rattle.op_parse_decl.specs.Declarations.{StandsHere};
-    ghost use Rattle.op_parse_decl.specs.KnownLeaves.{known_here};
-    ghost use Rattle.op_tree.specs.declared.position.Position.{Position};
-
     ghost Said = { Position };
 
     ghost says = { λ x. x.position };

@@ -4,28 +4,22 @@ ghost use Rattle.op_parse_code.specs.Refusal.{Refuses};
 ghost use Rattle.op_parse_decl.specs.Types.{SomeBracketedNames, SomeNames, SomeQualified};
 ghost use Rattle.op_tree.specs.Terminal.{terminals};
 
+use crate::part::{Answer, Setting};
 use crate::stops::no_dot;
-use op_base::Place;
-use op_parse_code::ParseError;
 use op_parse_code::shared::{Mark, after_mark, behind_mark, enter, name};
 use op_scan::Token;
 use op_tree::{Names, QualifiedName};
-use std::alloc::Global;
 
 /// Names with commas between them.
-pub fn names<'a>(
-    alloc: Global,
-    end: Place,
-    tokens: &'a [Token],
-) -> Result<(Names, &'a [Token]), ParseError>
+pub fn names<'a>(setting: Setting, tokens: &'a [Token]) -> Answer<'a, Names>
     ensures whole { IfOk result (λ f. (d : ℕ) → SomeNames d f.0 (terminals tokens.now) (terminals f.1.now)) }
-    ensures refused { IfErr result (λ e. (d : ℕ) → Refuses SomeNames d end (terminals tokens.now) e) }
+    ensures refused { IfErr result (λ e. (d : ℕ) → Refuses SomeNames d setting.end (terminals tokens.now) e) }
     ensures shorter { IfOk result (λ f. length f.1.now < length tokens.now) }
 {
-    let mut names = Vec::new(alloc);
+    let mut names = Vec::new(setting.alloc);
     let mut rest = tokens;
     loop {
-        let (name, behind) = name(alloc, end, rest)?;
+        let (name, behind) = name(setting.alloc, setting.end, rest)?;
         names.push(name)?;
         match behind_mark(Mark::Comma, behind) {
             Some(after) => rest = after,
@@ -35,34 +29,25 @@ pub fn names<'a>(
 }
 
 /// Names in brackets, at least one.
-pub fn bracketed_names<'a>(
-    alloc: Global,
-    left: u32,
-    end: Place,
-    tokens: &'a [Token],
-) -> Result<(Names, &'a [Token]), ParseError>
-    ensures whole { IfOk result (λ f. SomeBracketedNames left f.0 (terminals tokens.now) (terminals f.1.now)) }
-    ensures refused { IfErr result (Refuses SomeBracketedNames left end (terminals tokens.now)) }
+pub fn bracketed_names<'a>(setting: Setting, tokens: &'a [Token]) -> Answer<'a, Names>
+    ensures whole { IfOk result (λ f. SomeBracketedNames setting.left f.0 (terminals tokens.now) (terminals f.1.now)) }
+    ensures refused { IfErr result (Refuses SomeBracketedNames setting.left setting.end (terminals tokens.now)) }
     ensures shorter { IfOk result (λ f. length f.1.now < length tokens.now) }
 {
-    let rest = after_mark(Mark::OpenParenthesis, end, tokens)?;
-    enter(left, end, tokens)?;
-    let (names, rest) = names(alloc, end, rest)?;
-    let rest = after_mark(Mark::CloseParenthesis, end, rest)?;
+    let rest = after_mark(Mark::OpenParenthesis, setting.end, tokens)?;
+    enter(setting.left, setting.end, tokens)?;
+    let (names, rest) = names(setting, rest)?;
+    let rest = after_mark(Mark::CloseParenthesis, setting.end, rest)?;
     Ok((names, rest))
 }
 
 /// A name, or a unit's name, a dot and a name.
-pub fn qualified<'a>(
-    alloc: Global,
-    end: Place,
-    tokens: &'a [Token],
-) -> Result<(QualifiedName, &'a [Token]), ParseError>
+pub fn qualified<'a>(setting: Setting, tokens: &'a [Token]) -> Answer<'a, QualifiedName>
     ensures whole { IfOk result (λ f. (d : ℕ) → SomeQualified d f.0 (terminals tokens.now) (terminals f.1.now)) }
-    ensures refused { IfErr result (λ e. (d : ℕ) → Refuses SomeQualified d end (terminals tokens.now) e) }
+    ensures refused { IfErr result (λ e. (d : ℕ) → Refuses SomeQualified d setting.end (terminals tokens.now) e) }
     ensures shorter { IfOk result (λ f. length f.1.now < length tokens.now) }
 {
-    let (first, rest) = name(alloc, end, tokens)?;
+    let (first, rest) = name(setting.alloc, setting.end, tokens)?;
     let Some(after) = behind_mark(Mark::Dot, rest) else {
         return Ok((
             QualifiedName {
@@ -72,8 +57,8 @@ pub fn qualified<'a>(
             rest,
         ));
     };
-    let (second, rest) = name(alloc, end, after)?;
-    no_dot(end, rest)?;
+    let (second, rest) = name(setting.alloc, setting.end, after)?;
+    no_dot(setting.end, rest)?;
     Ok((
         QualifiedName {
             unit: Some(first),

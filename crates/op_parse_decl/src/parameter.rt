@@ -1,8 +1,15 @@
 //! Parameters of routines (Free Pascal Reference Guide, "Parameter lists").
-ghost use Rattle.std.specs.Prelude.{◌≡◌, ◌≤◌, IfSome, List, MatchOption, length};
-ghost use Rattle.op_parse_decl.specs.Headings.{NoOut, SomeMode, is_string};
+ghost use Rattle.std.specs.Prelude.{IfSome, List, MatchOption, length, ◌≡◌, ◌≤◌};
+ghost use Rattle.op_parse_decl.specs.Combined.{Both, both};
+ghost use Rattle.op_parse_decl.specs.HeadingKnown.{known_moded, known_parameter_type};
+ghost use Rattle.op_parse_decl.specs.HeadingParts.{known_part, made_parameter, made_part};
+ghost use Rattle.op_parse_decl.specs.Headings.{NoOut, SomeMode, SomeModed, SomeParameter, SomeParameterPart, SomeParameterType, is_string};
 ghost use Rattle.op_tree.specs.Terminal.{terminals};
+ghost use Rattle.op_tree.specs.declared.heading.Parameter.{Parameter};
+ghost use Rattle.op_tree.specs.declared.heading.ParameterMode.{ParameterMode};
 ghost use Rattle.op_tree.specs.declared.heading.ParameterMode.TheVariants as mode;
+ghost use Rattle.op_tree.specs.declared.heading.ParameterType.{ParameterType};
+ghost use Rattle.op_tree.specs.declared.position.Name.{Name};
 
 use crate::choice::{Ahead, Empty, Form, FormBehind, Nested, Unbroken, Unless};
 use crate::form::{ARRAY_OF_CONST, DEFAULT_PARAMETER};
@@ -26,19 +33,11 @@ pub struct Moded {
 }
 
 impl Part for Moded {
-    ghost use Rattle.op_parse_decl.specs.Combined.{Both, both};
-    ghost use Rattle.op_parse_decl.specs.HeadingKnown.{known_moded};
-    ghost use Rattle.op_parse_decl.specs.Headings.{SomeModed};
-    ghost use Rattle.op_tree.specs.declared.heading.ParameterMode.{ParameterMode};
-    ghost use Rattle.op_tree.specs.declared.position.Name.{Name};
-
     ghost Said = { Both ParameterMode (List Name) };
 
     ghost says = { λ x. both x.mode x.names };
 
     ghost phrase = { SomeModed };
-
-    ghost least = { 1 };
 
     fn read<'a>(setting: Setting, tokens: &'a [Token]) -> Answer<'a, Moded> {
         let (mode, rest) = parameter_mode(tokens);
@@ -98,17 +97,11 @@ impl Form for ArrayOfConst {
 
 /// A name, or the word `string`.
 impl Part for ParameterType {
-    ghost use Rattle.op_parse_decl.specs.HeadingKnown.{known_parameter_type};
-    ghost use Rattle.op_parse_decl.specs.Headings.{SomeParameterType};
-    ghost use Rattle.op_tree.specs.declared.heading.ParameterType.{ParameterType};
-
     ghost Said = { ParameterType };
 
     ghost says = { λ x. x };
 
     ghost phrase = { SomeParameterType };
-
-    ghost least = { 1 };
 
     fn read<'a>(setting: Setting, tokens: &'a [Token]) -> Answer<'a, ParameterType> {
         let Some((first, rest)) = tokens.split_first() else {
@@ -122,7 +115,7 @@ impl Part for ParameterType {
         if is_specialized(tokens) {
             return Err(left_out(GENERIC, setting.end, tokens));
         }
-        let (name, rest) = qualified(setting.alloc, setting.end, tokens)?;
+        let (name, rest) = qualified(setting, tokens)?;
         Ok((ParameterType::Named(name), rest))
     }
 
@@ -137,10 +130,6 @@ fn is_string(kind: &TokenKind) -> bool
 
 /// Parameters of one mode and type.
 impl Made for Parameter {
-    ghost use Rattle.op_parse_decl.specs.HeadingParts.{made_parameter};
-    ghost use Rattle.op_parse_decl.specs.Headings.{SomeParameter};
-    ghost use Rattle.op_tree.specs.declared.heading.Parameter.{Parameter};
-
     type Parts = (
         Moded,
         (
@@ -201,10 +190,6 @@ struct ParameterPart {
 }
 
 impl Made for ParameterPart {
-    ghost use Rattle.op_parse_decl.specs.HeadingParts.{made_part};
-    ghost use Rattle.op_parse_decl.specs.Headings.{SomeParameterPart};
-    ghost use Rattle.op_tree.specs.declared.heading.Parameter.{Parameter};
-
     type Parts = Ahead<
         sign::OpenParenthesis,
         Nested<Unbroken<DefaultParameter, Stands<sign::CloseParenthesis>>>,
@@ -238,10 +223,6 @@ impl Made for ParameterPart {
 }
 
 impl Part for Parameters {
-    ghost use Rattle.op_parse_decl.specs.HeadingParts.{known_part};
-    ghost use Rattle.op_parse_decl.specs.Headings.{SomeParameterPart};
-    ghost use Rattle.op_tree.specs.declared.heading.Parameter.{Parameter};
-
     ghost Said = { List Parameter };
 
     ghost says = { λ x. x };

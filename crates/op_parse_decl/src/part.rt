@@ -1,7 +1,7 @@
-//! Parts, and how they are put together: one behind another, behind a mark, as many as stand there.
+//! Parser combinators: parts, and how they are put together, one behind another, behind a mark, as many as stand there.
 ghost use Rattle.std.specs.Prelude.{◌≡◌, ℕ, ◌+◌, ◌≤◌, ◌<◌, Bool, IfOk, IfErr, List, Option, length, map};
 ghost use Rattle.std.specs.Option.{option_map};
-ghost use Rattle.op_parse_code.specs.Refusal.{Phrase, Refuses};
+ghost use Rattle.op_parse_decl.specs.Refusal.{RefusesPart};
 ghost use Rattle.op_parse_code.specs.WholeStatement.{front_is};
 ghost use Rattle.op_parse_code.specs.declared.mark.Mark.{Mark};
 ghost use Rattle.op_parse_code.proofs.Refusing.{Known};
@@ -37,12 +37,13 @@ pub trait Part: Drop {
 
     ghost phrase: { ℕ → Said → List Terminal → List Terminal → Type 0 };
 
-    ghost least: { ℕ };
+    // The fewest tokens of it.
+    ghost least: { ℕ } = { 1 };
 
     /// The part at the front, and what stands behind it.
     fn read<'a>(setting: Setting, tokens: &'a [Token]) -> Answer<'a, Self>
         ensures whole { IfOk result (λ f. phrase setting.left (says f.0) (terminals tokens.now) (terminals f.1.now)) }
-        ensures refused { IfErr result (Refuses phrase setting.left setting.end (terminals tokens.now)) }
+        ensures refused { IfErr result (RefusesPart phrase setting.left setting.end (terminals tokens.now)) }
         ensures shorter { IfOk result (λ f. length f.1.now + least ≤ length tokens.now) };
 
     ghost known: { Known phrase };
@@ -78,8 +79,6 @@ impl<S: Sign> Part for Stands<S> {
     ghost says = { λ _. tt };
 
     ghost phrase = { Stands S.sign };
-
-    ghost least = { 1 };
 
     fn read<'a>(setting: Setting, tokens: &'a [Token]) -> Answer<'a, Stands<S>> {
         let rest = after_mark(S::sign(), setting.end, tokens)?;

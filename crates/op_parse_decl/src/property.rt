@@ -1,15 +1,17 @@
 //! Properties of classes (Free Pascal Reference Guide, "Properties (Classes)").
-ghost use Rattle.std.specs.Prelude.{ℕ, ◌≤◌, Option, IfErr, IfOk, codes, length};
-ghost use Rattle.op_parse_code.specs.Refusal.{Refuses};
-ghost use Rattle.op_parse_decl.specs.Properties.{SomeAccessor};
+ghost use Rattle.std.specs.Prelude.{IfErr, IfOk, Option, codes, length, ℕ, ◌≤◌};
+ghost use Rattle.op_parse_decl.specs.Combined.{Both, both};
+ghost use Rattle.op_parse_decl.specs.Properties.{SomeAccessor, SomeAccessors, known_accessors, made_property};
+ghost use Rattle.op_parse_decl.specs.Refusal.{RefusesPart};
+ghost use Rattle.op_tree.specs.Declaration.{Property, property_of};
+ghost use Rattle.op_tree.specs.HeadingGrammar.{IsProperty};
 ghost use Rattle.op_tree.specs.Terminal.{terminals};
+ghost use Rattle.op_tree.specs.declared.position.Name.{Name};
 
 use crate::choice::{FormBehind, Unbroken};
 use crate::declared_form::PROPERTY;
 use crate::part::{Answer, Made, Part, Setting, Stands};
 use crate::sign;
-use op_base::Place;
-use op_parse_code::ParseError;
 use op_parse_code::shared::{Mark, behind_mark, is_word, name};
 use op_scan::Token;
 use op_tree::{Name, Property, TypeDenoter};
@@ -53,10 +55,6 @@ pub struct Accessors {
 }
 
 impl Part for Accessors {
-    ghost use Rattle.op_parse_decl.specs.Combined.{Both, both};
-    ghost use Rattle.op_parse_decl.specs.Properties.{SomeAccessors, known_accessors};
-    ghost use Rattle.op_tree.specs.declared.position.Name.{Name};
-
     ghost Said = { Both (Option Name) (Option Name) };
 
     ghost says = { λ x. both x.read x.write };
@@ -66,8 +64,8 @@ impl Part for Accessors {
     ghost least = { 0 };
 
     fn read<'a>(setting: Setting, tokens: &'a [Token]) -> Answer<'a, Accessors> {
-        let (read, rest) = accessor(setting.alloc, b"read", setting.end, tokens)?;
-        let (write, rest) = accessor(setting.alloc, b"write", setting.end, rest)?;
+        let (read, rest) = accessor(setting, b"read", tokens)?;
+        let (write, rest) = accessor(setting, b"write", rest)?;
         Ok((Accessors { read, write }, rest))
     }
 
@@ -75,14 +73,9 @@ impl Part for Accessors {
 }
 
 /// The name behind a word, if the word stands there.
-fn accessor<'a>(
-    alloc: Global,
-    word: &[u8],
-    end: Place,
-    tokens: &'a [Token],
-) -> Result<(Option<Name>, &'a [Token]), ParseError>
+fn accessor<'a>(setting: Setting, word: &[u8], tokens: &'a [Token]) -> Answer<'a, Option<Name>>
     ensures whole { IfOk result (λ f. (d : ℕ) → SomeAccessor word.now d f.0 (terminals tokens.now) (terminals f.1.now)) }
-    ensures refused { IfErr result (λ e. (d : ℕ) → Refuses (SomeAccessor word.now) d end (terminals tokens.now) e) }
+    ensures refused { IfErr result (λ e. (d : ℕ) → RefusesPart (SomeAccessor word.now) d setting.end (terminals tokens.now) e) }
     ensures shorter { IfOk result (λ f. length f.1.now ≤ length tokens.now) }
 {
     let Some((first, rest)) = tokens.split_first() else {
@@ -91,16 +84,12 @@ fn accessor<'a>(
     if !is_word(word, &first.kind) {
         return Ok((None, tokens));
     }
-    let (name, rest) = name(alloc, end, rest)?;
+    let (name, rest) = name(setting.alloc, setting.end, rest)?;
     Ok((Some(name), rest))
 }
 
 /// A property, and the semicolon behind it.
 impl Made for Property {
-    ghost use Rattle.op_parse_decl.specs.Properties.{made_property};
-    ghost use Rattle.op_tree.specs.Declaration.{Property, property_of};
-    ghost use Rattle.op_tree.specs.HeadingGrammar.{IsProperty};
-
     type Parts = Unbroken<IndexedProperty, (Accessors, Stands<sign::Semicolon>)>;
 
     ghost Said = { Property };

@@ -1,9 +1,13 @@
 //! Declarations in a row, and routines with what is declared in them (Free Pascal Reference Guide, "Using functions and
 //! procedures").
-ghost use Rattle.std.specs.Prelude.{◌≡◌, ◌≤◌, ◌<◌, IfOk, IfErr, IfSome, MatchOption, length};
-ghost use Rattle.op_parse_code.specs.Refusal.{Refuses};
-ghost use Rattle.op_parse_decl.specs.Declarations.{AllOf, BehindForward, BlockDeclaration, BodyBefore, is_forward};
-ghost use Rattle.op_tree.specs.Declaration.{Declarations, body, body_of, declaration_of, declarations_of};
+ghost use Rattle.std.proofs.Common.{suc-le-suc, zero-le};
+ghost use Rattle.std.specs.Prelude.{IfErr, IfOk, IfSome, MatchOption, length, ◌<◌, ◌≡◌, ◌≤◌};
+ghost use Rattle.op_parse_decl.specs.Blocks.{known_declarations, made_interface_declaration};
+ghost use Rattle.op_parse_decl.specs.DeclarationParts.{made_method};
+ghost use Rattle.op_parse_decl.specs.Declarations.{AllOf, BehindForward, BlockDeclaration, BodyBefore, InterfaceDeclaration, WholeMethod, begins_declaration, is_forward};
+ghost use Rattle.op_parse_decl.specs.Refusal.{RefusesPart};
+ghost use Rattle.op_tree.proofs.MethodUnique.{begins_heading};
+ghost use Rattle.op_tree.specs.Declaration.{Declaration, Declarations, Method, body, body_of, declaration_of, declarations_of, method_of};
 ghost use Rattle.op_tree.specs.Ends.{IsNot};
 ghost use Rattle.op_tree.specs.Statement.{stmts_of};
 ghost use Rattle.op_tree.specs.Terminal.{terminals};
@@ -36,10 +40,6 @@ pub type Block = (
 
 /// A heading with its directives, where no field may follow.
 impl Made for Method {
-    ghost use Rattle.op_parse_decl.specs.DeclarationParts.{made_method};
-    ghost use Rattle.op_parse_decl.specs.Declarations.{WholeMethod};
-    ghost use Rattle.op_tree.specs.Declaration.{Method, method_of};
-
     type Parts = (Heading, Repeated<Directive>);
 
     ghost Said = { Method };
@@ -59,9 +59,6 @@ impl Made for Method {
 }
 
 impl Item for Method {
-    ghost use Rattle.std.proofs.Common.{suc-le-suc, zero-le};
-    ghost use Rattle.op_tree.proofs.MethodUnique.{begins_heading};
-
     ghost test = { begins_heading };
 
     fn opens(kind: &TokenKind) -> bool {
@@ -79,10 +76,6 @@ impl Item for Method {
 
 /// A declaration of an interface part: of a routine the heading alone.
 impl Made for Declaration {
-    ghost use Rattle.op_parse_decl.specs.Declarations.{InterfaceDeclaration};
-    ghost use Rattle.op_parse_decl.specs.Blocks.{made_interface_declaration};
-    ghost use Rattle.op_tree.specs.Declaration.{Declaration, declaration_of};
-
     type Parts = Either<Data, Method>;
 
     ghost Said = { Declaration };
@@ -103,9 +96,6 @@ impl Made for Declaration {
 }
 
 impl Item for Declaration {
-    ghost use Rattle.std.proofs.Common.{suc-le-suc, zero-le};
-    ghost use Rattle.op_parse_decl.specs.Declarations.{begins_declaration};
-
     ghost test = { begins_declaration };
 
     fn opens(kind: &TokenKind) -> bool {
@@ -122,8 +112,6 @@ pub struct InBlock {
 }
 
 impl Part for InBlock {
-    ghost use Rattle.op_parse_decl.specs.Blocks.{known_declarations};
-
     ghost Said = { Declarations };
 
     ghost says = { λ x. declarations_of x.items.items };
@@ -144,7 +132,7 @@ impl Part for InBlock {
 #[cycle(declaration)]
 fn declarations<'a>(setting: Setting, tokens: &'a [Token]) -> Answer<'a, Vec<Declaration>>
     ensures whole { IfOk result (λ f. AllOf BlockDeclaration setting.left (declarations_of f.0.items) (terminals tokens.now) (terminals f.1.now)) }
-    ensures refused { IfErr result (Refuses (AllOf BlockDeclaration) setting.left setting.end (terminals tokens.now)) }
+    ensures refused { IfErr result (RefusesPart (AllOf BlockDeclaration) setting.left setting.end (terminals tokens.now)) }
     ensures shorter { IfOk result (λ f. length f.1.now ≤ length tokens.now) }
 {
     let mut items = Vec::new(setting.alloc);
@@ -161,7 +149,7 @@ fn declarations<'a>(setting: Setting, tokens: &'a [Token]) -> Answer<'a, Vec<Dec
 #[cycle(declaration)]
 fn declaration<'a>(setting: Setting, tokens: &'a [Token]) -> Answer<'a, Declaration>
     ensures whole { IfOk result (λ f. BlockDeclaration setting.left (declaration_of f.0) (terminals tokens.now) (terminals f.1.now)) }
-    ensures refused { IfErr result (Refuses BlockDeclaration setting.left setting.end (terminals tokens.now)) }
+    ensures refused { IfErr result (RefusesPart BlockDeclaration setting.left setting.end (terminals tokens.now)) }
     ensures shorter { IfOk result (λ f. length f.1.now < length tokens.now) }
 {
     if begins::<Data>(tokens) {
@@ -184,7 +172,7 @@ fn declaration<'a>(setting: Setting, tokens: &'a [Token]) -> Answer<'a, Declarat
 #[cycle(declaration)]
 fn body<'a>(setting: Setting, tokens: &'a [Token]) -> Answer<'a, Body>
     ensures whole { IfOk result (λ f. BodyBefore setting.left (body_of f.0) (terminals tokens.now) (terminals f.1.now)) }
-    ensures refused { IfErr result (Refuses BodyBefore setting.left setting.end (terminals tokens.now)) }
+    ensures refused { IfErr result (RefusesPart BodyBefore setting.left setting.end (terminals tokens.now)) }
     ensures shorter { IfOk result (λ f. length f.1.now < length tokens.now) }
 {
     if let Some(rest) = behind_forward(tokens) {

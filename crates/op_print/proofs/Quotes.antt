@@ -1,12 +1,11 @@
 -- A string of a print stands for its token, before what is no quote.
 use Rattle.std.proofs.Common.{◌≡◌, ◌≢◌, ℕ, ◌-◌, ◌≤◌, Bool, true, false, cond, ◌||◌, List, [], ◌∷◌, ◌++◌, length, get_or, refl, sym, ap, ◌∙◌, subst, append_assoc, length-append, arith}
-use Rattle.std.specs.Prelude.{nat_eq, nat_lt}
+use Rattle.std.specs.Prelude.{nat_eq}
 use Rattle.std.specs.List.{flat_map, list_any}
-use Rattle.std.proofs.lemmas.Bool.Decides.{nat_tests}
 use Rattle.std.proofs.lemmas.Bool.{eqb-true}
 use Rattle.std.proofs.lemmas.Grind.{flat_map-append}
 use Rattle.std.proofs.lemmas.List.Folds.{list_any-append}
-use Rattle.op_print.proofs.Words.{either_false, take_while-all, IsApart, apart_tests, IsSpelled}
+use Rattle.op_print.proofs.Words.{in_bounds, either_false, take_while-all, IsApart, apart_tests, IsSpelled}
 use Rattle.op_print.specs.Page.{last_byte}
 use Rattle.op_print.specs.Spelling.{quoted, quoted_byte}
 use Rattle.op_scan.proofs.Strings.{append_nil, no_part_empty, no_part_here}
@@ -116,9 +115,6 @@ no_part (y ∷ rest) h =
     let e = either_false (nat_eq y 39) (nat_eq y 35) (apart_tests 39 y h).strings in
     (no_part_here y rest e.0 e.1, e.0)
 
-short_string : (n : ℕ) → n ≤ 65535 → nat_lt 65535 n ≡ false
-short_string n h = grind (arith, nat_tests)
-
 not_empty : (xs : List ℕ) → 39 ∷ xs ≢ []
 not_empty xs e = cc
 
@@ -129,5 +125,5 @@ spelled_string text rest h a =
     record {
       item = a_string text;
       stands = string (not_empty (inside text)) (open_part text rest n.0 n.1 [] refl);
-      gives = λ s. ap (λ t. cond t (Breaks (rule 66)) (Gives (kind.CharacterString text))) (short_string (length text) h);
+      gives = λ s. ap (λ t. cond t (Breaks (rule 66)) (Gives (kind.CharacterString text))) (in_bounds 65535 (length text) h);
     }

@@ -1,22 +1,20 @@
 -- Scanning what is printed gives the tokens of its words.
-use Rattle.std.proofs.Common.{◌≡◌, ◌≢◌, ℕ, suc, zero, ◌+◌, ◌-◌, Bool, true, false, cond, ◌&&◌, ◌||◌, List, [], ◌∷◌, ◌++◌, length, map, take, get_or, refl, sym, ap, ◌∙◌, subst, append_assoc, length-append, arith}
+use Rattle.std.proofs.Common.{◌≡◌, ◌≢◌, ℕ, suc, zero, ◌+◌, ◌-◌, Bool, true, false, cond, ◌&&◌, ◌||◌, List, [], ◌∷◌, ◌++◌, length, map, take, drop, get_or, refl, sym, ap, ◌∙◌, subst, append_assoc, length-append, arith}
 use Rattle.std.specs.Prelude.{decimal, nat_eq, not}
 use Rattle.std.specs.List.{list_all}
 use Rattle.std.proofs.lemmas.Bool.Decides.{nat_tests}
 use Rattle.std.proofs.lemmas.List.{get_or-append-add}
 use Rattle.op_base.specs.declared.place.Place.{Place}
-use Rattle.op_print.proofs.Quotes.{spelled_string}
-use Rattle.op_print.proofs.Symbols.{spelled_symbol}
-use Rattle.op_print.proofs.Words.{true_false, all_append, decimal_digits, last_all, last_cons, IsApart, IsSpelled, spelled_identifier, spelled_name, spelled_number}
-use Rattle.op_print.specs.Page.{Page, empty_page, Fragment, word, tight, line, indent, outdent, first_byte, last_byte, runs_together, hugs, wants_gap, start_line, parted, written, put, step, after}
-use Rattle.op_print.specs.Scanned.{begins_as_name, IsSpellable, AreSpellable, kinds_of, ScansTo}
+use Rattle.op_print.proofs.Symbols.{spelled}
+use Rattle.op_print.proofs.Words.{both_true, all_append, decimal_digits, last_all, last_cons, IsApart, IsSpelled}
+use Rattle.op_print.specs.Page.{Page, empty_page, Draft, nothing, word, tight, line, indent, outdent, ◌&◌, first_byte, last_byte, runs_together, hugs, wants_gap, broken, start_line, parted, written, put, after}
+use Rattle.op_print.specs.Scanned.{begins_as_name, IsSpellable, AreSpellable, kinds_before, ScansTo}
 use Rattle.op_print.specs.Spelling.{quoted, spelling}
 use Rattle.op_scan.proofs.Scanning.{not_empty}
 use Rattle.op_scan.proofs.Strings.{append_nil}
 use Rattle.op_scan.specs.Byte.{is_blank, is_name_start, is_name_byte, is_digit_in}
 use Rattle.op_scan.specs.Item.{a_blank, blank}
-use Rattle.op_scan.specs.Keyword.{keyword_of}
-use Rattle.op_scan.specs.Scan.{Scans, ends, passes, gives, whole, token_at, place_of, mark_length}
+use Rattle.op_scan.specs.Scan.{Scans, all_off, ends, passes, gives, whole, token_at, place_of, mark_length}
 use Rattle.op_scan.specs.declared.number.Base.TheVariants.{Decimal}
 use Rattle.op_scan.specs.declared.token.Switches.{Switches}
 use Rattle.op_scan.specs.declared.token.Token.{Token}
@@ -24,33 +22,6 @@ use Rattle.op_scan.specs.declared.token.TokenKind.{TokenKind}
 use Rattle.op_scan.specs.declared.token.TokenKind.TheVariants as kind
 
 -- ---- words
-
-spelled : (k : TokenKind) (rest : List ℕ) → IsSpellable k → IsApart (last_byte (spelling k)) rest → IsSpelled k rest
-unfolding keyword_of is_name_start is_name_byte
-spelled (kind.Identifier text) rest h a = spelled_identifier text rest h a
-spelled (kind.Number n) rest h a = spelled_number n rest h a
-spelled (kind.CharacterString text) rest h a = spelled_string text rest h a
-spelled kind.Plus rest h a = spelled_symbol kind.Plus rest refl a
-spelled kind.Minus rest h a = spelled_symbol kind.Minus rest refl a
-spelled kind.Star rest h a = spelled_symbol kind.Star rest refl a
-spelled kind.Slash rest h a = spelled_symbol kind.Slash rest refl a
-spelled kind.Equal rest h a = spelled_symbol kind.Equal rest refl a
-spelled kind.Less rest h a = spelled_symbol kind.Less rest refl a
-spelled kind.Greater rest h a = spelled_symbol kind.Greater rest refl a
-spelled kind.LessEqual rest h a = spelled_symbol kind.LessEqual rest refl a
-spelled kind.GreaterEqual rest h a = spelled_symbol kind.GreaterEqual rest refl a
-spelled kind.NotEqual rest h a = spelled_symbol kind.NotEqual rest refl a
-spelled kind.Assign rest h a = spelled_symbol kind.Assign rest refl a
-spelled kind.OpenParenthesis rest h a = spelled_symbol kind.OpenParenthesis rest refl a
-spelled kind.CloseParenthesis rest h a = spelled_symbol kind.CloseParenthesis rest refl a
-spelled kind.OpenBracket rest h a = spelled_symbol kind.OpenBracket rest refl a
-spelled kind.CloseBracket rest h a = spelled_symbol kind.CloseBracket rest refl a
-spelled kind.Comma rest h a = spelled_symbol kind.Comma rest refl a
-spelled kind.Semicolon rest h a = spelled_symbol kind.Semicolon rest refl a
-spelled kind.Colon rest h a = spelled_symbol kind.Colon rest refl a
-spelled kind.Dot rest h a = spelled_symbol kind.Dot rest refl a
-spelled kind.DotDot rest h a = spelled_symbol kind.DotDot rest refl a
-spelled k rest h a = spelled_name k rest refl refl refl refl a
 
 some_bytes : (k : TokenKind) → IsSpellable k → spelling k ≢ []
 some_bytes k h =
@@ -71,11 +42,7 @@ name_is_no_mark (x ∷ text) h = start_is_no_mark x h
 
 digits_no_mark : (ds : List ℕ) → list_all (is_digit_in Decimal) ds ≡ true → nat_eq (first_byte ds) 239 ≡ false
 digits_no_mark [] h = refl
-digits_no_mark (x ∷ ds) h = digit_is_no_mark x (and_true (is_digit_in Decimal x) (list_all (is_digit_in Decimal) ds) h)
-  where
-    and_true : (a b : Bool) → (a && b) ≡ true → a ≡ true
-    and_true true b h = refl
-    and_true false b h = true_false (sym h)
+digits_no_mark (x ∷ ds) h = digit_is_no_mark x (both_true (is_digit_in Decimal x) (list_all (is_digit_in Decimal) ds) h).0
 
 no_mark : (k : TokenKind) → IsSpellable k → nat_eq (first_byte (spelling k)) 239 ≡ false
 unfolding quoted
@@ -99,10 +66,6 @@ blank_first : (b : ℕ) (rest : List ℕ) (ks : List TokenKind) → is_blank b �
 blank_first b rest ks e h file mark before s =
     let r = h file mark (before ++ b ∷ []) s in
     record { tokens = r.tokens; end = r.end; scans = passes (b ∷ []) rest a_blank refl (blank e) refl r.scans; kinds_are = r.kinds_are }
-
-both_true : (a b : Bool) → (a && b) ≡ true → (a ≡ true) × (b ≡ true)
-both_true true b h = (refl, h)
-both_true false b h = true_false (sym h)
 
 blanks_first : (bs rest : List ℕ) (ks : List TokenKind) → list_all is_blank bs ≡ true → Scanned rest ks → Scanned (bs ++ rest) ks
 blanks_first [] rest ks e h = h
@@ -191,15 +154,15 @@ blank_one : list_all is_blank (32 ∷ []) ≡ true
 unfolding is_blank
 blank_one = refl
 
-line_here : (page : Page) (text : List ℕ) (ks : List TokenKind) → list_all is_blank page.margin ≡ true → Rest (start_line page) text ks → Rest page text ks
-line_here page text ks m r = gap_here 10 page.margin page (start_line page) text ks (spaced page.margin m) (feed_apart (last_byte page.text)) refl refl r
+broken_here : (page : Page) (text : List ℕ) (ks : List TokenKind) → list_all is_blank page.margin ≡ true → Rest (broken page) text ks → Rest page text ks
+broken_here page text ks m r = gap_here 10 page.margin page (broken page) text ks (spaced page.margin m) (feed_apart (last_byte page.text)) refl refl r
 
 parted_here : (page : Page) (text : List ℕ) (ks : List TokenKind) → list_all is_blank page.margin ≡ true → Rest (parted page) text ks → Rest page text ks
 unfolding parted
 parted_here page text ks m r = at (nat_eq page.room 0) r
   where
-    at : (b : Bool) → Rest (cond b (start_line page) (record { text = page.text ++ 32 ∷ []; margin = page.margin; room = page.room })) text ks → Rest page text ks
-    at true r = line_here page text ks m r
+    at : (b : Bool) → Rest (cond b (broken page) (record { text = page.text ++ 32 ∷ []; margin = page.margin; room = page.room })) text ks → Rest page text ks
+    at true r = broken_here page text ks m r
     at false r = gap_here 32 [] page (record { text = page.text ++ 32 ∷ []; margin = page.margin; room = page.room }) text ks blank_one (blank_apart (last_byte page.text)) refl refl r
 
 -- behind a gap nothing runs into a word
@@ -220,15 +183,15 @@ after_gap : (page : Page) (first : ℕ) → list_all is_blank page.margin ≡ tr
 unfolding parted
 after_gap page first m = at (nat_eq page.room 0)
   where
-    at : (b : Bool) → runs_together (last_byte (cond b (start_line page) (record { text = page.text ++ 32 ∷ []; margin = page.margin; room = page.room })).text) first ≡ false
+    at : (b : Bool) → runs_together (last_byte (cond b (broken page) (record { text = page.text ++ 32 ∷ []; margin = page.margin; room = page.room })).text) first ≡ false
     at true = blank_runs _ first (last_blank page.text 10 page.margin (spaced page.margin m))
     at false = blank_runs _ first (last_blank page.text 32 [] blank_one)
 
-margin_kept : (t : Bool) (k : TokenKind) (page : Page) → list_all is_blank page.margin ≡ true → list_all is_blank (put t (spelling k) page).margin ≡ true
+put_margin : (t : Bool) (k : TokenKind) (page : Page) → list_all is_blank page.margin ≡ true → list_all is_blank (put t (spelling k) page).margin ≡ true
 unfolding put parted
-margin_kept t k page m = at (wants_gap t page.text (spelling k)) (nat_eq page.room 0)
+put_margin t k page m = at (wants_gap t page.text (spelling k)) (nat_eq page.room 0)
   where
-    at : (a b : Bool) → list_all is_blank (written (spelling k) (cond a (cond b (start_line page) (record { text = page.text ++ 32 ∷ []; margin = page.margin; room = page.room })) page)).margin ≡ true
+    at : (a b : Bool) → list_all is_blank (written (spelling k) (cond a (cond b (broken page) (record { text = page.text ++ 32 ∷ []; margin = page.margin; room = page.room })) page)).margin ≡ true
     at true true = m
     at true false = m
     at false b = m
@@ -249,23 +212,46 @@ all_take p (suc n) (x ∷ xs) h =
     let d = both_true (p x) (list_all p xs) h in
     ap (λ t. t && list_all p (take n xs)) d.0 ∙ all_take p n xs d.1
 
-rest_of : (fragments : List Fragment) (page : Page) → AreSpellable (kinds_of fragments) → list_all is_blank page.margin ≡ true → Rest page (after page fragments).text (kinds_of fragments)
-rest_of [] page h m = record {
+margin_kept : (d : Draft) (page : Page) → list_all is_blank page.margin ≡ true → list_all is_blank (after page d).margin ≡ true
+unfolding start_line
+margin_kept nothing page m = m
+margin_kept (word k) page m = put_margin false k page m
+margin_kept (tight k) page m = put_margin true k page m
+margin_kept line page m = at (nat_eq (length page.text) 0)
+  where
+    at : (b : Bool) → list_all is_blank (cond b page (broken page)).margin ≡ true
+    at true = m
+    at false = m
+margin_kept indent page m = all_append is_blank page.margin (32 ∷ 32 ∷ []) m blanks_two
+margin_kept outdent page m = all_take is_blank (length page.margin - 2) page.margin m
+margin_kept (a & b) page m = margin_kept b (after page a) (margin_kept a page m)
+
+same_text : (page next : Page) (text : List ℕ) (ks : List TokenKind) → next.text ≡ page.text → Rest next text ks → Rest page text ks
+same_text page next text ks e r = record { rest = r.rest; is = r.is ∙ ap (λ z. z ++ r.rest) e; apart = subst (λ z. IsApart (last_byte z) r.rest) e r.apart; plain = r.plain; scanned = r.scanned }
+
+-- what follows a draft, and the draft in front of it
+rest_of : (d : Draft) (page : Page) (text : List ℕ) (ks : List TokenKind) → AreSpellable d → list_all is_blank page.margin ≡ true → Rest (after page d) text ks → Rest page text (kinds_before d ks)
+unfolding start_line
+rest_of nothing page text ks h m r = r
+rest_of (word k) page text ks h m r = put_at false k page text ks h m r
+rest_of (tight k) page text ks h m r = put_at true k page text ks h m r
+rest_of line page text ks h m r = at (nat_eq (length page.text) 0) r
+  where
+    at : (b : Bool) → Rest (cond b page (broken page)) text ks → Rest page text ks
+    at true r = r
+    at false r = broken_here page text ks m r
+rest_of indent page text ks h m r = same_text page (after page indent) text ks refl r
+rest_of outdent page text ks h m r = same_text page (after page outdent) text ks refl r
+rest_of (a & b) page text ks h m r = rest_of a page text (kinds_before b ks) h.0 m (rest_of b (after page a) text ks h.1 (margin_kept a page m) r)
+
+at_end : (page : Page) → Rest page page.text []
+at_end page = record {
   rest = [];
   is = sym (append_nil page.text);
   apart = tt;
   plain = refl;
   scanned = λ file mark before s. record { tokens = []; end = place_of file before; scans = ends; kinds_are = refl };
 }
-rest_of (word k ∷ fragments) page h m = put_at false k page _ (kinds_of fragments) h.0 m (rest_of fragments (step page (word k)) h.1 (margin_kept false k page m))
-rest_of (tight k ∷ fragments) page h m = put_at true k page _ (kinds_of fragments) h.0 m (rest_of fragments (step page (tight k)) h.1 (margin_kept true k page m))
-rest_of (line ∷ fragments) page h m = line_here page _ (kinds_of fragments) m (rest_of fragments (step page line) h m)
-rest_of (indent ∷ fragments) page h m =
-    let r = rest_of fragments (step page indent) h (all_append is_blank page.margin (32 ∷ 32 ∷ []) m blanks_two) in
-    record { rest = r.rest; is = r.is; apart = r.apart; plain = r.plain; scanned = r.scanned }
-rest_of (outdent ∷ fragments) page h m =
-    let r = rest_of fragments (step page outdent) h (all_take is_blank (length page.margin - 2) page.margin m) in
-    record { rest = r.rest; is = r.is; apart = r.apart; plain = r.plain; scanned = r.scanned }
 
 -- ---- the whole text
 
@@ -279,14 +265,15 @@ mark_is_none (x ∷ text) h =
     let e = turned x h in
     rw e refl
 
-pub scanned_text : (fragments : List Fragment) → AreSpellable (kinds_of fragments) → (file : ℕ) → ScansTo file (after empty_page fragments).text (kinds_of fragments)
-scanned_text fragments h file =
-    let r = rest_of fragments empty_page h refl in
-    let t = r.scanned file 0 [] (record { h = false; q = false; r = false }) in
-    let n : mark_length (after empty_page fragments).text ≡ 0 = mark_is_none (after empty_page fragments).text (ap (λ z. nat_eq (first_byte z) 239) r.is ∙ r.plain) in
+pub scanned_text : (d : Draft) → AreSpellable d → (file : ℕ) → ScansTo file (after empty_page d).text (kinds_before d [])
+scanned_text d h file =
+    let text = (after empty_page d).text in
+    let r = rest_of d empty_page text [] h refl (at_end (after empty_page d)) in
+    let t = r.scanned file (mark_length text) [] all_off in
+    let n : mark_length text ≡ 0 = mark_is_none text (ap (λ z. nat_eq (first_byte z) 239) r.is ∙ r.plain) in
     record {
       tokens = t.tokens;
       end = t.end;
-      outcome = rw n (rw r.is t.scans);
+      outcome = subst (λ z. Scans file (mark_length text) [] all_off z (whole t.tokens t.end)) (sym (ap (λ k. drop k text) n ∙ r.is)) t.scans;
       kinds_are = t.kinds_are;
     }

@@ -1,14 +1,16 @@
--- Each symbol of a print stands for its token, before what does not run into it.
-use Rattle.std.proofs.Common.{◌≡◌, ℕ, Bool, true, false, cond, ◌&&◌, List, [], ◌∷◌, take, Some, None, refl, sym, ap, ◌∙◌}
+-- Each word of a print stands for its token, before what does not run into it.
+use Rattle.std.proofs.Common.{◌≡◌, ℕ, true, false, cond, ◌&&◌, List, [], ◌∷◌, take, Some, None, refl, ap, ◌∙◌}
 use Rattle.std.specs.Prelude.{nat_eq}
-use Rattle.op_print.proofs.Words.{true_false, either_false, IsApart, apart_tests, IsSpelled}
+use Rattle.op_print.proofs.Quotes.{spelled_string}
+use Rattle.op_print.proofs.Words.{either_false, IsApart, apart_tests, IsSpelled, spelled_identifier, spelled_name, spelled_number}
 use Rattle.op_print.specs.Page.{last_byte}
+use Rattle.op_print.specs.Scanned.{IsSpellable}
 use Rattle.op_print.specs.Spelling.{spelling}
 use Rattle.op_scan.proofs.SymbolFronts.{one_front, two_front}
-use Rattle.op_scan.specs.Byte.{is_name_start, is_blank, begins_with}
+use Rattle.op_scan.specs.Byte.{is_name_start, is_name_byte, is_blank, begins_with}
 use Rattle.op_scan.specs.Class.{class_of, class_at}
 use Rattle.op_scan.specs.Item.{a_symbol, Stands}
-use Rattle.op_scan.specs.Keyword.{kind_beside}
+use Rattle.op_scan.specs.Keyword.{kind_beside, keyword_of}
 use Rattle.op_scan.specs.Symbol.{symbols_of_one, symbols_of_two}
 use Rattle.op_scan.specs.declared.class.Class.TheVariants as class
 use Rattle.op_scan.specs.declared.token.TokenKind.{TokenKind}
@@ -64,52 +66,31 @@ slash_class : (rest : List ℕ) → begins_with rest 47 ≡ false → class_at (
 unfolding class_at class_of is_name_start is_blank
 slash_class rest h = rw h refl
 
--- ---- the symbols
+-- ---- the words
 
--- the kind is a symbol
-abbrev pub is_symbol : TokenKind → Bool
-is_symbol kind.Plus = true
-is_symbol kind.Minus = true
-is_symbol kind.Star = true
-is_symbol kind.Slash = true
-is_symbol kind.Equal = true
-is_symbol kind.Less = true
-is_symbol kind.Greater = true
-is_symbol kind.LessEqual = true
-is_symbol kind.GreaterEqual = true
-is_symbol kind.NotEqual = true
-is_symbol kind.Assign = true
-is_symbol kind.OpenParenthesis = true
-is_symbol kind.CloseParenthesis = true
-is_symbol kind.OpenBracket = true
-is_symbol kind.CloseBracket = true
-is_symbol kind.Comma = true
-is_symbol kind.Semicolon = true
-is_symbol kind.Colon = true
-is_symbol kind.Dot = true
-is_symbol kind.DotDot = true
-is_symbol other = false
-
-pub spelled_symbol : (k : TokenKind) (rest : List ℕ) → is_symbol k ≡ true → IsApart (last_byte (spelling k)) rest → IsSpelled k rest
-unfolding class_at class_of is_name_start is_blank
-spelled_symbol kind.Plus rest s h = plain 43 kind.Plus rest refl refl refl refl
-spelled_symbol kind.Minus rest s h = plain 45 kind.Minus rest refl refl refl refl
-spelled_symbol kind.Star rest s h = plain 42 kind.Star rest refl refl refl refl
-spelled_symbol kind.Slash rest s h = plain 47 kind.Slash rest refl (slash_class rest (no_slash rest h)) refl refl
-spelled_symbol kind.Equal rest s h = plain 61 kind.Equal rest refl refl refl refl
-spelled_symbol kind.Less rest s h = plain 60 kind.Less rest refl refl refl (no_less rest h)
-spelled_symbol kind.Greater rest s h = plain 62 kind.Greater rest refl refl refl (no_greater rest h)
-spelled_symbol kind.LessEqual rest s h = double 60 61 kind.LessEqual rest refl refl refl
-spelled_symbol kind.GreaterEqual rest s h = double 62 61 kind.GreaterEqual rest refl refl refl
-spelled_symbol kind.NotEqual rest s h = double 60 62 kind.NotEqual rest refl refl refl
-spelled_symbol kind.Assign rest s h = double 58 61 kind.Assign rest refl refl refl
-spelled_symbol kind.OpenParenthesis rest s h = plain 40 kind.OpenParenthesis rest refl (bracket_class rest (no_star rest h)) refl refl
-spelled_symbol kind.CloseParenthesis rest s h = plain 41 kind.CloseParenthesis rest refl refl refl refl
-spelled_symbol kind.OpenBracket rest s h = plain 91 kind.OpenBracket rest refl refl refl refl
-spelled_symbol kind.CloseBracket rest s h = plain 93 kind.CloseBracket rest refl refl refl refl
-spelled_symbol kind.Comma rest s h = plain 44 kind.Comma rest refl refl refl refl
-spelled_symbol kind.Semicolon rest s h = plain 59 kind.Semicolon rest refl refl refl refl
-spelled_symbol kind.Colon rest s h = plain 58 kind.Colon rest refl refl refl (no_assignment rest h)
-spelled_symbol kind.Dot rest s h = plain 46 kind.Dot rest refl refl refl (no_range rest h)
-spelled_symbol kind.DotDot rest s h = double 46 46 kind.DotDot rest refl refl refl
-spelled_symbol other rest s h = true_false (sym s)
+pub spelled : (k : TokenKind) (rest : List ℕ) → IsSpellable k → IsApart (last_byte (spelling k)) rest → IsSpelled k rest
+unfolding class_at class_of is_name_start is_blank is_name_byte keyword_of
+spelled (kind.Identifier text) rest h a = spelled_identifier text rest h a
+spelled (kind.Number n) rest h a = spelled_number n rest h a
+spelled (kind.CharacterString text) rest h a = spelled_string text rest h a
+spelled kind.Plus rest h a = plain 43 kind.Plus rest refl refl refl refl
+spelled kind.Minus rest h a = plain 45 kind.Minus rest refl refl refl refl
+spelled kind.Star rest h a = plain 42 kind.Star rest refl refl refl refl
+spelled kind.Slash rest h a = plain 47 kind.Slash rest refl (slash_class rest (no_slash rest a)) refl refl
+spelled kind.Equal rest h a = plain 61 kind.Equal rest refl refl refl refl
+spelled kind.Less rest h a = plain 60 kind.Less rest refl refl refl (no_less rest a)
+spelled kind.Greater rest h a = plain 62 kind.Greater rest refl refl refl (no_greater rest a)
+spelled kind.LessEqual rest h a = double 60 61 kind.LessEqual rest refl refl refl
+spelled kind.GreaterEqual rest h a = double 62 61 kind.GreaterEqual rest refl refl refl
+spelled kind.NotEqual rest h a = double 60 62 kind.NotEqual rest refl refl refl
+spelled kind.Assign rest h a = double 58 61 kind.Assign rest refl refl refl
+spelled kind.OpenParenthesis rest h a = plain 40 kind.OpenParenthesis rest refl (bracket_class rest (no_star rest a)) refl refl
+spelled kind.CloseParenthesis rest h a = plain 41 kind.CloseParenthesis rest refl refl refl refl
+spelled kind.OpenBracket rest h a = plain 91 kind.OpenBracket rest refl refl refl refl
+spelled kind.CloseBracket rest h a = plain 93 kind.CloseBracket rest refl refl refl refl
+spelled kind.Comma rest h a = plain 44 kind.Comma rest refl refl refl refl
+spelled kind.Semicolon rest h a = plain 59 kind.Semicolon rest refl refl refl refl
+spelled kind.Colon rest h a = plain 58 kind.Colon rest refl refl refl (no_assignment rest a)
+spelled kind.Dot rest h a = plain 46 kind.Dot rest refl refl refl (no_range rest a)
+spelled kind.DotDot rest h a = double 46 46 kind.DotDot rest refl refl refl
+spelled k rest h a = spelled_name k rest refl refl refl refl a

@@ -7,8 +7,8 @@ use Rattle.std.specs.Str.{bytes_eq}
 use Rattle.std.proofs.lemmas.Bool.Decides.{nat_tests}
 use Rattle.std.proofs.lemmas.List.Sums.{take_while-cons}
 use Rattle.op_base.specs.declared.rule.Rule.{Rule}
-use Rattle.op_print.proofs.Kept.{Able}
-use Rattle.op_print.proofs.Words.{true_false}
+use Rattle.op_print.proofs.Printed.{Able}
+use Rattle.op_print.proofs.Words.{true_false, both_true}
 use Rattle.op_print.specs.Scanned.{IsSpellable}
 use Rattle.op_scan.specs.Byte.{begins_with, is_blank, is_name_start, is_name_byte}
 use Rattle.op_scan.specs.Directive.{rule, is_word, argument_of, switched, with_switch, effect_of_switches, effect_of_mode, effect_of_interfaces, effect_of_state, effect_of_name, effect_of_letter, effect_of_named, effect_of_directive, effect_of_comment}
@@ -94,10 +94,6 @@ plain_spellable other h = tt
 
 abbrev all_plain : List (List ℕ × TokenKind) → Bool
 all_plain rows = list_all (λ row. is_plain row.1) rows
-
-both_true : (a b : Bool) → (a && b) ≡ true → (a ≡ true) × (b ≡ true)
-both_true true b h = (refl, h)
-both_true false b h = true_false (sym h)
 
 first_or_later : (b : Bool) (j k : TokenKind) (o : Option TokenKind) → cond b (Some j) o ≡ Some k → is_plain j ≡ true → (o ≡ Some k → is_plain k ≡ true) → is_plain k ≡ true
 first_or_later true j k o e p h = subst (λ z. is_plain z ≡ true) (some_kind e) p

@@ -29,7 +29,7 @@ pub either_false : (a b : Bool) → (a || b) ≡ false → (a ≡ false) × (b �
 either_false true b h = true_false h
 either_false false b h = (refl, h)
 
-both_true : (a b : Bool) → (a && b) ≡ true → (a ≡ true) × (b ≡ true)
+pub both_true : (a b : Bool) → (a && b) ≡ true → (a ≡ true) × (b ≡ true)
 both_true true b h = (refl, h)
 both_true false b h = true_false (sym h)
 
@@ -108,8 +108,8 @@ named : (w rest : List ℕ) → begins_as_name w ≡ true → list_all is_name_b
 named [] rest b a h = true_false (sym b)
 named (x ∷ xs) rest b a h = name b (sym (take_while-all is_name_byte (x ∷ xs) rest a h))
 
-short_enough : (n : ℕ) → n ≤ 127 → nat_lt 127 n ≡ false
-short_enough n h = grind (arith, nat_tests)
+pub in_bounds : (limit n : ℕ) → n ≤ limit → nat_lt limit n ≡ false
+in_bounds limit n h = grind (arith, nat_tests)
 
 pub spelled_name : (k : TokenKind) (rest : List ℕ) → begins_as_name (spelling k) ≡ true → list_all is_name_byte (spelling k) ≡ true → nat_lt 127 (length (spelling k)) ≡ false → unwrap_or (keyword_of (map to_ascii_lowercase (spelling k))) (kind.Identifier (spelling k)) ≡ k → IsApart (last_byte (spelling k)) rest → IsSpelled k rest
 spelled_name k rest b a n e h = record {
@@ -119,7 +119,7 @@ spelled_name k rest b a n e h = record {
 }
 
 pub spelled_identifier : (text rest : List ℕ) → IsIdentifierText text → IsApart (last_byte text) rest → IsSpelled (kind.Identifier text) rest
-spelled_identifier text rest i h = spelled_name (kind.Identifier text) rest i.first i.others (short_enough (length text) i.short) (ap (λ o. unwrap_or o (kind.Identifier text)) i.not_reserved) h
+spelled_identifier text rest i h = spelled_name (kind.Identifier text) rest i.first i.others (in_bounds 127 (length text) i.short) (ap (λ o. unwrap_or o (kind.Identifier text)) i.not_reserved) h
 
 -- ---- numbers
 
@@ -184,9 +184,6 @@ number_stands n ds rest a h =
     subst (λ v. Stands ds rest (a_number v)) a.2
     (number Decimal (record { some = a.1; longest = sym (take_while-all (is_digit_in Decimal) ds rest a.0 h) }))
 
-not_too_great : (n : ℕ) → n ≤ 2147483648 → nat_lt 2147483648 n ≡ false
-not_too_great n h = grind (arith, nat_tests)
-
 pub spelled_number : (n : ℕ) (rest : List ℕ) → n ≤ 2147483648 → IsApart (last_byte (decimal n)) rest → IsSpelled (kind.Number n) rest
 spelled_number n rest h a =
     let fits : n < 2 ^ 64 = omega arith in
@@ -194,5 +191,5 @@ spelled_number n rest h a =
     record {
       item = a_number n;
       stands = number_stands n (decimal n) rest d (digits_stop (decimal n) rest d.1 d.0 a);
-      gives = λ s. ap (λ t. cond t (Breaks (rule 4)) (Gives (kind.Number n))) (not_too_great n h);
+      gives = λ s. ap (λ t. cond t (Breaks (rule 4)) (Gives (kind.Number n))) (in_bounds 2147483648 n h);
     }

@@ -1,11 +1,11 @@
-pub mod DeclarationFragments
-pub mod DenoterFragments
-pub mod ExpressionFragments
-pub mod HeadingFragments
-pub mod NameFragments
+pub mod DeclarationDrafts
+pub mod DenoterDrafts
+pub mod ExpressionDrafts
+pub mod HeadingDrafts
+pub mod NameDrafts
 pub mod Page
 pub mod Print
 pub mod Scanned
 pub mod Spelling
-pub mod StatementFragments
+pub mod StatementDrafts
 pub mod Unplaced

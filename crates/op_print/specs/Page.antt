@@ -1,19 +1,60 @@
 -- What a print is made of, and how it is laid out.
-use Rattle.std.specs.Prelude.{ℕ, ◌-◌, Bool, true, false, List, [], ◌∷◌, ◌++◌, ◌&&◌, ◌||◌, not, length, take, slice_index_or, nat_eq, if◌then◌else◌}
+use Rattle.std.specs.Prelude.{ℕ, ◌-◌, Bool, true, false, List, [], ◌∷◌, ◌++◌, ◌&&◌, ◌||◌, not, length, take, Option, Some, None, slice_index_or, nat_eq, if◌then◌else◌}
 use Rattle.op_scan.specs.Byte.{is_name_byte}
 use Rattle.op_scan.specs.declared.token.TokenKind.{TokenKind}
+use Rattle.op_scan.specs.declared.token.TokenKind.TheVariants as kind
 use Rattle.op_print.specs.Spelling.{spelling}
 
-pub data Fragment : Type 0 where
+-- What a print is made of, with no text yet.
+infixr 60 ◌&◌
+pub data Draft : Type 0 where
+  nothing : Draft
   -- with a blank before it
-  word : (kind : TokenKind) → Fragment
+  word : (kind : TokenKind) → Draft
   -- with a blank before it only where it would run into what stands there
-  tight : (kind : TokenKind) → Fragment
+  tight : (kind : TokenKind) → Draft
   -- what follows begins a line
-  line : Fragment
+  line : Draft
   -- from now on lines begin two columns further in, or two less
-  indent : Fragment
-  outdent : Fragment
+  indent : Draft
+  outdent : Draft
+  -- one after the other
+  ◌&◌ : (first second : Draft) → Draft
+
+-- ---- drafts of lists
+
+abbrev pub each : List Draft → Draft
+each [] = nothing
+each (d ∷ ds) = d & each ds
+
+-- each behind a mark
+abbrev pub behind : TokenKind → List Draft → Draft
+behind mark [] = nothing
+behind mark (d ∷ ds) = tight mark & d & behind mark ds
+
+-- with a mark between them
+abbrev pub separated : TokenKind → List Draft → Draft
+separated mark [] = nothing
+separated mark (d ∷ ds) = d & behind mark ds
+
+-- the same in brackets, where there are any
+abbrev pub enclosed : TokenKind → TokenKind → TokenKind → List Draft → Draft
+enclosed opening mark closing [] = nothing
+enclosed opening mark closing (d ∷ ds) = tight opening & separated mark (d ∷ ds) & tight closing
+
+abbrev pub optional : {A : Type 0} → (A → Draft) → Option A → Draft
+optional draft None = nothing
+optional draft (Some x) = draft x
+
+-- further in; what follows begins a line
+abbrev pub indented : Draft → Draft
+indented d = indent & d & outdent & line
+
+-- up to `end` on a line of its own
+abbrev pub ended : Draft → Draft
+ended d = indented d & word kind.End
+
+-- ---- pages
 
 -- What was printed so far, the blanks with which a line begins, and how many bytes more fit on this one.
 pub record Page : Type 0 where
@@ -55,12 +96,16 @@ first_byte bytes = slice_index_or bytes 0 32
 unfoldable pub wants_gap : Bool → List ℕ → List ℕ → Bool
 wants_gap is_tight text bytes = runs_together (last_byte text) (first_byte bytes) || not (is_tight || hugs (last_byte text))
 
-abbrev pub start_line : Page → Page
-start_line page = record { text = page.text ++ 10 ∷ page.margin; margin = page.margin; room = line_length }
+abbrev pub broken : Page → Page
+broken page = record { text = page.text ++ 10 ∷ page.margin; margin = page.margin; room = line_length }
+
+-- At the beginning of the page a line has begun.
+unfoldable pub start_line : Page → Page
+start_line page = if nat_eq (length page.text) 0 then page else broken page
 
 -- a blank, or a line's end where nothing more fits
 unfoldable pub parted : Page → Page
-parted page = if nat_eq page.room 0 then start_line page else record { text = page.text ++ 32 ∷ []; margin = page.margin; room = page.room }
+parted page = if nat_eq page.room 0 then broken page else record { text = page.text ++ 32 ∷ []; margin = page.margin; room = page.room }
 
 abbrev pub written : List ℕ → Page → Page
 written bytes page = record { text = page.text ++ bytes; margin = page.margin; room = page.room - length bytes }
@@ -69,14 +114,12 @@ written bytes page = record { text = page.text ++ bytes; margin = page.margin; r
 unfoldable pub put : Bool → List ℕ → Page → Page
 put is_tight bytes page = written bytes (if wants_gap is_tight page.text bytes then parted page else page)
 
-abbrev pub step : Page → Fragment → Page
-step page (word kind) = put false (spelling kind) page
-step page (tight kind) = put true (spelling kind) page
-step page line = start_line page
-step page indent = record { text = page.text; margin = page.margin ++ 32 ∷ 32 ∷ []; room = page.room }
-step page outdent = record { text = page.text; margin = take (length page.margin - 2) page.margin; room = page.room }
-
--- the page behind these fragments
-abbrev pub after : Page → List Fragment → Page
-after page [] = page
-after page (fragment ∷ fragments) = after (step page fragment) fragments
+-- the page behind a draft
+abbrev pub after : Page → Draft → Page
+after page nothing = page
+after page (word k) = put false (spelling k) page
+after page (tight k) = put true (spelling k) page
+after page line = start_line page
+after page indent = record { text = page.text; margin = page.margin ++ 32 ∷ 32 ∷ []; room = page.room }
+after page outdent = record { text = page.text; margin = take (length page.margin - 2) page.margin; room = page.room }
+after page (first & second) = after (after page first) second

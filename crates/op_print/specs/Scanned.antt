@@ -3,8 +3,8 @@ use Rattle.std.specs.Prelude.{◌≡◌, ◌≤◌, ℕ, Bool, true, false, List
 use Rattle.std.specs.Char.{to_ascii_lowercase}
 use Rattle.std.specs.List.{list_all}
 use Rattle.op_base.specs.declared.place.Place.{Place}
-use Rattle.op_print.specs.Page.{Fragment, word, tight, line, indent, outdent}
-use Rattle.op_print.specs.Print.{file_fragments}
+use Rattle.op_print.specs.Page.{Draft, word, tight, ◌&◌}
+use Rattle.op_print.specs.Print.{file_draft}
 use Rattle.op_print.specs.Unplaced.{unplaced}
 use Rattle.op_scan.specs.Byte.{is_name_start, is_name_byte}
 use Rattle.op_scan.specs.Keyword.{keyword_of}
@@ -35,18 +35,19 @@ IsSpellable (kind.Number n) = n ≤ 2147483648
 IsSpellable (kind.CharacterString text) = length text ≤ 65535
 IsSpellable other = Unit {0}
 
-abbrev pub AreSpellable : List TokenKind → Type 0
-AreSpellable [] = Unit {0}
-AreSpellable (k ∷ ks) = IsSpellable k × AreSpellable ks
+-- each of a draft's words can be a token
+abbrev pub AreSpellable : Draft → Type 0
+AreSpellable (word k) = IsSpellable k
+AreSpellable (tight k) = IsSpellable k
+AreSpellable (a & b) = AreSpellable a × AreSpellable b
+AreSpellable other = Unit {0}
 
--- the kinds of a print's words
-abbrev pub kinds_of : List Fragment → List TokenKind
-kinds_of [] = []
-kinds_of (word k ∷ fragments) = k ∷ kinds_of fragments
-kinds_of (tight k ∷ fragments) = k ∷ kinds_of fragments
-kinds_of (line ∷ fragments) = kinds_of fragments
-kinds_of (indent ∷ fragments) = kinds_of fragments
-kinds_of (outdent ∷ fragments) = kinds_of fragments
+-- the kinds of a draft's words, in front of others
+abbrev pub kinds_before : Draft → List TokenKind → List TokenKind
+kinds_before (word k) ks = k ∷ ks
+kinds_before (tight k) ks = k ∷ ks
+kinds_before (a & b) ks = kinds_before a (kinds_before b ks)
+kinds_before other ks = ks
 
 -- The text has tokens of these kinds, and no others.
 pub record ScansTo (file : ℕ) (text : List ℕ) (kinds : List TokenKind) : Type 0 where
@@ -57,7 +58,7 @@ pub record ScansTo (file : ℕ) (text : List ℕ) (kinds : List TokenKind) : Typ
 
 -- Where each of its words can be a token, the text of a file has tokens of the words' kinds, and no others.
 abbrev pub ScansAsPrinted : File → List ℕ → Type 0
-ScansAsPrinted file text = AreSpellable (kinds_of (file_fragments file)) → (n : ℕ) → ScansTo n text (kinds_of (file_fragments file))
+ScansAsPrinted file text = AreSpellable (file_draft file) → (n : ℕ) → ScansTo n text (kinds_before (file_draft file) [])
 
 -- The text's tokens are spelled by a tree that is this one but for its places.
 pub record SpelledAgain (n : ℕ) (file : File) (text : List ℕ) : Type 0 where

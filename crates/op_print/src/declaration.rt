@@ -1,21 +1,19 @@
 //! The print of declarations. Each begins a line.
-#![tactic(auto, using(crate::proofs::After::after_append))]
-
-ghost use Rattle.std.specs.Prelude.{◌≡◌, IfOk, map};
-ghost use Rattle.std.specs.List.{flat_map};
+ghost use Rattle.std.specs.Prelude.{◌≡◌, IfOk, Option, map};
 ghost use Rattle.std.specs.Option.{option_map};
-ghost use Rattle.op_print.specs.DeclarationFragments.{block_fragments, body_fragments, constant_fragments, declaration_fragments, declarations_fragments, definition_fragments, first_value_fragments, type_declaration_fragments, variables_fragments};
-ghost use Rattle.op_print.specs.Page.{after};
-ghost use Rattle.op_tree.specs.Declaration.{body_of, constant_of, declaration_of, declarations_of, definition_of, type_of, variables_of};
+ghost use Rattle.op_print.specs.DeclarationDrafts.{begin_end_draft, body_draft, constant_draft, declaration_draft, declarations_draft, definition_draft, first_value_draft, type_declaration_draft, variables_draft};
+ghost use Rattle.op_print.specs.Page.{after, each, indent, optional, outdent, ◌&◌};
+ghost use Rattle.op_tree.specs.Declaration.{body_of, constant_of, declaration_of, declarations_of, definition_of, heading_of, routine, type_of, variables_of};
 ghost use Rattle.op_tree.specs.Initial.{initial_of};
 ghost use Rattle.op_tree.specs.Statement.{stmts_of};
 
-use crate::class::{class, identifier, interface, method_line};
+use crate::class::{class, identifier, interface};
 use crate::denoter::denoter;
-use crate::heading::{directives, heading, optional_type};
+use crate::heading::{heading, optional_type};
 use crate::initializer::initializer;
+use crate::list::{Printed, all};
 use crate::name::{name, names};
-use crate::printer::Printer;
+use crate::printer::{Printer, indent, line, outdent, tight, word};
 use crate::statement::block;
 use op_base::NoMemory;
 use op_tree::{
@@ -23,105 +21,76 @@ use op_tree::{
     Variables,
 };
 
-fn constant(page: &mut Printer, constant: &Constant) -> Result<(), NoMemory>
-    ensures { IfOk result (λ _. page.new ≡ after page.old (constant_fragments (constant_of constant.now))) }
-{
-    page.start_line()?;
-    name(page, &constant.name)?;
-    optional_type(page, &constant.denoter)?;
-    page.word(b"=")?;
-    initializer(page, &constant.value)?;
-    page.tight(b";")
-}
+impl Printed for Constant {
+    ghost draft = { λ c. constant_draft (constant_of c) };
 
-fn constants(page: &mut Printer, list: &[Constant]) -> Result<(), NoMemory>
-    ensures { IfOk result (λ _. page.new ≡ after page.old (flat_map constant_fragments (map constant_of list.now))) }
-{
-    for each in list {
-        constant(page, each)?;
+    fn print(&self, page: &mut Printer) -> Result<(), NoMemory> {
+        print_all!(page:
+            line(), name(&self.name), optional_type(&self.denoter), word(b"="),
+            initializer(&self.value), tight(b";"))
     }
-    Ok(())
 }
 
 /// `=` and a first value, where there is one.
 fn first_value(page: &mut Printer, value: &Option<Initializer>) -> Result<(), NoMemory>
-    ensures { IfOk result (λ _. page.new ≡ after page.old (first_value_fragments (option_map initial_of value.now))) }
+    ensures { IfOk result (λ _. page.new ≡ after page.old (optional first_value_draft (option_map initial_of value.now))) }
 {
     match value {
         None => Ok(()),
-        Some(value) => {
-            page.word(b"=")?;
-            initializer(page, value)
-        }
+        Some(value) => print_all!(page: word(b"="), initializer(value)),
     }
 }
 
-fn variables_of_one_type(page: &mut Printer, variables: &Variables) -> Result<(), NoMemory>
-    ensures { IfOk result (λ _. page.new ≡ after page.old (variables_fragments (variables_of variables.now))) }
-{
-    page.start_line()?;
-    names(page, variables.names.as_slice())?;
-    page.tight(b":")?;
-    denoter(page, &variables.denoter)?;
-    first_value(page, &variables.value)?;
-    page.tight(b";")
-}
+impl Printed for Variables {
+    ghost draft = { λ v. variables_draft (variables_of v) };
 
-fn variables(page: &mut Printer, list: &[Variables]) -> Result<(), NoMemory>
-    ensures { IfOk result (λ _. page.new ≡ after page.old (flat_map variables_fragments (map variables_of list.now))) }
-{
-    for each in list {
-        variables_of_one_type(page, each)?;
+    fn print(&self, page: &mut Printer) -> Result<(), NoMemory> {
+        print_all!(page:
+            line(), names(self.names.as_slice()), tight(b":"), denoter(&self.denoter),
+            first_value(&self.value), tight(b";"))
     }
-    Ok(())
 }
 
 fn definition(page: &mut Printer, definition: &TypeDefinition) -> Result<(), NoMemory>
-    ensures { IfOk result (λ _. page.new ≡ after page.old (definition_fragments (definition_of definition.now))) }
+    ensures { IfOk result (λ _. page.new ≡ after page.old (definition_draft (definition_of definition.now))) }
 {
     match definition {
         TypeDefinition::Denoter(denoted) => denoter(page, denoted),
-        TypeDefinition::ForwardClass => page.word(b"class"),
+        TypeDefinition::ForwardClass => word(page, b"class"),
         TypeDefinition::Class(defined) => class(page, defined),
         TypeDefinition::ForwardInterface { identifier: text } => {
-            page.word(b"interface")?;
-            identifier(page, text)
+            print_all!(page: word(b"interface"), identifier(text))
         }
         TypeDefinition::Interface(defined) => interface(page, defined),
     }
 }
 
-fn type_declaration(page: &mut Printer, declared: &TypeDeclaration) -> Result<(), NoMemory>
-    ensures { IfOk result (λ _. page.new ≡ after page.old (type_declaration_fragments (type_of declared.now))) }
-{
-    page.start_line()?;
-    name(page, &declared.name)?;
-    page.word(b"=")?;
-    definition(page, &declared.definition)?;
-    page.tight(b";")
+impl Printed for TypeDeclaration {
+    ghost draft = { λ t. type_declaration_draft (type_of t) };
+
+    fn print(&self, page: &mut Printer) -> Result<(), NoMemory> {
+        print_all!(page:
+            line(), name(&self.name), word(b"="), definition(&self.definition), tight(b";"))
+    }
 }
 
-fn types(page: &mut Printer, list: &[TypeDeclaration]) -> Result<(), NoMemory>
-    ensures { IfOk result (λ _. page.new ≡ after page.old (flat_map type_declaration_fragments (map type_of list.now))) }
+/// Declarations of one sort, further in.
+fn group<T: Printed>(page: &mut Printer, list: &[T]) -> Result<(), NoMemory>
+    ensures { IfOk result (λ _. page.new ≡ after page.old (indent & each (map T.draft list.now) & outdent)) }
 {
-    for each in list {
-        type_declaration(page, each)?;
-    }
-    Ok(())
+    print_all!(page: indent(), all(list), outdent())
 }
 
 /// `begin`, statements and `end`, on lines of their own.
 pub fn begin_end(page: &mut Printer, list: &[Stmt]) -> Result<(), NoMemory>
-    ensures { IfOk result (λ _. page.new ≡ after page.old (block_fragments (stmts_of list.now))) }
+    ensures { IfOk result (λ _. page.new ≡ after page.old (begin_end_draft (stmts_of list.now))) }
 {
-    page.start_line()?;
-    block(page, b"begin", list)?;
-    page.word(b"end")
+    print_all!(page: line(), word(b"begin"), block(list), word(b"end"))
 }
 
 #[cycle(declaration)]
 pub fn declarations(page: &mut Printer, list: &[Declaration]) -> Result<(), NoMemory>
-    ensures { IfOk result (λ _. page.new ≡ after page.old (declarations_fragments (declarations_of list.now))) }
+    ensures { IfOk result (λ _. page.new ≡ after page.old (declarations_draft (declarations_of list.now))) }
 {
     for each in list {
         declaration(page, each)?;
@@ -131,59 +100,35 @@ pub fn declarations(page: &mut Printer, list: &[Declaration]) -> Result<(), NoMe
 
 #[cycle(declaration)]
 fn declaration(page: &mut Printer, declared: &Declaration) -> Result<(), NoMemory>
-    ensures { IfOk result (λ _. page.new ≡ after page.old (declaration_fragments (declaration_of declared.now))) }
+    ensures { IfOk result (λ _. page.new ≡ after page.old (declaration_draft (declaration_of declared.now))) }
 {
     match declared {
-        Declaration::Constants(list) => {
-            page.start_line()?;
-            page.word(b"const")?;
-            page.indent()?;
-            constants(page, list)?;
-            page.outdent();
-            Ok(())
-        }
-        Declaration::Types(list) => {
-            page.start_line()?;
-            page.word(b"type")?;
-            page.indent()?;
-            types(page, list)?;
-            page.outdent();
-            Ok(())
-        }
-        Declaration::Variables(list) => {
-            page.start_line()?;
-            page.word(b"var")?;
-            page.indent()?;
-            variables(page, list)?;
-            page.outdent();
-            Ok(())
-        }
-        Declaration::Heading(declared) => method_line(page, declared),
-        Declaration::Routine(declared) => {
-            page.start_line()?;
-            heading(page, &declared.heading)?;
-            page.tight(b";")?;
-            directives(page, declared.directives.as_slice())?;
-            body(page, &declared.body)?;
-            page.tight(b";")
-        }
+        Declaration::Constants(list) => print_all!(page: line(), word(b"const"), group(list)),
+        Declaration::Types(list) => print_all!(page: line(), word(b"type"), group(list)),
+        Declaration::Variables(list) => print_all!(page: line(), word(b"var"), group(list)),
+        Declaration::Heading(declared) => declared.print(page),
+        Declaration::Routine(declared) => routine(page, declared),
     }
 }
 
 #[cycle(declaration)]
+fn routine(page: &mut Printer, declared: &Routine) -> Result<(), NoMemory>
+    ensures { IfOk result (λ _. page.new ≡ after page.old (declaration_draft (routine (heading_of declared.now.heading) declared.now.directives (body_of declared.now.body)))) }
+{
+    print_all!(page:
+        line(), heading(&declared.heading), tight(b";"), all(declared.directives.as_slice()),
+        body(&declared.body), tight(b";"))
+}
+
+#[cycle(declaration)]
 fn body(page: &mut Printer, body: &Body) -> Result<(), NoMemory>
-    ensures { IfOk result (λ _. page.new ≡ after page.old (body_fragments (body_of body.now))) }
+    ensures { IfOk result (λ _. page.new ≡ after page.old (body_draft (body_of body.now))) }
 {
     match body {
-        Body::Forward => page.word(b"forward"),
+        Body::Forward => word(page, b"forward"),
         Body::Block {
             declarations: list,
             statements,
-        } => {
-            page.indent()?;
-            declarations(page, list)?;
-            page.outdent();
-            begin_end(page, statements)
-        }
+        } => print_all!(page: indent(), declarations(list), outdent(), begin_end(statements)),
     }
 }

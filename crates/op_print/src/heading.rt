@@ -1,17 +1,16 @@
 //! The print of headings and methods.
-#![tactic(auto, using(crate::proofs::After::after_append))]
-
 ghost use Rattle.std.specs.Prelude.{◌≡◌, Option, IfOk};
 ghost use Rattle.std.specs.Option.{option_map};
-ghost use Rattle.op_print.specs.HeadingFragments.{directive_word, directives_fragments, heading_fragments, method_fragments, mode_fragments, open_array_fragments, parameter_fragments, parameter_type_fragments, parameters_fragments, routine_word, type_fragments};
-ghost use Rattle.op_print.specs.Page.{after};
+ghost use Rattle.op_print.specs.HeadingDrafts.{directive_draft, directive_word, heading_draft, method_draft, mode_draft, open_array_draft, parameter_draft, parameter_type_draft, routine_word, type_draft};
+ghost use Rattle.op_print.specs.Page.{after, optional};
 ghost use Rattle.op_print.specs.Spelling.{spelling};
 ghost use Rattle.op_tree.specs.Declaration.{heading_of, method_of};
 ghost use Rattle.op_tree.specs.Denoter.{denoter_of};
 
 use crate::denoter::denoter;
+use crate::list::{Printed, all, in_brackets};
 use crate::name::{names, qualified, qualified_name};
-use crate::printer::Printer;
+use crate::printer::{Printer, line, tight, word};
 use op_base::NoMemory;
 use op_tree::{
     Directive, Heading, Method, Parameter, ParameterMode, ParameterType, RoutineKind, TypeDenoter,
@@ -44,98 +43,76 @@ fn directive_word(directive: Directive) -> &'static [u8]
 }
 
 fn mode(page: &mut Printer, mode: ParameterMode) -> Result<(), NoMemory>
-    ensures { IfOk result (λ _. page.new ≡ after page.old (mode_fragments mode)) }
+    ensures { IfOk result (λ _. page.new ≡ after page.old (mode_draft mode)) }
 {
     match mode {
         ParameterMode::Value => Ok(()),
-        ParameterMode::Var => page.word(b"var"),
-        ParameterMode::Const_ => page.word(b"const"),
-        ParameterMode::Out => page.word(b"out"),
+        ParameterMode::Var => word(page, b"var"),
+        ParameterMode::Const_ => word(page, b"const"),
+        ParameterMode::Out => word(page, b"out"),
     }
 }
 
-fn open_array(page: &mut Printer, open_array: bool) -> Result<(), NoMemory>
-    ensures { IfOk result (λ _. page.new ≡ after page.old (open_array_fragments open_array)) }
+fn array_of(page: &mut Printer, open_array: bool) -> Result<(), NoMemory>
+    ensures { IfOk result (λ _. page.new ≡ after page.old (open_array_draft open_array)) }
 {
     if !open_array {
         return Ok(());
     }
-    page.word(b"array")?;
-    page.word(b"of")
+    print_all!(page: word(b"array"), word(b"of"))
 }
 
 fn parameter_type(page: &mut Printer, of: &ParameterType) -> Result<(), NoMemory>
-    ensures { IfOk result (λ _. page.new ≡ after page.old (parameter_type_fragments of.now)) }
+    ensures { IfOk result (λ _. page.new ≡ after page.old (parameter_type_draft of.now)) }
 {
     match of {
         ParameterType::Named(name) => qualified_name(page, name),
-        ParameterType::String { .. } => page.word(b"string"),
+        ParameterType::String { .. } => word(page, b"string"),
     }
 }
 
-fn parameter(page: &mut Printer, parameter: &Parameter) -> Result<(), NoMemory>
-    ensures { IfOk result (λ _. page.new ≡ after page.old (parameter_fragments parameter.now)) }
-{
-    mode(page, parameter.mode)?;
-    names(page, parameter.names.as_slice())?;
-    page.tight(b":")?;
-    open_array(page, parameter.open_array)?;
-    parameter_type(page, &parameter.of)
-}
+impl Printed for Parameter {
+    ghost draft = { parameter_draft };
 
-/// Parameters in brackets, where there are any.
-fn parameters(page: &mut Printer, list: &[Parameter]) -> Result<(), NoMemory>
-    ensures { IfOk result (λ _. page.new ≡ after page.old (parameters_fragments list.now)) }
-{
-    let Some((first, others)) = list.split_first() else {
-        return Ok(());
-    };
-    page.tight(b"(")?;
-    parameter(page, first)?;
-    for each in others {
-        page.tight(b";")?;
-        parameter(page, each)?;
+    fn print(&self, page: &mut Printer) -> Result<(), NoMemory> {
+        print_all!(page:
+            mode(self.mode), names(self.names.as_slice()), tight(b":"), array_of(self.open_array),
+            parameter_type(&self.of))
     }
-    page.tight(b")")
 }
 
 /// A colon and a type, where there is one.
 pub fn optional_type(page: &mut Printer, denoted: &Option<TypeDenoter>) -> Result<(), NoMemory>
-    ensures { IfOk result (λ _. page.new ≡ after page.old (type_fragments (option_map denoter_of denoted.now))) }
+    ensures { IfOk result (λ _. page.new ≡ after page.old (optional type_draft (option_map denoter_of denoted.now))) }
 {
     match denoted {
         None => Ok(()),
-        Some(denoted) => {
-            page.tight(b":")?;
-            denoter(page, denoted)
-        }
+        Some(denoted) => print_all!(page: tight(b":"), denoter(denoted)),
     }
 }
 
 pub fn heading(page: &mut Printer, heading: &Heading) -> Result<(), NoMemory>
-    ensures { IfOk result (λ _. page.new ≡ after page.old (heading_fragments (heading_of heading.now))) }
+    ensures { IfOk result (λ _. page.new ≡ after page.old (heading_draft (heading_of heading.now))) }
 {
-    page.word(routine_word(heading.kind))?;
-    qualified(page, &heading.class, &heading.name)?;
-    parameters(page, heading.parameters.as_slice())?;
-    optional_type(page, &heading.result)
+    print_all!(page:
+        word(routine_word(heading.kind)), qualified(&heading.class, &heading.name),
+        in_brackets(b";", heading.parameters.as_slice()), optional_type(&heading.result))
 }
 
-/// The words behind a heading.
-pub fn directives(page: &mut Printer, list: &[Directive]) -> Result<(), NoMemory>
-    ensures { IfOk result (λ _. page.new ≡ after page.old (directives_fragments list.now)) }
-{
-    for each in list {
-        page.word(directive_word(*each))?;
-        page.tight(b";")?;
+impl Printed for Directive {
+    ghost draft = { directive_draft };
+
+    fn print(&self, page: &mut Printer) -> Result<(), NoMemory> {
+        print_all!(page: word(directive_word(*self)), tight(b";"))
     }
-    Ok(())
 }
 
-pub fn method(page: &mut Printer, method: &Method) -> Result<(), NoMemory>
-    ensures { IfOk result (λ _. page.new ≡ after page.old (method_fragments (method_of method.now))) }
-{
-    heading(page, &method.heading)?;
-    page.tight(b";")?;
-    directives(page, method.directives.as_slice())
+/// On a line of its own.
+impl Printed for Method {
+    ghost draft = { λ m. method_draft (method_of m) };
+
+    fn print(&self, page: &mut Printer) -> Result<(), NoMemory> {
+        print_all!(page:
+            line(), heading(&self.heading), tight(b";"), all(self.directives.as_slice()))
+    }
 }

@@ -1,8 +1,9 @@
 //! The page that a print is put on: words with blanks and line ends between them.
 ghost use Rattle.std.specs.Prelude.{◌≡◌, true, false, decimal, IfOk};
-ghost use Rattle.op_print.specs.Page.{empty_page, first_byte, hugs, indent, last_byte, line, outdent, parted, put, runs_together, step, wants_gap, written};
+ghost use Rattle.op_print.specs.Page.{◌&◌, after, broken, empty_page, first_byte, hugs, indent, last_byte, line, outdent, parted, put, runs_together, wants_gap, word, written};
 ghost use Rattle.op_print.specs.Spelling.{quoted};
 ghost use Rattle.op_scan.specs.Byte.{is_name_byte};
+ghost use Rattle.op_scan.specs.declared.token.TokenKind.TheVariants as kind;
 
 use crate::string::quoted;
 use itoa::Buffer;
@@ -98,96 +99,115 @@ impl Printer {
         }
     }
 
-    /// What follows begins a line.
-    pub fn start_line(&mut self) -> Result<(), NoMemory>
-        ensures { IfOk result (λ _. self.new ≡ step self.old line) }
-    {
-        self.text.push(b'\n')?;
-        self.text.extend_from_slice(self.margin.as_slice())?;
-        self.room = LINE_LENGTH;
-        Ok(())
-    }
-
-    /// A blank, or a line's end where nothing more fits.
-    #[tactic(auto, unfolding(crate::specs::Page::parted))]
-    fn part(&mut self) -> Result<(), NoMemory>
-        ensures { IfOk result (λ _. self.new ≡ parted self.old) }
-    {
-        if self.room == 0 {
-            return self.start_line();
-        }
-        self.text.push(b' ')?;
-        Ok(())
-    }
-
-    fn write(&mut self, word: &[u8]) -> Result<(), NoMemory>
-        ensures { IfOk result (λ _. self.new ≡ written word.now self.old) }
-    {
-        self.text.extend_from_slice(word)?;
-        self.room = self.room.saturating_sub(word.len());
-        Ok(())
-    }
-
-    #[tactic(auto, unfolding(crate::specs::Page::put))]
-    fn put(&mut self, tight: bool, word: &[u8]) -> Result<(), NoMemory>
-        ensures { IfOk result (λ _. self.new ≡ put tight word.now self.old) }
-    {
-        if wants_gap(tight, self.text.as_slice(), word) {
-            self.part()?;
-            return self.write(word);
-        }
-        self.write(word)
-    }
-
-    /// A word with a blank before it.
-    pub fn word(&mut self, word: &[u8]) -> Result<(), NoMemory>
-        ensures { IfOk result (λ _. self.new ≡ put false word.now self.old) }
-    {
-        self.put(false, word)
-    }
-
-    /// A word with a blank before it only where it would run into what stands there.
-    pub fn tight(&mut self, word: &[u8]) -> Result<(), NoMemory>
-        ensures { IfOk result (λ _. self.new ≡ put true word.now self.old) }
-    {
-        self.put(true, word)
-    }
-
-    /// A number, in decimal.
-    pub fn number(&mut self, value: u32) -> Result<(), NoMemory>
-        ensures { IfOk result (λ _. self.new ≡ put false (decimal value) self.old) }
-    {
-        let mut buffer = Buffer::new();
-        self.word(buffer.format(value).as_bytes())
-    }
-
-    /// A string with these bytes.
-    pub fn string(&mut self, text: &[u8]) -> Result<(), NoMemory>
-        ensures { IfOk result (λ _. self.new ≡ put false (quoted text.now) self.old) }
-    {
-        let spelled = quoted(self.alloc, text)?;
-        self.word(spelled.as_slice())
-    }
-
-    /// From now on lines begin two columns further in.
-    pub fn indent(&mut self) -> Result<(), NoMemory>
-        ensures { IfOk result (λ _. self.new ≡ step self.old indent) }
-    {
-        self.margin.extend_from_slice(b"  ")?;
-        Ok(())
-    }
-
-    /// From now on lines begin two columns less far in.
-    pub fn outdent(&mut self)
-        ensures { self.new ≡ step self.old outdent }
-    {
-        self.margin.truncate(self.margin.len().saturating_sub(2));
-    }
-
     /// What was printed.
     pub fn into_text(self) -> Text
         ensures { result ≡ self.text }
     {
         Text::from(self.text)
     }
+}
+
+fn break_line(page: &mut Printer) -> Result<(), NoMemory>
+    ensures { IfOk result (λ _. page.new ≡ broken page.old) }
+{
+    page.text.push(b'\n')?;
+    page.text.extend_from_slice(page.margin.as_slice())?;
+    page.room = LINE_LENGTH;
+    Ok(())
+}
+
+/// What follows begins a line. At the beginning of the page one has begun.
+#[tactic(auto, unfolding(crate::specs::Page::start_line))]
+pub fn line(page: &mut Printer) -> Result<(), NoMemory>
+    ensures { IfOk result (λ _. page.new ≡ after page.old line) }
+{
+    if page.text.is_empty() {
+        return Ok(());
+    }
+    break_line(page)
+}
+
+/// A blank, or a line's end where nothing more fits.
+#[tactic(auto, unfolding(crate::specs::Page::parted))]
+fn part(page: &mut Printer) -> Result<(), NoMemory>
+    ensures { IfOk result (λ _. page.new ≡ parted page.old) }
+{
+    if page.room == 0 {
+        return break_line(page);
+    }
+    page.text.push(b' ')?;
+    Ok(())
+}
+
+fn write(page: &mut Printer, bytes: &[u8]) -> Result<(), NoMemory>
+    ensures { IfOk result (λ _. page.new ≡ written bytes.now page.old) }
+{
+    page.text.extend_from_slice(bytes)?;
+    page.room = page.room.saturating_sub(bytes.len());
+    Ok(())
+}
+
+#[tactic(auto, unfolding(crate::specs::Page::put))]
+fn put(page: &mut Printer, tight: bool, bytes: &[u8]) -> Result<(), NoMemory>
+    ensures { IfOk result (λ _. page.new ≡ put tight bytes.now page.old) }
+{
+    if wants_gap(tight, page.text.as_slice(), bytes) {
+        part(page)?;
+        return write(page, bytes);
+    }
+    write(page, bytes)
+}
+
+/// A word with a blank before it.
+pub fn word(page: &mut Printer, bytes: &[u8]) -> Result<(), NoMemory>
+    ensures { IfOk result (λ _. page.new ≡ put false bytes.now page.old) }
+{
+    put(page, false, bytes)
+}
+
+/// A word with a blank before it only where it would run into what stands there.
+pub fn tight(page: &mut Printer, bytes: &[u8]) -> Result<(), NoMemory>
+    ensures { IfOk result (λ _. page.new ≡ put true bytes.now page.old) }
+{
+    put(page, true, bytes)
+}
+
+/// A number, in decimal.
+pub fn number(page: &mut Printer, value: u32) -> Result<(), NoMemory>
+    ensures { IfOk result (λ _. page.new ≡ put false (decimal value) page.old) }
+{
+    let mut buffer = Buffer::new();
+    word(page, buffer.format(value).as_bytes())
+}
+
+/// A string with these bytes.
+pub fn string(page: &mut Printer, text: &[u8]) -> Result<(), NoMemory>
+    ensures { IfOk result (λ _. page.new ≡ put false (quoted text.now) page.old) }
+{
+    let spelled = quoted(page.alloc, text)?;
+    word(page, spelled.as_slice())
+}
+
+/// From now on lines begin two columns further in.
+pub fn indent(page: &mut Printer) -> Result<(), NoMemory>
+    ensures { IfOk result (λ _. page.new ≡ after page.old indent) }
+{
+    page.margin.extend_from_slice(b"  ")?;
+    Ok(())
+}
+
+/// From now on lines begin two columns less far in.
+pub fn outdent(page: &mut Printer) -> Result<(), NoMemory>
+    ensures { IfOk result (λ _. page.new ≡ after page.old outdent) }
+{
+    let shorter = page.margin.len().saturating_sub(2);
+    page.margin.truncate(shorter);
+    Ok(())
+}
+
+/// `end`, on a line that begins two columns less far in.
+pub fn end(page: &mut Printer) -> Result<(), NoMemory>
+    ensures { IfOk result (λ _. page.new ≡ after page.old (outdent & line & word kind.End)) }
+{
+    print_all!(page: outdent(), line(), word(b"end"))
 }

@@ -1,23 +1,18 @@
 //! The print of statements.
-#![tactic(auto, using(crate::proofs::After::after_append))]
-
-ghost use Rattle.std.specs.Prelude.{◌≡◌, ◌++◌, ◌∷◌, [], IfOk};
-ghost use Rattle.op_print.specs.ExpressionFragments.{expression_fragments};
-ghost use Rattle.op_print.specs.NameFragments.{name_fragment};
-ghost use Rattle.op_print.specs.Page.{after, word};
+ghost use Rattle.std.specs.Prelude.{◌≡◌, Option, IfOk};
+ghost use Rattle.op_print.specs.ExpressionDrafts.{element_drafts};
+ghost use Rattle.op_print.specs.Page.{after, indented, line, optional, separated, tight, word, ◌&◌};
 ghost use Rattle.op_print.specs.Spelling.{spelling};
-ghost use Rattle.op_print.specs.StatementFragments.{begun, branches_fragments, direction_kind, handlers_fragments, indented, on_fragments, opened, statement_fragments, statements_fragments, variable_fragments};
-ghost use Rattle.op_scan.specs.declared.token.TokenKind.{TokenKind};
+ghost use Rattle.op_print.specs.StatementDrafts.{begun, block_draft, branches_draft, direction_kind, handlers_draft, on_draft, statement_draft, statement_drafts, variable_draft};
 ghost use Rattle.op_scan.specs.declared.token.TokenKind.TheVariants as kind;
-ghost use Rattle.op_tree.specs.Expression.{expr_of};
 ghost use Rattle.op_tree.specs.Lists.{branches_of, handlers_of};
-ghost use Rattle.op_tree.specs.Statement.{stmt_of, stmts_of};
+ghost use Rattle.op_tree.specs.Statement.{elements_of, stmt_of, stmts_of};
 
 use crate::expression::{designator, elements, expression};
 use crate::name::{name, qualified_name};
-use crate::printer::Printer;
+use crate::printer::{Printer, indent, line, outdent, tight, word};
 use op_base::NoMemory;
-use op_tree::{Branch, Direction, Expr, Handler, Name, QualifiedName, Stmt};
+use op_tree::{Branch, Direction, Handler, Name, QualifiedName, Stmt};
 
 fn direction_word(direction: Direction) -> &'static [u8]
     ensures { result.now ≡ spelling (direction_kind direction) }
@@ -28,75 +23,21 @@ fn direction_word(direction: Direction) -> &'static [u8]
     }
 }
 
-/// `if condition then`
-fn if_then(page: &mut Printer, condition: &Expr) -> Result<(), NoMemory>
-    ensures { IfOk result (λ _. page.new ≡ after page.old (word kind.If_ ∷ expression_fragments (expr_of condition.now) ++ word kind.Then ∷ [])) }
-{
-    page.word(b"if")?;
-    expression(page, condition)?;
-    page.word(b"then")
-}
-
-/// `case selector of`
-fn case_of(page: &mut Printer, selector: &Expr) -> Result<(), NoMemory>
-    ensures { IfOk result (λ _. page.new ≡ after page.old (word kind.Case ∷ expression_fragments (expr_of selector.now) ++ word kind.Of ∷ [])) }
-{
-    page.word(b"case")?;
-    expression(page, selector)?;
-    page.word(b"of")
-}
-
-/// `for variable := first to last do`
-fn for_to(
-    page: &mut Printer,
-    variable: &Name,
-    first: &Expr,
-    direction: Direction,
-    last: &Expr,
-) -> Result<(), NoMemory>
-    ensures { IfOk result (λ _. page.new ≡ after page.old (word kind.For_ ∷ name_fragment variable.now ∷ word kind.Assign ∷ expression_fragments (expr_of first.now) ++ word (direction_kind direction) ∷ expression_fragments (expr_of last.now) ++ word kind.Do_ ∷ [])) }
-{
-    page.word(b"for")?;
-    name(page, variable)?;
-    page.word(b":=")?;
-    expression(page, first)?;
-    page.word(direction_word(direction))?;
-    expression(page, last)?;
-    page.word(b"do")
-}
-
-/// `for variable in collection do`
-fn for_in(page: &mut Printer, variable: &Name, collection: &Expr) -> Result<(), NoMemory>
-    ensures { IfOk result (λ _. page.new ≡ after page.old (word kind.For_ ∷ name_fragment variable.now ∷ word kind.In_ ∷ expression_fragments (expr_of collection.now) ++ word kind.Do_ ∷ [])) }
-{
-    page.word(b"for")?;
-    name(page, variable)?;
-    page.word(b"in")?;
-    expression(page, collection)?;
-    page.word(b"do")
-}
-
-fn variable_of_handler(page: &mut Printer, variable: &Option<Name>) -> Result<(), NoMemory>
-    ensures { IfOk result (λ _. page.new ≡ after page.old (variable_fragments variable.now)) }
+fn handler_variable(page: &mut Printer, variable: &Option<Name>) -> Result<(), NoMemory>
+    ensures { IfOk result (λ _. page.new ≡ after page.old (optional variable_draft variable.now)) }
 {
     match variable {
         None => Ok(()),
-        Some(variable) => {
-            name(page, variable)?;
-            page.tight(b":")
-        }
+        Some(variable) => print_all!(page: name(variable), tight(b":")),
     }
 }
 
 /// `on variable: class do`, on a line of its own
 fn on(page: &mut Printer, variable: &Option<Name>, class: &QualifiedName) -> Result<(), NoMemory>
-    ensures { IfOk result (λ _. page.new ≡ after page.old (on_fragments variable.now class.now)) }
+    ensures { IfOk result (λ _. page.new ≡ after page.old (on_draft variable.now class.now)) }
 {
-    page.start_line()?;
-    page.word(b"on")?;
-    variable_of_handler(page, variable)?;
-    qualified_name(page, class)?;
-    page.word(b"do")
+    print_all!(page:
+        line(), word(b"on"), handler_variable(variable), qualified_name(class), word(b"do"))
 }
 
 /// A statement begins a line where it has a token.
@@ -105,62 +46,50 @@ fn begin_line(page: &mut Printer, stmt: &Stmt) -> Result<(), NoMemory>
 {
     match stmt {
         Stmt::Empty => Ok(()),
-        _ => page.start_line(),
+        _ => line(page),
     }
 }
 
 #[cycle(statement)]
 fn statement(page: &mut Printer, stmt: &Stmt) -> Result<(), NoMemory>
-    ensures { IfOk result (λ _. page.new ≡ after page.old (statement_fragments (stmt_of stmt.now))) }
+    ensures { IfOk result (λ _. page.new ≡ after page.old (statement_draft (stmt_of stmt.now))) }
 {
     match stmt {
         Stmt::Empty => Ok(()),
-        Stmt::Block(list) => {
-            block(page, b"begin", list)?;
-            page.word(b"end")
-        }
+        Stmt::Block(list) => print_all!(page: word(b"begin"), block_end(list)),
         Stmt::If { condition, then } => {
-            if_then(page, condition)?;
-            statement(page, then)
+            print_all!(page: word(b"if"), expression(condition), word(b"then"), statement(then))
         }
         Stmt::IfElse {
             condition,
             then,
             otherwise,
         } => {
-            if_then(page, condition)?;
-            statement(page, then)?;
-            page.word(b"else")?;
-            statement(page, otherwise)
+            print_all!(page:
+                word(b"if"), expression(condition), word(b"then"), statement(then), word(b"else"),
+                statement(otherwise))
         }
         Stmt::Case {
             selector,
             branches: list,
         } => {
-            case_of(page, selector)?;
-            branches(page, list)?;
-            page.word(b"end")
+            print_all!(page:
+                word(b"case"), expression(selector), word(b"of"), branches(list), word(b"end"))
         }
         Stmt::CaseElse {
             selector,
             branches: list,
             otherwise,
         } => {
-            case_of(page, selector)?;
-            branches(page, list)?;
-            block(page, b"else", otherwise)?;
-            page.word(b"end")
+            print_all!(page:
+                word(b"case"), expression(selector), word(b"of"), branches(list), word(b"else"),
+                block_end(otherwise))
         }
         Stmt::While { condition, body } => {
-            page.word(b"while")?;
-            expression(page, condition)?;
-            page.word(b"do")?;
-            statement(page, body)
+            print_all!(page: word(b"while"), expression(condition), word(b"do"), statement(body))
         }
         Stmt::Repeat { body, condition } => {
-            block(page, b"repeat", body)?;
-            page.word(b"until")?;
-            expression(page, condition)
+            print_all!(page: word(b"repeat"), block(body), word(b"until"), expression(condition))
         }
         Stmt::For {
             variable,
@@ -169,123 +98,122 @@ fn statement(page: &mut Printer, stmt: &Stmt) -> Result<(), NoMemory>
             last,
             body,
         } => {
-            for_to(page, variable, first, *direction, last)?;
-            statement(page, body)
+            print_all!(page:
+                word(b"for"), name(variable), word(b":="), expression(first),
+                word(direction_word(*direction)), expression(last), word(b"do"), statement(body))
         }
         Stmt::ForIn {
             variable,
             collection,
             body,
         } => {
-            for_in(page, variable, collection)?;
-            statement(page, body)
+            print_all!(page:
+                word(b"for"), name(variable), word(b"in"), expression(collection), word(b"do"),
+                statement(body))
         }
         Stmt::TryFinally { body, finalization } => {
-            block(page, b"try", body)?;
-            block(page, b"finally", finalization)?;
-            page.word(b"end")
+            print_all!(page: guarded(body), word(b"finally"), block_end(finalization))
         }
         Stmt::TryExcept { body, handler } => {
-            block(page, b"try", body)?;
-            block(page, b"except", handler)?;
-            page.word(b"end")
+            print_all!(page: guarded(body), word(b"except"), block_end(handler))
         }
         Stmt::TryOn {
             body,
             handlers: list,
-        } => {
-            block(page, b"try", body)?;
-            handlers(page, list)?;
-            page.word(b"end")
-        }
+        } => print_all!(page: guarded(body), handlers(list), word(b"end")),
         Stmt::TryOnElse {
             body,
             handlers: list,
             otherwise,
         } => {
-            block(page, b"try", body)?;
-            handlers(page, list)?;
-            block(page, b"else", otherwise)?;
-            page.word(b"end")
+            print_all!(page: guarded(body), handlers(list), word(b"else"), block_end(otherwise))
         }
-        Stmt::Raise { exception, .. } => {
-            page.word(b"raise")?;
-            expression(page, exception)
-        }
-        Stmt::Reraise { .. } => page.word(b"raise"),
-        Stmt::Inherited { .. } => page.word(b"inherited"),
-        Stmt::InheritedCall { call, .. } => {
-            page.word(b"inherited")?;
-            designator(page, call)
-        }
+        Stmt::Raise { exception, .. } => print_all!(page: word(b"raise"), expression(exception)),
+        Stmt::Reraise { .. } => word(page, b"raise"),
+        Stmt::Inherited { .. } => word(page, b"inherited"),
+        Stmt::InheritedCall { call, .. } => print_all!(page: word(b"inherited"), designator(call)),
         Stmt::Call(call) => designator(page, call),
         Stmt::Assign { target, value, .. } => {
-            designator(page, target)?;
-            page.word(b":=")?;
-            expression(page, value)
+            print_all!(page: designator(target), word(b":="), expression(value))
         }
     }
 }
 
-/// A word, and statements further in behind it. What follows begins a line.
+/// Statements further in, with semicolons between them. What follows begins a line.
 #[cycle(statement)]
-pub fn block(page: &mut Printer, opening: &[u8], list: &[Stmt]) -> Result<(), NoMemory>
-    ensures { (k : TokenKind) → opening.now ≡ spelling k → IfOk result (λ _. page.new ≡ after page.old (opened k (statements_fragments (stmts_of list.now)))) }
+pub fn block(page: &mut Printer, list: &[Stmt]) -> Result<(), NoMemory>
+    ensures { IfOk result (λ _. page.new ≡ after page.old (block_draft (statement_drafts (stmts_of list.now)))) }
 {
-    page.word(opening)?;
-    page.indent()?;
-    statements(page, list)?;
-    page.outdent();
-    page.start_line()
+    print_all!(page: indent(), statements(list), outdent(), line())
+}
+
+/// The same up to `end`.
+#[cycle(statement)]
+fn block_end(page: &mut Printer, list: &[Stmt]) -> Result<(), NoMemory>
+    ensures { IfOk result (λ _. page.new ≡ after page.old (block_draft (statement_drafts (stmts_of list.now)) & word kind.End)) }
+{
+    print_all!(page: block(list), word(b"end"))
+}
+
+/// `try` and statements, further in.
+#[cycle(statement)]
+fn guarded(page: &mut Printer, list: &[Stmt]) -> Result<(), NoMemory>
+    ensures { IfOk result (λ _. page.new ≡ after page.old (word kind.Try_ & block_draft (statement_drafts (stmts_of list.now)))) }
+{
+    print_all!(page: word(b"try"), block(list))
 }
 
 /// Statements with semicolons between them.
 #[cycle(statement)]
 fn statements(page: &mut Printer, list: &[Stmt]) -> Result<(), NoMemory>
-    ensures { IfOk result (λ _. page.new ≡ after page.old (statements_fragments (stmts_of list.now))) }
+    ensures { IfOk result (λ _. page.new ≡ after page.old (separated kind.Semicolon (statement_drafts (stmts_of list.now)))) }
 {
-    let Some((first, others)) = list.split_first() else {
-        return Ok(());
-    };
-    begin_line(page, first)?;
-    statement(page, first)?;
-    for each in others {
-        page.tight(b";")?;
-        begin_line(page, each)?;
-        statement(page, each)?;
-    }
-    Ok(())
+    print_separated!(page, b";", list, on_line)
+}
+
+#[cycle(statement)]
+fn on_line(page: &mut Printer, stmt: &Stmt) -> Result<(), NoMemory>
+    ensures { IfOk result (λ _. page.new ≡ after page.old (begun (stmt_of stmt.now) & statement_draft (stmt_of stmt.now))) }
+{
+    print_all!(page: begin_line(stmt), statement(stmt))
 }
 
 /// The branches of a case, further in. What follows begins a line.
 #[cycle(statement)]
 fn branches(page: &mut Printer, list: &[Branch]) -> Result<(), NoMemory>
-    ensures { IfOk result (λ _. page.new ≡ after page.old (indented (branches_fragments (branches_of list.now)))) }
+    ensures { IfOk result (λ _. page.new ≡ after page.old (indented (branches_draft (branches_of list.now)))) }
 {
-    page.indent()?;
+    indent(page)?;
     for each in list {
-        page.start_line()?;
-        elements(page, &each.labels)?;
-        page.tight(b":")?;
-        statement(page, &each.body)?;
-        page.tight(b";")?;
+        branch(page, each)?;
     }
-    page.outdent();
-    page.start_line()
+    print_all!(page: outdent(), line())
+}
+
+#[cycle(statement)]
+fn branch(page: &mut Printer, branch: &Branch) -> Result<(), NoMemory>
+    ensures { IfOk result (λ _. page.new ≡ after page.old (line & separated kind.Comma (element_drafts (elements_of branch.now.labels.items)) & tight kind.Colon & statement_draft (stmt_of branch.now.body) & tight kind.Semicolon)) }
+{
+    print_all!(page:
+        line(), elements(&branch.labels), tight(b":"), statement(&branch.body), tight(b";"))
 }
 
 /// `except` and handlers, further in. What follows begins a line.
 #[cycle(statement)]
 fn handlers(page: &mut Printer, list: &[Handler]) -> Result<(), NoMemory>
-    ensures { IfOk result (λ _. page.new ≡ after page.old (opened kind.Except (handlers_fragments (handlers_of list.now)))) }
+    ensures { IfOk result (λ _. page.new ≡ after page.old (word kind.Except & indented (handlers_draft (handlers_of list.now)))) }
 {
-    page.word(b"except")?;
-    page.indent()?;
+    word(page, b"except")?;
+    indent(page)?;
     for each in list {
-        on(page, &each.variable, &each.class)?;
-        statement(page, &each.body)?;
-        page.tight(b";")?;
+        handler(page, each)?;
     }
-    page.outdent();
-    page.start_line()
+    print_all!(page: outdent(), line())
+}
+
+#[cycle(statement)]
+fn handler(page: &mut Printer, handler: &Handler) -> Result<(), NoMemory>
+    ensures { IfOk result (λ _. page.new ≡ after page.old (on_draft handler.now.variable handler.now.class & statement_draft (stmt_of handler.now.body) & tight kind.Semicolon)) }
+{
+    print_all!(page: on(&handler.variable, &handler.class), statement(&handler.body), tight(b";"))
 }

@@ -73,13 +73,17 @@ fn statement(alloc: Global) -> Result<Stmt, NoTree> {
     }))
 }
 
-fn program(alloc: Global) -> Result<Tree, NoTree> {
+fn heading(alloc: Global) -> Result<ProgramHeading, NoTree> {
+    Ok(ProgramHeading {
+        name: name(alloc, "p")?,
+        parameters: Names::from(Vec::new(alloc)),
+    })
+}
+
+fn program(alloc: Global, heading: Option<ProgramHeading>) -> Result<Tree, NoTree> {
     Ok(Tree::Program(Program {
         position: HERE,
-        heading: Some(ProgramHeading {
-            name: name(alloc, "p")?,
-            parameters: Names::from(Vec::new(alloc)),
-        }),
+        heading,
         uses: Names::from(Vec::new(alloc)),
         declarations: Vec::new(alloc),
         statements: vec![in alloc; statement(alloc)?, Stmt::Empty]?,
@@ -90,10 +94,22 @@ fn program(alloc: Global) -> Result<Tree, NoTree> {
 #[test]
 fn prints_a_program(rt: HostRuntime) -> Result<(), Fail> {
     let alloc = rt.alloc();
-    let tree = program(alloc).expect(&rt, "a tree");
+    let heading = heading(alloc).expect(&rt, "a heading");
+    let tree = program(alloc, Some(heading)).expect(&rt, "a tree");
     let text = print(alloc, &tree).expect(&rt, "a text");
     let wanted = "program p;\nbegin\n  WriteLn('it''s'#13''#10'', 1 + 2: 4);\nend.\n";
     assert!(rt; text.as_slice() == wanted.as_bytes());
     assert!(rt; scan(alloc, text.as_slice(), 0).is_ok());
+    Ok(())
+}
+
+// The text does not begin with an empty line.
+#[test]
+fn prints_a_program_without_a_heading(rt: HostRuntime) -> Result<(), Fail> {
+    let alloc = rt.alloc();
+    let tree = program(alloc, None).expect(&rt, "a tree");
+    let text = print(alloc, &tree).expect(&rt, "a text");
+    let wanted = "begin\n  WriteLn('it''s'#13''#10'', 1 + 2: 4);\nend.\n";
+    assert!(rt; text.as_slice() == wanted.as_bytes());
     Ok(())
 }

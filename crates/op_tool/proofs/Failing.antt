@@ -15,7 +15,8 @@ says_error now name (errors.Refused refusal file) answer i o e e' r r' n c c' (i
     says_refused (OwesError now name) name file refusal answer i o e e' r r' n c c' is_file (λ done only. (refused, empty, only)) (λ done only. only) is
 says_error now name errors.ReadFault answer i o e e' r r' n c c' rose empty is =
     says_report (OwesError now name) ReadFault answer (line (codes "opc: read fault")) i o e e' r r' n c c' (λ same. cc) (λ input. (empty, (rose, (refl, refl, refl)))) is
-says_error now name errors.Limit answer i o e e' r r' n c c' never empty is = absurd never
+says_error now name errors.Limit answer i o e e' r r' n c c' large empty is =
+    says_report (OwesError now name) Limit answer (line (codes "opc: image too large")) i o e e' r r' n c c' (λ same. cc) (λ input. (large, empty, (refl, refl, refl))) is
 says_error now name errors.NoMemory answer i o e e' r r' n c c' free empty is =
     says_no_memory (OwesError now name) answer i o e e' r r' n c c' (λ done only. only) is
 

@@ -1,5 +1,5 @@
 -- The image of the low code that writes a text.
-use Rattle.std.proofs.Common.{◌≡◌, ℕ, zero, suc, ◌-◌, ◌≤◌, Bool, true, false, if◌then◌else◌, List, [], ◌∷◌, ◌++◌, length, drop, take, refl, ap, sym, subst, ◌∙◌, arith, length-append}
+use Rattle.std.proofs.Common.{◌<◌, ◌≡◌, ℕ, zero, suc, ◌-◌, ◌≤◌, Bool, true, false, if◌then◌else◌, List, [], ◌∷◌, ◌++◌, length, drop, take, refl, ap, sym, subst, ◌∙◌, arith, length-append}
 use Rattle.std.proofs.lemmas.Bool.Decides.{nat_tests}
 use Rattle.std.proofs.lemmas.List.{append-nil, take_all}
 use Rattle.op_image.specs.Building.{is_buildable, is_laid_out}
@@ -9,7 +9,7 @@ use Rattle.op_layout.specs.Places.{layout_of}
 use Rattle.op_layout.specs.declared.layout.Layout.{Layout}
 use Rattle.op_link.specs.Image.{regions_in, start}
 use Rattle.op_link.proofs.Growth.{linked_size_at_most}
-use Rattle.op_link.specs.Linking.{linked_size}
+use Rattle.op_link.specs.Linking.{linked_size, linked_size_by, sizes_of}
 use Rattle.op_link.specs.Memory.{most_linked, stack_address}
 use Rattle.op_link.specs.Placing.{items_in_routines}
 use Rattle.op_link.specs.Region.{byte_in}
@@ -30,52 +30,14 @@ use Rattle.op_select.specs.Frames.{frame_of, home, load_home, store_home, fetch,
 use Rattle.op_select.specs.Going.{IsSafe, Setting, placement_of}
 use Rattle.op_select.specs.RiscvMachine.{riscv_machine}
 use Rattle.op_simulation.specs.System.{run}
+use Rattle.op_tool.specs.Compiles.{IsLargeText, default}
 use Rattle.op_tool.specs.Prints.{Prints}
 use Rattle.op_tool.specs.TextProgram.{text_code, text_program}
 use Rattle.op_tool.proofs.TextRuns.{WritesText, never_bad, text_runs}
 
-pub text_buildable : (text : List ℕ) → length text ≤ 65536 → is_buildable (text_program (length text)) (layout_of (text ∷ [])) ≡ true
+pub text_buildable : (text : List ℕ) → length text ≤ most_linked → is_buildable (text_program (length text)) (layout_of (text ∷ [])) ≡ true
 unfolding is_buildable is_laid_out is_valid is_valid_routine is_valid_block is_valid_instruction is_sized leaves const_fits address_fits has_symbol
 text_buildable text short = grind (arith, nat_tests)
-
--- ---- it is small
-
-item_lists : (b : Bool) (one two : List Item) (P : List Item → Type 0) → P one → P two → P (if b then one else two)
-item_lists true one two P p q = p
-item_lists false one two P p q = q
-
--- the length takes one instruction or two
-constant_lists : (n : ℕ) (P : List Item → Type 0) → ((i : Item) → P (i ∷ [])) → ((i j : Item) → P (i ∷ j ∷ [])) → P (constant a0 n)
-unfolding constant
-constant_lists n P one two = item_lists (is_near n) _ _ P (one _) (two _ _)
-
-abbrev entry : ℕ → Routine
-entry n = routine_of (text_program n) 0
-
-abbrev object_with : ℕ → List Item → ObjectRoutine
-object_with n items =
-    record {
-      head = head_of (entry n);
-      blocks =
-          record {
-            items = code_items (entry n) (take 1 (text_code n)) ++ ((items ++ keep (entry n) (record { 0 = 1 }) a0) ++ code_items (entry n) (drop 2 (text_code n)));
-          }
-          ∷ record { items = items_of (entry n) Raise }
-          ∷ [];
-    }
-
-selected_is : (n : ℕ) → (select_of (text_program n)).routines ≡ object_with n (constant a0 n) ∷ []
-unfolding select_of object_routine_of object_block_of code_items items_of keep store_home home word_store reach is_near upper_of
-selected_is n = refl
-
-counts : (n : ℕ) (i j : Item) → (items_in_routines (object_with n (i ∷ []) ∷ []) ≡ 25) × (items_in_routines (object_with n (i ∷ j ∷ []) ∷ []) ≡ 26)
-unfolding code_items items_of head_of frame_of home load_home store_home fetch keep received cleared_registers cleared_locals lowered epilogue upper_of lower_of is_near below constant reach reached sum word_load word_store
-counts n i j = (refl, refl)
-
-few_items : (n : ℕ) → items_in_routines (select_of (text_program n)).routines ≤ 26
-few_items n =
-    subst (λ routines. items_in_routines routines ≤ 26) (sym (selected_is n))
-    (constant_lists n (λ items. items_in_routines (object_with n items ∷ []) ≤ 26) (λ i. omega (arith, (counts n i i).0)) (λ i j. omega (arith, (counts n i j).1)))
 
 -- ---- its run
 
@@ -83,9 +45,6 @@ run_is_after : (n : ℕ) (s : State) → run riscv_machine n s ≡ after n s
 unfolding run after
 run_is_after zero s = refl
 run_is_after (suc n) s = run_is_after n (riscv_machine.step s)
-
-abbrev pub default : Settings
-default = record { heap = 8192; stack = 1024 }
 
 literal_is : (text : List ℕ) → literal_bytes (layout_of (text ∷ [])) (record { offset = 0; length = length text }) ≡ text
 literal_is text = ap (take (length text)) (append-nil text) ∙ take_all (length text) text (omega arith)
@@ -140,7 +99,7 @@ pub with_text : (P : Low → Layout → Type 0) (text : List ℕ) (low : Low) (l
 with_text P text low layout low_is layout_is holds =
     subst (λ low. P low layout) (sym low_is) (subst (P (text_program (length text))) (sym layout_is) holds)
 
-pub text_links : (text : List ℕ) → length text ≤ 65536 → linked_size (select_of (text_program (length text))) (layout_of (text ∷ [])) default ≤ most_linked
-unfolding select_of
-text_links text short =
-    omega (arith, linked_size_at_most (select_of (text_program (length text))) (layout_of (text ∷ [])) default, few_items (length text), length-append text [])
+-- a text has its bytes among the constants
+pub large_text : (text : List ℕ) → most_linked < length text → IsLargeText text
+unfolding select_of linked_size linked_size_by sizes_of
+large_text text long = omega (arith, length-append text [])

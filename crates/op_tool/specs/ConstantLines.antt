@@ -1,141 +1,59 @@
--- The programs that are compiled: `program NAME; begin WriteLn('TEXT'); .. end.`
-use Rattle.std.specs.Prelude.{◌≡◌, ℕ, ◌≤◌, ◌<◌, ◌⊎◌, Bool, ◌&&◌, ◌||◌, not, List, [], ◌∷◌, ◌++◌, length, codes, nat_eq, nat_le, IsTrue, Contains}
-use Rattle.std.specs.List.{list_all, flat_map}
+-- The programs that are compiled: their statements all write one constant text each, on a line of its own.
+use Rattle.std.specs.Prelude.{◌≡◌, ℕ, Bool, List, [], ◌∷◌, ◌++◌, codes, map, Option, Some, None, if◌then◌else◌}
+use Rattle.std.specs.Char.{to_ascii_lowercase}
+use Rattle.std.specs.Option.{option_and_then, option_map}
+use Rattle.std.specs.Str.{bytes_eq}
+use Rattle.op_tree.specs.Declaration.{Declarations, no_declarations}
+use Rattle.op_tree.specs.Expression.{Expression, literal, designator, Root, named, Selectors, selectors, no_selectors, call as applied, Arguments, arguments, no_arguments, value}
+use Rattle.op_tree.specs.File.{File, program, unit}
+use Rattle.op_tree.specs.Statement.{Statement, empty, call, Statements, no_statements, statements}
+use Rattle.op_tree.specs.declared.position.Name.{Name}
 
--- blank, tab, line feed, carriage return
-abbrev pub is_blank : ℕ → Bool
-is_blank c = nat_eq c 32 || nat_eq c 9 || nat_eq c 10 || nat_eq c 13
+-- the name is WriteLn, in letters of any case
+abbrev pub is_write_line : List ℕ → Bool
+is_write_line name = bytes_eq (map to_ascii_lowercase name) (codes "writeln")
 
-abbrev pub IsGap : List ℕ → Type 0
-IsGap gap = IsTrue (list_all is_blank gap)
+abbrev pub literal_in : Expression → Option (List ℕ)
+literal_in (literal text p no_selectors) = Some text
+literal_in _ = None
 
--- these pieces stand one after the other, a gap before each, and then the rest
-abbrev pub Stand : List (List ℕ) → List ℕ → List ℕ → Type 0
-Stand [] bytes rest = bytes ≡ rest
-Stand (piece ∷ pieces) bytes rest =
-    (gap : List ℕ) × (after : List ℕ) × IsGap gap × (bytes ≡ gap ++ (piece ++ after)) × Stand pieces after rest
+-- the one argument, where it is a literal and has no width
+abbrev pub only_literal : Arguments → Option (List ℕ)
+only_literal (arguments (value e) no_arguments) = literal_in e
+only_literal _ = None
 
--- the byte may stand in a text: no quote, line feed or carriage return
-abbrev pub is_text_byte : ℕ → Bool
-is_text_byte c = not (nat_eq c 39 || nat_eq c 10 || nat_eq c 13)
+abbrev pub given_literal : Selectors → Option (List ℕ)
+given_literal (selectors (applied given) no_selectors) = only_literal given
+given_literal _ = None
 
-abbrev pub IsText : List ℕ → Type 0
-IsText text = IsTrue (list_all is_text_byte text)
+abbrev pub with_line_feed : List ℕ → List ℕ
+with_line_feed text = text ++ 10 ∷ []
 
-abbrev pub is_small_letter : ℕ → Bool
-is_small_letter c = nat_le 97 c && nat_le c 122
+abbrev pub line_by : Root → Selectors → Option (List ℕ)
+line_by (named n) given = if is_write_line n.text then option_map with_line_feed (given_literal given) else None
+line_by _ given = None
 
--- the words that are no names
-abbrev pub reserved_words : List (List ℕ)
-reserved_words =
-    codes "and" ∷
-    codes "array" ∷
-    codes "as" ∷
-    codes "asm" ∷
-    codes "begin" ∷
-    codes "case" ∷
-    codes "class" ∷
-    codes "const" ∷
-    codes "constructor" ∷
-    codes "destructor" ∷
-    codes "dispinterface" ∷
-    codes "div" ∷
-    codes "do" ∷
-    codes "downto" ∷
-    codes "else" ∷
-    codes "end" ∷
-    codes "except" ∷
-    codes "exports" ∷
-    codes "file" ∷
-    codes "finalization" ∷
-    codes "finally" ∷
-    codes "for" ∷
-    codes "function" ∷
-    codes "goto" ∷
-    codes "if" ∷
-    codes "implementation" ∷
-    codes "in" ∷
-    codes "inherited" ∷
-    codes "initialization" ∷
-    codes "inline" ∷
-    codes "interface" ∷
-    codes "is" ∷
-    codes "label" ∷
-    codes "library" ∷
-    codes "mod" ∷
-    codes "nil" ∷
-    codes "not" ∷
-    codes "object" ∷
-    codes "of" ∷
-    codes "operator" ∷
-    codes "or" ∷
-    codes "packed" ∷
-    codes "procedure" ∷
-    codes "program" ∷
-    codes "property" ∷
-    codes "raise" ∷
-    codes "record" ∷
-    codes "repeat" ∷
-    codes "resourcestring" ∷
-    codes "set" ∷
-    codes "shl" ∷
-    codes "shr" ∷
-    codes "string" ∷
-    codes "then" ∷
-    codes "threadvar" ∷
-    codes "to" ∷
-    codes "try" ∷
-    codes "type" ∷
-    codes "unit" ∷
-    codes "until" ∷
-    codes "uses" ∷
-    codes "var" ∷
-    codes "while" ∷
-    codes "with" ∷
-    codes "xor" ∷
-    []
+-- what the statement `WriteLn('TEXT')` writes: the text and a line feed
+abbrev pub line_of : Statement → Option (List ℕ)
+line_of empty = Some []
+line_of (call (designator root given)) = line_by root given
+line_of _ = None
 
--- 1 to 127 letters a to z, and no reserved word
-pub record IsName (name : List ℕ) : Type 0 where
-  pub some : 0 < length name
-  pub short : length name ≤ 127
-  pub letters : IsTrue (list_all is_small_letter name)
-  pub free : Contains reserved_words name → ⊥
+-- the bytes of a line with this text, and none without one
+abbrev pub line_bytes : Option (List ℕ) → List ℕ
+line_bytes None = []
+line_bytes (Some text) = with_line_feed text
 
--- the pieces of a statement, and of a whole program
-abbrev pub statement : List ℕ → List (List ℕ)
-statement text = codes "WriteLn" ∷ codes "(" ∷ (39 ∷ (text ++ 39 ∷ [])) ∷ codes ")" ∷ codes ";" ∷ []
+-- what statements write one after the other
+abbrev pub lines_of : Statements → Option (List ℕ)
+lines_of no_statements = Some []
+lines_of (statements s others) = option_and_then (λ line. option_map (λ more. line ++ more) (lines_of others)) (line_of s)
 
-abbrev pub directives : List ℕ
-directives = codes "{$mode objfpc}{$H+}"
+abbrev lines_without : List Name → Declarations → Statements → Option (List ℕ)
+lines_without [] no_declarations all = lines_of all
+lines_without names others all = None
 
--- at least one blank stands after `program`
-abbrev pub heading : ℕ → List ℕ → List (List ℕ)
-heading blank name = (codes "program" ++ blank ∷ []) ∷ name ∷ codes ";" ∷ codes "begin" ∷ []
-
-abbrev pub ending : List (List ℕ)
-ending = codes "end" ∷ codes "." ∷ []
-
--- a program that writes these texts, each on a line of its own
-pub record IsConstantLines (bytes : List ℕ) (texts : List (List ℕ)) : Type 0 where
-  pub short : length bytes ≤ 65536
-  pub front : List (List ℕ)
-  pub is_front : (front ≡ []) ⊎ (front ≡ directives ∷ [])
-  pub blank : ℕ
-  pub is_blank_byte : IsTrue (is_blank blank)
-  pub name : List ℕ
-  pub is_name : IsName name
-  pub are_texts : IsTrue (list_all (list_all is_text_byte) texts)
-  pub rest : List ℕ
-  pub is_rest : IsGap rest
-  pub spelled : Stand (((front ++ heading blank name) ++ flat_map statement texts) ++ ending) bytes rest
-
--- what such a program writes
-abbrev pub lines : List (List ℕ) → List ℕ
-lines texts = flat_map (λ text. text ++ 10 ∷ []) texts
-
--- the bytes are a program that writes this
-pub record Writes (bytes output : List ℕ) : Type 0 where
-  pub texts : List (List ℕ)
-  pub is_program : IsConstantLines bytes texts
-  pub is_output : output ≡ lines texts
+-- what a program without units and declarations of its own writes, if all its statements are such
+abbrev pub output_of : File → Option (List ℕ)
+output_of (program p) = lines_without p.uses p.declarations p.statements
+output_of (unit u) = None

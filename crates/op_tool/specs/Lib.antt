@@ -5,6 +5,5 @@ pub mod Effects
 pub mod ImageRun
 pub mod Owes
 pub mod Prints
-pub mod Reading
 pub mod Status
 pub mod TextProgram

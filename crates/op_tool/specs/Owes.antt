@@ -8,13 +8,14 @@ use Rattle.op_base.specs.declared.place.Place.{Place}
 use Rattle.op_base.specs.declared.rule.Refusal.{Refusal}
 use Rattle.op_base.specs.declared.rule.Rule.{Rule}
 use Rattle.op_tool.specs.Command.{IsBuild, IsExec, IsRun, IsNoCommand}
-use Rattle.op_tool.specs.Compiles.{Compiles, IsMissing, IsRefused, file_missing, main_start}
+use Rattle.op_tool.specs.Compiles.{Compiles, IsRefused, IsTooLarge, file_missing, main_start}
 use Rattle.op_tool.specs.Effects.{Effect, OnlyReports, ReportIs, line}
 use Rattle.op_tool.specs.ImageRun.{OwesImage}
 use Rattle.op_tool.specs.declared.compiler.CompileError.{CompileError}
 use Rattle.op_tool.specs.declared.compiler.CompileError.TheVariants as errors
 use Rattle.op_tool.specs.declared.finish.Finish.{Finish}
 use Rattle.op_tool.specs.declared.finish.Finish.TheVariants.{Ended, Usage, Refused, ReadFault, WriteFault, Spent, NoMemory, BadImage, Faulted, Limit}
+use Rattle.op_units.specs.Loads.{IsMissing}
 
 -- a call of the tool: its words, its files before and after it, and the image that it left
 pub record Call : Type 0 where
@@ -78,8 +79,9 @@ OnlyFailsToRead now done =
 -- a file of this name that is not compiled
 abbrev pub OwesError : Call → List ℕ → Finish → Effect → Type 0
 OwesError now name (Refused rule place) done =
-    IsRefused now.stored name rule place × (now.image ≡ []) × OnlyRefuses name place rule done
+    IsRefused now.stored name (record { rule = rule; place = place }) × (now.image ≡ []) × OnlyRefuses name place rule done
 OwesError now name ReadFault done = (now.image ≡ []) × OnlyFailsToRead now done
+OwesError now name Limit done = IsTooLarge now.stored name × (now.image ≡ []) × OnlyReports (line (codes "opc: image too large")) done
 OwesError now name NoMemory done = OnlyReports (line (codes "opc: out of memory")) done
 OwesError now name _ done = ⊥
 

@@ -1,268 +1,118 @@
 //! The form of the programs that are compiled, and what such a program writes.
-//!
-//! The text is read once, from its front to its end. Each function takes what is left of it, and answers what is left
-//! after its own part, or `None` where that part does not stand there.
-ghost use Rattle.op_tool.specs.ConstantLines.{IsConstantLines, Writes, is_blank, is_small_letter, is_text_byte};
-ghost use Rattle.op_tool.specs.Reading.{after_front, after_gap, after_heading, after_name, after_piece, after_word, is_ended, is_reserved, quoted_in, statement_in};
-ghost use Rattle.std.specs.List.{prefix_len};
 ghost use Rattle.std.specs.Option.{option_copied, option_map};
-ghost use Rattle.std.specs.Prelude.{◌≡◌, ◌≤◌, ℕ, IfOk, List, MatchOption, length};
+ghost use Rattle.std.specs.Prelude.{◌≡◌, IfOk};
+ghost use Rattle.op_tool.specs.ConstantLines.{given_literal, is_write_line, line_bytes, line_of, lines_of, literal_in, only_literal, output_of, with_line_feed};
+ghost use Rattle.op_tree.specs.Expression.{expr_of};
+ghost use Rattle.op_tree.specs.File.{file_of};
+ghost use Rattle.op_tree.specs.Lists.{arguments_of};
+ghost use Rattle.op_tree.specs.Statement.{call, designator_of, selectors_of, stmt_of, stmts_of};
 
 use op_base::{NoMemory, Text};
+use op_tree::{Argument, Designator, Expr, Root, Selector, Stmt, Tree};
 use std::alloc::Global;
 
-/// The words that are no names.
-const RESERVED_WORDS: [&str; 65] = [
-    "and",
-    "array",
-    "as",
-    "asm",
-    "begin",
-    "case",
-    "class",
-    "const",
-    "constructor",
-    "destructor",
-    "dispinterface",
-    "div",
-    "do",
-    "downto",
-    "else",
-    "end",
-    "except",
-    "exports",
-    "file",
-    "finalization",
-    "finally",
-    "for",
-    "function",
-    "goto",
-    "if",
-    "implementation",
-    "in",
-    "inherited",
-    "initialization",
-    "inline",
-    "interface",
-    "is",
-    "label",
-    "library",
-    "mod",
-    "nil",
-    "not",
-    "object",
-    "of",
-    "operator",
-    "or",
-    "packed",
-    "procedure",
-    "program",
-    "property",
-    "raise",
-    "record",
-    "repeat",
-    "resourcestring",
-    "set",
-    "shl",
-    "shr",
-    "string",
-    "then",
-    "threadvar",
-    "to",
-    "try",
-    "type",
-    "unit",
-    "until",
-    "uses",
-    "var",
-    "while",
-    "with",
-    "xor",
-];
-
-/// The most letters that a name may have.
-const MAX_NAME: usize = 127;
-
-/// A text that stood between quotes, and what follows it.
-#[derive(Clone, Copy)]
-struct Found<'a> {
-    text: &'a [u8],
-    rest: &'a [u8],
+/// What a program without units and declarations writes, if its statements are all `WriteLn` of one literal.
+pub fn output_of(alloc: Global, tree: &Tree) -> Result<Option<Text>, NoMemory>
+    ensures { IfOk result (λ text. text ≡ output_of (file_of tree.now)) }
+{
+    match tree {
+        Tree::Unit(_) => Ok(None),
+        Tree::Program(program) => {
+            let uses = program.uses.as_slice().split_first();
+            match (uses, program.declarations.split_first()) {
+                (None, None) => lines(alloc, program.statements.as_slice()),
+                _ => Ok(None),
+            }
+        }
+    }
 }
 
-/// What a program of constant lines writes, if the text is one.
-pub fn output_of(alloc: Global, bytes: &[u8]) -> Result<Option<Text>, NoMemory>
-    requires { length bytes.now ≤ 65536 }
-    ensures { IfOk result (λ found. MatchOption found ((texts : List (List ℕ)) → IsConstantLines bytes.now texts → ⊥) (Writes bytes.now)) }
+fn lines(alloc: Global, statements: &[Stmt]) -> Result<Option<Text>, NoMemory>
+    ensures { IfOk result (λ text. text ≡ lines_of (stmts_of statements.now)) }
 {
-    let Some(mut rest) = heading(bytes) else {
-        return Ok(None);
-    };
     let mut output = Vec::new(alloc);
-    while let Some(found) = statement(rest) {
-        output.extend_from_slice(found.text)?;
-        output.push(b'\n')?;
-        rest = found.rest;
+    for statement in statements {
+        match line_of(statement) {
+            None => return Ok(None),
+            Some(None) => {}
+            Some(Some(text)) => {
+                output.extend_from_slice(text)?;
+                output.push(b'\n')?;
+            }
+        }
     }
-    if ends(rest) {
-        Ok(Some(Text::from(output)))
-    } else {
-        Ok(None)
-    }
+    Ok(Some(Text::from(output)))
 }
 
-/// What follows `program NAME; begin`, behind the directives where they stand.
-#[tactic(auto, unfolding(crate::specs::Reading::after_heading))]
-fn heading(bytes: &[u8]) -> Option<&[u8]>
-    ensures { option_copied result ≡ after_heading bytes.now }
+/// The text of a line that the statement writes, and None in its place where it writes nothing.
+fn line_of(statement: &Stmt) -> Option<Option<&[u8]>>
+    ensures { option_map (λ line. line_bytes (option_copied line)) result ≡ line_of (stmt_of statement.now) }
 {
-    let rest = word(front(bytes), b"program")?;
-    let rest = name(rest)?;
-    let rest = expect(rest, b";")?;
-    expect(rest, b"begin")
-}
-
-/// What follows the directives, or all where they do not stand.
-#[tactic(auto, unfolding(crate::specs::Reading::after_front))]
-fn front(bytes: &[u8]) -> &[u8]
-    ensures { result.now ≡ after_front bytes.now }
-{
-    match expect(bytes, b"{$mode objfpc}{$H+}") {
-        Some(rest) => rest,
-        None => bytes,
-    }
-}
-
-/// The text that `WriteLn('TEXT');` writes, and what follows.
-#[tactic(auto, unfolding(crate::specs::Reading::statement_in))]
-fn statement(bytes: &[u8]) -> Option<Found<'_>>
-    ensures { option_map (λ found. (found.text.now, found.rest.now)) result ≡ statement_in bytes.now }
-{
-    let rest = expect(bytes, b"WriteLn")?;
-    let rest = expect(rest, b"(")?;
-    let Found { text, rest } = quoted(rest)?;
-    let rest = expect(rest, b")")?;
-    let rest = expect(rest, b";")?;
-    Some(Found { text, rest })
-}
-
-/// Whether `end.` and a gap are all that is left.
-#[tactic(auto, unfolding(crate::specs::Reading::is_ended))]
-fn ends(bytes: &[u8]) -> bool
-    ensures { result ≡ is_ended bytes.now }
-{
-    let Some(rest) = expect(bytes, b"end") else {
-        return false;
-    };
-    let Some(rest) = expect(rest, b".") else {
-        return false;
-    };
-    skip_gap(rest).is_empty()
-}
-
-/// A text between quotes, behind a gap.
-#[tactic(auto, unfolding(crate::specs::Reading::quoted_in))]
-fn quoted(bytes: &[u8]) -> Option<Found<'_>>
-    ensures { option_map (λ found. (found.text.now, found.rest.now)) result ≡ quoted_in bytes.now }
-{
-    let rest = expect(bytes, b"'")?;
-    let (text, rest) = rest.split_at(text_len(rest));
-    let rest = rest.strip_prefix(b"'")?;
-    Some(Found { text, rest })
-}
-
-/// What follows a gap and a name.
-#[tactic(auto, unfolding(crate::specs::Reading::after_name))]
-fn name(bytes: &[u8]) -> Option<&[u8]>
-    ensures { option_copied result ≡ after_name bytes.now }
-{
-    let rest = skip_gap(bytes);
-    let (name, rest) = rest.split_at(name_len(rest));
-    if name.is_empty() || name.len() > MAX_NAME || is_reserved(name) {
-        return None;
-    }
-    Some(rest)
-}
-
-/// Whether the name is no name but a word of the language.
-fn is_reserved(name: &[u8]) -> bool
-    ensures { result ≡ is_reserved name.now }
-{
-    RESERVED_WORDS.iter().any(|word| name == word.as_bytes())
-}
-
-/// What follows a gap, a word and one blank.
-#[tactic(auto, unfolding(crate::specs::Reading::after_word))]
-fn word<'a>(bytes: &'a [u8], word: &[u8]) -> Option<&'a [u8]>
-    ensures { option_copied result ≡ after_word word.now bytes.now }
-{
-    let rest = expect(bytes, word)?;
-    match rest.first() {
-        Some(first) if is_blank(*first) => Some(&rest[1..]),
+    match statement {
+        Stmt::Empty => Some(None),
+        Stmt::Call(called) => match text_written(called) {
+            Some(text) => Some(Some(text)),
+            None => None,
+        },
         _ => None,
     }
 }
 
-/// What follows a gap and these bytes.
-#[tactic(auto, unfolding(crate::specs::Reading::after_piece))]
-fn expect<'a>(bytes: &'a [u8], piece: &[u8]) -> Option<&'a [u8]>
-    ensures { option_copied result ≡ after_piece piece.now bytes.now }
+/// The text that a call of WriteLn writes.
+fn text_written(called: &Designator) -> Option<&[u8]>
+    ensures { option_map (λ text. with_line_feed text.now) result ≡ line_of (call (designator_of called.now)) }
 {
-    skip_gap(bytes).strip_prefix(piece)
+    match &called.root {
+        Root::Named(name) => {
+            if is_write_line(name.text.as_slice()) {
+                given_literal(called.selectors.as_slice())
+            } else {
+                None
+            }
+        }
+        _ => None,
+    }
 }
 
-/// What follows the longest gap.
-fn skip_gap(bytes: &[u8]) -> &[u8]
-    ensures { result.now ≡ after_gap bytes.now }
+fn is_write_line(name: &[u8]) -> bool
+    ensures { result ≡ is_write_line name.now }
 {
-    &bytes[gap_len(bytes)..]
+    name.eq_ignore_ascii_case(b"writeln")
 }
 
-/// How many blanks stand at the front.
-fn gap_len(bytes: &[u8]) -> usize
-    ensures value { result ≡ prefix_len is_blank bytes.now }
-    ensures within { result ≤ length bytes.now }
+/// The literal that is the one argument of a call.
+fn given_literal(selectors: &[Selector]) -> Option<&[u8]>
+    ensures { option_copied result ≡ given_literal (selectors_of selectors.now) }
 {
-    bytes.iter().take_while(|byte| is_blank(**byte)).count()
+    let (first, others) = selectors.split_first()?;
+    match (first, others.split_first()) {
+        (Selector::Call { arguments }, None) => only_literal(arguments),
+        _ => None,
+    }
 }
 
-/// How many letters a to z stand at the front.
-fn name_len(bytes: &[u8]) -> usize
-    ensures value { result ≡ prefix_len is_small_letter bytes.now }
-    ensures within { result ≤ length bytes.now }
+fn only_literal(arguments: &[Argument]) -> Option<&[u8]>
+    ensures { option_copied result ≡ only_literal (arguments_of arguments.now) }
 {
-    bytes
-        .iter()
-        .take_while(|byte| is_small_letter(**byte))
-        .count()
+    let (first, others) = arguments.split_first()?;
+    match (first, others.split_first()) {
+        (Argument::Value(e), None) => literal_in(e),
+        _ => None,
+    }
 }
 
-/// How many bytes of a text stand at the front.
-fn text_len(bytes: &[u8]) -> usize
-    ensures value { result ≡ prefix_len is_text_byte bytes.now }
-    ensures within { result ≤ length bytes.now }
+fn literal_in(e: &Expr) -> Option<&[u8]>
+    ensures { option_copied result ≡ literal_in (expr_of e.now) }
 {
-    bytes.iter().take_while(|byte| is_text_byte(**byte)).count()
+    match e {
+        Expr::Literal {
+            text,
+            selectors,
+            ..
+        } => match selectors.split_first() {
+            None => Some(text.as_slice()),
+            Some(_) => None,
+        },
+        _ => None,
+    }
 }
-
-fn is_blank(byte: u8) -> bool
-    ensures { result ≡ is_blank byte }
-{
-    byte == b' ' || byte == b'\t' || byte == b'\n' || byte == b'\r'
-}
-
-fn is_small_letter(byte: u8) -> bool
-    ensures { result ≡ is_small_letter byte }
-{
-    b'a' <= byte && byte <= b'z'
-}
-
-/// Whether a text may have the byte: it is no quote and ends no line.
-fn is_text_byte(byte: u8) -> bool
-    ensures { result ≡ is_text_byte byte }
-{
-    !(byte == b'\'' || byte == b'\n' || byte == b'\r')
-}
-
-#[cfg(test)]
-mod tests;

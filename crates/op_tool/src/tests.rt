@@ -1,7 +1,5 @@
 use super::*;
-use op_base::{
-    FILE_MISSING, Got, MemFiles, MemSink, MemSource, NOT_BUILT_YET, Place, Rule, Source,
-};
+use op_base::{FILE_MISSING, Got, MemFiles, MemSink, MemSource, Place, Rule, Source};
 use op_emu::FaultKind;
 use std::alloc::Global;
 use std::test::Fail;
@@ -38,12 +36,22 @@ struct Said {
     image: Vec<u8>,
 }
 
-/// A program of one byte more than a file may have.
-fn long(alloc: Global) -> Result<Vec<u8>, Fail> {
+/// A program of so many bytes.
+fn long(alloc: Global, size: usize) -> Result<Vec<u8>, Fail> {
     let mut bytes = b"program p; begin end.".to_vec(alloc)?;
-    bytes.resize(65_537, b' ')?;
+    bytes.resize(size, b' ')?;
     Ok(bytes)
 }
+
+/// Small programs by the names of their files.
+const PROGRAMS: [(&str, &str); 6] = [
+    ("h.pas", HELLO),
+    ("empty.pas", "begin end."),
+    ("a.pas", "program p; begin WriteLn(1); end."),
+    ("open.pas", "program p; begin WriteLn('x); end."),
+    ("then.pas", "program p;\nbegin then end."),
+    ("var.pas", "var i: Integer; begin WriteLn('x'); end."),
+];
 
 /// Calls the tool over four sources.
 fn say(alloc: Global, line: &[&str], outside: Outside) -> Result<Said, Fail> {
@@ -57,10 +65,11 @@ fn call(alloc: Global, line: &[&str], image: &[u8], outside: Outside) -> Result<
         words.push(word.to_string(alloc)?)?;
     }
     let mut files = MemFiles::new(alloc, outside.files.to_vec(alloc)?);
-    files.add("h.pas", HELLO.as_bytes().to_vec(alloc)?)?;
-    files.add("empty.pas", b"program p; begin end.".to_vec(alloc)?)?;
-    files.add("a.pas", b"program p; begin WriteLn(1); end.".to_vec(alloc)?)?;
-    files.add("long.pas", long(alloc)?)?;
+    for (name, text) in PROGRAMS {
+        files.add(name, text.as_bytes().to_vec(alloc)?)?;
+    }
+    files.add("long.pas", long(alloc, 4_194_304)?)?;
+    files.add("longer.pas", long(alloc, 4_194_305)?)?;
     files.add("i", image.to_vec(alloc)?)?;
     let mut input = MemSource::new(b"abcdef".to_vec(alloc)?, outside.input.to_vec(alloc)?);
     let mut out = MemSink::new(alloc, outside.room, outside.out.to_vec(alloc)?)?;
@@ -79,29 +88,52 @@ fn call(alloc: Global, line: &[&str], image: &[u8], outside: Outside) -> Result<
     })
 }
 
+fn refused_at(number: u8, feature: u8, line: u32, col: u32) -> Finish {
+    let place = Place { file: 0, line, col };
+    Finish::Refused(Rule { number, feature }, place)
+}
+
 fn refused(rule: Rule) -> Finish {
-    let place = Place {
-        file: 0,
-        line: 1,
-        col: 1,
-    };
-    Finish::Refused(rule, place)
+    refused_at(rule.number, rule.feature, 1, 1)
 }
 
 #[test]
 fn programs_run_or_are_refused(rt: HostRuntime) -> Result<(), Fail> {
-    let not_built = "V13 not in this profile: not built yet\n";
+    let not_compiled = "a.pas:1:1: V13 not in this profile: not compiled yet\n";
+    let with_variable = "var.pas:1:1: V13 not in this profile: not compiled yet\n";
     for (file, finish, number, out, line) in [
         ("h.pas", Finish::Ended(0), 0, "Hello\n", ""),
         ("empty.pas", Finish::Ended(0), 0, "", ""),
-        ("a.pas", refused(NOT_BUILT_YET), 121, "", not_built),
-        ("long.pas", refused(NOT_BUILT_YET), 121, "", not_built),
+        ("long.pas", Finish::Ended(0), 0, "", ""),
+        ("a.pas", refused_at(13, 38, 1, 1), 121, "", not_compiled),
+        ("var.pas", refused_at(13, 38, 1, 1), 121, "", with_variable),
+        (
+            "longer.pas",
+            refused_at(62, 0, 1, 1),
+            121,
+            "",
+            "longer.pas:1:1: V62 file too large\n",
+        ),
+        (
+            "open.pas",
+            refused_at(2, 0, 1, 26),
+            121,
+            "",
+            "open.pas:1:26: V2 string not closed\n",
+        ),
+        (
+            "then.pas",
+            refused_at(9, 0, 2, 7),
+            121,
+            "",
+            "then.pas:2:7: V9 syntax\n",
+        ),
         (
             "b.pas",
             refused(FILE_MISSING),
             121,
             "",
-            "V10 file missing\n",
+            "b.pas:1:1: V10 file missing\n",
         ),
     ] {
         let said = say(rt.alloc(), &["exec", file], SOUND)?;
@@ -115,7 +147,7 @@ fn programs_run_or_are_refused(rt: HostRuntime) -> Result<(), Fail> {
         );
     }
     let said = say(rt.alloc(), &["exec", "a.pas"], SOUND)?;
-    let whole = b"opc: a.pas:1:1: V13 not in this profile: not built yet\n".as_slice();
+    let whole = b"opc: a.pas:1:1: V13 not in this profile: not compiled yet\n".as_slice();
     assert_eq!(rt; said.err.bytes(), whole);
     Ok(())
 }

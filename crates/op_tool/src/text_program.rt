@@ -1,6 +1,9 @@
 //! A program that writes one text and ends: its low code, and its image.
-ghost use Rattle.std.specs.Prelude.{◌≡◌, ◌≤◌, [], ◌∷◌, IfOk, length};
+ghost use Rattle.std.specs.Prelude.{◌≡◌, ◌≤◌, [], ◌∷◌, IfErr, IfOk, length};
 ghost use Rattle.op_layout.specs.Places.{layout_of};
+ghost use Rattle.op_link.specs.Memory.{most_linked};
+ghost use Rattle.op_link.specs.declared.linker.LinkError.{LinkError};
+ghost use Rattle.op_tool.specs.Compiles.{IsLargeText};
 ghost use Rattle.op_tool.specs.Prints.{Prints};
 ghost use Rattle.op_tool.specs.TextProgram.{text_code, text_program};
 
@@ -80,16 +83,14 @@ fn text_layout(alloc: Global, text: Text) -> Result<Layout, NoMemory>
     Layout::of_literals(alloc, literals.as_slice())
 }
 
-/// The image of the program that writes this text and ends.
-pub fn text_image(alloc: Global, text: Text) -> Result<Vec<u8>, NoMemory>
-    requires { length text ≤ 65536 }
-    ensures { IfOk result (λ image. Prints image.items text) }
+/// The image of the program that writes this text and ends. `Limit` comes where code, constants and initial globals take more
+/// than 67,108,864 bytes.
+pub fn text_image(alloc: Global, text: Text) -> Result<Vec<u8>, LinkError>
+    requires { length text ≤ most_linked }
+    ensures prints { IfOk result (λ image. Prints image.items text) }
+    ensures limit { IfErr result (λ error. error ≡ LinkError.Limit → IsLargeText text) }
 {
     let low = text_program(alloc, text.as_slice().len() as u32)?;
     let layout = text_layout(alloc, text)?;
-    match build(alloc, &low, &layout, &Settings::DEFAULT) {
-        Ok(image) => Ok(image),
-        Err(LinkError::Limit) => unreachable!(),
-        Err(LinkError::NoMemory) => Err(NoMemory),
-    }
+    build(alloc, &low, &layout, &Settings::DEFAULT)
 }

@@ -65,8 +65,11 @@ chained core names first rest old mid new None given h k =
 chained core names first rest old mid new (Some a) given h k =
     begins (constant core names first) (λ a. operations core names (start_of first) a rest) old mid a h new given k
 
+pub next_at : {A : Type 0} (list : List A) (k : ℕ) (d : A) → k < length list → drop k list ≡ get_or list k d ∷ drop (k + 1) list
+next_at list k d h = rw add-one (drop-cons list k d h)
+
 pub next_of : {A : Type 0} (list : List A) (k : ℕ) (x : A) → k < length list → x ≡ get_or list k x → drop k list ≡ x ∷ drop (k + 1) list
-next_of list k x h e = rw add-one (drop-cons list k x h ∙ ap (λ y. y ∷ drop (suc k) list) (sym e))
+next_of list k x h e = next_at list k x h ∙ ap (λ y. y ∷ drop (k + 1) list) (sym e)
 
 pub next_operation : (list : List Operation) (k : ℕ) (x : Operation) → k < length list → x ≡ get_or list k x → operations_of (drop k list) ≡ operation x.operator x.position (expr_of x.operand) (operations_of (drop (k + 1) list))
 next_operation list k x h e = ap operations_of (next_of list k x h e)

@@ -1,11 +1,11 @@
 -- The index of visible names.
-use Rattle.std.proofs.Common.{◌≡◌, ℕ, zero, suc, ◌<◌, Bool, true, false, cond, get_or, List, [], ◌∷◌, ◌++◌, length, map, slice_get, take, Option, Some, None, if◌then◌else◌, Vec, refl, sym, ap, subst, ◌∙◌, ◌⊎◌, inl, inr, arith}
+use Rattle.std.proofs.Common.{◌≡◌, ℕ, zero, suc, ◌<◌, nat_le, Bool, true, false, cond, drop, get_or, is_some, List, [], ◌∷◌, ◌++◌, length, map, slice_get, take, Option, Some, None, if◌then◌else◌, Vec, refl, sym, ap, subst, ◌∙◌, ◌⊎◌, inl, inr, arith}
 use Rattle.std.proofs.lemmas.Slice.Eq.{bytes_eq-Decides}
 use Rattle.std.specs.Option.{option_flatten, option_map, option_or}
 use Rattle.std.specs.Str.{bytes_eq}
 use Rattle.std.specs.declared.alloc.Global.{Global}
 use Rattle.indexmap.specs.IndexMap.{IndexMap, get, Updates}
-use Rattle.op_types.specs.Names.{Agrees, named, meaning_of, last_at}
+use Rattle.op_types.specs.Names.{Agrees, Named, named, meaning_of, last_at}
 use Rattle.op_types.specs.declared.visible.Declared.{Declared}
 
 -- ---- one declaration more
@@ -117,3 +117,27 @@ pub got : {A : Type 0} (xs : List A) (n : ℕ) (x y : A) → slice_get xs n ≡ 
 got [] n x y h e = absurd (cc)
 got (z ∷ zs) zero x y h e = cc
 got (z ∷ zs) (suc n) x y h e = got zs n x y h e
+
+-- ---- declared behind so many
+
+abbrev pub is_from : ℕ → Option ℕ → Bool
+is_from count None = false
+is_from count (Some at) = nat_le count at
+
+any_named : (ds : List Declared) (name : List ℕ) (l : Option ℕ) → Leads ds name l → is_some (meaning_of (map named ds) name) ≡ is_from 0 l
+any_named ds name None h = ap is_some h
+any_named ds name (Some n) h = ap is_some h.2 ∙ (let e : true ≡ nat_le 0 n = grind arith in e)
+
+one_behind : (count : ℕ) (l : Option ℕ) (b : Bool) → is_from (suc count) (option_or (option_map suc l) (if b then Some 0 else None)) ≡ is_from count l
+one_behind count (Some n) b = grind arith
+one_behind count None true = grind arith
+one_behind count None false = refl
+
+pub since : (count : ℕ) (ds : List Declared) (name : List ℕ) → is_some (meaning_of (drop count (map named ds)) name) ≡ is_from count (last_at ds name)
+since zero ds name = any_named ds name (last_at ds name) (leads ds name)
+since (suc count) [] name = refl
+since (suc count) (d ∷ ds) name = since count ds name ∙ sym (one_behind count (last_at ds name) (bytes_eq d.name.items name))
+
+pub since_by : {S : Type 0} (count : ℕ) (ds : List Declared) (newest : IndexMap (Vec ℕ Global) (Option ℕ) S) (key : Vec ℕ Global) (l : Option ℕ) (names : List Named) (name : List ℕ) → Agrees ds newest → option_flatten (get same newest key) ≡ l → map named ds ≡ names → key.items ≡ name → is_from count l ≡ is_some (meaning_of (drop count names) name)
+since_by count ds newest key l names name a e v k =
+    ap (is_from count) (sym e ∙ a.finds key) ∙ sym (since count ds key.items) ∙ (λ i. is_some (meaning_of (drop count (v i)) (k i)))

@@ -1,3 +1,5 @@
+pub mod Assigning
+pub mod Extents
 pub mod Folding
 pub mod Index
 pub mod Members

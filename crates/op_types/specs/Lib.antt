@@ -1,5 +1,6 @@
 pub mod Assignable
 pub mod Constants
+pub mod Entering
 pub mod Names
 pub mod Operators
 pub mod Sets

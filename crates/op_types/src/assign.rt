@@ -1,14 +1,22 @@
 //! Which types are assignable to which (Free Pascal Reference Guide, "Assignments", "Classes" and "Interfaces").
-ghost use Rattle.std.specs.Prelude.{◌≡◌, length, slice_get};
+ghost use Rattle.std.specs.Prelude.{◌≡◌, IsTrue, length, slice_get};
 ghost use Rattle.std.specs.List.{list_any};
 ghost use Rattle.op_core.specs.Rows.{rows};
-ghost use Rattle.op_types.specs.Assignable.{ancestor_of, assignable, descends_within, extends_any, extends_within, fits, implements_within, listed_by, parent_of};
+ghost use Rattle.op_types.specs.Assignable.{Assignable, ChainsEnd, ancestor_of, assignable, descends_within, extends_any, extends_within, fits, implements_within, listed_by, parent_of};
 
 use crate::sort::{Sort, sort_of};
 use op_core::{Class, ClassId, Core, Interface, InterfaceId, TypeId, one_type};
 
 /// Whether a value of the one type may be assigned to a variable of the other.
 pub fn assignable(core: &Core, from: TypeId, to: TypeId) -> bool
+    ensures value { result ≡ assignable core.now from to }
+    ensures means { IsTrue result → Assignable core.now from to }
+    ensures whole { ChainsEnd core.now → Assignable core.now from to → IsTrue result }
+{
+    is_assignable(core, from, to)
+}
+
+fn is_assignable(core: &Core, from: TypeId, to: TypeId) -> bool
     ensures { result ≡ assignable core.now from to }
 {
     one_type(core.types.as_slice(), from, to) || fits(core, sort_of(core, from), sort_of(core, to))

@@ -7,6 +7,7 @@
 
 mod assign;
 mod constant;
+mod enter;
 mod operator;
 mod part;
 mod set;
@@ -18,6 +19,7 @@ mod visible;
 
 pub use assign::assignable;
 pub use constant::{Applied, Constant, Folded, Part, Use, Weight, fold};
+pub use enter::{enter_type, predefined};
 pub use operator::{application, operation, prefixed};
 pub use part::{
     in_brackets, is_folded, joined, made, no_members, nodes, number_behind, only_value, start_of,
@@ -27,7 +29,7 @@ pub use set::{common_set, set_behind, set_over, widest_set};
 pub use setting::Setting;
 pub use size::{extent_of, is_managed, range_of, size_of, type_at, values_of};
 pub use sort::{OrdinalKind, Sort, kind_of, sort_of};
-pub use value::{bytes_of, in_range};
+pub use value::{bytes_of, in_range, number_of};
 pub use visible::{BuiltIn, Meaning, Visible};
 
 #[cfg(test)]

@@ -1,5 +1,5 @@
 //! The names that are visible at a place, and what they stand for.
-ghost use Rattle.std.specs.Prelude.{◌≡◌, ◌-◌, [], ◌∷◌, ◌++◌, IfOk, length, take};
+ghost use Rattle.std.specs.Prelude.{◌≡◌, ◌-◌, [], ◌∷◌, ◌++◌, IfOk, drop, is_some, length, take};
 ghost use Rattle.std.specs.Char.{to_ascii_lowercase};
 ghost use Rattle.std.specs.Option.{option_copied};
 ghost use Rattle.op_types.specs.Names.{lower, meaning_of};
@@ -150,6 +150,18 @@ impl Visible {
             Some(Some(at)) => Ok(Some(&self.declared[*at].meaning)),
             Some(None) => Ok(None),
             None => Ok(None),
+        }
+    }
+
+    /// Whether a name was declared behind the first `count` ones.
+    pub fn is_declared_since(&self, count: usize, name: &[u8]) -> Result<bool, NoMemory>
+        ensures { IfOk result (λ b. b ≡ is_some (meaning_of (drop count self.now) (lower name.now))) }
+    {
+        let key = lowered(self.alloc, name)?;
+        match self.newest.get(&key) {
+            Some(Some(at)) => Ok(count <= *at),
+            Some(None) => Ok(false),
+            None => Ok(false),
         }
     }
 }

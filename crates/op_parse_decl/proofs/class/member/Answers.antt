@@ -1,9 +1,9 @@
 use Rattle.std.proofs.Common.{[], refl, sym, ◌∙◌}
+use Rattle.op_parse_code.proofs.Calls.{front_not}
 use Rattle.op_parse_code.proofs.Errors.{passed}
 use Rattle.op_parse_code.specs.Opening.{is_identifier}
 use Rattle.op_parse_code.specs.Refusal.{left_out}
 use Rattle.op_parse_decl.proofs.Classes.{method_refused, property_refused}
-use Rattle.op_parse_decl.proofs.Combining.{front_not}
 use Rattle.op_tree.specs.HeadingGrammar.{is_class_method, is_class_property}
 use Rattle.op_parse_decl.proofs.class.member.Goals as goal
 

@@ -32,13 +32,13 @@ abbrev pub decreases-fields_of_one_type : goal.decreases-fields_of_one_type
 decreases-fields_of_one_type l = 8 * length l.tokens.now + 2
 
 abbrev pub invariant-index_types-loop-types : goal.invariant-index_types-loop-types
-invariant-index_types-loop-types l = Indexing l.fn.left l.fn.end (terminals l.fn.tokens) l.types.items (terminals l.rest) × (length l.rest ≤ length l.fn.tokens)
+invariant-index_types-loop-types l = Indexing l.fn.setting.left l.fn.setting.end (terminals l.fn.tokens) l.types.items (terminals l.rest) × (length l.rest ≤ length l.fn.tokens)
 
 abbrev pub decreases-index_types-loop-types : goal.decreases-index_types-loop-types
 decreases-index_types-loop-types l = length l.rest
 
 abbrev pub invariant-field_lists-loop-after : goal.invariant-field_lists-loop-after
-invariant-field_lists-loop-after l = Fielding l.fn.left l.fn.end (terminals l.fn.tokens) l.lists.items (terminals l.rest) × (length l.rest ≤ length l.fn.tokens)
+invariant-field_lists-loop-after l = Fielding l.fn.setting.left l.fn.setting.end (terminals l.fn.tokens) l.lists.items (terminals l.rest) × (length l.rest ≤ length l.fn.tokens)
 
 abbrev pub decreases-field_lists-loop-after : goal.decreases-field_lists-loop-after
 decreases-field_lists-loop-after l = length l.rest

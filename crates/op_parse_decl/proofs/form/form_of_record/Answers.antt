@@ -1,4 +1,4 @@
-use Rattle.std.proofs.Common.{refl, ap}
+use Rattle.std.proofs.Common.{ap}
 use Rattle.op_parse_decl.proofs.Forms.{variant_form, method_form}
 use Rattle.op_tree.specs.HeadingGrammar.{routine_kind_of}
 use Rattle.op_parse_decl.proofs.form.form_of_record.Goals as goal

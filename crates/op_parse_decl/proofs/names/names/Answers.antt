@@ -8,7 +8,7 @@ pub loop-names-init : goal.loop-names-init
 loop-names-init c = (rw c.new-names.ensures.items (naming_none _), omega arith)
 
 pub returns-in_err-name-clause-refused : goal.returns-in_err-name-clause-refused
-returns-in_err-name-clause-refused c = passed c.from_residual.result c.from_residual.ensures.1 (λ y e. λ d. rw e (naming_item d c.args.end _ _ _ _ c.loop-names.invariant.0 (c.in_err-name.ensures.refused d)))
+returns-in_err-name-clause-refused c = passed c.from_residual.result c.from_residual.ensures.1 (λ y e. λ d. rw e (naming_item d c.args.setting.end _ _ _ _ c.loop-names.invariant.0 (c.in_err-name.ensures.refused d)))
 
 pub returns-in_err-push-clause-refused : goal.returns-in_err-push-clause-refused
 returns-in_err-push-clause-refused c = passed c.from_residual-in_err-push.result c.from_residual-in_err-push.ensures.1 (λ y e. λ d. out_of_memory e)

@@ -1,4 +1,4 @@
-use Rattle.std.proofs.Common.{◌<◌, length, sym, arith}
+use Rattle.std.proofs.Common.{sym, arith}
 use Rattle.std.proofs.lemmas.Bool.Decides.{nat_tests}
 use Rattle.op_parse_decl.proofs.Denoted.{named_alone, named_more}
 use Rattle.op_parse_decl.proofs.nodes.named.Goals as goal

@@ -1,7 +1,5 @@
 use Rattle.std.proofs.Common.{sym, ◌∙◌}
-use Rattle.op_parse_code.proofs.Names.{empty_not}
-use Rattle.op_parse_code.specs.Opening.{is_identifier}
-use Rattle.op_parse_decl.proofs.Headings.{no_token_no_out, no_word_no_out, no_name_no_out, out_mode}
+use Rattle.op_parse_decl.proofs.Headings.{no_word_no_out, no_name_no_out, out_mode}
 use Rattle.op_parse_decl.proofs.parameter.behind_out.Goals as goal
 
 pub returns-then-not-is_word-clause-out : goal.returns-then-not-is_word-clause-out

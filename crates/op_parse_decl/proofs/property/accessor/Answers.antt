@@ -12,7 +12,7 @@ pub returns-then-not-is_word-clause-whole : goal.returns-then-not-is_word-clause
 returns-then-not-is_word-clause-whole c = λ d. (refl, rw c.in-Some.ensures.cases.0 (sym c.is_word.ensures ∙ c.if-not-is_word.true))
 
 pub returns-in_err-name-clause-refused : goal.returns-in_err-name-clause-refused
-returns-in_err-name-clause-refused c = passed c.from_residual.result c.from_residual.ensures.1 (λ y e. λ d. rw (e, c.in-Some.ensures.cases.0) (accessor_refused _ d c.args.end _ _ _ _ (sym c.is_word.ensures ∙ c.if-not-is_word.false) (c.in_err-name.ensures.refused d)))
+returns-in_err-name-clause-refused c = passed c.from_residual.result c.from_residual.ensures.1 (λ y e. λ d. rw (e, c.in-Some.ensures.cases.0) (accessor_refused _ d c.args.setting.end _ _ _ _ (sym c.is_word.ensures ∙ c.if-not-is_word.false) (c.in_err-name.ensures.refused d)))
 
 pub returns-clause-whole : goal.returns-clause-whole
 returns-clause-whole c = λ d. rw c.in-Some.ensures.cases.0 (accessor_whole _ d _ _ _ _ _ (sym c.is_word.ensures ∙ c.if-not-is_word.false) c.in_ok-name.ensures.name)

@@ -1,7 +1,8 @@
 use Rattle.std.proofs.Common.{sym, ◌∙◌, arith}
+use Rattle.op_parse_code.proofs.Calls.{front_begins, front_not}
 use Rattle.op_parse_code.proofs.Errors.{passed}
 use Rattle.op_parse_code.specs.Refusal.{out_of_memory}
-use Rattle.op_parse_decl.proofs.Combining.{front_begins, front_not, repeating_none, repeating_item, repeating_more, repeating_ends, refuses_as, chosen_refused, otherwise_refused, too_deep, deeper_refused, first, after}
+use Rattle.op_parse_decl.proofs.Combining.{repeating_none, repeating_item, repeating_more, repeating_ends, refuses_as, chosen_refused, otherwise_refused, too_deep, deeper_refused, first, after}
 use Rattle.op_parse_decl.proofs.Routines.{row_whole, routine_whole, forward_refused, forward_whole, body_declarations, body_block, body_whole}
 use Rattle.op_parse_decl.specs.Blocks.{as_all, made_block_declaration, known_block_declaration}
 use Rattle.op_parse_decl.specs.Declarations.{BlockDeclaration, block_data}

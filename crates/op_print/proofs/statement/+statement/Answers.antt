@@ -1,70 +1,30 @@
-use Rattle.std.proofs.Common.{refl, arith}
-use Rattle.op_print.proofs.After.{after_append}
-use Rattle.op_print.proofs.Statements.{block_statement, case_statement, case_else_statement, repeat_statement, finally_statement, except_statement, on_statement, on_else_statement, next_statement, next_branch, next_handler}
-use Rattle.op_scan.specs.declared.token.TokenKind.TheVariants as kind
+use Rattle.std.proofs.Common.{arith}
+use Rattle.op_print.proofs.Nodes.{said}
+use Rattle.op_print.specs.StatementDrafts.{statement_draft}
+use Rattle.op_tree.proofs.Rows.{block_says, case_of_says, case_else_says, repeat_until_says, try_finally_says, try_except_says, try_on_says, try_on_else_says}
+use Rattle.op_tree.specs.Statement.{stmt_of}
 use Rattle.op_print.proofs.statement.+statement.Goals as goal
 
-pub statements-loop-each-preserved : goal.statements-loop-each-preserved
-statements-loop-each-preserved t c =
-    let e = next_statement c.loop-each.page c.in-Some.others.now c.loop-each.each-index c.each-item.result in
-    grind (arith, e)
+pub statement-returns-in_ok-block_end-in-Block : goal.statement-returns-in_ok-block_end-in-Block
+statement-returns-in_ok-block_end-in-Block t c = grind (arith, said statement_draft stmt_of c.in-Block.is (block_says c.in-Block.list))
 
-pub branches-loop-each-preserved : goal.branches-loop-each-preserved
-branches-loop-each-preserved t c =
-    let e = next_branch c.loop-each.page c.args.list.now c.loop-each.each-index c.each-item.result in
-    grind (arith, e)
+pub statement-returns-in_ok-word-in-Case-3 : goal.statement-returns-in_ok-word-in-Case-3
+statement-returns-in_ok-word-in-Case-3 t c = grind (arith, said statement_draft stmt_of c.in-Case.is (case_of_says c.in-Case.selector c.in-Case.list))
 
-pub handlers-loop-each-preserved : goal.handlers-loop-each-preserved
-handlers-loop-each-preserved t c =
-    let e = next_handler c.loop-each.page c.args.list.now c.loop-each.each-index c.each-item.result in
-    grind (arith, e)
+pub statement-returns-in_ok-block_end-in-CaseElse : goal.statement-returns-in_ok-block_end-in-CaseElse
+statement-returns-in_ok-block_end-in-CaseElse t c = grind (arith, said statement_draft stmt_of c.in-CaseElse.is (case_else_says c.in-CaseElse.selector c.in-CaseElse.list c.in-CaseElse.otherwise))
 
-pub statement-returns-in_ok-block-in-Block : goal.statement-returns-in_ok-block-in-Block
-statement-returns-in_ok-block-in-Block t c =
-    let e = block_statement c.in-Block.list c.in-Block.is in
-    let b = c.in_ok-block-in-Block.ensures kind.Begin refl in
-    grind (arith, after_append, e, b)
+pub statement-returns-in_ok-expression-in-Repeat : goal.statement-returns-in_ok-expression-in-Repeat
+statement-returns-in_ok-expression-in-Repeat t c = grind (arith, said statement_draft stmt_of c.in-Repeat.is (repeat_until_says c.in-Repeat.body c.in-Repeat.condition))
 
-pub statement-returns-in_ok-branches-in-Case : goal.statement-returns-in_ok-branches-in-Case
-statement-returns-in_ok-branches-in-Case t c =
-    let e = case_statement c.in-Case.selector c.in-Case.list c.in-Case.is in
-    grind (arith, after_append, e)
+pub statement-returns-in_ok-block_end-in-TryFinally : goal.statement-returns-in_ok-block_end-in-TryFinally
+statement-returns-in_ok-block_end-in-TryFinally t c = grind (arith, said statement_draft stmt_of c.in-TryFinally.is (try_finally_says c.in-TryFinally.body c.in-TryFinally.finalization))
 
-pub statement-returns-in_ok-block-in-CaseElse : goal.statement-returns-in_ok-block-in-CaseElse
-statement-returns-in_ok-block-in-CaseElse t c =
-    let e = case_else_statement c.in-CaseElse.selector c.in-CaseElse.list c.in-CaseElse.otherwise c.in-CaseElse.is in
-    let b = c.in_ok-block-in-CaseElse.ensures kind.Else_ refl in
-    grind (arith, after_append, e, b)
+pub statement-returns-in_ok-block_end-in-TryExcept : goal.statement-returns-in_ok-block_end-in-TryExcept
+statement-returns-in_ok-block_end-in-TryExcept t c = grind (arith, said statement_draft stmt_of c.in-TryExcept.is (try_except_says c.in-TryExcept.body c.in-TryExcept.handler))
 
-pub statement-returns-in_ok-word-in-Repeat : goal.statement-returns-in_ok-word-in-Repeat
-statement-returns-in_ok-word-in-Repeat t c =
-    let e = repeat_statement c.in-Repeat.body c.in-Repeat.condition c.in-Repeat.is in
-    let b = c.in_ok-block-in-Repeat.ensures kind.Repeat refl in
-    grind (arith, after_append, e, b)
+pub statement-returns-in_ok-word-in-TryOn : goal.statement-returns-in_ok-word-in-TryOn
+statement-returns-in_ok-word-in-TryOn t c = grind (arith, said statement_draft stmt_of c.in-TryOn.is (try_on_says c.in-TryOn.body c.in-TryOn.list))
 
-pub statement-returns-in_ok-block-in-TryFinally-2 : goal.statement-returns-in_ok-block-in-TryFinally-2
-statement-returns-in_ok-block-in-TryFinally-2 t c =
-    let e = finally_statement c.in-TryFinally.body c.in-TryFinally.finalization c.in-TryFinally.is in
-    let b = c.in_ok-block-in-TryFinally.ensures kind.Try_ refl in
-    let d = c.in_ok-block-in-TryFinally-2.ensures kind.Finally refl in
-    grind (arith, after_append, e, b, d)
-
-pub statement-returns-in_ok-block-in-TryExcept-2 : goal.statement-returns-in_ok-block-in-TryExcept-2
-statement-returns-in_ok-block-in-TryExcept-2 t c =
-    let e = except_statement c.in-TryExcept.body c.in-TryExcept.handler c.in-TryExcept.is in
-    let b = c.in_ok-block-in-TryExcept.ensures kind.Try_ refl in
-    let d = c.in_ok-block-in-TryExcept-2.ensures kind.Except refl in
-    grind (arith, after_append, e, b, d)
-
-pub statement-returns-in_ok-handlers-in-TryOn : goal.statement-returns-in_ok-handlers-in-TryOn
-statement-returns-in_ok-handlers-in-TryOn t c =
-    let e = on_statement c.in-TryOn.body c.in-TryOn.list c.in-TryOn.is in
-    let b = c.in_ok-block-in-TryOn.ensures kind.Try_ refl in
-    grind (arith, after_append, e, b)
-
-pub statement-returns-in_ok-block-in-TryOnElse-2 : goal.statement-returns-in_ok-block-in-TryOnElse-2
-statement-returns-in_ok-block-in-TryOnElse-2 t c =
-    let e = on_else_statement c.in-TryOnElse.body c.in-TryOnElse.list c.in-TryOnElse.otherwise c.in-TryOnElse.is in
-    let b = c.in_ok-block-in-TryOnElse.ensures kind.Try_ refl in
-    let d = c.in_ok-block-in-TryOnElse-2.ensures kind.Else_ refl in
-    grind (arith, after_append, e, b, d)
+pub statement-returns-in_ok-block_end-in-TryOnElse : goal.statement-returns-in_ok-block_end-in-TryOnElse
+statement-returns-in_ok-block_end-in-TryOnElse t c = grind (arith, said statement_draft stmt_of c.in-TryOnElse.is (try_on_else_says c.in-TryOnElse.body c.in-TryOnElse.list c.in-TryOnElse.otherwise))

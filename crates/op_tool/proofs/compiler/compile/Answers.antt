@@ -1,17 +1,20 @@
-use Rattle.std.proofs.Common.{◌≡◌, List, ℕ}
-use Rattle.std.proofs.Common.{subst, sym, MatchOption, IfSome, Some}
-use Rattle.op_base.specs.FileAnswer.{Answers, file_named}
-use Rattle.op_tool.specs.ConstantLines.{IsConstantLines, Writes}
-use Rattle.op_tool.proofs.Lengths.{output_within}
-use Rattle.op_tool.proofs.Compiling.{fails_other, other_text}
+use Rattle.std.proofs.Common.{◌∙◌, sym}
+use Rattle.std.proofs.lemmas.Result.{err_from_is_err_and}
+use Rattle.op_tool.specs.Compiles.{HasNoImage, IsImageOf}
+use Rattle.op_tool.proofs.Compiling.{compiled, err_also, not_loaded, not_made, ok_also}
 use Rattle.op_tool.proofs.compiler.compile.Goals as goal
 
-pub text_image-requires : goal.text_image-requires
-text_image-requires g c =
-    output_within c.as_slice.result.now c.in-Some.output (subst (λ found. MatchOption found ((texts : List (List ℕ)) → IsConstantLines c.as_slice.result.now texts → ⊥) (Writes c.as_slice.result.now)) c.in-Some.is c.in_ok-output-in-Found.ensures)
+pub returns-in_err-forest-clause-failed : goal.returns-in_err-forest-clause-failed
+returns-in_err-forest-clause-failed g c =
+    let p = err_from_is_err_and c.from_residual.result c.from_residual.ensures.1 in
+    rw (p.1, p.2) (not_loaded (g.F.Files.stored c.args.files.now) c.args.main.now (g.F.Files.faults c.args.files.now) (g.F.Files.faults c.load.new.files) c.in_err-forest.field-0.0 c.in_err-forest.ensures.failed)
 
-pub returns-in-Found-clause-failed : goal.returns-in-Found-clause-failed
-returns-in-Found-clause-failed g c =
-    let not = subst (λ found. MatchOption found ((texts : List (List ℕ)) → IsConstantLines c.as_slice.result.now texts → ⊥) (Writes c.as_slice.result.now)) c.in-None.is c.in_ok-output-in-Found.ensures in
-    let told = subst (λ answer. Answers (g.F.Files.stored c.args.files.now) c.args.main.now 65536 (g.F.Files.faults c.args.files.now) (g.F.Files.faults c.read.new.self) answer) c.in-Found.is c.in_ok-text.ensures.answers in
-    fails_other (g.F.Files.stored c.args.files.now) c.args.main.now _ _ c.refuse.result c.refuse.ensures (other_text (g.F.Files.stored c.args.files.now) c.args.main.now c.as_slice.result.now (subst (λ bytes. IfSome (g.F.Files.stored c.args.files.now) (λ files. file_named files c.args.main.now ≡ Some bytes)) (sym c.as_slice.ensures) told.1) not)
+pub returns-clause-made : goal.returns-clause-made
+returns-clause-made g c =
+    ok_also {P = λ image. IsImageOf c.in-Some.tree.now image.items} c.image_of.result
+    (λ image. compiled (g.F.Files.stored c.args.files.now) c.args.main.now c.in_ok-forest.forest c.in-Some.tree.now c.in-Some.field-0-1.now image.items c.in_ok-forest.ensures.loaded (sym c.as_slice.ensures ∙ c.in-Some.ensures.cases.0)) c.image_of.ensures.made
+
+pub returns-clause-failed : goal.returns-clause-failed
+returns-clause-failed g c =
+    err_also {P = HasNoImage c.args.main.now c.in-Some.tree.now} c.image_of.result
+    (λ error. not_made (g.F.Files.stored c.args.files.now) c.args.main.now (g.F.Files.faults c.args.files.now) (g.F.Files.faults c.load.new.files) c.in_ok-forest.forest c.in-Some.tree.now c.in-Some.field-0-1.now error c.in_ok-forest.ensures.loaded (sym c.as_slice.ensures ∙ c.in-Some.ensures.cases.0)) c.image_of.ensures.failed

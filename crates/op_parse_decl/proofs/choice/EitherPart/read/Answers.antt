@@ -1,6 +1,7 @@
 use Rattle.std.proofs.Common.{sym, ◌∙◌}
+use Rattle.op_parse_code.proofs.Calls.{front_begins, front_not}
 use Rattle.op_parse_code.proofs.Errors.{passed}
-use Rattle.op_parse_decl.proofs.Combining.{front_begins, front_not, chosen_refused, otherwise_refused}
+use Rattle.op_parse_decl.proofs.Combining.{chosen_refused, otherwise_refused}
 use Rattle.op_parse_decl.specs.Combined.{chosen, otherwise}
 use Rattle.op_parse_decl.proofs.choice.EitherPart.read.Goals as goal
 

@@ -1,6 +1,7 @@
 use Rattle.std.proofs.Common.{sym, ◌∙◌}
+use Rattle.op_parse_code.proofs.Calls.{front_begins, front_not}
 use Rattle.op_parse_code.proofs.Errors.{passed}
-use Rattle.op_parse_decl.proofs.Combining.{front_begins, front_not, none_begins, several_refused}
+use Rattle.op_parse_decl.proofs.Combining.{none_begins, several_refused}
 use Rattle.op_parse_decl.proofs.choice.SeveralPart.read.Goals as goal
 
 pub returns-in_err-all-clause-refused : goal.returns-in_err-all-clause-refused

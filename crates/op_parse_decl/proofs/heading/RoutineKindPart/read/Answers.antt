@@ -1,4 +1,4 @@
-use Rattle.std.proofs.Common.{sym, ap, ◌∙◌}
+use Rattle.std.proofs.Common.{sym, ap}
 use Rattle.op_parse_code.proofs.Names.{none_left}
 use Rattle.op_parse_decl.proofs.Headings.{kind_ahead, kind_refused}
 use Rattle.op_parse_decl.specs.Headings.{is_routine_kind}

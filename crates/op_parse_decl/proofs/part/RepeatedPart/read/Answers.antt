@@ -1,7 +1,8 @@
 use Rattle.std.proofs.Common.{sym, ◌∙◌, arith}
+use Rattle.op_parse_code.proofs.Calls.{front_begins, front_not}
 use Rattle.op_parse_code.proofs.Errors.{passed}
 use Rattle.op_parse_code.specs.Refusal.{out_of_memory}
-use Rattle.op_parse_decl.proofs.Combining.{front_begins, front_not, repeating_none, repeating_item, repeating_more, repeating_ends}
+use Rattle.op_parse_decl.proofs.Combining.{repeating_none, repeating_item, repeating_more, repeating_ends}
 use Rattle.op_parse_decl.proofs.part.RepeatedPart.read.Goals as goal
 
 pub loop-setting-init : goal.loop-setting-init

@@ -1,0 +1,20 @@
+//! The checker of declarations: from trees to rows of the typed program and visible names.
+//!
+//! A `Declarer` holds the typed program so far, the visible names and the first rule that was broken. Each of its calls takes a
+//! declaration or a part of one: exactly what that means is then declared, and the first of its faults kept.
+#![tactic(auto)]
+
+mod bound;
+mod composite;
+mod constant;
+mod declarer;
+mod denoter;
+mod enumeration;
+mod naming;
+mod record;
+mod table;
+
+pub use declarer::Declarer;
+
+#[cfg(test)]
+mod tests;

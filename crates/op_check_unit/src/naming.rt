@@ -1,0 +1,123 @@
+//! Types that are named.
+ghost use Rattle.std.specs.Prelude.{◌≡◌, IfOk};
+ghost use Rattle.std.specs.Option.{option_copied};
+ghost use Rattle.op_check_unit.specs.Naming.{own_type, told_by, told_in, type_alone, type_meant, type_named, type_of_unit};
+ghost use Rattle.op_check_unit.specs.Steps.{Leaves, checked, here_of};
+ghost use Rattle.op_types.specs.Names.{lower};
+
+use crate::Declarer;
+use crate::declarer::is_same_name;
+use op_base::{NoMemory, Place};
+use op_core::TypeId;
+use op_tree::{Name, QualifiedName};
+use op_types::Meaning;
+
+/// What a name stands for, as far as types ask.
+#[derive(Clone, Copy, Debug)]
+pub enum Told {
+    Unknown,
+    /// Its declaration breaks a rule.
+    Spoiled,
+    /// It is a type.
+    Known(TypeId),
+    Unit,
+    Other,
+}
+
+fn told_by(meaning: Option<&Meaning>) -> Told
+    ensures { result ≡ told_by (option_copied meaning.entry) }
+{
+    match meaning {
+        None => Told::Unknown,
+        Some(Meaning::Spoiled) => Told::Spoiled,
+        Some(Meaning::TypeName(of)) => Told::Known(*of),
+        Some(Meaning::Unit(_)) => Told::Unit,
+        Some(_) => Told::Other,
+    }
+}
+
+impl Declarer {
+    /// The type that a name stands for in the declaration of another one: rule 15 where it is unknown, 16 where it is no type,
+    /// 38 where the other one would contain itself.
+    pub fn type_named(
+        &mut self,
+        own: &Name,
+        inside: bool,
+        q: &QualifiedName,
+    ) -> Result<Option<TypeId>, NoMemory>
+        ensures { IfOk result (Leaves (checked (here_of self.old) (type_named self.old.visible own.now inside q.now)) self.old self.new) }
+    {
+        match &q.unit {
+            Some(unit) => self.type_of_unit(unit, &q.name),
+            None => self.type_alone(own, inside, &q.name),
+        }
+    }
+
+    /// A name without a unit.
+    fn type_alone(
+        &mut self,
+        own: &Name,
+        inside: bool,
+        name: &Name,
+    ) -> Result<Option<TypeId>, NoMemory>
+        ensures { IfOk result (Leaves (checked (here_of self.old) (type_alone self.old.visible own.now inside name.now)) self.old self.new) }
+    {
+        let place = name.position.place;
+        if is_same_name(own, name) {
+            return Ok(self.own_type(own, inside, place));
+        }
+        let meaning = told_by(self.visible.look_up(name.text.as_slice())?);
+        Ok(self.type_meant(place, meaning))
+    }
+
+    /// A name of a unit.
+    fn type_of_unit(&mut self, unit: &Name, name: &Name) -> Result<Option<TypeId>, NoMemory>
+        ensures { IfOk result (Leaves (checked (here_of self.old) (type_of_unit self.old.visible unit.now name.now (told_in self.old.visible (lower unit.now.text)))) self.old self.new) }
+    {
+        let place = unit.position.place;
+        match told_by(self.visible.look_up(unit.text.as_slice())?) {
+            Told::Unit => {
+                let mut joined = Vec::from_slice(self.alloc, unit.text.as_slice())?;
+                joined.push(b'.')?;
+                joined.extend_from_slice(name.text.as_slice())?;
+                let meaning = told_by(self.visible.look_up(joined.as_slice())?);
+                Ok(self.type_meant(name.position.place, meaning))
+            }
+            Told::Known(_) => {
+                self.refuse(16, place);
+                Ok(None)
+            }
+            other => Ok(self.type_meant(place, other)),
+        }
+    }
+
+    /// The type of a name of this meaning.
+    fn type_meant(&mut self, place: Place, meaning: Told) -> Option<TypeId>
+        ensures { Leaves (checked (here_of self.old) (type_meant place meaning)) self.old self.new result }
+    {
+        match meaning {
+            Told::Unknown => {
+                self.refuse(15, place);
+                None
+            }
+            Told::Spoiled => None,
+            Told::Known(of) => Some(of),
+            Told::Unit | Told::Other => {
+                self.refuse(16, place);
+                None
+            }
+        }
+    }
+
+    /// The type that is being declared.
+    fn own_type(&mut self, own: &Name, inside: bool, place: Place) -> Option<TypeId>
+        ensures { Leaves (checked (here_of self.old) (own_type own.now inside place)) self.old self.new result }
+    {
+        if inside {
+            self.refuse(38, own.position.place);
+        } else {
+            self.refuse(15, place);
+        }
+        None
+    }
+}

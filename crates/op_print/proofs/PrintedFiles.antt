@@ -1,0 +1,128 @@
+-- Files can be printed and read again.
+use Rattle.std.proofs.Common.{◌≡◌, ℕ, List, [], ◌∷◌, map, Option, Some, None, refl, sym, ap, ◌∙◌, subst}
+use Rattle.std.specs.Option.{option_map}
+use Rattle.op_print.proofs.Printed.{Places, tokens, Able, Printed, printed, again, HasOne, placed}
+use Rattle.op_print.proofs.PrintedDeclarations.{printed_begin_end, printed_declarations, printed_interface_declarations}
+use Rattle.op_print.proofs.PrintedDenoters.{printed_brackets, printed_names}
+use Rattle.op_print.proofs.PrintedStatements.{printed_block}
+use Rattle.op_print.proofs.Scanned.{scanned_text}
+use Rattle.op_print.proofs.TokensKept.{tokens_able}
+use Rattle.op_print.specs.NameDrafts.{name_draft, names_draft}
+use Rattle.op_print.specs.Page.{Draft, word, tight, line, ◌&◌, optional, after, empty_page}
+use Rattle.op_print.specs.Print.{file_draft, program_heading_draft, program_draft, tail_draft, uses_draft}
+use Rattle.op_print.specs.Scanned.{SpelledAgain}
+use Rattle.op_print.specs.Unplaced.{nowhere, bare_names, bare_program_heading, bare_tail, unplaced}
+use Rattle.op_scan.specs.Scan.{StandFor}
+use Rattle.op_scan.specs.declared.token.Token.{Token}
+use Rattle.op_scan.specs.declared.token.Tokens.{Tokens}
+use Rattle.op_scan.specs.declared.token.TokenKind.TheVariants as kind
+use Rattle.op_tree.proofs.ExpressionUnique.{same2, same3}
+use Rattle.op_tree.proofs.StatementUnique.{same4}
+use Rattle.op_tree.specs.Declaration.{Declarations}
+use Rattle.op_tree.specs.File.{File, program, unit, UnitPart, Tail}
+use Rattle.op_tree.specs.FileGrammar.{IsProgramHeading, has_no_heading, has_name, has_name_and_list, IsUses, has_no_uses, has_uses, IsTail, has_end_alone, has_block, has_finalization, has_initialization, has_both, BeginAt, IsFile, is_program, is_unit, Spells}
+use Rattle.op_tree.specs.NameGrammar.{is_name}
+use Rattle.op_tree.specs.Statement.{Statements}
+use Rattle.op_tree.specs.StatementGrammar.{is_begin_end}
+use Rattle.op_tree.specs.Terminal.{Terminal, terminals, ◌at◌, name}
+use Rattle.op_tree.specs.declared.file.ProgramHeading.{ProgramHeading}
+use Rattle.op_tree.specs.declared.position.Name.{Name}
+use Rattle.op_tree.specs.declared.position.Position.{Position}
+
+-- ---- headings and uses
+
+abbrev heading_with : Name → List Name → ProgramHeading
+heading_with n ns = record { name = n; parameters = ns }
+
+printed_program_heading : {d : ℕ} {h : Option ProgramHeading} {ks r : List Terminal} → IsProgramHeading d h ks r → Able ks → Printed (IsProgramHeading d) (option_map bare_program_heading) h (optional program_heading_draft h) r
+printed_program_heading has_no_heading g = printed tt g (λ p z. again None has_no_heading refl)
+printed_program_heading (has_name (is_name {text = text})) g = printed (tt, (g.1.0, (tt, tt))) g.1.1.1 (λ p z. again (Some (heading_with (name text p.1.0) [])) (has_name is_name) refl)
+printed_program_heading (has_name_and_list (is_name {text = text}) ns) g =
+    let u = printed_brackets ns g.1.1 in
+    printed (tt, (g.1.0, (u.words, tt))) u.able.1 (λ p z. let a = u.again p.1.1.0 _ in again (Some (heading_with (name text p.1.0) a.part)) (has_name_and_list is_name a.is) (ap (λ x. Some (heading_with (name text nowhere) x)) a.same))
+
+uses_is : (ns : List Name) → HasOne (map name_draft ns) → uses_draft ns ≡ line & word kind.Uses & names_draft ns & tight kind.Semicolon
+uses_is [] h = absurd h
+uses_is (n ∷ ns) h = refl
+
+printed_uses : {ns : List Name} {ks r : List Terminal} → IsUses ns ks r → Able ks → Printed IsUses bare_names ns (uses_draft ns) r
+printed_uses has_no_uses g = printed tt g (λ p z. again [] has_no_uses refl)
+printed_uses {r = r} (has_uses {ns = n0} ns) g =
+    let u = printed_names ns g.1 in
+    subst (λ d. Printed IsUses bare_names n0 d r) (sym (uses_is n0 u.some)) (printed (tt, (tt, (u.all.words, tt))) u.all.able.1 (λ p z. let a = u.all.again p.1.1.0 _ in again a.part (has_uses a.is) a.same))
+
+-- ---- tails
+
+abbrev tail_with : Option Statements → Option Statements → Tail
+tail_with i f = record { initialization = i; finalization = f }
+
+printed_tail : {d : ℕ} {t : Tail} {ks r : List Terminal} → IsTail d t ks r → Able ks → Printed (IsTail d) bare_tail t (tail_draft t) r
+printed_tail has_end_alone g = printed (tt, (tt, (tt, tt))) g.1 (λ p z. again (tail_with None None) has_end_alone refl)
+printed_tail (has_block (is_begin_end ss)) g =
+    let u = printed_block ss g.1 in
+    printed (tt, ((tt, u.words), (tt, tt))) u.able.1 (λ p z. let a = u.again p.1.0.1 _ in again (tail_with (Some a.part) None) (has_initialization a.is) (ap (λ x. tail_with (Some x) None) a.same))
+printed_tail (has_finalization ss) g =
+    let u = printed_block ss g.1 in
+    printed (tt, (tt, ((tt, u.words), tt))) u.able.1 (λ p z. let a = u.again p.1.1.0.1 _ in again (tail_with None (Some a.part)) (has_finalization a.is) (ap (λ x. tail_with None (Some x)) a.same))
+printed_tail (has_initialization ss) g =
+    let u = printed_block ss g.1 in
+    printed (tt, ((tt, u.words), (tt, tt))) u.able.1 (λ p z. let a = u.again p.1.0.1 _ in again (tail_with (Some a.part) None) (has_initialization a.is) (ap (λ x. tail_with (Some x) None) a.same))
+printed_tail (has_both ss ts) g =
+    let u = printed_block ss g.1 in
+    let v = printed_block ts u.able.1 in
+    printed (tt, ((tt, u.words), ((tt, v.words), tt))) v.able.1 (λ p z. let a = u.again p.1.0.1 _ in let b = v.again p.1.1.0.1 _ in again (tail_with (Some a.part) (Some b.part)) (has_both a.is b.is) (same2 (λ x y. tail_with (Some x) (Some y)) a.same b.same))
+
+-- ---- files
+
+abbrev Begins : List Terminal → Type 0
+Begins ks = (p : Position) × BeginAt p ks
+
+begins : (d : Draft) (p : Places d) (ks : List Terminal) → Begins ks → Begins (tokens d p ks)
+begins (word k) p ks b = (p, refl)
+begins (tight k) p ks b = (p, refl)
+begins (a & c) p ks b = begins a p.0 (tokens c p.1 ks) (begins c p.1 ks b)
+begins other p ks b = b
+
+abbrev program_with : Position → Option ProgramHeading → List Name → Declarations → Statements → File
+program_with p g ns es ss = program (record { position = p; heading = g; uses = ns; declarations = es; statements = ss })
+
+abbrev part_with : List Name → Declarations → UnitPart
+part_with ns es = record { uses = ns; declarations = es }
+
+abbrev unit_with : Position → Name → UnitPart → UnitPart → Tail → File
+unit_with p n i m t = unit (record { position = p; name = n; interface = i; implementation = m; tail = t })
+
+printed_file : {d : ℕ} {f : File} {ks r : List Terminal} → IsFile d f ks r → Able ks → Printed (IsFile d) unplaced f (file_draft f) r
+printed_file {f = program pr} (is_program b h us es ss) g =
+    let u = printed_program_heading h g in
+    let v = printed_uses us u.able in
+    let w = printed_declarations es v.able in
+    let x = printed_begin_end ss w.able in
+    printed ((u.words, (v.words, (w.words, x.words))), (tt, tt)) x.able.1 (λ p z. let q = begins (program_draft pr) p.0 (kind.Dot at p.1.0 ∷ z) (p.1.0, refl) in let a = u.again p.0.0 _ in let b = v.again p.0.1.0 _ in let c = w.again p.0.1.1.0 _ in let e = x.again p.0.1.1.1 _ in again (program_with q.0 a.part b.part c.part e.part) (is_program q.1 a.is b.is c.is e.is) (same4 (program_with nowhere) a.same b.same c.same e.same))
+printed_file (is_unit (is_name {text = text}) us is ls ds t) g =
+    let u = printed_uses us g.1.1.1.1 in
+    let v = printed_interface_declarations is u.able in
+    let w = printed_uses ls v.able.1 in
+    let x = printed_declarations ds w.able in
+    let y = printed_tail t x.able in
+    printed ((tt, (g.1.0, (tt, (tt, (tt, ((u.words, v.words), (tt, (tt, ((w.words, x.words), y.words))))))))), (tt, tt)) y.able.1
+    (λ p z. let a = u.again p.0.1.1.1.1.1.0.0 _ in let b = v.again p.0.1.1.1.1.1.0.1 _ in let c = w.again p.0.1.1.1.1.1.1.1.1.0.0 _ in let e = x.again p.0.1.1.1.1.1.1.1.1.0.1 _ in let i = y.again p.0.1.1.1.1.1.1.1.1.1 _ in
+    again (unit_with p.0.0 (name text p.0.1.0) (part_with a.part b.part) (part_with c.part e.part) i.part) (is_unit is_name a.is b.is c.is e.is i.is) (same3 (unit_with nowhere (name text nowhere)) (same2 part_with a.same b.same) (same2 part_with c.same e.same) i.same))
+
+-- ---- what is scanned
+
+kinds_same : (tokens : List Token) → map (λ t. t.kind) (terminals tokens) ≡ map (λ t. t.kind) tokens
+kinds_same [] = refl
+kinds_same (t ∷ tokens) = ap (λ z. t.kind ∷ z) (kinds_same tokens)
+
+none_left : (ks : List Terminal) → map (λ t. t.kind) ks ≡ [] → ks ≡ []
+none_left [] e = refl
+none_left (k ∷ ks) e = absurd cc
+
+pub printed_again : (f : File) (m : ℕ) (bytes : List ℕ) (source : Tokens) → StandFor m bytes source → Spells f (terminals source.list) → (n : ℕ) → SpelledAgain n f (after empty_page (file_draft f)).text
+printed_again f m bytes source g s n =
+    let u = printed_file s (tokens_able g) in
+    let t = scanned_text (file_draft f) u.words n in
+    let q = placed (file_draft f) (terminals t.tokens) [] (kinds_same t.tokens ∙ t.kinds_are) in
+    let a = u.again q.places q.rest in
+    record { tokens = t.tokens; end = t.end; outcome = t.outcome; tree = a.part; spells = subst (λ z. IsFile 200 a.part z []) (sym q.are) (subst (λ z. IsFile 200 a.part (tokens (file_draft f) q.places q.rest) z) (none_left q.rest q.kinds) a.is); same = a.same }

@@ -1,0 +1,3 @@
+pub mod Loading
+pub mod RuleTexts
+pub mod Searching

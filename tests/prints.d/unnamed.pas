@@ -1,0 +1,1 @@
+var a: Integer; begin a := 1 end.

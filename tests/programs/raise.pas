@@ -1,0 +1,5 @@
+program p;
+begin
+  WriteLn('before');
+  raise nil;
+end.
