@@ -64,15 +64,15 @@ pub none_met : (seen : BTreeMap ℤ ℤ) → Apart seen → (label : Label) (f l
 none_met seen a label f l is greatest unmet q v h =
     not_true (overlap (from_to q v) label)
     (λ t. let s = shared (from_to q v) label t in
-      let le : q ≤ℤ f = greatest q v s.begins h in
-      let filled : f ≤ℤ l = a.filled f l is in
-      by_lt_z q f
-      (λ (lt : q <ℤ f). let ends : v <ℤ f = a.apart q v f l h is lt in
-        let reach : label.first ≤ℤ l = reached label.first v f l s.also_begins ends filled in
-        false_true (int_le label.first l && int_le label.first label.last) unmet (both_true label.first l label.first label.last reach s.also_filled))
-      (λ (ge : f ≤ℤ q). let e : q ≡ f = equal q f le ge in
-        let w : v ≡ l = one_value (get int_cmp seen q) (get int_cmp seen f) v l (ap (get int_cmp seen) e) h is in
-        false_true (int_le label.first l && int_le label.first label.last) unmet (both_true label.first l label.first label.last (subst (λ x. label.first ≤ℤ x) w s.also_begins) s.also_filled)))
+    let le : q ≤ℤ f = greatest q v s.begins h in
+    let filled : f ≤ℤ l = a.filled f l is in
+    by_lt_z q f
+    (λ (lt : q <ℤ f). let ends : v <ℤ f = a.apart q v f l h is lt in
+    let reach : label.first ≤ℤ l = reached label.first v f l s.also_begins ends filled in
+    false_true (int_le label.first l && int_le label.first label.last) unmet (both_true label.first l label.first label.last reach s.also_filled))
+    (λ (ge : f ≤ℤ q). let e : q ≡ f = equal q f le ge in
+    let w : v ≡ l = one_value (get int_cmp seen q) (get int_cmp seen f) v l (ap (get int_cmp seen) e) h is in
+    false_true (int_le label.first l && int_le label.first label.last) unmet (both_true label.first l label.first label.last (subst (λ x. label.first ≤ℤ x) w s.also_begins) s.also_filled)))
 
 -- ---- the map beside the labels in front
 
@@ -144,11 +144,11 @@ added seen new front s held filled unmet u =
         apart = λ q v r w h k lt.
             entry seen new a z u q v h
             (λ (e : q ≡ a) (f : v ≡ z). entry seen new a z u r w k
-              (λ (g : r ≡ a) (i : w ≡ z). absurd (never q r a lt e g))
-              (λ (there : get int_cmp seen r ≡ Some w). subst (λ v. v <ℤ r) (sym f) (before s.label (from_to r w) (swapped (from_to r w) s.label (unmet r w there)) filled (old.filled r w there) (subst (λ q. q <ℤ r) e lt))))
+            (λ (g : r ≡ a) (i : w ≡ z). absurd (never q r a lt e g))
+            (λ (there : get int_cmp seen r ≡ Some w). subst (λ v. v <ℤ r) (sym f) (before s.label (from_to r w) (swapped (from_to r w) s.label (unmet r w there)) filled (old.filled r w there) (subst (λ q. q <ℤ r) e lt))))
             (λ (there : get int_cmp seen q ≡ Some v). entry seen new a z u r w k
-              (λ (g : r ≡ a) (i : w ≡ z). subst (λ r. v <ℤ r) (sym g) (before (from_to q v) s.label (unmet q v there) (old.filled q v there) filled (subst (λ r. q <ℤ r) g lt)))
-              (λ (also : get int_cmp seen r ≡ Some w). old.apart q v r w there also lt));
+            (λ (g : r ≡ a) (i : w ≡ z). subst (λ r. v <ℤ r) (sym g) (before (from_to q v) s.label (unmet q v there) (old.filled q v there) filled (subst (λ r. q <ℤ r) g lt)))
+            (λ (also : get int_cmp seen r ≡ Some w). old.apart q v r w there also lt));
       };
       sound = λ q v h x o. met_last front s x ∙
           entry seen new a z u q v h

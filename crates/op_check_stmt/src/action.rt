@@ -16,12 +16,10 @@ use crate::list::collect;
 use crate::node::pair;
 use crate::variable::is_ordinal;
 use op_base::{NoMemory, Place};
-use op_check_expr::{
-    Checker, Value, conversion, leave_out, position_of, refuse, type_of,
-};
+use op_check_expr::{Checker, Value, conversion, leave_out, position_of, refuse, type_of};
 use op_core::{
-    Const, Conversion, Core, CoreAction, CoreExpr, CoreItem, CoreStmt, CoreTarget, CoreType, FirstRefusal, Root,
-    TypeId,
+    Const, Conversion, Core, CoreAction, CoreExpr, CoreItem, CoreStmt, CoreTarget, CoreType,
+    FirstRefusal, Root, TypeId,
 };
 use op_tree::{Argument, Direction, Expr, Name};
 use op_types::{OrdinalKind, Sort, sort_of, start_of, type_at};
@@ -239,9 +237,7 @@ fn changed(includes: bool, parts: Option<(CoreExpr, CoreExpr)>) -> Option<CoreSt
 {
     match (parts, includes) {
         (None, _) => None,
-        (Some((set, element)), true) => {
-            Some(CoreStmt::Do(CoreAction::Include { set, element }))
-        }
+        (Some((set, element)), true) => { Some(CoreStmt::Do(CoreAction::Include { set, element })) }
         (Some((set, element)), false) => {
             Some(CoreStmt::Do(CoreAction::Exclude { set, element }))
         }
@@ -258,12 +254,7 @@ fn check_set(here: Checker, sink: &mut FirstRefusal, e: &Expr) -> Result<Option<
     }
 }
 
-fn set_of(
-    core: &Core,
-    sink: &mut FirstRefusal,
-    at: Place,
-    place: CoreExpr,
-) -> Option<CoreExpr>
+fn set_of(core: &Core, sink: &mut FirstRefusal, at: Place, place: CoreExpr) -> Option<CoreExpr>
     ensures { Reports (set_means core.now at (typed_of place)) sink.old sink.new (option_map typed_of result) }
 {
     match base_of(core, type_of(&place)) {

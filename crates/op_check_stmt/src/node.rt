@@ -130,10 +130,7 @@ pub fn try_finally(parts: Option<(Vec<CoreStmt>, Vec<CoreStmt>)>) -> Option<Core
 }
 
 /// With statements that take every exception.
-pub fn try_except(
-    alloc: Global,
-    parts: Option<(Vec<CoreStmt>, Vec<CoreStmt>)>,
-) -> Option<CoreStmt>
+pub fn try_except(alloc: Global, parts: Option<(Vec<CoreStmt>, Vec<CoreStmt>)>) -> Option<CoreStmt>
     ensures { option_map stmt_of result ≡ option_map (λ p. try_all (stmts_of p.0.items) (stmts_of p.1.items)) parts }
 {
     match parts {
@@ -194,11 +191,7 @@ fn finally_of(body: Vec<CoreStmt>, finalization: Vec<CoreStmt>) -> CoreStmt
     CoreStmt::TryFinally { body, finalization }
 }
 
-fn except_of(
-    body: Vec<CoreStmt>,
-    handlers: Vec<CoreHandler>,
-    otherwise: Vec<CoreStmt>,
-) -> CoreStmt
+fn except_of(body: Vec<CoreStmt>, handlers: Vec<CoreHandler>, otherwise: Vec<CoreStmt>) -> CoreStmt
     ensures { stmt_of result ≡ try_on_else (stmts_of body.items) (handlers_of handlers.items) (stmts_of otherwise.items) }
 {
     CoreStmt::TryOnElse {
@@ -208,11 +201,7 @@ fn except_of(
     }
 }
 
-fn case_with(
-    selector: CoreExpr,
-    branches: Vec<CoreBranch>,
-    otherwise: Vec<CoreStmt>,
-) -> CoreStmt
+fn case_with(selector: CoreExpr, branches: Vec<CoreBranch>, otherwise: Vec<CoreStmt>) -> CoreStmt
     ensures { stmt_of result ≡ case_of (expr_of selector) (branches_of branches.items) (stmts_of otherwise.items) }
 {
     CoreStmt::Case {

@@ -2,8 +2,8 @@ use crate::stmt;
 use op_base::{NoMemory, Place, Text};
 use op_check_expr::{Around, Scope};
 use op_core::{
-    CheckError, Const, Core, CoreType, Function, IntegerKind, Owner, Parameter, Role, Routine, RoutineId, Run,
-    TypeId, UnitId, Variable, VariableId,
+    CheckError, Const, Core, CoreType, Function, IntegerKind, Owner, Parameter, Role, Routine,
+    RoutineId, Run, TypeId, UnitId, Variable, VariableId,
 };
 use op_parse_code::statement;
 use op_scan::{Switches, scan};
@@ -323,7 +323,11 @@ fn refuses(rt: HostRuntime) -> Result<(), Fail> {
         ("Write('x', m:2)", 60, 12),
         ("begin x := 1; y := 2 end", 15, 7),
     ] {
-        assert_eq!(rt; outcome(rt.alloc(), 0, text)?, Outcome::Rule(rule, col), "{text}");
+        assert_eq!(rt;
+            outcome(rt.alloc(), 0, text)?,
+            Outcome::Rule(rule, col),
+            "{text}"
+        );
     }
     assert_eq!(rt; outcome(rt.alloc(), 1, "Exit(1)")?, Outcome::Rule(26, 1));
     assert_eq!(rt; outcome(rt.alloc(), 1, "Twice := 1")?, Outcome::Rule(29, 1));
@@ -340,7 +344,11 @@ fn leaves_out(rt: HostRuntime) -> Result<(), Fail> {
         ("SetLength(a, 2)", 40, 1),
         ("case 'ab' of 'a': Go end", 25, 6),
     ] {
-        assert_eq!(rt; outcome(rt.alloc(), 0, text)?, Outcome::Feature(feature, col), "{text}");
+        assert_eq!(rt;
+            outcome(rt.alloc(), 0, text)?,
+            Outcome::Feature(feature, col),
+            "{text}"
+        );
     }
     Ok(())
 }

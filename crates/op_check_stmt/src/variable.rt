@@ -45,7 +45,14 @@ fn counter_named(
         Some(Meaning::Spoiled) => None,
         Some(Meaning::Variable { id, .. }) => {
             let variable = here.scope.core.variables.as_slice().get(id.0 as usize)?;
-            counter_of(here.scope.core, sink, place, *id, variable.of, here.is_writable_variable(*id))
+            counter_of(
+                here.scope.core,
+                sink,
+                place,
+                *id,
+                variable.of,
+                here.is_writable_variable(*id),
+            )
         }
         Some(_) => refuse(sink, 16, place),
     }

@@ -84,7 +84,10 @@ pub fn statement(here: Checker, sink: &mut FirstRefusal, s: &Stmt) -> Typed
         Stmt::While { condition, body } => {
             let around = within(here.alloc, here.scope.around, Around::Loop(None))?;
             let condition = check_condition(here, sink, condition)?;
-            let parts = joined(condition, statement(inside(here, around.as_slice()), sink, body))?;
+            let parts = joined(
+                condition,
+                statement(inside(here, around.as_slice()), sink, body),
+            )?;
             node::while_do(here.alloc, parts)
         }
         Stmt::Repeat { body, condition } => {

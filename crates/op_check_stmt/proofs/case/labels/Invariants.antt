@@ -11,5 +11,5 @@ use Rattle.op_check_stmt.proofs.case.labels.Given as goal
 abbrev pub invariant-loop-element : goal.invariant-loop-element
 invariant-loop-element l = record {
   typed : Completes (λ (x : Label). x) (λ y ys. y ∷ ys) (items_of l.typed) (labels (here_of l.here.scope) l.of (elements_of l.elements)) (labels (here_of l.here.scope) l.of (elements_of (drop l.element-index l.elements))) l.fn.sink l.sink;
-  noted : l.others.items ++ spots (here_of l.here.scope) l.of (elements_of (drop l.element-index l.elements)) ≡ l.fn.others.items ++ spots (here_of l.here.scope) l.of (elements_of l.elements)
+  noted : l.others.items ++ spots (here_of l.here.scope) l.of (elements_of (drop l.element-index l.elements)) ≡ l.fn.others.items ++ spots (here_of l.here.scope) l.of (elements_of l.elements);
 }

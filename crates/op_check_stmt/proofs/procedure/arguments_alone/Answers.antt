@@ -15,4 +15,4 @@ pub returns-in-None : goal.returns-in-None
 returns-in-None c =
     ap (λ xs. Some (arguments_of xs)) c.deref.ensures.value
     ∙ sym (ap (λ os. arguments_behind (selectors (selector_of c.args.first.now) (selectors_of os))) (nil c.args.others.now c.in-None.ensures.cases)
-      ∙ ap (λ s. arguments_behind (selectors s no_selectors)) (ap selector_of c.in-Call.is ∙ call_says c.in-Call.arguments))
+    ∙ ap (λ s. arguments_behind (selectors s no_selectors)) (ap selector_of c.in-Call.is ∙ call_says c.in-Call.arguments))

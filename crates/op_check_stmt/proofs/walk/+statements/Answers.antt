@@ -57,8 +57,8 @@ statement-returns-in_ok-parts-in-If t c =
     subst (λ s. IfOk c.if_then.result (λ r. Reports (statement here s) old new (option_map typed_statement r))) (sym (ap stmt_of c.in-If.is))
     (node_ok (both_views typed_of typed_statement) typed_statement if_then e body old new c.in_ok-parts-in-If.parts c.if_then.result
     (joins typed_of typed_statement e body old mid new c.in_ok-condition-in-If.condition c.statement.result c.in_ok-parts-in-If.parts c.in_ok-condition-in-If.ensures
-      (subst (λ s. IfOk c.statement.result (λ y. Reports (statement here (stmt_of s)) mid new (option_map typed_statement y))) c.deref-in-If.ensures c.statement.ensures)
-      (sym c.joined.ensures ∙ c.in_ok-parts-in-If.was))
+    (subst (λ s. IfOk c.statement.result (λ y. Reports (statement here (stmt_of s)) mid new (option_map typed_statement y))) c.deref-in-If.ensures c.statement.ensures)
+    (sym c.joined.ensures ∙ c.in_ok-parts-in-If.was))
     c.if_then.ensures)
 
 pub statement-returns-in_ok-parts-in-IfElse : goal.statement-returns-in_ok-parts-in-IfElse
@@ -74,11 +74,11 @@ statement-returns-in_ok-parts-in-IfElse t c =
     subst (λ s. IfOk c.if_else.result (λ r. Reports (statement here s) old new (option_map typed_statement r))) (sym (ap stmt_of c.in-IfElse.is))
     (node_ok (both_views (both_views typed_of typed_statement) typed_statement) typed_statement (λ (p : Expression × Statement) (s : Statement). if_else p.0 p.1 s) (paired e then) otherwise old new c.in_ok-parts-in-IfElse.parts c.if_else.result
     (joins (both_views typed_of typed_statement) typed_statement (paired e then) otherwise old far new c.in_ok-front-in-IfElse.front c.statement-in-IfElse-2.result c.in_ok-parts-in-IfElse.parts
-      (joins typed_of typed_statement e then old mid far c.in_ok-condition-in-IfElse.condition c.statement-in-IfElse.result c.in_ok-front-in-IfElse.front c.in_ok-condition-in-IfElse.ensures
-        (subst (λ s. IfOk c.statement-in-IfElse.result (λ y. Reports (statement here (stmt_of s)) mid far (option_map typed_statement y))) c.deref-in-IfElse.ensures c.statement-in-IfElse.ensures)
-        (sym c.joined-in-IfElse.ensures ∙ c.in_ok-front-in-IfElse.was))
-      (subst (λ s. IfOk c.statement-in-IfElse-2.result (λ y. Reports (statement here (stmt_of s)) far new (option_map typed_statement y))) c.deref-in-IfElse-2.ensures c.statement-in-IfElse-2.ensures)
-      (sym c.joined-in-IfElse-2.ensures ∙ c.in_ok-parts-in-IfElse.was))
+    (joins typed_of typed_statement e then old mid far c.in_ok-condition-in-IfElse.condition c.statement-in-IfElse.result c.in_ok-front-in-IfElse.front c.in_ok-condition-in-IfElse.ensures
+    (subst (λ s. IfOk c.statement-in-IfElse.result (λ y. Reports (statement here (stmt_of s)) mid far (option_map typed_statement y))) c.deref-in-IfElse.ensures c.statement-in-IfElse.ensures)
+    (sym c.joined-in-IfElse.ensures ∙ c.in_ok-front-in-IfElse.was))
+    (subst (λ s. IfOk c.statement-in-IfElse-2.result (λ y. Reports (statement here (stmt_of s)) far new (option_map typed_statement y))) c.deref-in-IfElse-2.ensures c.statement-in-IfElse-2.ensures)
+    (sym c.joined-in-IfElse-2.ensures ∙ c.in_ok-parts-in-IfElse.was))
     c.if_else.ensures)
 
 pub statement-returns-in_ok-head-in-Case : goal.statement-returns-in_ok-head-in-Case
@@ -108,9 +108,9 @@ statement-returns-in_ok-parts-in-CaseElse t c =
     subst (λ s. Reports (statement here s) old new (option_map typed_statement c.case_of-in-CaseElse.result)) (sym (ap stmt_of c.in-CaseElse.is ∙ case_else_says c.in-CaseElse.selector c.in-CaseElse.branches c.in-CaseElse.otherwise))
     (node (both_views head_of listed) case_statement (head bs) otherwise old new c.in_ok-parts-in-CaseElse.parts (option_map typed_statement c.case_of-in-CaseElse.result)
     (joins head_of listed (head bs) otherwise old mid new c.in_ok-head-in-CaseElse.head c.statements-in-CaseElse.result c.in_ok-parts-in-CaseElse.parts
-      (subst (λ bs. Reports (head (branches_of bs)) old mid (option_map head_of c.in_ok-head-in-CaseElse.head)) c.deref-in-CaseElse.ensures.value c.in_ok-head-in-CaseElse.ensures)
-      (subst (λ ss. IfOk c.statements-in-CaseElse.result (λ y. Reports (statements here (stmts_of ss)) mid new (statements_in y))) c.deref-in-CaseElse-2.ensures.value c.statements-in-CaseElse.ensures)
-      (sym c.joined-in-CaseElse.ensures ∙ c.in_ok-parts-in-CaseElse.was))
+    (subst (λ bs. Reports (head (branches_of bs)) old mid (option_map head_of c.in_ok-head-in-CaseElse.head)) c.deref-in-CaseElse.ensures.value c.in_ok-head-in-CaseElse.ensures)
+    (subst (λ ss. IfOk c.statements-in-CaseElse.result (λ y. Reports (statements here (stmts_of ss)) mid new (statements_in y))) c.deref-in-CaseElse-2.ensures.value c.statements-in-CaseElse.ensures)
+    (sym c.joined-in-CaseElse.ensures ∙ c.in_ok-parts-in-CaseElse.was))
     c.case_of-in-CaseElse.ensures)
 
 pub statement-returns-in_ok-parts-in-While : goal.statement-returns-in_ok-parts-in-While
@@ -125,10 +125,10 @@ statement-returns-in_ok-parts-in-While t c =
     subst (λ s. IfOk c.while_do.result (λ r. Reports (statement here s) old new (option_map typed_statement r))) (sym (ap stmt_of c.in-While.is))
     (node_ok (both_views typed_of typed_statement) typed_statement while_do e body old new c.in_ok-parts-in-While.parts c.while_do.result
     (joins typed_of typed_statement e body old mid new c.in_ok-condition-in-While.condition c.statement-in-While.result c.in_ok-parts-in-While.parts c.in_ok-condition-in-While.ensures
-      (subst (λ h. IfOk c.statement-in-While.result (λ y. Reports (statement h (stmt_of c.in-While.body.value)) mid new (option_map typed_statement y)))
-        (c.inside.ensures ∙ ap (moved here) (c.as_slice.ensures.value ∙ c.in_ok-around-in-While.ensures))
-      (subst (λ s. IfOk c.statement-in-While.result (λ y. Reports (statement (here_of c.inside.result.scope) (stmt_of s)) mid new (option_map typed_statement y))) c.deref-in-While.ensures c.statement-in-While.ensures))
-      (sym c.joined-in-While.ensures ∙ c.in_ok-parts-in-While.was))
+    (subst (λ h. IfOk c.statement-in-While.result (λ y. Reports (statement h (stmt_of c.in-While.body.value)) mid new (option_map typed_statement y)))
+    (c.inside.ensures ∙ ap (moved here) (c.as_slice.ensures.value ∙ c.in_ok-around-in-While.ensures))
+    (subst (λ s. IfOk c.statement-in-While.result (λ y. Reports (statement (here_of c.inside.result.scope) (stmt_of s)) mid new (option_map typed_statement y))) c.deref-in-While.ensures c.statement-in-While.ensures))
+    (sym c.joined-in-While.ensures ∙ c.in_ok-parts-in-While.was))
     c.while_do.ensures)
 
 pub statement-returns-in_ok-parts-in-Repeat : goal.statement-returns-in_ok-parts-in-Repeat
@@ -143,11 +143,11 @@ statement-returns-in_ok-parts-in-Repeat t c =
     subst (λ s. Reports (statement here s) old new (option_map typed_statement c.repeat_until.result)) (sym (ap stmt_of c.in-Repeat.is ∙ repeat_until_says c.in-Repeat.body c.in-Repeat.condition))
     (node (both_views listed typed_of) repeat_until body e old new c.in_ok-parts-in-Repeat.parts (option_map typed_statement c.repeat_until.result)
     (joins listed typed_of body e old mid new c.in_ok-body-in-Repeat.body c.check_condition-in-Repeat.result c.in_ok-parts-in-Repeat.parts
-      (subst (λ h. Reports (statements h (stmts_of c.in-Repeat.body.items)) old mid (statements_in c.in_ok-body-in-Repeat.body))
-        (c.inside-in-Repeat.ensures ∙ ap (moved here) (c.as_slice-in-Repeat.ensures.value ∙ c.in_ok-around-in-Repeat.ensures))
-      (subst (λ ss. Reports (statements (here_of c.inside-in-Repeat.result.scope) (stmts_of ss)) old mid (statements_in c.in_ok-body-in-Repeat.body)) c.deref-in-Repeat.ensures.value c.in_ok-body-in-Repeat.ensures))
-      c.check_condition-in-Repeat.ensures
-      (sym c.joined-in-Repeat.ensures ∙ c.in_ok-parts-in-Repeat.was))
+    (subst (λ h. Reports (statements h (stmts_of c.in-Repeat.body.items)) old mid (statements_in c.in_ok-body-in-Repeat.body))
+    (c.inside-in-Repeat.ensures ∙ ap (moved here) (c.as_slice-in-Repeat.ensures.value ∙ c.in_ok-around-in-Repeat.ensures))
+    (subst (λ ss. Reports (statements (here_of c.inside-in-Repeat.result.scope) (stmts_of ss)) old mid (statements_in c.in_ok-body-in-Repeat.body)) c.deref-in-Repeat.ensures.value c.in_ok-body-in-Repeat.ensures))
+    c.check_condition-in-Repeat.ensures
+    (sym c.joined-in-Repeat.ensures ∙ c.in_ok-parts-in-Repeat.was))
     c.repeat_until.ensures)
 
 pub statement-returns-in_ok-parts-in-For : goal.statement-returns-in_ok-parts-in-For
@@ -165,15 +165,15 @@ statement-returns-in_ok-parts-in-For t c =
     subst (λ s. IfOk c.for_to.result (λ r. Reports (statement here s) old new (option_map typed_statement r))) (sym (ap stmt_of c.in-For.is))
     (node_ok (both_views (both_views (λ (k : Counter). k) bounds_of) typed_statement) typed_statement (λ (p : Counter × (Expression × Expression)) (s : Statement). for_statement c.in-For.direction p.0 p.1 s) (paired k (bounds k.typed)) (body k.typed) old new c.in_ok-parts-in-For.parts c.for_to.result
     (joins (both_views (λ (k : Counter). k) bounds_of) typed_statement (paired k (bounds k.typed)) (body k.typed) old far new c.in_ok-head-in-For.head c.statement-in-For.result c.in_ok-parts-in-For.parts
-      (joins (λ (k : Counter). k) bounds_of k (bounds k.typed) old mid far c.in_ok-counter-in-For.counter c.bounds.result c.in_ok-head-in-For.head
-        (subst (Reports k old mid) (same c.in_ok-counter-in-For.counter) c.in_ok-counter-in-For.ensures)
-        (subst (λ k. IfOk c.bounds.result (λ y. Reports (bounds k) mid far (option_map bounds_of y))) is c.bounds.ensures)
-        (sym c.joined-in-For.ensures ∙ c.in_ok-head-in-For.was))
-      (subst (λ k. IfOk c.statement-in-For.result (λ y. Reports (body k) far new (option_map typed_statement y))) is
-      (subst (λ h. IfOk c.statement-in-For.result (λ y. Reports (statement h (stmt_of c.in-For.body.value)) far new (option_map typed_statement y)))
-        (c.inside-in-For.ensures ∙ ap (moved here) (c.as_slice-in-For.ensures.value ∙ c.in_ok-around-in-For.ensures ∙ ap (λ v. here.around ++ Loop v ∷ []) c.variable_of.ensures))
-      (subst (λ s. IfOk c.statement-in-For.result (λ y. Reports (statement (here_of c.inside-in-For.result.scope) (stmt_of s)) far new (option_map typed_statement y))) c.deref-in-For.ensures c.statement-in-For.ensures)))
-      (sym c.joined-in-For-2.ensures ∙ c.in_ok-parts-in-For.was))
+    (joins (λ (k : Counter). k) bounds_of k (bounds k.typed) old mid far c.in_ok-counter-in-For.counter c.bounds.result c.in_ok-head-in-For.head
+    (subst (Reports k old mid) (same c.in_ok-counter-in-For.counter) c.in_ok-counter-in-For.ensures)
+    (subst (λ k. IfOk c.bounds.result (λ y. Reports (bounds k) mid far (option_map bounds_of y))) is c.bounds.ensures)
+    (sym c.joined-in-For.ensures ∙ c.in_ok-head-in-For.was))
+    (subst (λ k. IfOk c.statement-in-For.result (λ y. Reports (body k) far new (option_map typed_statement y))) is
+    (subst (λ h. IfOk c.statement-in-For.result (λ y. Reports (statement h (stmt_of c.in-For.body.value)) far new (option_map typed_statement y)))
+    (c.inside-in-For.ensures ∙ ap (moved here) (c.as_slice-in-For.ensures.value ∙ c.in_ok-around-in-For.ensures ∙ ap (λ v. here.around ++ Loop v ∷ []) c.variable_of.ensures))
+    (subst (λ s. IfOk c.statement-in-For.result (λ y. Reports (statement (here_of c.inside-in-For.result.scope) (stmt_of s)) far new (option_map typed_statement y))) c.deref-in-For.ensures c.statement-in-For.ensures)))
+    (sym c.joined-in-For-2.ensures ∙ c.in_ok-parts-in-For.was))
     c.for_to.ensures)
 
 pub statement-returns-in_ok-joined-in-TryFinally : goal.statement-returns-in_ok-joined-in-TryFinally
@@ -188,11 +188,11 @@ statement-returns-in_ok-joined-in-TryFinally t c =
     subst (λ s. Reports (statement here s) old new (option_map typed_statement c.try_finally.result)) (sym (ap stmt_of c.in-TryFinally.is ∙ try_finally_says c.in-TryFinally.body c.in-TryFinally.finalization))
     (node (both_views listed listed) try_finally body rest old new c.in_ok-joined-in-TryFinally.field-0 (option_map typed_statement c.try_finally.result)
     (joins listed listed body rest old mid new c.in_ok-body-in-TryFinally.body c.statements-last.result c.in_ok-joined-in-TryFinally.field-0
-      (subst (λ ss. Reports (statements here (stmts_of ss)) old mid (statements_in c.in_ok-body-in-TryFinally.body)) c.deref-in-TryFinally.ensures.value c.in_ok-body-in-TryFinally.ensures)
-      (subst (λ h. IfOk c.statements-last.result (λ y. Reports (statements h (stmts_of c.in-TryFinally.finalization.items)) mid new (statements_in y)))
-        (c.inside-in-TryFinally.ensures ∙ ap (moved here) (c.as_slice-in-TryFinally.ensures.value ∙ c.in_ok-around-in-TryFinally.ensures))
-      (subst (λ ss. IfOk c.statements-last.result (λ y. Reports (statements (here_of c.inside-in-TryFinally.result.scope) (stmts_of ss)) mid new (statements_in y))) c.deref-in-TryFinally-2.ensures.value c.statements-last.ensures))
-      (sym c.joined-in-TryFinally.ensures ∙ c.in_ok-joined-in-TryFinally.was))
+    (subst (λ ss. Reports (statements here (stmts_of ss)) old mid (statements_in c.in_ok-body-in-TryFinally.body)) c.deref-in-TryFinally.ensures.value c.in_ok-body-in-TryFinally.ensures)
+    (subst (λ h. IfOk c.statements-last.result (λ y. Reports (statements h (stmts_of c.in-TryFinally.finalization.items)) mid new (statements_in y)))
+    (c.inside-in-TryFinally.ensures ∙ ap (moved here) (c.as_slice-in-TryFinally.ensures.value ∙ c.in_ok-around-in-TryFinally.ensures))
+    (subst (λ ss. IfOk c.statements-last.result (λ y. Reports (statements (here_of c.inside-in-TryFinally.result.scope) (stmts_of ss)) mid new (statements_in y))) c.deref-in-TryFinally-2.ensures.value c.statements-last.ensures))
+    (sym c.joined-in-TryFinally.ensures ∙ c.in_ok-joined-in-TryFinally.was))
     c.try_finally.ensures)
 
 pub statement-returns-in_ok-joined-in-TryExcept : goal.statement-returns-in_ok-joined-in-TryExcept
@@ -207,11 +207,11 @@ statement-returns-in_ok-joined-in-TryExcept t c =
     subst (λ s. Reports (statement here s) old new (option_map typed_statement c.try_except.result)) (sym (ap stmt_of c.in-TryExcept.is ∙ try_except_says c.in-TryExcept.body c.in-TryExcept.handler))
     (node (both_views listed listed) try_all body rest old new c.in_ok-joined-in-TryExcept.field-0 (option_map typed_statement c.try_except.result)
     (joins listed listed body rest old mid new c.in_ok-body-in-TryExcept.body c.statements-handler.result c.in_ok-joined-in-TryExcept.field-0
-      (subst (λ ss. Reports (statements here (stmts_of ss)) old mid (statements_in c.in_ok-body-in-TryExcept.body)) c.deref-in-TryExcept.ensures.value c.in_ok-body-in-TryExcept.ensures)
-      (subst (λ h. IfOk c.statements-handler.result (λ y. Reports (statements h (stmts_of c.in-TryExcept.handler.items)) mid new (statements_in y)))
-        (c.inside-in-TryExcept.ensures ∙ ap (moved here) (c.as_slice-in-TryExcept.ensures.value ∙ c.in_ok-around-in-TryExcept.ensures))
-      (subst (λ ss. IfOk c.statements-handler.result (λ y. Reports (statements (here_of c.inside-in-TryExcept.result.scope) (stmts_of ss)) mid new (statements_in y))) c.deref-in-TryExcept-2.ensures.value c.statements-handler.ensures))
-      (sym c.joined-in-TryExcept.ensures ∙ c.in_ok-joined-in-TryExcept.was))
+    (subst (λ ss. Reports (statements here (stmts_of ss)) old mid (statements_in c.in_ok-body-in-TryExcept.body)) c.deref-in-TryExcept.ensures.value c.in_ok-body-in-TryExcept.ensures)
+    (subst (λ h. IfOk c.statements-handler.result (λ y. Reports (statements h (stmts_of c.in-TryExcept.handler.items)) mid new (statements_in y)))
+    (c.inside-in-TryExcept.ensures ∙ ap (moved here) (c.as_slice-in-TryExcept.ensures.value ∙ c.in_ok-around-in-TryExcept.ensures))
+    (subst (λ ss. IfOk c.statements-handler.result (λ y. Reports (statements (here_of c.inside-in-TryExcept.result.scope) (stmts_of ss)) mid new (statements_in y))) c.deref-in-TryExcept-2.ensures.value c.statements-handler.ensures))
+    (sym c.joined-in-TryExcept.ensures ∙ c.in_ok-joined-in-TryExcept.was))
     c.try_except.ensures)
 
 pub statement-returns-in-Call : goal.statement-returns-in-Call
@@ -269,8 +269,8 @@ branches-loop-branch-preserved t c =
     let e = next_branch list k x c.loop-branch-test.true c.branch-item.is in
     let item = paired (labels here of own) (statement here (stmt_of x.body)) in
     let part = joins (λ v. v.items) typed_statement (labels here of own) (statement here (stmt_of x.body)) old mid new c.in_ok-labels.labels c.statement.result c.in_ok-parts.parts
-          (subst (λ es. Reports (labels here of (elements_of es)) old mid (items_of c.in_ok-labels.labels)) c.deref.ensures.value c.in_ok-labels.ensures.reports)
-          c.statement.ensures (sym c.joined.ensures ∙ c.in_ok-parts.was) in
+    (subst (λ es. Reports (labels here of (elements_of es)) old mid (items_of c.in_ok-labels.labels)) c.deref.ensures.value c.in_ok-labels.ensures.reports)
+    c.statement.ensures (sym c.joined.ensures ∙ c.in_ok-parts.was) in
     record {
       typed = next branch_of with_branch (items_of c.loop-branch.typed) (items_of c.collect.new.list) c.branch-parts-in-loop-branch.result (option_map (both_views (λ v. v.items) typed_statement) c.in_ok-parts.parts) (branches here of (branches_of list)) item (branches here of rest) c.args.sink.now old new
           (subst (λ r. Completes branch_of with_branch (items_of c.loop-branch.typed) (branches here of (branches_of list)) (branches here of r) c.args.sink.now old) e c.loop-branch.invariant.typed)
@@ -308,13 +308,13 @@ case_head-returns t c =
     let new = c.distinct.new.sink in
     let of : c.type_in-of.result ≡ type_in e.typed = c.type_in-of.ensures ∙ ap type_in c.in_ok-selector.ensures.0 in
     let all : c.as_slice.result.now ≡ all_spots here (type_in e.typed) bs =
-        c.as_slice.ensures.value ∙ fact c.in_ok-selector.selector c.branches.result c.in_ok-head.head c.branches.ensures.notes (sym c.joined.ensures ∙ c.in_ok-head.was)
-        ∙ ap (λ xs. xs ++ all_spots here c.type_in-of.result bs) c.new-spots.ensures.items ∙ ap (λ of. all_spots here of bs) of in
+    c.as_slice.ensures.value ∙ fact c.in_ok-selector.selector c.branches.result c.in_ok-head.head c.branches.ensures.notes (sym c.joined.ensures ∙ c.in_ok-head.was)
+    ∙ ap (λ xs. xs ++ all_spots here c.type_in-of.result bs) c.new-spots.ensures.items ∙ ap (λ of. all_spots here of bs) of in
     subst (λ ss. IfOk c.distinct.result (λ r. Reports (followed (paired e (branches here (type_in e.typed) bs)) (λ head. distinct head ss)) old new (option_map head_of r))) all
     (distinct_viewed head_of c.in_ok-head.head c.as_slice.result.now (paired e (branches here (type_in e.typed) bs)) old far new c.distinct.result
     (joins typed_of branch_list e (branches here (type_in e.typed) bs) old mid far c.in_ok-selector.selector c.branches.result c.in_ok-head.head c.in_ok-selector.ensures
-      (subst (λ of. IfOk c.branches.result (λ y. Reports (branches here of bs) mid far (branches_in y))) of c.branches.ensures.reports)
-      (sym c.joined.ensures ∙ c.in_ok-head.was))
+    (subst (λ of. IfOk c.branches.result (λ y. Reports (branches here of bs) mid far (branches_in y))) of c.branches.ensures.reports)
+    (sym c.joined.ensures ∙ c.in_ok-head.was))
     c.distinct.ensures)
 
 pub statement-returns-in_ok-statements-in-TryOn : goal.statement-returns-in_ok-statements-in-TryOn
@@ -325,9 +325,10 @@ statement-returns-in_ok-statements-in-TryOn t c =
     let mid = c.statements-in-TryOn.new.sink in
     let new = c.leave_out_handlers.new.sink in
     let is : statement here (stmt_of c.args.s.now) ≡ followed body (λ ss. handlers_mean (handlers_of c.in-TryOn.handlers.items)) =
-        elim c.in-TryOn.is [
-          inl e ↦ ap (λ s. statement here (stmt_of s)) e ∙ ap (statement here) (try_on_says c.in-TryOn.body c.in-TryOn.handlers)
-        | inr e ↦ ap (λ s. statement here (stmt_of s)) e.1 ∙ ap (statement here) (try_on_else_says c.in-TryOn.body c.in-TryOn.handlers e.0) ] in
+    elim c.in-TryOn.is [
+      | inl e ↦ ap (λ s. statement here (stmt_of s)) e ∙ ap (statement here) (try_on_says c.in-TryOn.body c.in-TryOn.handlers)
+      | inr e ↦ ap (λ s. statement here (stmt_of s)) e.1 ∙ ap (statement here) (try_on_else_says c.in-TryOn.body c.in-TryOn.handlers e.0)
+    ] in
     subst (λ m. Reports m old new (option_map typed_statement c.leave_out_handlers.result)) (sym is)
     (then body (λ ss. handlers_mean (handlers_of c.in-TryOn.handlers.items)) old mid new (statements_in c.in_ok-statements-in-TryOn.field-0) (option_map typed_statement c.leave_out_handlers.result)
     (subst (λ ss. Reports (statements here (stmts_of ss)) old mid (statements_in c.in_ok-statements-in-TryOn.field-0)) c.deref-in-TryOn.ensures.value c.in_ok-statements-in-TryOn.ensures)

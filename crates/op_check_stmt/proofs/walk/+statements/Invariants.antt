@@ -16,5 +16,5 @@ invariant-statements-loop-s l =
 abbrev pub invariant-branches-loop-branch : goal.invariant-branches-loop-branch
 invariant-branches-loop-branch l = record {
   typed : Completes branch_of with_branch (items_of l.typed) (branches (here_of l.here.scope) l.of (branches_of l.list)) (branches (here_of l.here.scope) l.of (branches_of (drop l.branch-index l.list))) l.fn.sink l.sink;
-  noted : l.spots.items ++ all_spots (here_of l.here.scope) l.of (branches_of (drop l.branch-index l.list)) ≡ l.fn.spots.items ++ all_spots (here_of l.here.scope) l.of (branches_of l.list)
+  noted : l.spots.items ++ all_spots (here_of l.here.scope) l.of (branches_of (drop l.branch-index l.list)) ≡ l.fn.spots.items ++ all_spots (here_of l.here.scope) l.of (branches_of l.list);
 }
