@@ -211,7 +211,7 @@ enum Outcome {
 }
 
 /// In the body of a routine.
-fn outcome(alloc: Global, routine: u32, text: &str) -> Result<Outcome, NoMemory> {
+fn said(alloc: Global, routine: u32, text: &str) -> Result<Outcome, NoMemory> {
     let core = program(alloc)?;
     let visible = names(alloc)?;
     let around: [Around; 0] = [];
@@ -257,7 +257,7 @@ fn takes(rt: HostRuntime) -> Result<(), Fail> {
         "begin Include(m, 2); Exclude(m, i); m := [1, 3..s] end",
         "while f do System.Break",
     ] {
-        assert_eq!(rt; outcome(rt.alloc(), 0, text)?, Outcome::Typed, "{text}");
+        assert_eq!(rt; said(rt.alloc(), 0, text)?, Outcome::Typed, "{text}");
     }
     Ok(())
 }
@@ -324,14 +324,14 @@ fn refuses(rt: HostRuntime) -> Result<(), Fail> {
         ("begin x := 1; y := 2 end", 15, 7),
     ] {
         assert_eq!(rt;
-            outcome(rt.alloc(), 0, text)?,
+            said(rt.alloc(), 0, text)?,
             Outcome::Rule(rule, col),
             "{text}"
         );
     }
-    assert_eq!(rt; outcome(rt.alloc(), 1, "Exit(1)")?, Outcome::Rule(26, 1));
-    assert_eq!(rt; outcome(rt.alloc(), 1, "Twice := 1")?, Outcome::Rule(29, 1));
-    assert_eq!(rt; outcome(rt.alloc(), 1, "Bad := 1")?, Outcome::Nothing);
+    assert_eq!(rt; said(rt.alloc(), 1, "Exit(1)")?, Outcome::Rule(26, 1));
+    assert_eq!(rt; said(rt.alloc(), 1, "Twice := 1")?, Outcome::Rule(29, 1));
+    assert_eq!(rt; said(rt.alloc(), 1, "Bad := 1")?, Outcome::Nothing);
     Ok(())
 }
 
@@ -345,7 +345,7 @@ fn leaves_out(rt: HostRuntime) -> Result<(), Fail> {
         ("case 'ab' of 'a': Go end", 25, 6),
     ] {
         assert_eq!(rt;
-            outcome(rt.alloc(), 0, text)?,
+            said(rt.alloc(), 0, text)?,
             Outcome::Feature(feature, col),
             "{text}"
         );
