@@ -53,15 +53,24 @@ pub each_done : {A X : Type 0} (f : A → Here → Given (Unit {0})) (of : X →
 each_done f of xs k whole old mid h c =
     (ends whole (each f (map of (drop k xs)) (here_of mid)) old mid (Some tt) c (ap (λ ys. each f (map of ys) (here_of mid)) (drop_all k xs h))).1
 
--- the values of an enumeration
-pub values_more : (own : Name) (of : TypeId) (xs : List Name) (k : ℕ) (x : Name) (whole : Given (Unit {0})) (old mid new : Declarer) → k < length xs → x ≡ get_or xs k x → Completes whole (values own of k (drop k xs) (here_of mid)) old mid → Declares (declared_within own x (value_of of (pos k)) (here_of mid)) mid new → Completes whole (values own of (k + 1) (drop (k + 1) xs) (here_of new)) old new
-values_more own of xs k x whole old mid new h e c d =
-    one_more whole (declared_within own x (value_of of (pos k)) (here_of mid)) (λ t h. values own of (k + 1) (drop (k + 1) xs) h) old mid new (declared_within own x (value_of of (pos k)) (here_of mid)).typed
-    (subst (λ ys. Completes whole (values own of k ys (here_of mid)) old mid) (next_of xs k x h e) c) (refl, d)
+pub all_more : {A : Type 0} (f : A → Here → Given (Unit {0})) (xs : List A) (k : ℕ) (x : A) (whole : Given (Unit {0})) (old mid new : Declarer) → k < length xs → x ≡ get_or xs k x → Completes whole (each f (drop k xs) (here_of mid)) old mid → Declares (f x (here_of mid)) mid new → Completes whole (each f (drop (k + 1) xs) (here_of new)) old new
+all_more f xs k x whole old mid new h e c d =
+    one_more whole (f x (here_of mid)) (λ t h. each f (drop (k + 1) xs) h) old mid new (f x (here_of mid)).typed
+    (subst (λ ys. Completes whole (each f ys (here_of mid)) old mid) (next_of xs k x h e) c) (refl, d)
 
-pub values_done : (own : Name) (of : TypeId) (xs : List Name) (k : ℕ) (whole : Given (Unit {0})) (old mid : Declarer) → length xs ≤ k → Completes whole (values own of k (drop k xs) (here_of mid)) old mid → Declares whole old mid
-values_done own of xs k whole old mid h c =
-    (ends whole (values own of k (drop k xs) (here_of mid)) old mid (Some tt) c (ap (λ ys. values own of k ys (here_of mid)) (drop_all k xs h))).1
+pub all_done : {A : Type 0} (f : A → Here → Given (Unit {0})) (xs : List A) (k : ℕ) (whole : Given (Unit {0})) (old mid : Declarer) → length xs ≤ k → Completes whole (each f (drop k xs) (here_of mid)) old mid → Declares whole old mid
+all_done f xs k whole old mid h c =
+    (ends whole (each f (drop k xs) (here_of mid)) old mid (Some tt) c (ap (λ ys. each f ys (here_of mid)) (drop_all k xs h))).1
+
+-- the values of an enumeration
+pub values_more : (of : TypeId) (xs : List Name) (k : ℕ) (x : Name) (whole : Given (Unit {0})) (old mid new : Declarer) → k < length xs → x ≡ get_or xs k x → Completes whole (values of k (drop k xs) (here_of mid)) old mid → Declares (declared_within x (value_of of (pos k)) (here_of mid)) mid new → Completes whole (values of (k + 1) (drop (k + 1) xs) (here_of new)) old new
+values_more of xs k x whole old mid new h e c d =
+    one_more whole (declared_within x (value_of of (pos k)) (here_of mid)) (λ t h. values of (k + 1) (drop (k + 1) xs) h) old mid new (declared_within x (value_of of (pos k)) (here_of mid)).typed
+    (subst (λ ys. Completes whole (values of k ys (here_of mid)) old mid) (next_of xs k x h e) c) (refl, d)
+
+pub values_done : (of : TypeId) (xs : List Name) (k : ℕ) (whole : Given (Unit {0})) (old mid : Declarer) → length xs ≤ k → Completes whole (values of k (drop k xs) (here_of mid)) old mid → Declares whole old mid
+values_done of xs k whole old mid h c =
+    (ends whole (values of k (drop k xs) (here_of mid)) old mid (Some tt) c (ap (λ ys. values of k ys (here_of mid)) (drop_all k xs h))).1
 
 -- the fields of a record, of one type
 pub fields_more : (t : Option TypeId) (xs : List Name) (k : ℕ) (x : Name) (r s : FieldRows) (whole : Given FieldRows) (old mid new : Declarer) → k < length xs → x ≡ get_or xs k x → Completes whole (some_fields t (drop k xs) r (here_of mid)) old mid → Leaves (one_field t x r (here_of mid)) mid new (Some s) → Completes whole (some_fields t (drop (k + 1) xs) s (here_of new)) old new
@@ -74,18 +83,18 @@ fields_done t xs k r whole old mid h c =
     ends whole (some_fields t (drop k xs) r (here_of mid)) old mid (Some r) c (ap (λ ys. some_fields t ys r (here_of mid)) (drop_all k xs h))
 
 -- the lists of fields of a record
-pub lists_more : (own : Name) (xs : List Fields) (k : ℕ) (x : Fields) (r s : FieldRows) (whole : Given FieldRows) (old mid far new : Declarer) (t : Option TypeId) → k < length xs → x ≡ get_or xs k x → Completes whole (field_lists own (field_lists_of (drop k xs)) r (here_of mid)) old mid → Leaves (denoted own true (denoter_of x.denoter) (here_of mid)) mid far t → Leaves (some_fields t x.names r (here_of far)) far new (Some s) → Completes whole (field_lists own (field_lists_of (drop (k + 1) xs)) s (here_of new)) old new
+pub lists_more : (own : Option Name) (xs : List Fields) (k : ℕ) (x : Fields) (r s : FieldRows) (whole : Given FieldRows) (old mid far new : Declarer) (t : Option TypeId) → k < length xs → x ≡ get_or xs k x → Completes whole (field_lists own (field_lists_of (drop k xs)) r (here_of mid)) old mid → Leaves (denoted own true (denoter_of x.denoter) (here_of mid)) mid far t → Leaves (some_fields t x.names r (here_of far)) far new (Some s) → Completes whole (field_lists own (field_lists_of (drop (k + 1) xs)) s (here_of new)) old new
 lists_more own xs k x r s whole old mid far new t h e c a b =
     one_more whole (followed (denoted own true (denoter_of x.denoter) (here_of mid)) (λ t h. some_fields t x.names r h)) (by (λ r h. field_lists own (field_lists_of (drop (k + 1) xs)) r h)) old mid new (Some s)
     (subst (λ ys. Completes whole (field_lists own (field_lists_of ys) r (here_of mid)) old mid) (next_of xs k x h e) c)
     (joined (denoted own true (denoter_of x.denoter) (here_of mid)) (λ t h. some_fields t x.names r h) mid far new t (Some s) a b)
 
-pub lists_done : (own : Name) (xs : List Fields) (k : ℕ) (r : FieldRows) (whole : Given FieldRows) (old mid : Declarer) → length xs ≤ k → Completes whole (field_lists own (field_lists_of (drop k xs)) r (here_of mid)) old mid → Leaves whole old mid (Some r)
+pub lists_done : (own : Option Name) (xs : List Fields) (k : ℕ) (r : FieldRows) (whole : Given FieldRows) (old mid : Declarer) → length xs ≤ k → Completes whole (field_lists own (field_lists_of (drop k xs)) r (here_of mid)) old mid → Leaves whole old mid (Some r)
 lists_done own xs k r whole old mid h c =
     ends whole (field_lists own (field_lists_of (drop k xs)) r (here_of mid)) old mid (Some r) c (ap (λ ys. field_lists own (field_lists_of ys) r (here_of mid)) (drop_all k xs h))
 
 -- the indices of an array
-pub indices_more : (own : Name) (xs : List TypeDenoter) (k : ℕ) (x : TypeDenoter) (is js : List (Option TypeId)) (whole : Given (List (Option TypeId))) (old mid far new : Declarer) (t u : Option TypeId) → k < length xs → x ≡ get_or xs k x → js ≡ is ++ u ∷ [] → Completes whole (indices own (reverse is) (denoters_of (drop k xs)) (here_of mid)) old mid → Leaves (denoted own false (denoter_of x) (here_of mid)) mid far t → Leaves (checked (here_of far) (with_part (index_over far.core (start_of_denoter (denoter_of x))) t)) far new u → Completes whole (indices own (reverse js) (denoters_of (drop (k + 1) xs)) (here_of new)) old new
+pub indices_more : (own : Option Name) (xs : List TypeDenoter) (k : ℕ) (x : TypeDenoter) (is js : List (Option TypeId)) (whole : Given (List (Option TypeId))) (old mid far new : Declarer) (t u : Option TypeId) → k < length xs → x ≡ get_or xs k x → js ≡ is ++ u ∷ [] → Completes whole (indices own (reverse is) (denoters_of (drop k xs)) (here_of mid)) old mid → Leaves (denoted own false (denoter_of x) (here_of mid)) mid far t → Leaves (checked (here_of far) (with_part (index_over far.core (start_of_denoter (denoter_of x))) t)) far new u → Completes whole (indices own (reverse js) (denoters_of (drop (k + 1) xs)) (here_of new)) old new
 indices_more own xs k x is js whole old mid far new t u h e j c a b =
     let index : Option TypeId → Here → Given TypeId = λ t h. checked h (with_part (index_over h.core (start_of_denoter (denoter_of x))) t) in
     subst (λ ys. Completes whole (indices own ys (denoters_of (drop (k + 1) xs)) (here_of new)) old new) (sym (ap reverse j ∙ reverse-append is (u ∷ [])))
@@ -93,7 +102,7 @@ indices_more own xs k x is js whole old mid far new t u h e j c a b =
     (subst (λ ys. Completes whole (indices own (reverse is) (denoters_of ys) (here_of mid)) old mid) (next_of xs k x h e) c)
     (joined (denoted own false (denoter_of x) (here_of mid)) index mid far new t u a b))
 
-pub indices_done : (own : Name) (xs : List TypeDenoter) (k : ℕ) (is : List (Option TypeId)) (whole : Given (List (Option TypeId))) (old mid : Declarer) → length xs ≤ k → Completes whole (indices own is (denoters_of (drop k xs)) (here_of mid)) old mid → Leaves whole old mid (Some is)
+pub indices_done : (own : Option Name) (xs : List TypeDenoter) (k : ℕ) (is : List (Option TypeId)) (whole : Given (List (Option TypeId))) (old mid : Declarer) → length xs ≤ k → Completes whole (indices own is (denoters_of (drop k xs)) (here_of mid)) old mid → Leaves whole old mid (Some is)
 indices_done own xs k is whole old mid h c =
     ends whole (indices own is (denoters_of (drop k xs)) (here_of mid)) old mid (Some is) c (ap (λ ys. indices own is (denoters_of ys) (here_of mid)) (drop_all k xs h))
 
@@ -120,14 +129,14 @@ arrays_done place is (j ∷ js) element of old mid n h c = absurd (omega (arith,
 
 -- ---- types of several parts
 
-pub array_denoted : (own : Name) (inside : Bool) (d e : Denoter) (p : Position) (packed : Bool) (ds : Denoters) (is : List (Option TypeId)) (t : Option TypeId) (old mid far new : Declarer) (r : Result (Option TypeId) NoMemory) → d ≡ array p packed ds e → Leaves (indices own [] ds (here_of old)) old mid (Some is) → Leaves (denoted own true e (here_of mid)) mid far t → IfOk r (Leaves (array_of p.place is t (here_of far)) far new) → IfOk r (Leaves (denoted own inside d (here_of old)) old new)
+pub array_denoted : (own : Option Name) (inside : Bool) (d e : Denoter) (p : Position) (packed : Bool) (ds : Denoters) (is : List (Option TypeId)) (t : Option TypeId) (old mid far new : Declarer) (r : Result (Option TypeId) NoMemory) → d ≡ array p packed ds e → Leaves (indices own [] ds (here_of old)) old mid (Some is) → Leaves (denoted own true e (here_of mid)) mid far t → IfOk r (Leaves (array_of p.place is t (here_of far)) far new) → IfOk r (Leaves (denoted own inside d (here_of old)) old new)
 array_denoted own inside d e p packed ds is t old mid far new (Err x) q a b c = c
 array_denoted own inside d e p packed ds is t old mid far new (Ok u) q a b c =
     subst (λ d. Leaves (denoted own inside d (here_of old)) old new u) (sym q)
     (joined (indices own [] ds (here_of old)) (by (λ is h. followed (denoted own true e h) (λ t h. array_of p.place is t h))) old mid new (Some is) u a
     (joined (denoted own true e (here_of mid)) (λ t h. array_of p.place is t h) mid far new t u b c))
 
-pub record_denoted : (own : Name) (inside : Bool) (d : Denoter) (p : Position) (packed : Bool) (lists : FieldLists) (empty rows : FieldRows) (old mid new : Declarer) (r : Result (Option TypeId) NoMemory) → d ≡ record_ p packed lists → empty ≡ no_rows → Leaves (field_lists own lists empty (here_of old)) old mid (Some rows) → IfOk r (Leaves (record_of p.place rows (here_of mid)) mid new) → IfOk r (Leaves (denoted own inside d (here_of old)) old new)
+pub record_denoted : (own : Option Name) (inside : Bool) (d : Denoter) (p : Position) (packed : Bool) (lists : FieldLists) (empty rows : FieldRows) (old mid new : Declarer) (r : Result (Option TypeId) NoMemory) → d ≡ record_ p packed lists → empty ≡ no_rows → Leaves (field_lists own lists empty (here_of old)) old mid (Some rows) → IfOk r (Leaves (record_of p.place rows (here_of mid)) mid new) → IfOk r (Leaves (denoted own inside d (here_of old)) old new)
 record_denoted own inside d p packed lists empty rows old mid new (Err x) q n a c = c
 record_denoted own inside d p packed lists empty rows old mid new (Ok u) q n a c =
     subst (λ d. Leaves (denoted own inside d (here_of old)) old new u) (sym q)

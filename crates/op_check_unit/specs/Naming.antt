@@ -1,5 +1,5 @@
 -- Names: what they stand for, and how they are declared (Free Pascal Reference Guide, "Scope").
-use Rattle.std.specs.Prelude.{ℕ, ◌+◌, ◌-◌, Bool, not, ◌||◌, nat_lt, List, [], ◌∷◌, ◌++◌, length, drop, is_some, Option, Some, None, if◌then◌else◌}
+use Rattle.std.specs.Prelude.{ℕ, ◌+◌, ◌-◌, Bool, false, not, ◌||◌, nat_lt, List, [], ◌∷◌, ◌++◌, length, drop, is_some, Option, Some, None, if◌then◌else◌}
 use Rattle.std.specs.Str.{str_eq_ignore_ascii_case}
 use Rattle.op_base.specs.declared.place.Place.{Place}
 use Rattle.op_check_unit.specs.declared.naming.Told.{Told}
@@ -40,23 +40,28 @@ type_of_unit names u n Unit' = type_meant n.position.place (told_in names (joine
 type_of_unit names u n (Known of) = refused 16 u.position.place
 type_of_unit names u n t = type_meant u.position.place t
 
-abbrev pub is_same_name : Name → Name → Bool
-is_same_name a b = str_eq_ignore_ascii_case a.text b.text
+abbrev pub is_name : Option Name → Name → Bool
+is_name None n = false
+is_name (Some own) n = str_eq_ignore_ascii_case own.text n.text
+
+abbrev pub place_of : Place → Option Name → Place
+place_of place None = place
+place_of place (Some own) = own.position.place
 
 -- A type that is named in its own declaration: within a record or an array it would contain itself, elsewhere it is not known yet.
-abbrev pub own_type : Name → Bool → Place → Checked TypeId
-own_type own inside place = if inside then refused 38 own.position.place else refused 15 place
+abbrev pub own_type : Option Name → Bool → Place → Checked TypeId
+own_type own inside place = if inside then refused 38 (place_of place own) else refused 15 place
 
-abbrev pub type_alone : List Named → Name → Bool → Name → Checked TypeId
+abbrev pub type_alone : List Named → Option Name → Bool → Name → Checked TypeId
 type_alone names own inside n =
-    if is_same_name own n then own_type own inside n.position.place else type_meant n.position.place (told_in names (lower n.text))
+    if is_name own n then own_type own inside n.position.place else type_meant n.position.place (told_in names (lower n.text))
 
-abbrev named_by : List Named → Name → Bool → Name → Option Name → Checked TypeId
+abbrev named_by : List Named → Option Name → Bool → Name → Option Name → Checked TypeId
 named_by names own inside n None = type_alone names own inside n
 named_by names own inside n (Some u) = type_of_unit names u n (told_in names (lower u.text))
 
--- a name in the declaration of another one
-abbrev pub type_named : List Named → Name → Bool → QualifiedName → Checked TypeId
+-- a name, maybe in the declaration of a type
+abbrev pub type_named : List Named → Option Name → Bool → QualifiedName → Checked TypeId
 type_named names own inside q = named_by names own inside q.name q.unit
 
 -- ---- names that are declared
@@ -84,6 +89,21 @@ entered_name taken more n m h =
 abbrev pub declared : Name → Meaning → Here → Given (Unit {0})
 declared n m h = entered_name (is_declared h n) 0 n m h
 
--- a name within the declaration of another one, which stands in front
-abbrev pub declared_within : Name → Name → Meaning → Here → Given (Unit {0})
-declared_within own n m h = entered_name (is_same_name own n || is_declared h n) 1 n m h
+-- the name is one of those of the declaration that is under way
+abbrev pub is_ahead : Here → Name → Bool
+is_ahead h n = is_some (meaning_of h.ahead (lower n.text))
+
+-- a name within the declaration of others
+abbrev pub declared_within : Name → Meaning → Here → Given (Unit {0})
+declared_within n m h = entered_name (is_ahead h n || is_declared h n) (length h.ahead) n m h
+
+-- a name of a declaration that begins, and none of one that has ended
+abbrev pub with_ahead : Name → Here → Here
+with_ahead n h = record h { ahead = h.ahead ++ record { name = lower n.text; meaning = meaning.Spoiled } ∷ [] }
+
+abbrev pub all_ahead : List Name → Here → Here
+all_ahead [] h = h
+all_ahead (n ∷ ns) h = all_ahead ns (with_ahead n h)
+
+abbrev pub ended : Here → Here
+ended h = record h { ahead = [] }

@@ -6,11 +6,13 @@ use Rattle.op_core.specs.Faults.{Checked, Faults, none, one, both, broken, kept}
 use Rattle.op_core.specs.declared.program.Core.{Core}
 use Rattle.op_types.specs.Names.{Named}
 
--- the typed program so far, the visible names, and how many of these were declared before this scope
+-- The typed program so far; the visible names, and how many of these were declared before this scope; the names of the declaration
+-- that is under way, which stand in front and are declared at its end.
 pub record Here : Type 0 where
   pub core : Core
   pub names : List Named
   pub first : ℕ
+  pub ahead : List Named
 
 -- without a type where anything in the part breaks a rule
 pub record Given (A : Type 0) : Type 0 where
@@ -54,7 +56,7 @@ each f (a ∷ as_) h = followed (f a h) (λ t h. each f as_ h)
 -- ---- answers
 
 abbrev pub here_of : Declarer → Here
-here_of d = record { core = d.core; names = d.visible; first = d.first }
+here_of d = record { core = d.core; names = d.visible; first = d.first; ahead = d.ahead }
 
 -- what is declared, and the first fault
 abbrev pub Declares : {A : Type 0} → Given A → Declarer → Declarer → Type 0

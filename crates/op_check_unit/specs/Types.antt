@@ -115,13 +115,13 @@ abbrev pub value_of : TypeId → ℤ → Meaning
 value_of of n = ConstantNamed (made (Ordinal n) of (nodes 1))
 
 -- the values of an enumeration, numbered from n on
-abbrev pub values : Name → TypeId → ℕ → List Name → Here → Given (Unit {0})
-values own of n [] h = gives tt h
-values own of n (x ∷ xs) h = followed (declared_within own x (value_of of (pos n)) h) (λ t h. values own of (n + 1) xs h)
+abbrev pub values : TypeId → ℕ → List Name → Here → Given (Unit {0})
+values of n [] h = gives tt h
+values of n (x ∷ xs) h = followed (declared_within x (value_of of (pos n)) h) (λ t h. values of (n + 1) xs h)
 
 -- An enumeration. Its names are in the scope around it, which has no room for more of them than an enumeration may have values.
-abbrev pub enumerated : Name → List Name → Here → Given TypeId
-enumerated own ns h = followed (row (Enumeration (length ns)) h) (by (λ of h. followed (values own of 0 ns h) (λ t h. gives of h)))
+abbrev pub enumerated : List Name → Here → Given TypeId
+enumerated ns h = followed (row (Enumeration (length ns)) h) (by (λ of h. followed (values of 0 ns h) (λ t h. gives of h)))
 
 -- ---- sets and arrays
 

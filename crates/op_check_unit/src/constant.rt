@@ -25,7 +25,9 @@ impl Declarer {
     fn type_declared(&mut self, declaration: &TypeDeclaration) -> Result<(), NoMemory>
         ensures { IfOk result (λ _. Declares (type_declared (type_of declaration.now) (here_of self.old)) self.old self.new) }
     {
+        self.stand_ahead(&declaration.name)?;
         let of = self.defined(&declaration.name, &declaration.definition)?;
+        self.end();
         self.declare(&declaration.name, type_meaning(of))
     }
 
@@ -37,7 +39,7 @@ impl Declarer {
         ensures { IfOk result (Leaves (defined own.now (definition_of definition.now) (here_of self.old)) self.old self.new) }
     {
         match definition {
-            TypeDefinition::Denoter(denoter) => self.denoted(own, false, denoter),
+            TypeDefinition::Denoter(denoter) => self.denoted(Some(own), false, denoter),
             _ => Ok(None),
         }
     }

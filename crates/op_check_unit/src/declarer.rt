@@ -1,6 +1,7 @@
 //! What is declared so far.
 ghost use Rattle.std.specs.Prelude.{◌≡◌, ◌+◌, ◌-◌, IfOk, length};
-ghost use Rattle.op_check_unit.specs.Naming.{declared, declared_within, entered_name, has_room, is_declared, is_same_name};
+ghost use Rattle.op_check_unit.specs.Naming.{all_ahead, declared, declared_within, ended, entered_name, has_room, is_declared, is_name, with_ahead};
+ghost use Rattle.std.specs.Option.{option_copied};
 ghost use Rattle.op_check_unit.specs.Steps.{Declares, here_of};
 ghost use Rattle.op_core.specs.Faults.{broken, earlier};
 
@@ -22,6 +23,8 @@ pub struct Declarer {
     pub visible: Visible,
     /// How many of the visible names were declared before the innermost scope.
     pub first: usize,
+    /// The names of the declaration that is under way, which stand in front and are declared at its end.
+    pub ahead: Visible,
     /// The first rule that was broken.
     pub sink: FirstRefusal,
 }
@@ -44,17 +47,41 @@ impl Declarer {
         self.enter(name, meaning, taken, 0)
     }
 
-    /// Declares a name within the declaration of another one, which stands in front of it and is declared later.
-    pub fn declare_within(
-        &mut self,
-        own: &Name,
-        name: &Name,
-        meaning: Meaning,
-    ) -> Result<(), NoMemory>
-        ensures { IfOk result (λ _. Declares (declared_within own.now name.now meaning (here_of self.old)) self.old self.new) }
+    /// Declares a name within the declaration of others, which stand in front of it and are declared later.
+    pub fn declare_within(&mut self, name: &Name, meaning: Meaning) -> Result<(), NoMemory>
+        ensures { IfOk result (λ _. Declares (declared_within name.now meaning (here_of self.old)) self.old self.new) }
     {
-        let taken = is_same_name(own, name) || self.is_declared(name)?;
-        self.enter(name, meaning, taken, 1)
+        let ahead = self.ahead.look_up(name.text.as_slice())?.is_some();
+        let taken = ahead || self.is_declared(name)?;
+        let more = self.ahead.len();
+        self.enter(name, meaning, taken, more)
+    }
+
+    /// Begins a declaration of a name.
+    pub fn stand_ahead(&mut self, name: &Name) -> Result<(), NoMemory>
+        ensures here { IfOk result (λ _. here_of self.new ≡ with_ahead name.now (here_of self.old)) }
+        ensures kept { self.new.sink ≡ self.old.sink }
+    {
+        self.ahead.enter(name.text.as_slice(), Meaning::Spoiled)
+    }
+
+    /// Begins a declaration of these names.
+    pub fn all_ahead(&mut self, names: &[Name]) -> Result<(), NoMemory>
+        ensures here { IfOk result (λ _. here_of self.new ≡ all_ahead names.now (here_of self.old)) }
+        ensures kept { self.new.sink ≡ self.old.sink }
+    {
+        for name in names {
+            self.stand_ahead(name)?;
+        }
+        Ok(())
+    }
+
+    /// Ends a declaration, up to its names.
+    pub fn end(&mut self)
+        ensures here { here_of self.new ≡ ended (here_of self.old) }
+        ensures kept { self.new.sink ≡ self.old.sink }
+    {
+        self.ahead.leave(0);
     }
 
     fn is_declared(&self, name: &Name) -> Result<bool, NoMemory>
@@ -94,8 +121,15 @@ impl Declarer {
     }
 }
 
-pub fn is_same_name(a: &Name, b: &Name) -> bool
-    ensures { result ≡ is_same_name a.now b.now }
+/// The name is this one.
+pub fn is_name(own: Option<&Name>, name: &Name) -> bool
+    ensures { result ≡ is_name (option_copied own.entry) name.now }
 {
-    a.text.as_slice().eq_ignore_ascii_case(b.text.as_slice())
+    match own {
+        None => false,
+        Some(own) => own
+            .text
+            .as_slice()
+            .eq_ignore_ascii_case(name.text.as_slice()),
+    }
 }

@@ -1,5 +1,6 @@
 //! Types, as they are written (Free Pascal Reference Guide, "Types").
 ghost use Rattle.std.specs.Prelude.{◌≡◌, [], Some, IfOk, reverse};
+ghost use Rattle.std.specs.Option.{option_copied};
 ghost use Rattle.op_check_unit.specs.Denoting.{denoted, field_lists, indices};
 ghost use Rattle.op_check_unit.specs.Steps.{Leaves, here_of};
 ghost use Rattle.op_check_unit.specs.Types.{start_of_denoter};
@@ -14,16 +15,16 @@ use op_tree::{Fields, Name, TypeDenoter};
 use op_types::start_of;
 
 impl Declarer {
-    /// The type that is written in the declaration of a name; `inside` tells whether within a record or an array of it. None where
-    /// a rule is broken in it.
+    /// The type that is written, maybe in the declaration of a type under the name `own`, and there within a record or an array
+    /// where `inside` tells so. None where a rule is broken in it.
     #[cycle(denoting)]
     pub fn denoted(
         &mut self,
-        own: &Name,
+        own: Option<&Name>,
         inside: bool,
         denoter: &TypeDenoter,
     ) -> Result<Option<TypeId>, NoMemory>
-        ensures { IfOk result (Leaves (denoted own.now inside (denoter_of denoter.now) (here_of self.old)) self.old self.new) }
+        ensures { IfOk result (Leaves (denoted (option_copied own.entry) inside (denoter_of denoter.now) (here_of self.old)) self.old self.new) }
     {
         match denoter {
             TypeDenoter::Named(name) => self.type_named(own, inside, name),
@@ -32,7 +33,7 @@ impl Declarer {
                 let of = self.subrange(first, last)?;
                 self.row_of(of)
             }
-            TypeDenoter::Enumeration { values, .. } => self.enumerated(own, values.as_slice()),
+            TypeDenoter::Enumeration { values, .. } => self.enumerated(values.as_slice()),
             TypeDenoter::Set { base, .. } => {
                 let of = self.denoted(own, false, base)?;
                 let of = self.set_over(start_of_denoter(base), of);
@@ -62,8 +63,12 @@ impl Declarer {
 
     /// The types of the indices of an array: rule 23 where one is not ordinal.
     #[cycle(denoting)]
-    fn indices(&mut self, own: &Name, list: &[TypeDenoter]) -> Result<Vec<Option<TypeId>>, NoMemory>
-        ensures { IfOk result (λ v. Leaves (indices own.now [] (denoters_of list.now) (here_of self.old)) self.old self.new (Some (reverse v.items))) }
+    fn indices(
+        &mut self,
+        own: Option<&Name>,
+        list: &[TypeDenoter],
+    ) -> Result<Vec<Option<TypeId>>, NoMemory>
+        ensures { IfOk result (λ v. Leaves (indices (option_copied own.entry) [] (denoters_of list.now) (here_of self.old)) self.old self.new (Some (reverse v.items))) }
     {
         let mut types = Vec::new(self.alloc);
         for denoter in list {
@@ -78,11 +83,11 @@ impl Declarer {
     #[cycle(denoting)]
     fn field_lists(
         &mut self,
-        own: &Name,
+        own: Option<&Name>,
         lists: &[Fields],
         rows: &mut FieldRows,
     ) -> Result<(), NoMemory>
-        ensures { IfOk result (λ _. Leaves (field_lists own.now (field_lists_of lists.now) rows.old (here_of self.old)) self.old self.new (Some rows.new)) }
+        ensures { IfOk result (λ _. Leaves (field_lists (option_copied own.entry) (field_lists_of lists.now) rows.old (here_of self.old)) self.old self.new (Some rows.new)) }
     {
         for list in lists {
             let of = self.denoted(own, true, &list.denoter)?;

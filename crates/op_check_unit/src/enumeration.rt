@@ -10,27 +10,27 @@ use op_tree::Name;
 use op_types::{Constant, Meaning, Weight};
 
 impl Declarer {
-    /// An enumeration with these values, in the declaration of a name.
-    pub fn enumerated(&mut self, own: &Name, values: &[Name]) -> Result<Option<TypeId>, NoMemory>
-        ensures { IfOk result (Leaves (enumerated own.now values.now (here_of self.old)) self.old self.new) }
+    /// An enumeration with these values.
+    pub fn enumerated(&mut self, values: &[Name]) -> Result<Option<TypeId>, NoMemory>
+        ensures { IfOk result (Leaves (enumerated values.now (here_of self.old)) self.old self.new) }
     {
         let Ok(count) = u32::try_from(values.len()) else {
             return Err(NoMemory);
         };
         let of = self.row(CoreType::Enumeration { values: count })?;
-        self.values(own, of, values)?;
+        self.values(of, values)?;
         Ok(Some(of))
     }
 
     /// Declares the values of an enumeration.
-    fn values(&mut self, own: &Name, of: TypeId, names: &[Name]) -> Result<(), NoMemory>
-        ensures { IfOk result (λ _. Declares (values own.now of 0 names.now (here_of self.old)) self.old self.new) }
+    fn values(&mut self, of: TypeId, names: &[Name]) -> Result<(), NoMemory>
+        ensures { IfOk result (λ _. Declares (values of 0 names.now (here_of self.old)) self.old self.new) }
     {
         for (k, name) in names.iter().enumerate() {
             let Ok(number) = i32::try_from(k) else {
                 return Err(NoMemory);
             };
-            self.declare_within(own, name, value_of(of, number))?;
+            self.declare_within(name, value_of(of, number))?;
         }
         Ok(())
     }

