@@ -16,6 +16,3 @@ mod table;
 mod variable;
 
 pub use declarer::Declarer;
-
-#[cfg(test)]
-mod tests;
