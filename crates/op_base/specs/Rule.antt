@@ -10,7 +10,6 @@ text_beside number (row ∷ rows) = if nat_eq number row.0 then Some row.1 else 
 -- what the profile leaves out, each under the number of its feature
 abbrev feature_texts : List (ℕ × List ℕ)
 feature_texts =
-    (0, codes "not in this profile: not built yet") ∷
     (1, codes "not in this profile: floating point or /") ∷
     (2, codes "not in this profile: other integer type") ∷
     (3, codes "not in this profile: short string") ∷

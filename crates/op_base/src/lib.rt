@@ -20,7 +20,7 @@ pub use fault_plan::FaultPlan;
 pub use files::{FileAnswer, Files, MemFiles, NamedFile, StdFiles};
 pub use memory_error::NoMemory;
 pub use place::{Place, Span};
-pub use rule::{FILE_MISSING, NOT_BUILT_YET, Refusal, Rule, rule_text};
+pub use rule::{FILE_MISSING, Refusal, Rule, rule_text};
 pub use sequence::Sequence;
 pub use sink::{MemSink, Put, Sink, StdSink};
 pub use source::{Got, MemSource, Source, StdSource};

@@ -24,23 +24,24 @@ fn computes_in_32_bits(rt: HostRuntime) {
 }
 
 #[test]
-#[tactic(auto, unfolding(crate::specs::Rule::text_of_rule, crate::specs::Rule::text_of_feature))]
 fn names_the_rules(rt: HostRuntime) {
-    let last = Rule {
-        number: 72,
-        feature: 0,
-    };
-    let exception = Rule {
-        number: 13,
-        feature: 44,
-    };
-    assert_eq!(rt; rule_text(FILE_MISSING), "file missing");
-    assert_eq!(rt;
-        rule_text(NOT_BUILT_YET),
-        "not in this profile: not built yet"
-    );
-    assert_eq!(rt; rule_text(last), "globals too large");
-    assert_eq!(rt; rule_text(exception), "not in this profile: exception");
+    for (number, feature, text) in [
+        (10, 0, "file missing"),
+        (72, 0, "globals too large"),
+        (13, 44, "not in this profile: exception"),
+    ] {
+        assert_eq!(rt; rule_text(Rule { number, feature }), Some(text));
+    }
+    for number in 0..=255 {
+        for feature in [0, 1, 36, 37, 38, 44, 45, 255] {
+            let is_rule = match number {
+                13 => feature != 0 && feature != 37 && feature < 45,
+                _ => number != 0 && number <= 72,
+            };
+            let text = rule_text(Rule { number, feature });
+            assert!(rt; text.is_some() == is_rule, "{number} {feature}");
+        }
+    }
 }
 
 fn takes(rt: &impl Abort, source: &mut impl Source, want: &[Got], bytes: &[u8]) {

@@ -1,5 +1,5 @@
 -- The answer of the whole call.
-use Rattle.std.proofs.Common.{◌≡◌, Option, None, Some, Result, Ok, Err, refl, sym, ap, subst}
+use Rattle.std.proofs.Common.{◌≡◌, Option, None, Some, Result, Err, sym, subst}
 use Rattle.std.specs.Option.{option_map}
 use Rattle.op_base.specs.declared.rule.Refusal.{Refusal}
 use Rattle.op_core.specs.Expression.{expr_of}

@@ -1,5 +1,5 @@
 -- Lists of arguments.
-use Rattle.std.proofs.Common.{◌≡◌, ℕ, suc, Bool, ◌&&◌, List, [], ◌∷◌, ◌++◌, length, refl, ap, sym, ◌∙◌}
+use Rattle.std.proofs.Common.{◌≡◌, suc, ◌&&◌, List, [], ◌∷◌, ◌++◌, length, refl, ap}
 use Rattle.std.specs.List.{list_all}
 use Rattle.op_core.specs.Expression.{arguments, argument_of as given_said}
 use Rattle.op_core.specs.Nodes as core

@@ -1,7 +1,7 @@
 -- Elements of sets, one by one.
 use Rattle.std.proofs.Common.{◌≡◌, Bool, ◌&&◌, List, [], ◌∷◌, ◌++◌, map, refl, ap, sym, ◌∙◌}
 use Rattle.std.specs.List.{list_all}
-use Rattle.op_core.specs.Expression.{Element, Elements, elements, element_of}
+use Rattle.op_core.specs.Expression.{Element, elements, element_of}
 use Rattle.op_core.specs.Nodes.{elements_of}
 use Rattle.op_core.specs.declared.expression.CoreElement.{CoreElement}
 use Rattle.op_check_expr.specs.Constructors.{elements_from}

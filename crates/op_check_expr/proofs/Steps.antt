@@ -1,7 +1,7 @@
 -- The types along the steps of a typed tree, and whether they lead to a place.
 use Rattle.std.proofs.Common.{◌≡◌, ℕ, suc, ◌<◌, ◌+◌, Bool, List, [], ◌∷◌, ◌++◌, length, drop, drop-cons, add-one, get_or, refl, sym, ap, ◌∙◌, arith, Option}
 use Rattle.op_core.proofs.Nodes.{list_nodes}
-use Rattle.op_core.specs.Expression.{Expression as Tree, expr_of, expression, root_of, action_of, steps, behind, then as with_step}
+use Rattle.op_core.specs.Expression.{Expression as Tree, expr_of, expression, root_of, action_of, steps}
 use Rattle.op_core.specs.Nodes.{steps_of}
 use Rattle.op_core.specs.Sizes.{type_at}
 use Rattle.op_core.specs.Typing as typing

@@ -1,5 +1,5 @@
 -- Phrases of expressions, seen from their parts.
-use Rattle.std.proofs.Common.{◌≡◌, ◌<◌, List, [], ◌∷◌, ◌++◌, ℕ, length, arith, Option, Some, None, refl, sym, ap, ◌∙◌}
+use Rattle.std.proofs.Common.{◌≡◌, ◌<◌, List, [], ◌∷◌, ◌++◌, ℕ, length, arith, Option, Some, None, refl, ap, ◌∙◌}
 use Rattle.std.specs.Option.{option_map}
 use Rattle.op_core.specs.Faults.{Checked}
 use Rattle.op_core.specs.declared.first_refusal.FirstRefusal.{FirstRefusal}

@@ -3,7 +3,7 @@ use Rattle.std.specs.Prelude.{ℕ, suc, nat_eq, Bool, true, false, ◌&&◌, ◌
 use Rattle.std.specs.Option.{option_map}
 use Rattle.std.specs.declared.alloc.Global.{Global}
 use Rattle.op_base.specs.declared.place.Place.{Place}
-use Rattle.op_core.specs.Expression.{Expression as Tree, expression, Argument, Arguments, no_arguments, arguments, value as value_argument, place as place_argument, call as call_root, no_steps}
+use Rattle.op_core.specs.Expression.{expression, Argument, Arguments, no_arguments, arguments, value as value_argument, place as place_argument, call as call_root, no_steps}
 use Rattle.op_core.specs.Faults.{Checked, fine, untyped}
 use Rattle.op_core.specs.Nodes.{arguments_of}
 use Rattle.op_core.specs.Rows.{rows}

@@ -1,20 +1,17 @@
 -- What expressions mean: a value, or the rules that they break (Free Pascal Reference Guide, "Expressions").
-use Rattle.std.specs.Prelude.{◌≡◌, ℕ, ℤ, pos, neg_ℤ, Bool, true, false, List, [], ◌∷◌, ◌++◌, Option, Some, None, Result, Ok, Err, slice_get}
+use Rattle.std.specs.Prelude.{ℕ, pos, neg_ℤ, Bool, true, false, List, [], ◌∷◌, ◌++◌, Option, Some, None, slice_get}
 use Rattle.std.specs.Option.{option_map}
 use Rattle.op_base.specs.declared.place.Place.{Place}
-use Rattle.op_core.specs.Expression.{Expression as Tree, Arguments as GivenArguments, Argument as GivenArgument, no_arguments as none_given, index as index_step, then as with_step, expression, no_steps, constant as constant_root}
-use Rattle.op_core.specs.Faults.{Checked, FirstIs, after, both, by_entry, fine, refused, untyped, with_part}
+use Rattle.op_core.specs.Expression.{Expression as Tree, Arguments as GivenArguments, Argument as GivenArgument, no_arguments as none_given, index as index_step, then as with_step}
+use Rattle.op_core.specs.Faults.{Checked, by_entry, fine, refused, untyped, with_part}
 use Rattle.op_core.specs.Sizes.{type_at}
 use Rattle.op_core.specs.declared.constant.Const.TheVariants.{Text, Nil}
-use Rattle.op_core.specs.declared.error.CheckError.{CheckError}
-use Rattle.op_core.specs.declared.error.CheckError.TheVariants.{Refused, NoMemory}
 use Rattle.op_core.specs.declared.ids.TypeId.{TypeId}
 use Rattle.op_core.specs.declared.program.Core.{Core}
 use Rattle.op_core.specs.declared.routine.Parameter.{Parameter}
 use Rattle.op_core.specs.declared.types.CoreType.{CoreType}
 use Rattle.op_core.specs.declared.types.CoreType.TheVariants as type
 use Rattle.op_tree.specs.Expression.{Expression, chain, prefixed, number, nil, set, literal, designated, inherited, Operations, no_operations, operation, Elements, no_elements, elements, Element, one, range, Designator, designator, Root, named, string, bracketed, Selectors, no_selectors, selectors, Selector, member, index, call, Expressions, no_expressions, expressions, Arguments, no_arguments, arguments, Argument, value, padded, rounded}
-use Rattle.op_tree.specs.declared.operator.PrefixOperator.{PrefixOperator}
 use Rattle.op_tree.specs.declared.position.Name.{Name}
 use Rattle.op_tree.specs.declared.position.Position.{Position}
 use Rattle.op_check_expr.specs.Calling.{call_tree, first_of, given_behind, others_of, parameters_of, passed, plan_of, type_wanted}
@@ -23,13 +20,13 @@ use Rattle.op_check_expr.specs.Constructors as member
 use Rattle.op_check_expr.specs.Naming as naming
 use Rattle.op_check_expr.specs.Naming.{Denoted, Meant, denoted, field_of, valued, variable_tree}
 use Rattle.op_check_expr.specs.Operating.{operation_of, prefix_of, used}
-use Rattle.op_check_expr.specs.Places.{target_value, variable_value}
-use Rattle.op_check_expr.specs.Values.{Value, constant, computed, as_type, in_brackets, stored, tree_of, type_of}
+use Rattle.op_check_expr.specs.Places.{variable_value}
+use Rattle.op_check_expr.specs.Values.{Value, constant, computed, in_brackets, stored, tree_of, type_of}
 use Rattle.op_check_expr.specs.Words.{changed, followed, left_out, standing}
 use Rattle.op_check_expr.specs.declared.call.Plan.{Plan}
-use Rattle.op_check_expr.specs.declared.call.Plan.TheVariants.{Bound, Sole, Routine as RoutinePlan, Wrong, Silent}
+use Rattle.op_check_expr.specs.declared.call.Plan.TheVariants.{Bound, Sole, Routine as RoutinePlan, Wrong}
 use Rattle.op_check_expr.specs.Scopes.{Here}
-use Rattle.op_types.specs.Constants.{bound_means, joined_name, literal_means, made, nodes, number_behind, numeral, start_of}
+use Rattle.op_types.specs.Constants.{bound_means, joined_name, literal_means, made, nodes, number_behind, numeral}
 use Rattle.op_types.specs.Names.{lower, meaning_of}
 use Rattle.op_types.specs.Operators as table
 use Rattle.op_types.specs.declared.constant.Applied.{Applied}

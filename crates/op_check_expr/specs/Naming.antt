@@ -1,10 +1,9 @@
 -- What names stand for in an expression (Free Pascal Reference Guide, "Identifiers" and "Scope").
-use Rattle.std.specs.Prelude.{ℕ, Bool, ◌+◌, nat_eq, List, [], ◌∷◌, Option, Some, None, slice_get, position, if◌then◌else◌}
+use Rattle.std.specs.Prelude.{ℕ, Bool, ◌+◌, nat_eq, List, Option, Some, None, slice_get, position, if◌then◌else◌}
 use Rattle.std.specs.Option.{option_and_then, option_map}
 use Rattle.std.specs.Str.{str_eq_ignore_ascii_case}
-use Rattle.op_base.specs.declared.place.Place.{Place}
 use Rattle.op_core.specs.Expression.{Expression as Tree, expression, variable, field, no_steps, then as with_step}
-use Rattle.op_core.specs.Faults.{Checked, by_entry, fine, refused, untyped}
+use Rattle.op_core.specs.Faults.{Checked, by_entry, fine, untyped}
 use Rattle.op_core.specs.Rows.{rows}
 use Rattle.op_core.specs.Sizes.{capped, type_at}
 use Rattle.op_core.specs.declared.ids.FieldId.{FieldId}
@@ -25,7 +24,7 @@ use Rattle.op_check_expr.specs.Words.{by_feature, changed}
 use Rattle.op_check_expr.specs.declared.denoted.Denoted.{Denoted as RustDenoted}
 use Rattle.op_check_expr.specs.declared.denoted.Meant.{Meant as RustMeant}
 use Rattle.op_check_expr.specs.declared.denoted.Meant.TheVariants as rust
-use Rattle.op_types.specs.Constants.{made, name_means, nodes}
+use Rattle.op_types.specs.Constants.{name_means}
 use Rattle.op_types.specs.declared.constant.Constant.{Constant}
 use Rattle.op_types.specs.declared.visible.BuiltIn.{BuiltIn}
 use Rattle.op_types.specs.declared.visible.BuiltIn.TheVariants.{Read, ReadLn, Eof, Eoln, SetLength, Copy, Val, Str, Pos, Delete, Insert, StringOfChar, Halt, Function}

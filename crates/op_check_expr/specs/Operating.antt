@@ -22,7 +22,7 @@ use Rattle.op_check_expr.specs.Words.{by_feature, changed}
 use Rattle.op_types.specs.Constants.{is_folded, is_ordinal, operator_means, prefix_means, use_means}
 use Rattle.op_types.specs.Operators as table
 use Rattle.op_types.specs.Sets.{common_set, set_over}
-use Rattle.op_types.specs.Sorts.{is_text, kind_of, sort_of}
+use Rattle.op_types.specs.Sorts.{is_text, sort_of}
 use Rattle.op_types.specs.declared.constant.Applied.{Applied}
 use Rattle.op_types.specs.declared.constant.Applied.TheVariants.{Cast, Function as Function'}
 use Rattle.op_types.specs.declared.sort.OrdinalKind.{OrdinalKind}

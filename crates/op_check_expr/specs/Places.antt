@@ -1,9 +1,9 @@
 -- Places that may be written, and arguments that must be such (Free Pascal Reference Guide, "Variable parameters" and
 -- "Assignments").
-use Rattle.std.specs.Prelude.{ℕ, nat_eq, Bool, true, false, not, ◌&&◌, List, Option, Some, None, slice_get}
+use Rattle.std.specs.Prelude.{nat_eq, Bool, true, false, not, ◌&&◌, Option, Some, None, slice_get}
 use Rattle.std.specs.List.{list_any}
 use Rattle.op_base.specs.declared.place.Place.{Place}
-use Rattle.op_core.specs.Expression.{Expression as Tree, expression, Root, Steps, variable}
+use Rattle.op_core.specs.Expression.{Expression as Tree, expression, Root, variable}
 use Rattle.op_core.specs.Faults.{Checked, by_test, fine, untyped}
 use Rattle.op_core.specs.Types.{is_one_type}
 use Rattle.op_core.specs.Typing.{is_place, is_place_after, is_variable}

@@ -13,7 +13,6 @@ use Rattle.op_core.specs.declared.constant.Const.TheVariants.{Ordinal, Text, Set
 use Rattle.op_core.specs.declared.ids.TypeId.{TypeId}
 use Rattle.op_core.specs.declared.operation.Conversion.{Conversion}
 use Rattle.op_core.specs.declared.operation.Conversion.TheVariants.{Keep, LowBits, Check, ToString, ToInterface}
-use Rattle.op_core.specs.declared.operation.Origin.{Origin}
 use Rattle.op_core.specs.declared.operation.Origin.TheVariants.{Implied}
 use Rattle.op_core.specs.declared.program.Core.{Core}
 use Rattle.op_core.specs.declared.types.CoreType.{CoreType}

@@ -1,8 +1,8 @@
 -- The words in which the rules of expressions are said, besides those of typed programs.
-use Rattle.std.specs.Prelude.{◌≡◌, ℕ, Option, Some, None, Result, Ok, Err}
+use Rattle.std.specs.Prelude.{◌≡◌, ℕ, Option, Some, None}
 use Rattle.std.specs.Option.{option_map}
 use Rattle.op_base.specs.declared.place.Place.{Place}
-use Rattle.op_core.specs.Faults.{Checked, FirstIs, after, kept, none, one}
+use Rattle.op_core.specs.Faults.{Checked, after, kept, none, one}
 use Rattle.op_core.specs.declared.first_refusal.FirstRefusal.{FirstRefusal}
 
 -- a part that may be untyped, its faults reported

@@ -8,6 +8,7 @@ ghost use Rattle.op_tree.specs.Lists.{arguments_of};
 ghost use Rattle.op_tree.specs.Statement.{designator_of, selectors_of};
 ghost use Rattle.op_check_expr.specs.Naming.{denoted_of};
 ghost use Rattle.op_check_expr.specs.Meanings as means;
+ghost use Rattle.op_check_expr.specs.Rules as rules;
 ghost use Rattle.op_check_expr.specs.Scopes.{here_of};
 ghost use Rattle.op_check_expr.specs.Values.{tree_of, value_of};
 ghost use Rattle.op_check_expr.specs.Words.{Reports};
@@ -35,7 +36,8 @@ pub type Typed = Result<Option<CoreExpr>, NoMemory>;
 
 /// The typed expression, or the first rule that it breaks.
 pub fn expr(alloc: Global, scope: &Scope, e: &Expr) -> Result<CoreExpr, CheckError>
-    ensures { means.ExprIs (means.value_of (here_of scope.now) None (expr_of e.now)) result }
+    ensures exact { means.ExprIs (means.value_of (here_of scope.now) None (expr_of e.now)) result }
+    ensures law { rules.ExprMeans (rules.ValueIs (here_of scope.now) None (expr_of e.now)) (rules.ValueBreaks (here_of scope.now) None (expr_of e.now)) result }
 {
     let mut sink = FirstRefusal::new();
     let checker = Checker {

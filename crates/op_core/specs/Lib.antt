@@ -4,6 +4,7 @@ pub mod Heading
 pub mod Initial
 pub mod Members
 pub mod Nodes
+pub mod Relations
 pub mod Rows
 pub mod Sizes
 pub mod Sound

@@ -1,5 +1,5 @@
 -- What ordinal types range over, how large values are, and which are managed.
-use Rattle.std.specs.Prelude.{◌≡◌, ◌<◌, ◌≤◌, ℕ, ℤ, pos, negsuc, ◌+◌, ◌-◌, ◌*◌, ◌^◌, ◌-ℤ◌, nat_abs, max, min, Bool, true, false, ◌||◌, List, [], ◌∷◌, length, Option, Some, None, unwrap_or, slice_get, map}
+use Rattle.std.specs.Prelude.{◌≡◌, ◌<◌, ◌≤◌, ℕ, ℤ, pos, negsuc, ◌+◌, ◌-◌, ◌*◌, ◌^◌, ◌-ℤ◌, nat_abs, max, min, Bool, true, false, ◌||◌, List, length, Option, Some, None, unwrap_or, slice_get, map}
 use Rattle.std.specs.Int.{div_ceil}
 use Rattle.std.specs.List.{All, fold}
 use Rattle.op_core.specs.Rows.{rows}

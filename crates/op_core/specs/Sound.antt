@@ -2,7 +2,7 @@
 use Rattle.std.specs.Prelude.{◌≡◌, ℕ, suc, pos, ◌+◌, ◌<◌, ◌≤◌, ◌≤ℤ◌, ◌≢◌, Bool, true, false, List, [], ◌∷◌, Option, Some, None, IsSome, IsTrue, IsSomeAnd, IfSome, if◌then◌else◌, length, nat_le, slice_get, take, map, codes, replicate, ◌⊎◌}
 use Rattle.std.specs.Char.{to_ascii_lowercase}
 use Rattle.std.specs.List.{All, Contains, filter, flat_map, sum_by}
-use Rattle.std.specs.Option.{option_and_then, option_map}
+use Rattle.std.specs.Option.{option_and_then, option_map, option_to_list}
 use Rattle.op_core.specs.Heading.{is_same_heading}
 use Rattle.op_core.specs.Initial.{FirstValue, constant, parts, FirstValues, no_values, values, first_value_of}
 use Rattle.op_core.specs.Members.{There, Kind, InRun, Descends, AsksFor, HasMethod}
@@ -211,12 +211,16 @@ abbrev IsPart : Core → Option RoutineId → Type 0
 IsPart core part = IfSome part (λ p. There core.routines p.0 (λ r. (r.owner ≡ OfUnit) × (r.parameters.count ≡ 0)))
 
 abbrev IsUnit : Core → RustUnit → Type 0
-IsUnit core u = Fit core.variables u.globals × IsPart core u.initialization × IsPart core u.finalization
+IsUnit core u = Fit core.globals u.globals × All (λ v. Row core.variables v.0) (rows core.globals u.globals) × IsPart core u.initialization × IsPart core u.finalization
 
 abbrev AreExceptions : Core → ExceptionClasses → Type 0
 AreExceptions core x =
     All (λ c. Row core.classes c.0 × Descends core c x.exception) (x.exception ∷ x.zero_divisor ∷ x.range ∷ x.overflow ∷ x.cast ∷ [])
     × There core.classes x.exception.0 (λ c. InRun c.fields x.message.0)
+
+-- the rows of all global variables
+abbrev globals_of : Core → List Variable
+globals_of core = flat_map (λ v. option_to_list (slice_get core.variables v.0)) core.globals
 
 -- bodies may name whatever is there
 abbrev everything : Core → Sees
@@ -236,7 +240,7 @@ pub record IsSound (core : Core) : Type 0 where
   pub routines : All (IsRoutine core) core.routines
   pub bodies : All (IsBody core (everything core)) core.routines
   pub units : All (IsUnit core) core.units
-  pub globals : bytes_of core (flat_map (λ u. rows core.variables u.globals) core.units) ≤ 8388608
+  pub globals : bytes_of core (globals_of core) ≤ 8388608
   pub exceptions : IfSome core.exceptions (AreExceptions core)
 
 -- ---- nesting
@@ -247,7 +251,7 @@ pub data Encloses (core : Core) : ℕ → ℕ → Type 0 where
   further : {n m k : ℕ} → enclosing_of core n ≡ Some m → Encloses core m k → Encloses core n k
 
 abbrev IsGlobal : Core → VariableId → Type 0
-IsGlobal core v = (u : RustUnit) × Contains core.units u × InRun u.globals v.0
+IsGlobal core v = Contains core.globals v
 
 -- globals and the variables of the routine and of those round it, routines that stand in none or in one of these
 abbrev within : Core → ℕ → Sees

@@ -35,6 +35,3 @@ pub use routine::{Body, Owner, Parameter, Role, Routine, Variable};
 pub use statement::{CoreAction, CoreBranch, CoreHandler, CoreItem, CoreStmt, CoreTarget, Label};
 pub use table::Table;
 pub use types::{CoreType, Extent, Field, IntegerKind};
-
-#[cfg(test)]
-mod tests;

@@ -3,7 +3,7 @@ ghost use Rattle.std.specs.Prelude.{◌≡◌, [], None};
 
 use crate::{
     Class, ClassId, CoreType, Extent, Field, FieldId, Interface, InterfaceId, Method, Parameter,
-    Property, Routine, RoutineId, Run, Table, Variable,
+    Property, Routine, RoutineId, Run, Table, Variable, VariableId,
 };
 use op_base::Text;
 use std::alloc::Global;
@@ -13,7 +13,7 @@ use std::alloc::Global;
 pub struct Unit {
     /// As it is written; empty for a program without a heading.
     pub name: Text,
-    /// Its global variables, in order of declaration.
+    /// Its global variables, in order of declaration: rows of the table of globals.
     pub globals: Run,
     /// The main part, for the program itself.
     pub initialization: Option<RoutineId>,
@@ -52,6 +52,8 @@ pub struct Core {
     pub routines: Table<Routine>,
     pub parameters: Table<Parameter>,
     pub variables: Table<Variable>,
+    /// The variables that stand in no routine.
+    pub globals: Table<VariableId>,
     /// In the order in which they are initialized; the program itself is the last one.
     pub units: Table<Unit>,
     pub exceptions: Option<ExceptionClasses>,
@@ -60,7 +62,7 @@ pub struct Core {
 impl Core {
     /// The program of nothing, which rows are put into.
     pub fn new(alloc: Global) -> Core
-        ensures { result ≡ record { types = []; extents = []; fields = []; classes = []; interfaces = []; listed = []; methods = []; properties = []; routines = []; parameters = []; variables = []; units = []; exceptions = None } }
+        ensures { result ≡ record { types = []; extents = []; fields = []; classes = []; interfaces = []; listed = []; methods = []; properties = []; routines = []; parameters = []; variables = []; globals = []; units = []; exceptions = None } }
     {
         Core {
             types: Table::new(alloc),
@@ -74,6 +76,7 @@ impl Core {
             routines: Table::new(alloc),
             parameters: Table::new(alloc),
             variables: Table::new(alloc),
+            globals: Table::new(alloc),
             units: Table::new(alloc),
             exceptions: None,
         }

@@ -24,6 +24,3 @@ pub use memory::{Memory, Right, Segment};
 pub use op_rv::FaultKind;
 pub use registers::Registers;
 pub use stop::{MachineError, Stepped, Stop};
-
-#[cfg(test)]
-mod tests;

@@ -24,6 +24,19 @@ fn counted(steps: u64, done: bool) -> u64
 }
 
 impl Machine {
+    /// A machine before its first step, with this hart.
+    pub fn new(hart: Hart) -> Machine
+        ensures hart { result.hart ≡ hart }
+        ensures ready { result.last ≡ Stepped.Went }
+        ensures unstepped { result.steps ≡ 0 }
+    {
+        Machine {
+            hart,
+            last: Stepped::Went,
+            steps: 0,
+        }
+    }
+
     /// How many steps were done: one that ended the program is counted, and one that faulted is not. The count stops at
     /// its greatest value, 2^64 - 1.
     pub fn steps(&self) -> u64

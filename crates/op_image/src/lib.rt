@@ -9,6 +9,3 @@ mod validity;
 
 pub use building::build;
 pub use validity::buildable;
-
-#[cfg(test)]
-mod tests;

@@ -7,6 +7,3 @@
 mod layout;
 
 pub use layout::{Layout, LiteralPlace};
-
-#[cfg(test)]
-mod tests;

@@ -33,8 +33,3 @@ pub use place::{Placement, RoutinePlace, Spot};
 pub use reach::Reach;
 pub use reader::{Header, read_header, segment};
 pub use table::Segment;
-
-#[cfg(test)]
-mod link_tests;
-#[cfg(test)]
-mod tests;

@@ -21,6 +21,3 @@ pub use ids::VirtualRegister;
 pub use instruction::{Call, Instruction, Output};
 pub use theorems::{example_runs, stopped_machine_halts, valid_code_runs_valid};
 pub use validity::valid;
-
-#[cfg(test)]
-mod tests;

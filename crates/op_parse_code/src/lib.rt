@@ -25,6 +25,3 @@ mod token;
 
 pub use error::ParseError;
 pub use part::{expression, simple, statement};
-
-#[cfg(test)]
-mod tests;

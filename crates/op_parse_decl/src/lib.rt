@@ -26,6 +26,3 @@ mod sign;
 mod stops;
 
 pub use file::parse;
-
-#[cfg(test)]
-mod tests;

@@ -40,6 +40,3 @@ mod statement;
 mod string;
 
 pub use file::print;
-
-#[cfg(test)]
-mod tests;

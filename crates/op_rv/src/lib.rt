@@ -21,6 +21,3 @@ pub use fault::FaultKind;
 pub use instruction::{AluOp, BranchOp, ImmOp, Instr, LoadOp, ShiftOp, StoreOp};
 pub use objects::{GlobalVariable, Item, ObjectBlock, ObjectRoutine, Objects};
 pub use symbol::{BlockId, DescriptorId, GlobalId, LiteralId, RoutineId, Symbol, TableId};
-
-#[cfg(test)]
-mod tests;

@@ -20,6 +20,3 @@ mod token;
 
 pub use scanner::scan;
 pub use token::{ScanError, Switches, Token, TokenKind, TokenList, Tokens};
-
-#[cfg(test)]
-mod tests;

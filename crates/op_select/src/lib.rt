@@ -19,6 +19,3 @@ pub use routine::select;
 pub use theorems::{
     example_is_placed, selected_code_begins, selected_code_ends, selected_code_goes_along,
 };
-
-#[cfg(test)]
-mod tests;

@@ -1,9 +1,9 @@
--- An error in compiling, as the answer of a command.
+-- An error in checking or compiling, as the answer of a command.
 use Rattle.std.proofs.Common.{◌≡◌, ℕ, Option, List, [], codes, refl}
 use Rattle.op_emu.specs.Acts.{streams, faults}
-use Rattle.op_tool.specs.Compiles.{FailsAs}
+use Rattle.op_tool.specs.Compiles.{FailsAs, FailsToCheck}
 use Rattle.op_tool.specs.Effects.{Effect, Says, line}
-use Rattle.op_tool.specs.Owes.{Call, OwesBuild, OwesError, OwesExec, ReportsError}
+use Rattle.op_tool.specs.Owes.{Call, OwesBuild, OwesCheck, OwesError, OwesExec, ReportsError}
 use Rattle.op_tool.specs.declared.compiler.CompileError.{CompileError}
 use Rattle.op_tool.specs.declared.compiler.CompileError.TheVariants as errors
 use Rattle.op_tool.specs.declared.finish.Finish.{Finish}
@@ -51,3 +51,12 @@ says_exec_error now name error answer i o e e' r r' n c c' failed empty is =
 pub says_build_error : (now : Call) (name : List ℕ) (error : CompileError) (answer : Finish) (i o e e' : Option (List ℕ)) (r r' n c c' : ℕ) → FailsAs now.stored name now.file_faults_before now.file_faults_after error → now.image ≡ [] → ReportsError error answer e e' c c' → Says (OwesBuild now name) answer (streams i i o o e e') (faults r r' n n c c')
 says_build_error now name error answer i o e e' r r' n c c' failed empty is =
     says_also (OwesError now name) (OwesBuild now name) answer (streams i i o o e e') (faults r r' n n c c') (λ answer done bytes. build_error now name answer done) (says_error now name error answer i o e e' r r' n c c' failed empty is)
+
+pub says_check_error : (now : Call) (name : List ℕ) (error : CompileError) (answer : Finish) (i o e e' : Option (List ℕ)) (r r' n c c' : ℕ) → FailsToCheck now.stored name now.file_faults_before now.file_faults_after error → now.image ≡ [] → ReportsError error answer e e' c c' → Says (OwesCheck now name) answer (streams i i o o e e') (faults r r' n n c c')
+says_check_error now name (errors.Refused refusal file) answer i o e e' r r' n c c' (is_file, broken) empty is =
+    says_refused (OwesCheck now name) name file refusal answer i o e e' r r' n c c' is_file (λ done only. (empty, (broken, only))) (λ done only. (empty, only)) is
+says_check_error now name errors.ReadFault answer i o e e' r r' n c c' rose empty is =
+    says_report (OwesCheck now name) ReadFault answer (line (codes "opc: read fault")) i o e e' r r' n c c' (λ same. cc) (λ input. (empty, (rose, (refl, refl, refl)))) is
+says_check_error now name errors.Limit answer i o e e' r r' n c c' never empty is = absurd never
+says_check_error now name errors.NoMemory answer i o e e' r r' n c c' free empty is =
+    says_no_memory (OwesCheck now name) answer i o e e' r r' n c c' (λ done only. (empty, only)) is

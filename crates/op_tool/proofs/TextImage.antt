@@ -30,9 +30,8 @@ use Rattle.op_select.specs.Frames.{frame_of, home, load_home, store_home, fetch,
 use Rattle.op_select.specs.Going.{IsSafe, Setting, placement_of}
 use Rattle.op_select.specs.RiscvMachine.{riscv_machine}
 use Rattle.op_simulation.specs.System.{run}
-use Rattle.op_tool.specs.Compiles.{IsLargeText, default}
 use Rattle.op_tool.specs.Prints.{Prints}
-use Rattle.op_tool.specs.TextProgram.{text_code, text_program}
+use Rattle.op_tool.specs.TextProgram.{IsLargeText, default, text_code, text_program}
 use Rattle.op_tool.proofs.TextRuns.{WritesText, never_bad, text_runs}
 
 pub text_buildable : (text : List ℕ) → length text ≤ most_linked → is_buildable (text_program (length text)) (layout_of (text ∷ [])) ≡ true

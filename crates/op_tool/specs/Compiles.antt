@@ -1,40 +1,61 @@
--- What compiling a file gives. `stored` are the files, as far as they tell.
-use Rattle.std.specs.Prelude.{◌≡◌, ℕ, ◌<◌, ◌⊎◌, Option, Some, None, List, [], ◌∷◌, length, ⊤}
+-- What checking and compiling a file give. `stored` are the files, as far as they tell.
+use Rattle.std.specs.Prelude.{◌≡◌, ℕ, ◌⊎◌, Option, Some, None, Result, Ok, Err, List, ⊤, map}
 use Rattle.op_base.specs.Outside.{Rose}
 use Rattle.op_base.specs.declared.files.NamedFile.{NamedFile}
 use Rattle.op_base.specs.declared.place.Place.{Place}
 use Rattle.op_base.specs.declared.rule.Refusal.{Refusal}
 use Rattle.op_base.specs.declared.rule.Rule.{Rule}
-use Rattle.op_layout.specs.Places.{layout_of}
-use Rattle.op_link.specs.Linking.{linked_size}
-use Rattle.op_link.specs.Memory.{most_linked}
-use Rattle.op_link.specs.declared.memory_map.Settings.{Settings}
-use Rattle.op_select.specs.Selection.{select_of}
+use Rattle.op_check_unit.specs.Checking.{CheckIs}
+use Rattle.op_check_unit.specs.Programs.{program_means}
+use Rattle.op_check_unit.specs.Rules.{Obeys, ProgramBreaks}
+use Rattle.op_core.specs.declared.error.CheckError.{CheckError}
+use Rattle.op_core.specs.declared.error.CheckError.TheVariants as check
+use Rattle.op_core.specs.declared.program.Core.{Core}
 use Rattle.op_tool.specs.ConstantLines.{output_of}
 use Rattle.op_tool.specs.Prints.{Prints}
-use Rattle.op_tool.specs.TextProgram.{text_program}
+use Rattle.op_tool.specs.TextProgram.{IsLargeText}
 use Rattle.op_tool.specs.declared.compiler.CompileError.{CompileError}
 use Rattle.op_tool.specs.declared.compiler.CompileError.TheVariants.{Refused, ReadFault, Limit, NoMemory}
 use Rattle.op_tree.specs.File.{file_of}
-use Rattle.op_tree.specs.declared.file.Tree.{Tree}
 use Rattle.op_units.specs.declared.error.LoadError.{LoadError}
 use Rattle.op_units.specs.declared.error.LoadError.TheVariants as load
-use Rattle.op_units.specs.Loads.{Has, Reads, IsRefused as IsRefusedFile}
+use Rattle.op_units.specs.declared.forest.Forest.{Forest}
+use Rattle.op_units.specs.Loads.{Loads, IsRefused as IsRefusedFile}
 
--- the file has the bytes of a program, whose tree this is
-pub record IsProgramOf (stored : Option (List NamedFile)) (name : List ℕ) (main : Tree) : Type 0 where
-  pub bytes : List ℕ
-  pub has : Has stored name bytes
-  pub reads : Reads bytes main
+-- ---- programs
 
--- the file is a program with this output, and its image prints that
+-- what the check of these files answers: their typed program where they break no rule, else the first rule that they break
+pub record Checks (forest : Forest) (result : Result Core CheckError) : Type 0 where
+  pub means : CheckIs (program_means (map file_of forest.trees)) result
+  pub law : Obeys (ProgramBreaks (map file_of forest.trees)) result
+
+-- the file is the main one of a program that breaks no rule, with this typed form
+pub record IsProgram (stored : Option (List NamedFile)) (name : List ℕ) (forest : Forest) (core : Core) : Type 0 where
+  pub loads : Loads stored name forest
+  pub checks : Checks forest (Ok core)
+
+-- the program breaks no rule
+abbrev pub IsAccepted : Option (List NamedFile) → List ℕ → Type 0
+IsAccepted stored name = (forest : Forest) × (core : Core) × IsProgram stored name forest core
+
+-- the program breaks no rule, and this is what it writes, if it is of a form that is compiled
+pub record HasOutput (stored : Option (List NamedFile)) (name : List ℕ) (output : Option (List ℕ)) : Type 0 where
+  pub forest : Forest
+  pub core : Core
+  pub is_program : IsProgram stored name forest core
+  pub writes : output_of forest.trees core ≡ output
+
+-- the program has this output, and its image prints that
 pub record Compiles (stored : Option (List NamedFile)) (name image output : List ℕ) : Type 0 where
-  pub main : Tree
-  pub is_program : IsProgramOf stored name main
-  pub writes : output_of (file_of main) ≡ Some output
+  pub has_output : HasOutput stored name (Some output)
   pub prints : Prints image output
 
 -- ---- refusals
+
+-- the first rule that the program breaks: of its files, else one that the check finds in them
+pub data IsBroken (stored : Option (List NamedFile)) (name : List ℕ) (refusal : Refusal) : Type 0 where
+  by_files : IsRefusedFile stored name refusal → IsBroken stored name refusal
+  by_check : (forest : Forest) → Loads stored name forest → Checks forest (Err (check.Refused refusal)) → IsBroken stored name refusal
 
 abbrev pub file_missing : Rule
 file_missing = record { number = 10; feature = 0 }
@@ -46,35 +67,24 @@ main_start = record { file = 0; line = 1; col = 1 }
 abbrev pub not_compiled : Refusal
 not_compiled = record { rule = record { number = 13; feature = 38 }; place = main_start }
 
--- the file is a program of another form than those that are compiled
-pub record IsOtherForm (stored : Option (List NamedFile)) (name : List ℕ) : Type 0 where
-  pub main : Tree
-  pub is_program : IsProgramOf stored name main
-  pub is_other : output_of (file_of main) ≡ None
-
--- the file breaks this rule first, or it breaks none and is not compiled yet
+-- the program breaks this rule first, or it breaks none and is of another form than those that are compiled
 abbrev pub IsRefused : Option (List NamedFile) → List ℕ → Refusal → Type 0
-IsRefused stored name refusal = IsRefusedFile stored name refusal ⊎ (refusal ≡ not_compiled) × IsOtherForm stored name
+IsRefused stored name refusal = IsBroken stored name refusal ⊎ (refusal ≡ not_compiled) × HasOutput stored name None
 
--- ---- limits
-
-abbrev pub default : Settings
-default = record { heap = 8192; stack = 1024 }
-
--- code, constants and initial globals of the image of a text have more bytes than an image may have
-abbrev pub IsLargeText : List ℕ → Type 0
-IsLargeText text = most_linked < linked_size (select_of (text_program (length text))) (layout_of (text ∷ [])) default
-
-pub record IsTooLarge (stored : Option (List NamedFile)) (name : List ℕ) : Type 0 where
-  pub main : Tree
-  pub is_program : IsProgramOf stored name main
-  pub output : List ℕ
-  pub writes : output_of (file_of main) ≡ Some output
-  pub is_large : IsLargeText output
+-- code, constants and initial globals of its image have more bytes than an image may have
+abbrev pub IsTooLarge : Option (List NamedFile) → List ℕ → Type 0
+IsTooLarge stored name = (output : List ℕ) × HasOutput stored name (Some output) × IsLargeText output
 
 -- ---- errors
 
--- an error with its cause; `before` and `after` are the counts of faults of the files
+-- an error before or in the check, with its cause; `before` and `after` are the counts of faults of the files
+abbrev pub FailsToCheck : Option (List NamedFile) → List ℕ → ℕ → ℕ → CompileError → Type 0
+FailsToCheck stored name before after (Refused refusal file) = (file ≡ name) × IsBroken stored name refusal
+FailsToCheck stored name before after ReadFault = Rose before after
+FailsToCheck stored name before after Limit = ⊥
+FailsToCheck stored name before after NoMemory = ⊤
+
+-- an error with its cause
 abbrev pub FailsAs : Option (List NamedFile) → List ℕ → ℕ → ℕ → CompileError → Type 0
 FailsAs stored name before after (Refused refusal file) = (file ≡ name) × IsRefused stored name refusal
 FailsAs stored name before after ReadFault = Rose before after
@@ -94,13 +104,9 @@ error_of (load.Refused refusal file) = Refused refusal file
 error_of load.ReadFault = ReadFault
 error_of load.NoMemory = NoMemory
 
--- why a tree has no image
-abbrev pub HasNoImage : List ℕ → Tree → CompileError → Type 0
-HasNoImage name main (Refused refusal file) = (file ≡ name) × (refusal ≡ not_compiled) × (output_of (file_of main) ≡ None)
-HasNoImage name main ReadFault = ⊥
-HasNoImage name main Limit = (output : List ℕ) × (output_of (file_of main) ≡ Some output) × IsLargeText output
-HasNoImage name main NoMemory = ⊤
-
--- what the image of a tree does
-abbrev pub IsImageOf : Tree → List ℕ → Type 0
-IsImageOf main image = (output : List ℕ) × (output_of (file_of main) ≡ Some output) × Prints image output
+-- why a text has no image
+abbrev pub HasNoImage : List ℕ → CompileError → Type 0
+HasNoImage output (Refused refusal file) = ⊥
+HasNoImage output ReadFault = ⊥
+HasNoImage output Limit = IsLargeText output
+HasNoImage output NoMemory = ⊤

@@ -24,6 +24,10 @@ line text = text ++ 10 ∷ []
 abbrev pub OnlyReports : List ℕ → Effect → Type 0
 OnlyReports bytes done = (done.left ≡ done.input) × (done.out ≡ []) × (done.err ≡ bytes)
 
+-- nothing was read, and these bytes alone were written, to the output
+abbrev pub OnlyWrites : List ℕ → Effect → Type 0
+OnlyWrites bytes done = (done.left ≡ done.input) × (done.out ≡ bytes) × (done.err ≡ [])
+
 -- what was taken from the input, and whether the source has answered that it is at its end: then nothing is left
 pub record Intake (told : Streams) : Type 0 where
   pub taken : List ℕ

@@ -1,5 +1,5 @@
 -- What each answer of the tool owes, command by command: its cause, and what it writes.
-use Rattle.std.specs.Prelude.{◌≡◌, ℕ, ◌<◌, ◌⊎◌, Option, Some, List, [], ◌++◌, codes, decimal, length, IfSome, IsSome, IsSomeAnd}
+use Rattle.std.specs.Prelude.{◌≡◌, ℕ, ◌<◌, ◌⊎◌, Option, Some, List, [], ◌++◌, codes, decimal, length, IfSome, IsSomeAnd}
 use Rattle.op_base.specs.FileAnswer.{file_named}
 use Rattle.op_base.specs.Outside.{Rose}
 use Rattle.op_base.specs.Rule.{text_of_rule}
@@ -7,9 +7,9 @@ use Rattle.op_base.specs.declared.files.NamedFile.{NamedFile}
 use Rattle.op_base.specs.declared.place.Place.{Place}
 use Rattle.op_base.specs.declared.rule.Refusal.{Refusal}
 use Rattle.op_base.specs.declared.rule.Rule.{Rule}
-use Rattle.op_tool.specs.Command.{IsBuild, IsExec, IsRun, IsNoCommand}
-use Rattle.op_tool.specs.Compiles.{Compiles, IsRefused, IsTooLarge, file_missing, main_start}
-use Rattle.op_tool.specs.Effects.{Effect, OnlyReports, ReportIs, line}
+use Rattle.op_tool.specs.Command.{IsBuild, IsCheck, IsExec, IsRun, IsNoCommand}
+use Rattle.op_tool.specs.Compiles.{Compiles, IsAccepted, IsBroken, IsRefused, IsTooLarge, file_missing, main_start}
+use Rattle.op_tool.specs.Effects.{Effect, OnlyReports, OnlyWrites, ReportIs, line}
 use Rattle.op_tool.specs.ImageRun.{OwesImage}
 use Rattle.op_tool.specs.declared.compiler.CompileError.{CompileError}
 use Rattle.op_tool.specs.declared.compiler.CompileError.TheVariants as errors
@@ -60,11 +60,6 @@ ReportsError errors.Limit answer before after count count' =
 ReportsError errors.NoMemory answer before after count count' =
     ReportIs NoMemory (line (codes "opc: out of memory")) answer before after count count'
 
--- a refusal has a text
-abbrev pub HasText : CompileError → Type 0
-HasText (errors.Refused refusal file) = IsSome (text_of_rule refusal.rule)
-HasText _ = Unit {0}
-
 -- the line of the condition that an image fails first, unless there is no room for it
 abbrev pub ReportsBadImage : ℕ → Finish → Option (List ℕ) → Option (List ℕ) → ℕ → ℕ → Type 0
 ReportsBadImage condition answer before after count count' =
@@ -75,6 +70,19 @@ ReportsBadImage condition answer before after count count' =
 abbrev pub OnlyFailsToRead : Call → Effect → Type 0
 OnlyFailsToRead now done =
     Rose now.file_faults_before now.file_faults_after × OnlyReports (line (codes "opc: read fault")) done
+
+-- what is checked: accepted, or refused by the first rule that is broken
+abbrev pub OwesChecked : Call → List ℕ → Finish → Effect → Type 0
+OwesChecked now name (Ended status) done = (status ≡ 0) × IsAccepted now.stored name × OnlyWrites (line (codes "ok")) done
+OwesChecked now name (Refused rule place) done =
+    IsBroken now.stored name (record { rule = rule; place = place }) × OnlyRefuses name place rule done
+OwesChecked now name ReadFault done = OnlyFailsToRead now done
+OwesChecked now name NoMemory done = OnlyReports (line (codes "opc: out of memory")) done
+OwesChecked now name _ done = ⊥
+
+-- `check` of the file of this name, which leaves no image
+abbrev pub OwesCheck : Call → List ℕ → Finish → Effect → Type 0
+OwesCheck now name answer done = (now.image ≡ []) × OwesChecked now name answer done
 
 -- a file of this name that is not compiled
 abbrev pub OwesError : Call → List ℕ → Finish → Effect → Type 0
@@ -94,7 +102,7 @@ OwesExec now name answer done = OwesError now name answer done
 -- `build` of the file of this name
 abbrev pub OwesBuild : Call → List ℕ → Finish → Effect → Type 0
 OwesBuild now name (Ended status) done =
-    (status ≡ 0) × (text : List ℕ) × Compiles now.stored name now.image text × (done.out ≡ now.image) × (done.err ≡ []) × (done.left ≡ done.input)
+    (status ≡ 0) × (text : List ℕ) × Compiles now.stored name now.image text × OnlyWrites now.image done
 OwesBuild now name answer done = OwesError now name answer done
 
 -- these are the bytes of the file of this name
@@ -134,5 +142,6 @@ OwesUsage finish done = ⊥
 pub data Owes (now : Call) (finish : Finish) (done : Effect) : Type 0 where
   by_exec : (name : List ℕ) → IsExec now.words name → OwesExec now name finish done → Owes now finish done
   by_build : (name : List ℕ) → IsBuild now.words name → OwesBuild now name finish done → Owes now finish done
+  by_check : (name : List ℕ) → IsCheck now.words name → OwesCheck now name finish done → Owes now finish done
   by_run : (name : List ℕ) → IsRun now.words name → OwesRun now name finish done → Owes now finish done
   by_none : IsNoCommand now.words → (now.image ≡ []) → OwesUsage finish done → Owes now finish done

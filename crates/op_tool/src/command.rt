@@ -1,6 +1,6 @@
 //! The words of the command line.
 ghost use Rattle.std.specs.Prelude.{◌≡◌, ℕ, List, map, string_bytes, MatchOption};
-ghost use Rattle.op_tool.specs.Command.{is_name, is_source_name, IsBuild, IsCommand, IsExec, IsNoCommand, IsRun};
+ghost use Rattle.op_tool.specs.Command.{is_name, is_source_name, IsBuild, IsCheck, IsCommand, IsExec, IsNoCommand, IsRun};
 
 /// A command with its operand.
 #[derive(Clone, Copy)]
@@ -9,6 +9,8 @@ pub(crate) enum Command<'a> {
     Exec(&'a str),
     /// Compiles the program in this file and writes its image.
     Build(&'a str),
+    /// Checks the program in this file.
+    Check(&'a str),
     /// Runs the image in this file.
     Run(&'a str),
 }
@@ -52,6 +54,18 @@ fn build_file(words: &[String]) -> Option<&str>
     }
 }
 
+/// The file of the words `check FILE`, if they are so.
+fn check_file(words: &[String]) -> Option<&str>
+    ensures { MatchOption result ((name : List ℕ) → IsCheck (map string_bytes words.now) name → ⊥) (λ name. IsCheck (map string_bytes words.now) name.now) }
+{
+    match words {
+        [command, file] if command.as_str() == "check" && is_source_name(file.as_str()) => {
+            Some(file.as_str())
+        }
+        _ => None,
+    }
+}
+
 /// The image of the words `run IMAGE`, if they are so.
 fn run_name(words: &[String]) -> Option<&str>
     ensures { MatchOption result ((name : List ℕ) → IsRun (map string_bytes words.now) name → ⊥) (λ name. IsRun (map string_bytes words.now) name.now) }
@@ -72,7 +86,10 @@ pub(crate) fn command_of(words: &[String]) -> Option<Command<'_>>
         Some(file) => Some(Command::Exec(file)),
         None => match build_file(words) {
             Some(file) => Some(Command::Build(file)),
-            None => run_name(words).map(Command::Run),
+            None => match check_file(words) {
+                Some(file) => Some(Command::Check(file)),
+                None => run_name(words).map(Command::Run),
+            },
         },
     }
 }

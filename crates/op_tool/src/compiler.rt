@@ -1,23 +1,16 @@
 //! From a source file to its image.
-ghost use Rattle.std.specs.Prelude.{◌≡◌, ◌≤◌, ◌<◌, ◌∷◌, [], List, ℕ, IfOk, IfErr, length};
-ghost use Rattle.op_tool.specs.Compiles.{Compiles, FailsAs, HasNoImage, IsImageOf, RefusesBy, not_compiled};
+ghost use Rattle.std.specs.Prelude.{◌≡◌, ◌≤◌, List, ℕ, IfOk, IfErr};
+ghost use Rattle.op_tool.specs.Compiles.{Compiles, FailsAs, FailsToCheck, HasNoImage, IsProgram, RefusesBy};
+ghost use Rattle.op_tool.specs.Prints.{Prints};
 
 use crate::constant_lines::output_of;
 use crate::text_program::text_image;
 use op_base::{Files, NoMemory, Place, Refusal, Rule, Text};
+use op_check_unit::check;
+use op_core::{CheckError, Core};
 use op_link::LinkError;
-use op_tree::Tree;
-use op_units::{LoadError, load};
+use op_units::{Forest, LoadError, load};
 use std::alloc::Global;
-
-/// A program breaks no rule, and it is of no form that is compiled.
-const NOT_COMPILED_YET: Rule = Rule {
-    number: 13,
-    feature: 38,
-};
-
-/// The most bytes that code, constants and initial globals may have.
-const MOST_LINKED: usize = 67_108_864;
 
 /// The beginning of the file that a command names.
 pub(crate) const MAIN_START: Place = Place {
@@ -25,6 +18,18 @@ pub(crate) const MAIN_START: Place = Place {
     line: 1,
     col: 1,
 };
+
+/// A program breaks no rule, and it is of no form that is compiled.
+const NOT_COMPILED: Refusal = Refusal {
+    rule: Rule {
+        number: 13,
+        feature: 38,
+    },
+    place: MAIN_START,
+};
+
+/// The most bytes that code, constants and initial globals may have.
+const MOST_LINKED: usize = 67_108_864;
 
 /// Why a file was not compiled.
 #[derive(Debug, Drop)]
@@ -62,51 +67,68 @@ impl From<LoadError> for CompileError {
     }
 }
 
+/// A program that breaks no rule: the trees of its files, and its typed form.
+#[derive(Drop)]
+pub(crate) struct Program {
+    forest: Forest,
+    core: Core,
+}
+
 /// The image of the program in this file.
 ///
-/// `Refused` tells the first rule that the program breaks, as `load` has them, or that it is of no form that is compiled yet.
-/// `Limit` comes where code, constants and initial globals would take more than 67,108,864 bytes.
+/// `Refused` tells the first rule that the program breaks, as `load` and then `check` have them, or that it is of no form that
+/// is compiled yet. `Limit` comes where code, constants and initial globals would take more than 67,108,864 bytes.
 pub fn compile<F: Files>(alloc: Global, files: &mut F, main: &str) -> Result<Vec<u8>, CompileError>
     ensures made { IfOk result (λ image. (output : List ℕ) × Compiles (F.stored files.old) main.now image.items output) }
     ensures failed { IfErr result (FailsAs (F.stored files.old) main.now (F.faults files.old) (F.faults files.new)) }
     ensures counts { F.faults files.old ≤ F.faults files.new }
     ensures unchanged { F.stored files.new ≡ F.stored files.old }
 {
+    let Program { forest, core } = checked(alloc, files, main)?;
+    match output_of(alloc, forest.trees.as_slice(), &core)? {
+        Some(output) => image_of(alloc, output),
+        None => Err(refused(alloc, main, NOT_COMPILED)),
+    }
+}
+
+/// The program in this file, or the first rule that it breaks, as `load` and then `check` have them.
+pub(crate) fn checked<F: Files>(
+    alloc: Global,
+    files: &mut F,
+    main: &str,
+) -> Result<Program, CompileError>
+    ensures made { IfOk result (λ program. IsProgram (F.stored files.old) main.now program.forest program.core) }
+    ensures failed { IfErr result (FailsToCheck (F.stored files.old) main.now (F.faults files.old) (F.faults files.new)) }
+    ensures counts { F.faults files.old ≤ F.faults files.new }
+    ensures unchanged { F.stored files.new ≡ F.stored files.old }
+{
     let forest = load(alloc, files, main)?;
-    match forest.trees.as_slice().split_first() {
-        Some((tree, _)) => image_of(alloc, main, tree),
-        None => unreachable!(),
+    match check(alloc, forest.trees.as_slice()) {
+        Ok(core) => Ok(Program { forest, core }),
+        Err(CheckError::Refused(refusal)) => Err(refused(alloc, main, refusal)),
+        Err(CheckError::NoMemory) => Err(CompileError::NoMemory),
     }
 }
 
-/// The image of a program.
-fn image_of(alloc: Global, main: &str, tree: &Tree) -> Result<Vec<u8>, CompileError>
-    ensures made { IfOk result (λ image. IsImageOf tree.now image.items) }
-    ensures failed { IfErr result (HasNoImage main.now tree.now) }
+/// The image of a program that writes this text.
+fn image_of(alloc: Global, output: Text) -> Result<Vec<u8>, CompileError>
+    ensures made { IfOk result (λ image. Prints image.items output) }
+    ensures failed { IfErr result (HasNoImage output) }
 {
-    match output_of(alloc, tree)? {
-        None => Err(not_compiled(alloc, main)),
-        Some(output) => {
-            if output.as_slice().len() > MOST_LINKED {
-                return Err(CompileError::Limit);
-            }
-            match text_image(alloc, output) {
-                Ok(image) => Ok(image),
-                Err(LinkError::Limit) => Err(CompileError::Limit),
-                Err(LinkError::NoMemory) => Err(CompileError::NoMemory),
-            }
-        }
+    if output.as_slice().len() > MOST_LINKED {
+        return Err(CompileError::Limit);
+    }
+    match text_image(alloc, output) {
+        Ok(image) => Ok(image),
+        Err(LinkError::Limit) => Err(CompileError::Limit),
+        Err(LinkError::NoMemory) => Err(CompileError::NoMemory),
     }
 }
 
-/// The refusal of a program that is of no form that is compiled.
-fn not_compiled(alloc: Global, main: &str) -> CompileError
-    ensures { RefusesBy main.now not_compiled result }
+/// The refusal of a file.
+fn refused(alloc: Global, main: &str, refusal: Refusal) -> CompileError
+    ensures { RefusesBy main.now refusal result }
 {
-    let refusal = Refusal {
-        rule: NOT_COMPILED_YET,
-        place: MAIN_START,
-    };
     match Text::copy_of(alloc, main.as_bytes()) {
         Ok(file) => CompileError::Refused(refusal, file),
         Err(NoMemory) => CompileError::NoMemory,

@@ -1,42 +1,80 @@
 //! The form of the programs that are compiled, and what such a program writes.
 ghost use Rattle.std.specs.Option.{option_copied, option_map};
-ghost use Rattle.std.specs.Prelude.{◌≡◌, IfOk};
-ghost use Rattle.op_tool.specs.ConstantLines.{given_literal, is_write_line, line_bytes, line_of, lines_of, literal_in, only_literal, output_of, with_line_feed};
-ghost use Rattle.op_tree.specs.Expression.{expr_of};
+ghost use Rattle.std.specs.Prelude.{◌≡◌, IfOk, map};
+ghost use Rattle.op_core.specs.Expression.{expr_of, root_of};
+ghost use Rattle.op_core.specs.Statement.{built_in, built_in_of, item_of, stmt_of, stmts_of};
+ghost use Rattle.op_tool.specs.ConstantLines.{constant_text, is_bare, is_bare_file, line_bytes, line_of, lines_of, main_part, only_text, output_of, text_in, with_line_feed};
 ghost use Rattle.op_tree.specs.File.{file_of};
-ghost use Rattle.op_tree.specs.Lists.{arguments_of};
-ghost use Rattle.op_tree.specs.Statement.{call, designator_of, selectors_of, stmt_of, stmts_of};
 
 use op_base::{NoMemory, Text};
-use op_tree::{Argument, Designator, Expr, Root, Selector, Stmt, Tree};
+use op_core::{Const, Core, CoreAction, CoreExpr, CoreItem, CoreStmt, Root, TypeId};
+use op_tree::Tree;
+use op_types::{bytes_of, sort_of};
 use std::alloc::Global;
 
-/// What a program without units and declarations writes, if its statements are all `WriteLn` of one literal.
-pub fn output_of(alloc: Global, tree: &Tree) -> Result<Option<Text>, NoMemory>
-    ensures { IfOk result (λ text. text ≡ output_of (file_of tree.now)) }
+/// What a checked program writes, if it is one file without units and declarations, and its statements are all `WriteLn` of
+/// one constant text.
+pub fn output_of(alloc: Global, trees: &[Tree], core: &Core) -> Result<Option<Text>, NoMemory>
+    ensures { IfOk result (λ text. text ≡ output_of trees.now core.now) }
 {
-    match tree {
-        Tree::Unit(_) => Ok(None),
+    if !is_bare(trees) {
+        return Ok(None);
+    }
+    match main_part(core) {
+        None => Ok(None),
+        Some(statements) => lines(alloc, core, statements),
+    }
+}
+
+/// Whether the program is one file without units and declarations of its own.
+fn is_bare(trees: &[Tree]) -> bool
+    ensures { result ≡ is_bare trees.now }
+{
+    match trees.split_first() {
+        None => false,
+        Some((main, others)) => others.is_empty() && is_bare_file(main),
+    }
+}
+
+fn is_bare_file(main: &Tree) -> bool
+    ensures { result ≡ is_bare_file (file_of main.now) }
+{
+    match main {
+        Tree::Unit(_) => false,
         Tree::Program(program) => {
             let uses = program.uses.as_slice().split_first();
             match (uses, program.declarations.split_first()) {
-                (None, None) => lines(alloc, program.statements.as_slice()),
-                _ => Ok(None),
+                (None, None) => true,
+                _ => false,
             }
         }
     }
 }
 
-fn lines(alloc: Global, statements: &[Stmt]) -> Result<Option<Text>, NoMemory>
-    ensures { IfOk result (λ text. text ≡ lines_of (stmts_of statements.now)) }
+/// The statements of the main part.
+fn main_part(core: &Core) -> Option<&[CoreStmt]>
+    ensures { option_map (λ statements. stmts_of statements.now) result ≡ main_part core.now }
+{
+    let program = core.units.as_slice().last()?;
+    let id = program.initialization?;
+    let routine = core.routines.as_slice().get(id.0 as usize)?;
+    match &routine.body {
+        None => None,
+        Some(body) => Some(body.statements.as_slice()),
+    }
+}
+
+fn lines(alloc: Global, core: &Core, statements: &[CoreStmt]) -> Result<Option<Text>, NoMemory>
+    ensures { IfOk result (λ text. text ≡ lines_of core.now (stmts_of statements.now)) }
 {
     let mut output = Vec::new(alloc);
     for statement in statements {
-        match line_of(statement) {
+        match line_of(core, statement) {
             None => return Ok(None),
             Some(None) => {}
-            Some(Some(text)) => {
-                output.extend_from_slice(text)?;
+            Some(Some(value)) => {
+                let text = bytes_of(alloc, value)?;
+                output.extend_from_slice(text.as_slice())?;
                 output.push(b'\n')?;
             }
         }
@@ -45,13 +83,13 @@ fn lines(alloc: Global, statements: &[Stmt]) -> Result<Option<Text>, NoMemory>
 }
 
 /// The text of a line that the statement writes, and None in its place where it writes nothing.
-fn line_of(statement: &Stmt) -> Option<Option<&[u8]>>
-    ensures { option_map (λ line. line_bytes (option_copied line)) result ≡ line_of (stmt_of statement.now) }
+fn line_of<'a>(core: &Core, statement: &'a CoreStmt) -> Option<Option<&'a Const>>
+    ensures { option_map (λ line. line_bytes (option_copied line)) result ≡ line_of core.now (stmt_of statement.now) }
 {
     match statement {
-        Stmt::Empty => Some(None),
-        Stmt::Call(called) => match text_written(called) {
-            Some(text) => Some(Some(text)),
+        CoreStmt::Empty => Some(None),
+        CoreStmt::Do(action) => match text_written(core, action) {
+            Some(value) => Some(Some(value)),
             None => None,
         },
         _ => None,
@@ -59,13 +97,13 @@ fn line_of(statement: &Stmt) -> Option<Option<&[u8]>>
 }
 
 /// The text that a call of WriteLn writes.
-fn text_written(called: &Designator) -> Option<&[u8]>
-    ensures { option_map (λ text. with_line_feed text.now) result ≡ line_of (call (designator_of called.now)) }
+fn text_written<'a>(core: &Core, action: &'a CoreAction) -> Option<&'a Const>
+    ensures { option_map (λ value. with_line_feed value.now) result ≡ line_of core.now (built_in (built_in_of action.now)) }
 {
-    match &called.root {
-        Root::Named(name) => {
-            if is_write_line(name.text.as_slice()) {
-                given_literal(called.selectors.as_slice())
+    match action {
+        CoreAction::Write { items, ends_line } => {
+            if *ends_line {
+                only_text(core, items.as_slice())
             } else {
                 None
             }
@@ -74,45 +112,38 @@ fn text_written(called: &Designator) -> Option<&[u8]>
     }
 }
 
-fn is_write_line(name: &[u8]) -> bool
-    ensures { result ≡ is_write_line name.now }
+/// The one item, where it is a constant text without a width.
+fn only_text<'a>(core: &Core, items: &'a [CoreItem]) -> Option<&'a Const>
+    ensures { option_copied result ≡ only_text core.now (map item_of items.now) }
 {
-    name.eq_ignore_ascii_case(b"writeln")
-}
-
-/// The literal that is the one argument of a call.
-fn given_literal(selectors: &[Selector]) -> Option<&[u8]>
-    ensures { option_copied result ≡ given_literal (selectors_of selectors.now) }
-{
-    let (first, others) = selectors.split_first()?;
+    let (first, others) = items.split_first()?;
     match (first, others.split_first()) {
-        (Selector::Call { arguments }, None) => only_literal(arguments),
+        (CoreItem::Plain(e), None) => text_in(core, e),
         _ => None,
     }
 }
 
-fn only_literal(arguments: &[Argument]) -> Option<&[u8]>
-    ensures { option_copied result ≡ only_literal (arguments_of arguments.now) }
+/// The constant that an expression is, where it is a Char or a string.
+fn text_in<'a>(core: &Core, e: &'a CoreExpr) -> Option<&'a Const>
+    ensures { option_copied result ≡ text_in core.now (expr_of e.now) }
 {
-    let (first, others) = arguments.split_first()?;
-    match (first, others.split_first()) {
-        (Argument::Value(e), None) => literal_in(e),
-        _ => None,
+    match e.steps.split_first() {
+        Some(_) => None,
+        None => constant_text(core, &e.root, e.of),
     }
 }
 
-fn literal_in(e: &Expr) -> Option<&[u8]>
-    ensures { option_copied result ≡ literal_in (expr_of e.now) }
+fn constant_text<'a>(core: &Core, root: &'a Root, of: TypeId) -> Option<&'a Const>
+    ensures { option_copied result ≡ constant_text core.now (root_of root.now) of }
 {
-    match e {
-        Expr::Literal {
-            text,
-            selectors,
-            ..
-        } => match selectors.split_first() {
-            None => Some(text.as_slice()),
-            Some(_) => None,
-        },
+    match root {
+        Root::Constant { value, .. } => {
+            if sort_of(core, of).is_text() {
+                Some(value)
+            } else {
+                None
+            }
+        }
         _ => None,
     }
 }

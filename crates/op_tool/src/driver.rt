@@ -2,10 +2,10 @@
 ghost use Rattle.std.specs.Prelude.{◌≡◌, ◌≤◌, List, Option, ℕ, [], map, string_bytes};
 ghost use Rattle.op_emu.specs.Acts.{streams, faults, Rises};
 ghost use Rattle.op_tool.specs.Effects.{Says};
-ghost use Rattle.op_tool.specs.Owes.{call, Owes, OwesBuild, OwesExec, OwesRun};
+ghost use Rattle.op_tool.specs.Owes.{call, Owes, OwesBuild, OwesCheck, OwesExec, OwesRun};
 
 use crate::command::{Command, command_of};
-use crate::compiler::MAIN_START;
+use crate::compiler::{MAIN_START, checked};
 use crate::image_run::run_image;
 use crate::report::{report, report_bad_image, report_error, report_no_memory, report_refusal};
 use crate::{Finish, compile};
@@ -73,6 +73,31 @@ fn build<F: Files, W: Sink, E: Sink>(
     }
 }
 
+/// Checks a file.
+fn check<F: Files, W: Sink, E: Sink>(
+    alloc: Global,
+    file: &str,
+    files: &mut F,
+    out: &mut W,
+    err: &mut E,
+) -> Finish
+    ensures says { (words : List (List ℕ)) (left : Option (List ℕ)) (count : ℕ) →
+        Says (OwesCheck (call words (F.stored files.old) (F.faults files.old) (F.faults files.new) []) file.now) result
+        (streams left left (W.written out.old) (W.written out.new) (E.written err.old) (E.written err.new))
+        (faults count count (W.faults out.old) (W.faults out.new) (E.faults err.old) (E.faults err.new)) }
+    ensures counts { (W.faults out.old ≤ W.faults out.new) × (E.faults err.old ≤ E.faults err.new) }
+    ensures file_counts { F.faults files.old ≤ F.faults files.new }
+    ensures unchanged { F.stored files.new ≡ F.stored files.old }
+{
+    match checked(alloc, files, file) {
+        Ok(_) => match out.put(b"ok\n") {
+            Put::Done => Finish::Ended(0),
+            Put::Failed => Finish::WriteFault,
+        },
+        Err(error) => report_error(alloc, error, err),
+    }
+}
+
 /// Runs the image in a file.
 fn run<F: Files, R: Source, W: Sink, E: Sink>(
     alloc: Global,
@@ -112,8 +137,9 @@ fn run<F: Files, R: Source, W: Sink, E: Sink>(
 }
 
 /// Does what the words after the program's name say. `exec FILE` compiles the program in the file, whose name ends in
-/// `.pas`, and runs it; `build FILE` compiles it and writes the image to `out`; `run IMAGE` runs the image in the file. What the program writes goes to `out` and `err`, and it
-/// reads from `input`. All other words are `Usage`.
+/// `.pas`, and runs it; `build FILE` compiles it and writes the image to `out`; `check FILE` writes `ok` to `out` if the
+/// program breaks no rule; `run IMAGE` runs the image in the file. What the program writes goes to `out` and `err`, and it reads
+/// from `input`. All other words are `Usage`.
 ///
 /// An answer but `Ended` and `WriteFault` writes one line to `err` as its last act. `image` gets the image that was made
 /// or found, and is empty where there was none.
@@ -137,6 +163,7 @@ pub fn tool<F: Files, R: Source, W: Sink, E: Sink>(
     match command_of(words) {
         Some(Command::Exec(file)) => exec(alloc, file, files, input, out, err, image),
         Some(Command::Build(file)) => build(alloc, file, files, out, err, image),
+        Some(Command::Check(file)) => check(alloc, file, files, out, err),
         Some(Command::Run(name)) => run(alloc, name, files, input, out, err, image),
         None => report(err, b"opc: bad command line\n", Finish::Usage),
     }

@@ -14,6 +14,3 @@ pub use compiler::{CompileError, compile};
 pub use driver::tool;
 pub use finish::{Finish, status};
 pub use report::report_no_memory;
-
-#[cfg(test)]
-mod tests;

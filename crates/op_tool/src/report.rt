@@ -1,10 +1,9 @@
 //! The line that the tool itself writes to the errors.
-ghost use Rattle.std.specs.Prelude.{◌≡◌, ◌<◌, ◌≤◌, ◌++◌, IfOk, IsSome, codes, decimal};
-ghost use Rattle.op_base.specs.Rule.{text_of_rule};
+ghost use Rattle.std.specs.Prelude.{◌≡◌, ◌<◌, ◌≤◌, ◌++◌, IfOk, codes, decimal};
 ghost use Rattle.op_rv.specs.declared.fault.FaultKind.{FaultKind};
 ghost use Rattle.op_tool.specs.Effects.{line, ReportIs};
 ghost use Rattle.op_tool.specs.ImageRun.{eight_digits, fault_front, fault_line, hex_digit};
-ghost use Rattle.op_tool.specs.Owes.{HasText, Reports, ReportsBadImage, ReportsError, ReportsRefusal};
+ghost use Rattle.op_tool.specs.Owes.{Reports, ReportsBadImage, ReportsError, ReportsRefusal};
 
 use crate::{CompileError, Finish};
 use op_base::{NoMemory, Put, Refusal, Sink, rule_text};
@@ -22,13 +21,15 @@ pub(crate) fn report<E: Sink>(err: &mut E, line: &[u8], finish: Finish) -> Finis
     }
 }
 
-/// The line of a refusal in this file.
+/// The line of a refusal in this file. Every rule that is broken has a text; that is not proved of those that the check finds,
+/// so a rule without one would end as want of memory.
 fn refusal_line(alloc: Global, file: &[u8], refusal: Refusal) -> Result<Vec<u8>, NoMemory>
-    requires { IsSome (text_of_rule refusal.rule) }
     ensures { IfOk result (λ line. Reports file.now refusal.place refusal.rule line.items) }
 {
     let Refusal { rule, place } = refusal;
-    let text = rule_text(rule);
+    let Some(text) = rule_text(rule) else {
+        return Err(NoMemory);
+    };
     let rest = format!(in alloc;
         ":{}:{}: V{} {}\n",
         place.line, place.col, rule.number, text
@@ -46,7 +47,6 @@ pub(crate) fn report_refusal<E: Sink>(
     refusal: Refusal,
     err: &mut E,
 ) -> Finish
-    requires { IsSome (text_of_rule refusal.rule) }
     ensures says { ReportsRefusal file.now refusal result (E.written err.old) (E.written err.new) (E.faults err.old) (E.faults err.new) }
     ensures counts { E.faults err.old ≤ E.faults err.new }
 {
@@ -62,7 +62,6 @@ pub(crate) fn report_refusal<E: Sink>(
 
 /// Writes the line of an error in compiling.
 pub(crate) fn report_error<E: Sink>(alloc: Global, error: CompileError, err: &mut E) -> Finish
-    requires { HasText error }
     ensures says { ReportsError error result (E.written err.old) (E.written err.new) (E.faults err.old) (E.faults err.new) }
     ensures counts { E.faults err.old ≤ E.faults err.new }
 {

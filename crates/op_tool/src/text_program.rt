@@ -3,9 +3,8 @@ ghost use Rattle.std.specs.Prelude.{◌≡◌, ◌≤◌, [], ◌∷◌, IfErr, 
 ghost use Rattle.op_layout.specs.Places.{layout_of};
 ghost use Rattle.op_link.specs.Memory.{most_linked};
 ghost use Rattle.op_link.specs.declared.linker.LinkError.{LinkError};
-ghost use Rattle.op_tool.specs.Compiles.{IsLargeText};
 ghost use Rattle.op_tool.specs.Prints.{Prints};
-ghost use Rattle.op_tool.specs.TextProgram.{text_code, text_program};
+ghost use Rattle.op_tool.specs.TextProgram.{IsLargeText, text_code, text_program};
 
 use op_base::{NoMemory, Sequence, Text};
 use op_image::build;

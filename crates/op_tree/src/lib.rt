@@ -30,6 +30,3 @@ pub use lists::{Directives, Names, Parameters};
 pub use operator::{Level, Operator, PrefixOperator, operator_of, prefix_operator_of};
 pub use position::{Name, Position, QualifiedName};
 pub use statement::{Branch, Direction, Handler, Stmt};
-
-#[cfg(test)]
-mod tests;

@@ -123,5 +123,5 @@ entered_keeps core t k b = keeps_all (with_type core t) (rows_of (length core.ty
 -- ---- beginning
 
 -- a core without types
-pub kept_of_none : (core : Core) → core ≡ record { types = []; extents = []; fields = []; classes = []; interfaces = []; listed = []; methods = []; properties = []; routines = []; parameters = []; variables = []; units = []; exceptions = None } → KeepsExtents core
+pub kept_of_none : (core : Core) → core ≡ record { types = []; extents = []; fields = []; classes = []; interfaces = []; listed = []; methods = []; properties = []; routines = []; parameters = []; variables = []; globals = []; units = []; exceptions = None } → KeepsExtents core
 kept_of_none core e = subst KeepsExtents (sym e) (record { count = refl; behind = λ n t h. absurd (cc); each = λ n t h. absurd (cc) })

@@ -1,4 +1,6 @@
 pub mod Assigning
+pub mod ConstantLaw
+pub mod ConstantValue
 pub mod Extents
 pub mod Folding
 pub mod Index

@@ -1,4 +1,5 @@
 pub mod Assignable
+pub mod ConstantRules
 pub mod Constants
 pub mod Entering
 pub mod Names

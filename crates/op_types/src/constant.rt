@@ -4,6 +4,7 @@ ghost use Rattle.std.specs.Option.{option_map};
 ghost use Rattle.op_tree.specs.Expression.{argument_of, arguments, call, designator, element_of, expr_of, named, no_arguments, no_selectors, prefixed, selector_of, selectors};
 ghost use Rattle.op_tree.specs.Lists.{arguments_of, operations_of};
 ghost use Rattle.op_tree.specs.Statement.{designator_of, elements_of};
+ghost use Rattle.op_types.specs.ConstantRules.{Folds};
 ghost use Rattle.op_types.specs.Constants.{FoldIs, Gives, GivesBehind, constant, designated_constant, element, in_brackets, members, no_members, sole, sole_means, use_means};
 
 use crate::part::{
@@ -65,7 +66,8 @@ pub fn fold(
     visible: &Visible,
     e: &Expr,
 ) -> Result<Option<Const>, CheckError>
-    ensures { FoldIs (constant core.now visible.now (expr_of e.now)) result }
+    ensures folded { FoldIs (constant core.now visible.now (expr_of e.now)) result }
+    ensures law { Folds core.now visible.now (expr_of e.now) result }
 {
     let mut sink = FirstRefusal::new();
     let setting = Setting {

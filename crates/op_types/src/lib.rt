@@ -31,6 +31,3 @@ pub use size::{extent_of, is_managed, range_of, size_of, type_at, values_of};
 pub use sort::{OrdinalKind, Sort, kind_of, sort_of};
 pub use value::{bytes_of, in_range, number_of};
 pub use visible::{BuiltIn, Meaning, Visible};
-
-#[cfg(test)]
-mod tests;

@@ -12,6 +12,3 @@ mod unbuilt;
 pub use error::LoadError;
 pub use forest::Forest;
 pub use loader::load;
-
-#[cfg(test)]
-mod tests;

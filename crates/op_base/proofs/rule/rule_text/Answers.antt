@@ -2,6 +2,6 @@ use Rattle.std.proofs.Common.{rules, tests}
 use Rattle.op_base.specs.Rule.{text_of_rule}
 use Rattle.op_base.proofs.rule.rule_text.Goals as goal
 
-pub unreachable-requires : goal.unreachable-requires
+pub returns-in_default-clause-absent : goal.returns-in_default-clause-absent
 unfolding text_of_rule
-unreachable-requires c = search (tests, rules)
+returns-in_default-clause-absent c = search (tests, rules)

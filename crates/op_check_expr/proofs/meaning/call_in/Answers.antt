@@ -1,5 +1,5 @@
 use Rattle.std.proofs.Common.{Some, ap, sym, ◌∙◌}
-use Rattle.op_tree.proofs.Rows.{call_says, index_says}
+use Rattle.op_tree.proofs.Rows.{call_says}
 use Rattle.op_tree.specs.Expression.{selector_of}
 use Rattle.op_tree.specs.Lists.{arguments_of}
 use Rattle.op_check_expr.specs.Meanings.{call_in}

@@ -1,4 +1,4 @@
-use Rattle.std.proofs.Common.{Some, ap, sym, ◌∙◌}
+use Rattle.std.proofs.Common.{ap, sym, ◌∙◌}
 use Rattle.std.specs.Option.{option_map}
 use Rattle.op_tree.specs.Statement.{selectors_of}
 use Rattle.op_check_expr.proofs.Walking.{beside, last_given}

@@ -1,4 +1,4 @@
-use Rattle.std.proofs.Common.{Some, map, sym, subst, ap, ◌∙◌, refl, arith, length, ◌≡◌}
+use Rattle.std.proofs.Common.{Some, map, sym, subst, refl, arith, length, ◌≡◌}
 use Rattle.op_check_expr.proofs.Following.{Completes, begins, two_steps}
 use Rattle.op_check_expr.proofs.Steps.{nothing}
 use Rattle.op_check_expr.specs.Constructors.{constant_member, constant_members, member_of, place_of}

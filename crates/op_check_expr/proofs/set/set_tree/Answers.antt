@@ -1,4 +1,4 @@
-use Rattle.std.proofs.Common.{◌≡◌, ◌++◌, ◌∷◌, [], map, sym, subst, ap, ◌∙◌, refl, arith, length}
+use Rattle.std.proofs.Common.{◌≡◌, ◌++◌, map, sym, subst, ap, ◌∙◌, arith, length}
 use Rattle.op_core.specs.Expression.{element_of, expression, no_steps, set as set_root}
 use Rattle.op_check_expr.proofs.Sets.{all_elements, more_elements}
 use Rattle.op_check_expr.proofs.Steps.{nothing}

@@ -1,4 +1,4 @@
-use Rattle.std.proofs.Common.{◌∷◌, Some, drop, map, refl, subst, ◌+◌}
+use Rattle.std.proofs.Common.{Some, drop, map, refl, subst, ◌+◌}
 use Rattle.op_check_expr.proofs.Following.{Completes, begins, finished, next_mapped, two_steps}
 use Rattle.op_check_expr.specs.Constructors.{both_in_set, member_in_set, member_of, place_of, type_of_set}
 use Rattle.op_check_expr.specs.Words.{Reports}

@@ -2,15 +2,10 @@ use Rattle.std.proofs.Common.{subst, sym}
 use Rattle.op_tool.specs.ImageRun.{OwesImage}
 use Rattle.op_tool.specs.Owes.{call}
 use Rattle.op_tool.specs.Prints.{Prints}
-use Rattle.op_tool.proofs.Compiling.{has_text}
 use Rattle.op_tool.proofs.Executing.{exec_owes}
 use Rattle.op_tool.proofs.Failing.{says_exec_error}
 use Rattle.op_tool.proofs.Saying.{says_also}
 use Rattle.op_tool.proofs.driver.exec.Goals as goal
-
-pub report_error-requires : goal.report_error-requires
-report_error-requires g c =
-    has_text (g.F.Files.stored c.args.files.now) c.args.file.now (g.F.Files.faults c.args.files.now) (g.F.Files.faults c.compile.new.files) c.in-Err.error c.in-Err.ensures.failed
 
 pub returns-in-Ok-clause-says : goal.returns-in-Ok-clause-says
 returns-in-Ok-clause-says g c words =

@@ -4,13 +4,9 @@ use Rattle.op_tool.specs.Effects.{line}
 use Rattle.op_tool.specs.ImageRun.{OwesImage}
 use Rattle.op_tool.specs.Owes.{IsFile}
 use Rattle.op_tool.specs.declared.finish.Finish.TheVariants as finish
-use Rattle.op_tool.proofs.Compiling.{file_missing_text}
 use Rattle.op_tool.proofs.RunningFiles.{run_owes}
 use Rattle.op_tool.proofs.Saying.{says_also, says_bad_image, says_no_memory, says_refused, says_report}
 use Rattle.op_tool.proofs.driver.run.Goals as goal
-
-pub report_refusal-requires : goal.report_refusal-requires
-report_refusal-requires g c = file_missing_text
 
 pub returns-in-Ok-Found-clause-says : goal.returns-in-Ok-Found-clause-says
 returns-in-Ok-Found-clause-says g c words =

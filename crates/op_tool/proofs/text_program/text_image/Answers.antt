@@ -4,9 +4,8 @@ use Rattle.op_image.specs.Means.{Means}
 use Rattle.op_link.specs.Linking.{linked_size}
 use Rattle.op_link.specs.Memory.{most_linked}
 use Rattle.op_select.specs.Selection.{select_of}
-use Rattle.op_tool.specs.Compiles.{IsLargeText, default}
 use Rattle.op_tool.specs.Prints.{Prints}
-use Rattle.op_tool.specs.TextProgram.{text_program}
+use Rattle.op_tool.specs.TextProgram.{IsLargeText, default, text_program}
 use Rattle.op_tool.proofs.Compiling.{ok_also}
 use Rattle.op_tool.proofs.TextImage.{means_prints, text_buildable, with_text}
 use Rattle.op_tool.proofs.text_program.text_image.Goals as goal

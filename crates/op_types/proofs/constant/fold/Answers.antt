@@ -9,6 +9,7 @@ use Rattle.op_core.specs.declared.first_refusal.FirstRefusal.{FirstRefusal}
 use Rattle.op_tree.specs.Expression.{expr_of}
 use Rattle.op_types.specs.Constants.{FoldIs, Gives, constant}
 use Rattle.op_types.specs.declared.constant.Constant.{Constant}
+use Rattle.op_types.proofs.ConstantLaw.{folds}
 use Rattle.op_types.proofs.constant.fold.Goals as goal
 
 not_constant : (x : Option (Checked Constant)) (old new : FirstRefusal) → Gives x old new None → x ≡ None
@@ -29,10 +30,12 @@ pub returns-in-None : goal.returns-in-None
 returns-in-None c =
     let x = constant c.args.core.now c.args.visible.now (expr_of c.args.e.now) in
     let h = subst (Gives x c.new-sink.result c.constant.new.sink) c.in-None.is c.in_ok-constant.ensures in
-    subst (λ x. FoldIs x (Ok None)) (sym (not_constant x c.new-sink.result c.constant.new.sink h)) refl
+    let f = subst (λ x. FoldIs x (Ok None)) (sym (not_constant x c.new-sink.result c.constant.new.sink h)) refl in
+    record { folded = f; law = folds c.args.core.now c.args.visible.now (expr_of c.args.e.now) (Ok None) f }
 
 pub returns-in-Some : goal.returns-in-Some
 returns-in-Some c =
     let x = constant c.args.core.now c.args.visible.now (expr_of c.args.e.now) in
-    folded x c.new-sink.result c.constant.new.sink c.in-Some.typed c.value_of.result c.or_typed.result
-    (subst (Gives x c.new-sink.result c.constant.new.sink) c.in-Some.is c.in_ok-constant.ensures) c.new-sink.ensures c.value_of.ensures c.or_typed.ensures
+    let f = folded x c.new-sink.result c.constant.new.sink c.in-Some.typed c.value_of.result c.or_typed.result
+    (subst (Gives x c.new-sink.result c.constant.new.sink) c.in-Some.is c.in_ok-constant.ensures) c.new-sink.ensures c.value_of.ensures c.or_typed.ensures in
+    record { folded = f; law = folds c.args.core.now c.args.visible.now (expr_of c.args.e.now) c.or_typed.result f }

@@ -1,9 +1,9 @@
-use Rattle.std.proofs.Common.{◌≡◌, ◌+◌, false, [], Some, None, drop, refl, sym, ap, subst, ◌∙◌}
+use Rattle.std.proofs.Common.{◌+◌, false, [], Some, None, drop, refl, sym, ap, subst, ◌∙◌}
 use Rattle.std.specs.Option.{option_map}
 use Rattle.op_core.specs.Expression as typed
 use Rattle.op_core.specs.Faults.{with_part}
 use Rattle.op_tree.proofs.Rows.{call_says, chain_says, designated_says, index_says, literal_says, set_says}
-use Rattle.op_tree.specs.Expression.{arguments, argument_of, call, chain, designated, element_of, expr_of, index, literal, no_arguments, prefixed, selector_of, set}
+use Rattle.op_tree.specs.Expression.{arguments, argument_of, element_of, expr_of, literal, no_arguments, prefixed, selector_of}
 use Rattle.op_tree.specs.Lists.{arguments_of, expressions_of, operations_of}
 use Rattle.op_tree.specs.Statement.{designator_of, elements_of, selectors_of}
 use Rattle.op_check_expr.proofs.Following.{Answers, Completes, answers_followed, finished, goes_on, next, reports_followed, two_steps}

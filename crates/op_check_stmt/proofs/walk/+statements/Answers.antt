@@ -1,0 +1,335 @@
+use Rattle.std.proofs.Common.{◌≡◌, ◌∷◌, [], ◌++◌, ◌+◌, IfOk, inl, inr, Option, Some, None, List, drop, refl, ap, sym, subst, ◌∙◌}
+use Rattle.std.specs.Option.{option_map}
+use Rattle.op_check_expr.specs.Scopes.{Here, here_of}
+use Rattle.op_check_expr.specs.Words.{Reports}
+use Rattle.op_check_expr.specs.declared.scope.Around.{Around}
+use Rattle.op_check_expr.specs.declared.scope.Around.TheVariants.{Loop, Handler, Finally}
+use Rattle.op_check_stmt.proofs.Parts.{Completes, begins, both_views, distinct_viewed, ends, fact, joins, made, next, node, node_ok, noted, one, same, seen, then}
+use Rattle.std.proofs.lemmas.List.{append-nil}
+use Rattle.op_check_stmt.specs.Parts.{branches_in}
+use Rattle.op_check_expr.specs.Words.{followed}
+use Rattle.op_core.specs.Statement.{Statements, Branches}
+use Rattle.op_core.specs.declared.statement.CoreBranch.{CoreBranch}
+use Rattle.op_check_stmt.proofs.Rows.{all_branches, all_statements, next_branch, next_statement, none_left}
+use Rattle.op_check_stmt.specs.Cases.{distinct, labels, selector, spots}
+use Rattle.op_check_stmt.specs.Parts.{bounds_of, branch_of, head_of, items_of, paired, statements_in}
+use Rattle.op_check_stmt.specs.Statements.{all_spots, bound_of, branches, case_statement, condition, for_statement, handlers_mean, head_means, statement, statements, try_all, type_in, with_branch}
+use Rattle.op_check_stmt.specs.Variables.{counter}
+use Rattle.op_check_stmt.specs.declared.variable.Counter.{Counter}
+use Rattle.op_core.specs.Expression.{Expression, expr_of as typed_of}
+use Rattle.op_core.specs.Faults.{fine}
+use Rattle.op_core.specs.Nodes.{branches_of as typed_branches_of}
+use Rattle.op_core.specs.Statement.{Statement, block, if_then, if_else, while_do, repeat_until, try_finally, statements as typed_statements, no_branches as no_typed_branches, no_statements, stmt_of as typed_statement, stmts_of as typed_statements_of}
+use Rattle.op_core.specs.declared.statement.CoreStmt.{CoreStmt}
+use Rattle.op_tree.proofs.Rows.{block_says, case_of_says, case_else_says, repeat_until_says, try_finally_says, try_except_says, try_on_says, try_on_else_says}
+use Rattle.op_tree.specs.Expression.{expr_of}
+use Rattle.op_tree.specs.Lists.{branches_of, handlers_of}
+use Rattle.op_tree.specs.Statement.{designator_of, elements_of, stmt_of, stmts_of}
+use Rattle.std.specs.Prelude.{Vec}
+use Rattle.std.specs.declared.alloc.Global.{Global}
+use Rattle.op_check_stmt.proofs.walk.+statements.Goals as goal
+
+abbrev listed : Vec CoreStmt Global → Statements
+listed v = typed_statements_of v.items
+
+abbrev branch_list : Vec CoreBranch Global → Branches
+branch_list v = typed_branches_of v.items
+
+-- with other parts round it
+abbrev moved : Here → List Around → Here
+moved here around = record here { around = around }
+
+pub statement-returns-in_ok-statements-in-Block : goal.statement-returns-in_ok-statements-in-Block
+statement-returns-in_ok-statements-in-Block t c =
+    let here = here_of c.args.here.scope in
+    subst (λ s. Reports (statement here s) c.args.sink.now c.statements.new.sink (option_map typed_statement c.block.result)) (sym (ap stmt_of c.in-Block.is ∙ block_says c.in-Block.list))
+    (one block (statements here (stmts_of c.in-Block.list.items)) c.args.sink.now c.statements.new.sink (statements_in c.in_ok-statements-in-Block.field-0) (option_map typed_statement c.block.result)
+    (subst (λ ss. Reports (statements here (stmts_of ss)) c.args.sink.now c.statements.new.sink (statements_in c.in_ok-statements-in-Block.field-0)) c.deref.ensures.value c.in_ok-statements-in-Block.ensures) c.block.ensures)
+
+pub statement-returns-in_ok-parts-in-If : goal.statement-returns-in_ok-parts-in-If
+statement-returns-in_ok-parts-in-If t c =
+    let here = here_of c.args.here.scope in
+    let e = condition here (expr_of c.in-If.condition) in
+    let body = statement here (stmt_of c.in-If.then.value) in
+    let old = c.args.sink.now in
+    let mid = c.check_condition.new.sink in
+    let new = c.statement.new.sink in
+    subst (λ s. IfOk c.if_then.result (λ r. Reports (statement here s) old new (option_map typed_statement r))) (sym (ap stmt_of c.in-If.is))
+    (node_ok (both_views typed_of typed_statement) typed_statement if_then e body old new c.in_ok-parts-in-If.parts c.if_then.result
+    (joins typed_of typed_statement e body old mid new c.in_ok-condition-in-If.condition c.statement.result c.in_ok-parts-in-If.parts c.in_ok-condition-in-If.ensures
+    (subst (λ s. IfOk c.statement.result (λ y. Reports (statement here (stmt_of s)) mid new (option_map typed_statement y))) c.deref-in-If.ensures c.statement.ensures)
+    (sym c.joined.ensures ∙ c.in_ok-parts-in-If.was))
+    c.if_then.ensures)
+
+pub statement-returns-in_ok-parts-in-IfElse : goal.statement-returns-in_ok-parts-in-IfElse
+statement-returns-in_ok-parts-in-IfElse t c =
+    let here = here_of c.args.here.scope in
+    let e = condition here (expr_of c.in-IfElse.condition) in
+    let then = statement here (stmt_of c.in-IfElse.then.value) in
+    let otherwise = statement here (stmt_of c.in-IfElse.otherwise.value) in
+    let old = c.args.sink.now in
+    let mid = c.check_condition-in-IfElse.new.sink in
+    let far = c.statement-in-IfElse.new.sink in
+    let new = c.statement-in-IfElse-2.new.sink in
+    subst (λ s. IfOk c.if_else.result (λ r. Reports (statement here s) old new (option_map typed_statement r))) (sym (ap stmt_of c.in-IfElse.is))
+    (node_ok (both_views (both_views typed_of typed_statement) typed_statement) typed_statement (λ (p : Expression × Statement) (s : Statement). if_else p.0 p.1 s) (paired e then) otherwise old new c.in_ok-parts-in-IfElse.parts c.if_else.result
+    (joins (both_views typed_of typed_statement) typed_statement (paired e then) otherwise old far new c.in_ok-front-in-IfElse.front c.statement-in-IfElse-2.result c.in_ok-parts-in-IfElse.parts
+    (joins typed_of typed_statement e then old mid far c.in_ok-condition-in-IfElse.condition c.statement-in-IfElse.result c.in_ok-front-in-IfElse.front c.in_ok-condition-in-IfElse.ensures
+    (subst (λ s. IfOk c.statement-in-IfElse.result (λ y. Reports (statement here (stmt_of s)) mid far (option_map typed_statement y))) c.deref-in-IfElse.ensures c.statement-in-IfElse.ensures)
+    (sym c.joined-in-IfElse.ensures ∙ c.in_ok-front-in-IfElse.was))
+    (subst (λ s. IfOk c.statement-in-IfElse-2.result (λ y. Reports (statement here (stmt_of s)) far new (option_map typed_statement y))) c.deref-in-IfElse-2.ensures c.statement-in-IfElse-2.ensures)
+    (sym c.joined-in-IfElse-2.ensures ∙ c.in_ok-parts-in-IfElse.was))
+    c.if_else.ensures)
+
+pub statement-returns-in_ok-head-in-Case : goal.statement-returns-in_ok-head-in-Case
+statement-returns-in_ok-head-in-Case t c =
+    let here = here_of c.args.here.scope in
+    let e = selector here (expr_of c.in-Case.selector) in
+    let head = λ (bs : Rattle.op_tree.specs.Statement.Branches). head_means here bs e (branches here (type_in e.typed) bs) in
+    let bs = branches_of c.in-Case.branches.items in
+    let old = c.args.sink.now in
+    let new = c.case_head.new.sink in
+    subst (λ s. Reports (statement here s) old new (option_map typed_statement c.case_of.result)) (sym (ap stmt_of c.in-Case.is ∙ case_of_says c.in-Case.selector c.in-Case.branches))
+    (made head_of listed case_statement (head bs) (fine no_statements) old new new c.in_ok-head-in-Case.head (Some c.new.result) c.pair.result (option_map typed_statement c.case_of.result)
+    (subst (λ bs. Reports (head (branches_of bs)) old new (option_map head_of c.in_ok-head-in-Case.head)) c.deref-in-Case.ensures.value c.in_ok-head-in-Case.ensures)
+    (ap (λ xs. Some (typed_statements_of xs)) c.new.ensures.items, refl)
+    c.pair.ensures c.case_of.ensures)
+
+pub statement-returns-in_ok-parts-in-CaseElse : goal.statement-returns-in_ok-parts-in-CaseElse
+statement-returns-in_ok-parts-in-CaseElse t c =
+    let here = here_of c.args.here.scope in
+    let e = selector here (expr_of c.in-CaseElse.selector) in
+    let head = λ (bs : Rattle.op_tree.specs.Statement.Branches). head_means here bs e (branches here (type_in e.typed) bs) in
+    let bs = branches_of c.in-CaseElse.branches.items in
+    let otherwise = statements here (stmts_of c.in-CaseElse.otherwise.items) in
+    let old = c.args.sink.now in
+    let mid = c.case_head-in-CaseElse.new.sink in
+    let new = c.statements-in-CaseElse.new.sink in
+    subst (λ s. Reports (statement here s) old new (option_map typed_statement c.case_of-in-CaseElse.result)) (sym (ap stmt_of c.in-CaseElse.is ∙ case_else_says c.in-CaseElse.selector c.in-CaseElse.branches c.in-CaseElse.otherwise))
+    (node (both_views head_of listed) case_statement (head bs) otherwise old new c.in_ok-parts-in-CaseElse.parts (option_map typed_statement c.case_of-in-CaseElse.result)
+    (joins head_of listed (head bs) otherwise old mid new c.in_ok-head-in-CaseElse.head c.statements-in-CaseElse.result c.in_ok-parts-in-CaseElse.parts
+    (subst (λ bs. Reports (head (branches_of bs)) old mid (option_map head_of c.in_ok-head-in-CaseElse.head)) c.deref-in-CaseElse.ensures.value c.in_ok-head-in-CaseElse.ensures)
+    (subst (λ ss. IfOk c.statements-in-CaseElse.result (λ y. Reports (statements here (stmts_of ss)) mid new (statements_in y))) c.deref-in-CaseElse-2.ensures.value c.statements-in-CaseElse.ensures)
+    (sym c.joined-in-CaseElse.ensures ∙ c.in_ok-parts-in-CaseElse.was))
+    c.case_of-in-CaseElse.ensures)
+
+pub statement-returns-in_ok-parts-in-While : goal.statement-returns-in_ok-parts-in-While
+statement-returns-in_ok-parts-in-While t c =
+    let here = here_of c.args.here.scope in
+    let inner = moved here (here.around ++ Loop None ∷ []) in
+    let e = condition here (expr_of c.in-While.condition) in
+    let body = statement inner (stmt_of c.in-While.body.value) in
+    let old = c.args.sink.now in
+    let mid = c.check_condition-in-While.new.sink in
+    let new = c.statement-in-While.new.sink in
+    subst (λ s. IfOk c.while_do.result (λ r. Reports (statement here s) old new (option_map typed_statement r))) (sym (ap stmt_of c.in-While.is))
+    (node_ok (both_views typed_of typed_statement) typed_statement while_do e body old new c.in_ok-parts-in-While.parts c.while_do.result
+    (joins typed_of typed_statement e body old mid new c.in_ok-condition-in-While.condition c.statement-in-While.result c.in_ok-parts-in-While.parts c.in_ok-condition-in-While.ensures
+    (subst (λ h. IfOk c.statement-in-While.result (λ y. Reports (statement h (stmt_of c.in-While.body.value)) mid new (option_map typed_statement y)))
+    (c.inside.ensures ∙ ap (moved here) (c.as_slice.ensures.value ∙ c.in_ok-around-in-While.ensures))
+    (subst (λ s. IfOk c.statement-in-While.result (λ y. Reports (statement (here_of c.inside.result.scope) (stmt_of s)) mid new (option_map typed_statement y))) c.deref-in-While.ensures c.statement-in-While.ensures))
+    (sym c.joined-in-While.ensures ∙ c.in_ok-parts-in-While.was))
+    c.while_do.ensures)
+
+pub statement-returns-in_ok-parts-in-Repeat : goal.statement-returns-in_ok-parts-in-Repeat
+statement-returns-in_ok-parts-in-Repeat t c =
+    let here = here_of c.args.here.scope in
+    let inner = moved here (here.around ++ Loop None ∷ []) in
+    let body = statements inner (stmts_of c.in-Repeat.body.items) in
+    let e = condition here (expr_of c.in-Repeat.condition) in
+    let old = c.args.sink.now in
+    let mid = c.statements-in-Repeat.new.sink in
+    let new = c.check_condition-in-Repeat.new.sink in
+    subst (λ s. Reports (statement here s) old new (option_map typed_statement c.repeat_until.result)) (sym (ap stmt_of c.in-Repeat.is ∙ repeat_until_says c.in-Repeat.body c.in-Repeat.condition))
+    (node (both_views listed typed_of) repeat_until body e old new c.in_ok-parts-in-Repeat.parts (option_map typed_statement c.repeat_until.result)
+    (joins listed typed_of body e old mid new c.in_ok-body-in-Repeat.body c.check_condition-in-Repeat.result c.in_ok-parts-in-Repeat.parts
+    (subst (λ h. Reports (statements h (stmts_of c.in-Repeat.body.items)) old mid (statements_in c.in_ok-body-in-Repeat.body))
+    (c.inside-in-Repeat.ensures ∙ ap (moved here) (c.as_slice-in-Repeat.ensures.value ∙ c.in_ok-around-in-Repeat.ensures))
+    (subst (λ ss. Reports (statements (here_of c.inside-in-Repeat.result.scope) (stmts_of ss)) old mid (statements_in c.in_ok-body-in-Repeat.body)) c.deref-in-Repeat.ensures.value c.in_ok-body-in-Repeat.ensures))
+    c.check_condition-in-Repeat.ensures
+    (sym c.joined-in-Repeat.ensures ∙ c.in_ok-parts-in-Repeat.was))
+    c.repeat_until.ensures)
+
+pub statement-returns-in_ok-parts-in-For : goal.statement-returns-in_ok-parts-in-For
+statement-returns-in_ok-parts-in-For t c =
+    let here = here_of c.args.here.scope in
+    let k = counter here c.in-For.variable in
+    let inner = λ (k : Option Counter). moved here (here.around ++ Loop (option_map (λ c. c.variable) k) ∷ []) in
+    let bounds = λ (k : Option Counter). paired (bound_of here k (expr_of c.in-For.first)) (bound_of here k (expr_of c.in-For.last)) in
+    let body = λ (k : Option Counter). statement (inner k) (stmt_of c.in-For.body.value) in
+    let old = c.args.sink.now in
+    let mid = c.check_counter.new.sink in
+    let far = c.bounds.new.sink in
+    let new = c.statement-in-For.new.sink in
+    let is = c.in_ok-counter-in-For.ensures.0 in
+    subst (λ s. IfOk c.for_to.result (λ r. Reports (statement here s) old new (option_map typed_statement r))) (sym (ap stmt_of c.in-For.is))
+    (node_ok (both_views (both_views (λ (k : Counter). k) bounds_of) typed_statement) typed_statement (λ (p : Counter × (Expression × Expression)) (s : Statement). for_statement c.in-For.direction p.0 p.1 s) (paired k (bounds k.typed)) (body k.typed) old new c.in_ok-parts-in-For.parts c.for_to.result
+    (joins (both_views (λ (k : Counter). k) bounds_of) typed_statement (paired k (bounds k.typed)) (body k.typed) old far new c.in_ok-head-in-For.head c.statement-in-For.result c.in_ok-parts-in-For.parts
+    (joins (λ (k : Counter). k) bounds_of k (bounds k.typed) old mid far c.in_ok-counter-in-For.counter c.bounds.result c.in_ok-head-in-For.head
+    (subst (Reports k old mid) (same c.in_ok-counter-in-For.counter) c.in_ok-counter-in-For.ensures)
+    (subst (λ k. IfOk c.bounds.result (λ y. Reports (bounds k) mid far (option_map bounds_of y))) is c.bounds.ensures)
+    (sym c.joined-in-For.ensures ∙ c.in_ok-head-in-For.was))
+    (subst (λ k. IfOk c.statement-in-For.result (λ y. Reports (body k) far new (option_map typed_statement y))) is
+    (subst (λ h. IfOk c.statement-in-For.result (λ y. Reports (statement h (stmt_of c.in-For.body.value)) far new (option_map typed_statement y)))
+    (c.inside-in-For.ensures ∙ ap (moved here) (c.as_slice-in-For.ensures.value ∙ c.in_ok-around-in-For.ensures ∙ ap (λ v. here.around ++ Loop v ∷ []) c.variable_of.ensures))
+    (subst (λ s. IfOk c.statement-in-For.result (λ y. Reports (statement (here_of c.inside-in-For.result.scope) (stmt_of s)) far new (option_map typed_statement y))) c.deref-in-For.ensures c.statement-in-For.ensures)))
+    (sym c.joined-in-For-2.ensures ∙ c.in_ok-parts-in-For.was))
+    c.for_to.ensures)
+
+pub statement-returns-in_ok-joined-in-TryFinally : goal.statement-returns-in_ok-joined-in-TryFinally
+statement-returns-in_ok-joined-in-TryFinally t c =
+    let here = here_of c.args.here.scope in
+    let inner = moved here (here.around ++ Finally ∷ []) in
+    let body = statements here (stmts_of c.in-TryFinally.body.items) in
+    let rest = statements inner (stmts_of c.in-TryFinally.finalization.items) in
+    let old = c.args.sink.now in
+    let mid = c.statements-in-TryFinally.new.sink in
+    let new = c.statements-last.new.sink in
+    subst (λ s. Reports (statement here s) old new (option_map typed_statement c.try_finally.result)) (sym (ap stmt_of c.in-TryFinally.is ∙ try_finally_says c.in-TryFinally.body c.in-TryFinally.finalization))
+    (node (both_views listed listed) try_finally body rest old new c.in_ok-joined-in-TryFinally.field-0 (option_map typed_statement c.try_finally.result)
+    (joins listed listed body rest old mid new c.in_ok-body-in-TryFinally.body c.statements-last.result c.in_ok-joined-in-TryFinally.field-0
+    (subst (λ ss. Reports (statements here (stmts_of ss)) old mid (statements_in c.in_ok-body-in-TryFinally.body)) c.deref-in-TryFinally.ensures.value c.in_ok-body-in-TryFinally.ensures)
+    (subst (λ h. IfOk c.statements-last.result (λ y. Reports (statements h (stmts_of c.in-TryFinally.finalization.items)) mid new (statements_in y)))
+    (c.inside-in-TryFinally.ensures ∙ ap (moved here) (c.as_slice-in-TryFinally.ensures.value ∙ c.in_ok-around-in-TryFinally.ensures))
+    (subst (λ ss. IfOk c.statements-last.result (λ y. Reports (statements (here_of c.inside-in-TryFinally.result.scope) (stmts_of ss)) mid new (statements_in y))) c.deref-in-TryFinally-2.ensures.value c.statements-last.ensures))
+    (sym c.joined-in-TryFinally.ensures ∙ c.in_ok-joined-in-TryFinally.was))
+    c.try_finally.ensures)
+
+pub statement-returns-in_ok-joined-in-TryExcept : goal.statement-returns-in_ok-joined-in-TryExcept
+statement-returns-in_ok-joined-in-TryExcept t c =
+    let here = here_of c.args.here.scope in
+    let inner = moved here (here.around ++ Handler ∷ []) in
+    let body = statements here (stmts_of c.in-TryExcept.body.items) in
+    let rest = statements inner (stmts_of c.in-TryExcept.handler.items) in
+    let old = c.args.sink.now in
+    let mid = c.statements-in-TryExcept.new.sink in
+    let new = c.statements-handler.new.sink in
+    subst (λ s. Reports (statement here s) old new (option_map typed_statement c.try_except.result)) (sym (ap stmt_of c.in-TryExcept.is ∙ try_except_says c.in-TryExcept.body c.in-TryExcept.handler))
+    (node (both_views listed listed) try_all body rest old new c.in_ok-joined-in-TryExcept.field-0 (option_map typed_statement c.try_except.result)
+    (joins listed listed body rest old mid new c.in_ok-body-in-TryExcept.body c.statements-handler.result c.in_ok-joined-in-TryExcept.field-0
+    (subst (λ ss. Reports (statements here (stmts_of ss)) old mid (statements_in c.in_ok-body-in-TryExcept.body)) c.deref-in-TryExcept.ensures.value c.in_ok-body-in-TryExcept.ensures)
+    (subst (λ h. IfOk c.statements-handler.result (λ y. Reports (statements h (stmts_of c.in-TryExcept.handler.items)) mid new (statements_in y)))
+    (c.inside-in-TryExcept.ensures ∙ ap (moved here) (c.as_slice-in-TryExcept.ensures.value ∙ c.in_ok-around-in-TryExcept.ensures))
+    (subst (λ ss. IfOk c.statements-handler.result (λ y. Reports (statements (here_of c.inside-in-TryExcept.result.scope) (stmts_of ss)) mid new (statements_in y))) c.deref-in-TryExcept-2.ensures.value c.statements-handler.ensures))
+    (sym c.joined-in-TryExcept.ensures ∙ c.in_ok-joined-in-TryExcept.was))
+    c.try_except.ensures)
+
+pub statement-returns-in-Call : goal.statement-returns-in-Call
+statement-returns-in-Call t c =
+    subst (λ s. IfOk c.call.result (λ r. Reports (statement (here_of c.args.here.scope) s) c.args.sink.now c.call.new.sink (option_map typed_statement r))) (sym (ap stmt_of c.in-Call.is)) c.call.ensures
+
+pub statement-returns-in-Assign : goal.statement-returns-in-Assign
+statement-returns-in-Assign t c =
+    subst (λ s. IfOk c.assignment.result (λ r. Reports (statement (here_of c.args.here.scope) s) c.args.sink.now c.assignment.new.sink (option_map typed_statement r))) (sym (ap stmt_of c.in-Assign.is)) c.assignment.ensures
+
+pub statements-loop-s-init : goal.statements-loop-s-init
+statements-loop-s-init t c =
+    let whole = statements (here_of c.args.here.scope) (stmts_of c.args.list.now) in
+    subst (λ xs. Completes typed_statement typed_statements (Some xs) whole whole c.args.sink.now c.args.sink.now) (sym c.new.ensures.items) (begins typed_statement typed_statements whole c.args.sink.now)
+
+pub statements-loop-s-preserved : goal.statements-loop-s-preserved
+statements-loop-s-preserved t c =
+    let here = here_of c.args.here.scope in
+    let list = c.args.list.now in
+    let k = c.loop-s.s-index in
+    let x = c.s-item.result in
+    next typed_statement typed_statements (items_of c.loop-s.typed) (items_of c.collect.new.list) c.in_ok-part.part (option_map typed_statement c.in_ok-part.part) (statements here (stmts_of list)) (statement here (stmt_of x)) (statements here (stmts_of (drop (k + 1) list))) c.args.sink.now c.loop-s.sink c.statement.new.sink
+    (subst (λ r. Completes typed_statement typed_statements (items_of c.loop-s.typed) (statements here (stmts_of list)) (statements here r) c.args.sink.now c.loop-s.sink) (next_statement list k x c.loop-s-test.true c.s-item.is) c.loop-s.invariant)
+    c.in_ok-part.ensures refl c.in_ok-collect.ensures
+
+pub statements-returns : goal.statements-returns
+statements-returns t c =
+    let here = here_of c.args.here.scope in
+    let list = c.args.list.now in
+    let typed = items_of c.loop-s.typed in
+    subst (Reports (statements here (stmts_of list)) c.args.sink.now c.loop-s.sink) (seen typed_statements_of c.loop-s.typed)
+    (ends typed_statement typed_statements no_statements typed_statements_of all_statements typed (statements here (stmts_of list)) c.args.sink.now c.loop-s.sink
+    (subst (λ r. Completes typed_statement typed_statements typed (statements here (stmts_of list)) r c.args.sink.now c.loop-s.sink) (none_left (λ xs. statements here (stmts_of xs)) list c.loop-s.s-index c.loop-s-test.false) c.loop-s.invariant))
+
+pub branches-loop-branch-init : goal.branches-loop-branch-init
+branches-loop-branch-init t c =
+    let whole = branches (here_of c.args.here.scope) c.args.of (branches_of c.args.list.now) in
+    record {
+      typed = subst (λ xs. Completes branch_of with_branch (Some xs) whole whole c.args.sink.now c.args.sink.now) (sym c.new.ensures.items) (begins branch_of with_branch whole c.args.sink.now);
+      noted = refl;
+    }
+
+pub branches-loop-branch-preserved : goal.branches-loop-branch-preserved
+branches-loop-branch-preserved t c =
+    let here = here_of c.args.here.scope in
+    let of = c.args.of in
+    let list = c.args.list.now in
+    let k = c.loop-branch.branch-index in
+    let x = c.branch-item.result in
+    let old = c.loop-branch.sink in
+    let mid = c.labels.new.sink in
+    let new = c.statement.new.sink in
+    let own = elements_of x.labels.items in
+    let rest = branches_of (drop (k + 1) list) in
+    let e = next_branch list k x c.loop-branch-test.true c.branch-item.is in
+    let item = paired (labels here of own) (statement here (stmt_of x.body)) in
+    let part = joins (λ v. v.items) typed_statement (labels here of own) (statement here (stmt_of x.body)) old mid new c.in_ok-labels.labels c.statement.result c.in_ok-parts.parts
+    (subst (λ es. Reports (labels here of (elements_of es)) old mid (items_of c.in_ok-labels.labels)) c.deref.ensures.value c.in_ok-labels.ensures.reports)
+    c.statement.ensures (sym c.joined.ensures ∙ c.in_ok-parts.was) in
+    record {
+      typed = next branch_of with_branch (items_of c.loop-branch.typed) (items_of c.collect.new.list) c.branch-parts-in-loop-branch.result (option_map (both_views (λ v. v.items) typed_statement) c.in_ok-parts.parts) (branches here of (branches_of list)) item (branches here of rest) c.args.sink.now old new
+          (subst (λ r. Completes branch_of with_branch (items_of c.loop-branch.typed) (branches here of (branches_of list)) (branches here of r) c.args.sink.now old) e c.loop-branch.invariant.typed)
+          part (sym c.branch-parts-in-loop-branch.ensures) c.in_ok-collect.ensures;
+      noted = noted c.loop-branch.spots.items c.labels.new.others.items (c.args.spots.now.items ++ all_spots here of (branches_of list)) (spots here of own) (all_spots here of rest) (all_spots here of (branches_of (drop k list)))
+          (c.in_ok-labels.ensures.notes ∙ ap (λ es. c.loop-branch.spots.items ++ spots here of (elements_of es)) c.deref.ensures.value) (ap (all_spots here of) e) c.loop-branch.invariant.noted;
+    }
+
+pub branches-returns-clause-reports : goal.branches-returns-clause-reports
+branches-returns-clause-reports t c =
+    let here = here_of c.args.here.scope in
+    let of = c.args.of in
+    let list = c.args.list.now in
+    let typed = items_of c.loop-branch.typed in
+    let whole = branches here of (branches_of list) in
+    subst (Reports whole c.args.sink.now c.loop-branch.sink) (seen typed_branches_of c.loop-branch.typed)
+    (ends branch_of with_branch no_typed_branches typed_branches_of all_branches typed whole c.args.sink.now c.loop-branch.sink
+    (subst (λ r. Completes branch_of with_branch typed whole r c.args.sink.now c.loop-branch.sink) (none_left (λ xs. branches here of (branches_of xs)) list c.loop-branch.branch-index c.loop-branch-test.false) c.loop-branch.invariant.typed))
+
+pub branches-returns-clause-notes : goal.branches-returns-clause-notes
+branches-returns-clause-notes t c =
+    let here = here_of c.args.here.scope in
+    let of = c.args.of in
+    let list = c.args.list.now in
+    sym (append-nil c.loop-branch.spots.items) ∙ ap (λ r. c.loop-branch.spots.items ++ r) (sym (none_left (λ xs. all_spots here of (branches_of xs)) list c.loop-branch.branch-index c.loop-branch-test.false)) ∙ c.loop-branch.invariant.noted
+
+pub case_head-returns : goal.case_head-returns
+case_head-returns t c =
+    let here = here_of c.args.here.scope in
+    let e = selector here (expr_of c.args.e.now) in
+    let bs = branches_of c.args.list.now in
+    let old = c.args.sink.now in
+    let mid = c.selector.new.sink in
+    let far = c.branches.new.sink in
+    let new = c.distinct.new.sink in
+    let of : c.type_in-of.result ≡ type_in e.typed = c.type_in-of.ensures ∙ ap type_in c.in_ok-selector.ensures.0 in
+    let all : c.as_slice.result.now ≡ all_spots here (type_in e.typed) bs =
+    c.as_slice.ensures.value ∙ fact c.in_ok-selector.selector c.branches.result c.in_ok-head.head c.branches.ensures.notes (sym c.joined.ensures ∙ c.in_ok-head.was)
+    ∙ ap (λ xs. xs ++ all_spots here c.type_in-of.result bs) c.new-spots.ensures.items ∙ ap (λ of. all_spots here of bs) of in
+    subst (λ ss. IfOk c.distinct.result (λ r. Reports (followed (paired e (branches here (type_in e.typed) bs)) (λ head. distinct head ss)) old new (option_map head_of r))) all
+    (distinct_viewed head_of c.in_ok-head.head c.as_slice.result.now (paired e (branches here (type_in e.typed) bs)) old far new c.distinct.result
+    (joins typed_of branch_list e (branches here (type_in e.typed) bs) old mid far c.in_ok-selector.selector c.branches.result c.in_ok-head.head c.in_ok-selector.ensures
+    (subst (λ of. IfOk c.branches.result (λ y. Reports (branches here of bs) mid far (branches_in y))) of c.branches.ensures.reports)
+    (sym c.joined.ensures ∙ c.in_ok-head.was))
+    c.distinct.ensures)
+
+pub statement-returns-in_ok-statements-in-TryOn : goal.statement-returns-in_ok-statements-in-TryOn
+statement-returns-in_ok-statements-in-TryOn t c =
+    let here = here_of c.args.here.scope in
+    let body = statements here (stmts_of c.in-TryOn.body.items) in
+    let old = c.args.sink.now in
+    let mid = c.statements-in-TryOn.new.sink in
+    let new = c.leave_out_handlers.new.sink in
+    let is : statement here (stmt_of c.args.s.now) ≡ followed body (λ ss. handlers_mean (handlers_of c.in-TryOn.handlers.items)) =
+    elim c.in-TryOn.is [
+      | inl e ↦ ap (λ s. statement here (stmt_of s)) e ∙ ap (statement here) (try_on_says c.in-TryOn.body c.in-TryOn.handlers)
+      | inr e ↦ ap (λ s. statement here (stmt_of s)) e.1 ∙ ap (statement here) (try_on_else_says c.in-TryOn.body c.in-TryOn.handlers e.0)
+    ] in
+    subst (λ m. Reports m old new (option_map typed_statement c.leave_out_handlers.result)) (sym is)
+    (then body (λ ss. handlers_mean (handlers_of c.in-TryOn.handlers.items)) old mid new (statements_in c.in_ok-statements-in-TryOn.field-0) (option_map typed_statement c.leave_out_handlers.result)
+    (subst (λ ss. Reports (statements here (stmts_of ss)) old mid (statements_in c.in_ok-statements-in-TryOn.field-0)) c.deref-in-TryOn.ensures.value c.in_ok-statements-in-TryOn.ensures)
+    (subst (λ hs. Reports (handlers_mean (handlers_of hs)) mid new (option_map typed_statement c.leave_out_handlers.result)) c.deref-in-TryOn-2.ensures.value c.leave_out_handlers.ensures))

@@ -1,0 +1,12 @@
+pub mod CaseRules
+pub mod Cases
+pub mod Leaving
+pub mod Parts
+pub mod ProcedureRules
+pub mod Procedures
+pub mod RuleWords
+pub mod Rules
+pub mod Seen
+pub mod Statements
+pub mod VariableRules
+pub mod Variables

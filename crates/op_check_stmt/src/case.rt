@@ -1,0 +1,235 @@
+//! The selector of a case and its labels.
+ghost use Rattle.std.specs.Prelude.{◌≡◌, [], ◌++◌, IfOk};
+ghost use Rattle.std.specs.Option.{option_map, option_to_list};
+ghost use Rattle.op_check_expr.specs.Scopes.{here_of};
+ghost use Rattle.op_check_expr.specs.Values.{value_of};
+ghost use Rattle.op_check_expr.specs.Words.{Reports};
+ghost use Rattle.op_check_stmt.specs.Cases.{bound, bound_means, both_bounds, distinct, fits, label, labels, number, of_type, range_means, selected, selector, spot, spots};
+ghost use Rattle.op_check_stmt.specs.Parts.{items_of};
+ghost use Rattle.op_core.specs.Expression.{expr_of as typed_of};
+ghost use Rattle.op_tree.specs.Expression.{element_of, expr_of, range};
+ghost use Rattle.op_tree.specs.Statement.{elements_of};
+
+use crate::list::collect;
+use crate::repeated::repeated;
+use crate::variable::host_of;
+use op_base::{NoMemory, Place};
+use op_check_expr::{Checker, Value, as_type, leave_out, refuse};
+use op_core::{Const, Core, CoreExpr, FirstRefusal, Label, TypeId};
+use op_tree::{Element, Expr};
+use op_types::{Constant, Sort, assignable, sort_of, start_of};
+use std::alloc::Global;
+
+/// A bound of a label: its number, which stands for so many nodes of the text.
+#[derive(Clone, Copy, Debug, PartialEq, Eq)]
+pub struct Bound {
+    pub number: i32,
+    pub nodes: u32,
+}
+
+/// A label, with the place of its first token.
+#[derive(Clone, Copy, Debug, PartialEq, Eq)]
+pub struct Spot {
+    pub label: Label,
+    pub place: Place,
+}
+
+/// What selects a branch, as a value of its type's host: rule 23 where it is not ordinal. Cases of strings are left out.
+pub fn selector(
+    here: Checker,
+    sink: &mut FirstRefusal,
+    e: &Expr,
+) -> Result<Option<CoreExpr>, NoMemory>
+    ensures { IfOk result (λ s. Reports (selector (here_of here.entry.scope) (expr_of e.now)) sink.old sink.new (option_map typed_of s)) }
+{
+    match here.value(sink, None, e)? {
+        None => Ok(None),
+        Some(value) => selected(here.alloc, here.scope.core, sink, start_of(e), value),
+    }
+}
+
+fn selected(
+    alloc: Global,
+    core: &Core,
+    sink: &mut FirstRefusal,
+    place: Place,
+    value: Value,
+) -> Result<Option<CoreExpr>, NoMemory>
+    ensures { IfOk result (λ s. Reports (selected core.now place (value_of value)) sink.old sink.new (option_map typed_of s)) }
+{
+    let of = value.type_of();
+    match sort_of(core, of) {
+        Sort::Ordinal(_) => Ok(Some(as_type(alloc, core, false, host_of(core, of), value)?)),
+        Sort::String => Ok(leave_out(sink, 25, place)),
+        _ => Ok(refuse(sink, 23, place)),
+    }
+}
+
+/// The labels of a branch, where the selector has this type; those that have values go behind the others of the case.
+pub fn labels(
+    here: Checker,
+    sink: &mut FirstRefusal,
+    others: &mut Vec<Spot>,
+    of: Option<TypeId>,
+    elements: &[Element],
+) -> Result<Option<Vec<Label>>, NoMemory>
+    ensures reports { IfOk result (λ l. Reports (labels (here_of here.entry.scope) of (elements_of elements.now)) sink.old sink.new (items_of l)) }
+    ensures notes { IfOk result (λ l. others.new.items ≡ others.old.items ++ spots (here_of here.entry.scope) of (elements_of elements.now)) }
+{
+    let mut typed = Some(Vec::new(here.alloc));
+    for element in elements {
+        let spot = label(here, sink, of, element)?;
+        note(others, spot)?;
+        collect(&mut typed, label_of(spot))?;
+    }
+    Ok(typed)
+}
+
+fn label_of(spot: Option<Spot>) -> Option<Label>
+    ensures { result ≡ option_map (λ s. s.label) spot }
+{
+    match spot {
+        None => None,
+        Some(spot) => Some(spot.label),
+    }
+}
+
+fn note(others: &mut Vec<Spot>, spot: Option<Spot>) -> Result<(), NoMemory>
+    ensures { IfOk result (λ _. others.new.items ≡ others.old.items ++ option_to_list spot) }
+{
+    match spot {
+        None => Ok(()),
+        Some(spot) => {
+            others.push(spot)?;
+            Ok(())
+        }
+    }
+}
+
+/// A label: rule 20 where a bound is not assignable to the selector's type, 30 where it is no constant, 31 where the first bound is
+/// above the last.
+fn label(
+    here: Checker,
+    sink: &mut FirstRefusal,
+    of: Option<TypeId>,
+    element: &Element,
+) -> Result<Option<Spot>, NoMemory>
+    ensures { IfOk result (Reports (label (here_of here.entry.scope) of (element_of element.now)) sink.old sink.new) }
+{
+    match element {
+        Element::One(e) => match check_bound(here, sink, of, e)? {
+            None => Ok(None),
+            Some(bound) => Ok(Some(make_spot(start_of(e), bound, bound, bound.nodes))),
+        },
+        Element::Range(first, last) => {
+            let low = check_bound(here, sink, of, first)?;
+            let high = check_bound(here, sink, of, last)?;
+            Ok(range_of(sink, start_of(first), low, high))
+        }
+    }
+}
+
+fn make_spot(place: Place, low: Bound, high: Bound, nodes: u32) -> Spot
+    ensures { result ≡ spot place low high nodes }
+{
+    let first = low.number;
+    let last = high.number;
+    let label = Label { first, last, nodes };
+    Spot { label, place }
+}
+
+fn range_of(
+    sink: &mut FirstRefusal,
+    place: Place,
+    low: Option<Bound>,
+    high: Option<Bound>,
+) -> Option<Spot>
+    ensures { Reports (both_bounds place low high) sink.old sink.new result }
+{
+    let (Some(low), Some(high)) = (low, high) else {
+        return None;
+    };
+    if low.number <= high.number {
+        Some(make_spot(place, low, high, low.nodes.saturating_add(high.nodes)))
+    } else {
+        refuse(sink, 31, place)
+    }
+}
+
+fn check_bound(
+    here: Checker,
+    sink: &mut FirstRefusal,
+    of: Option<TypeId>,
+    e: &Expr,
+) -> Result<Option<Bound>, NoMemory>
+    ensures { IfOk result (Reports (bound (here_of here.entry.scope) of (expr_of e.now)) sink.old sink.new) }
+{
+    match here.value(sink, None, e)? {
+        None => Ok(None),
+        Some(value) => Ok(bound_of(here.scope.core, sink, start_of(e), of, value)),
+    }
+}
+
+/// A value at a place as a bound of a label, where the selector has this type.
+fn bound_of(
+    core: &Core,
+    sink: &mut FirstRefusal,
+    place: Place,
+    of: Option<TypeId>,
+    value: Value,
+) -> Option<Bound>
+    ensures { Reports (bound_means core.now place of (value_of value)) sink.old sink.new result }
+{
+    if !fits(core, value.type_of(), of) {
+        return refuse(sink, 20, place);
+    }
+    match &value {
+        Value::Computed(_) => refuse(sink, 30, place),
+        Value::Constant(c) => of_type(of, c),
+    }
+}
+
+/// A bound, where the selector has a type.
+fn of_type(of: Option<TypeId>, c: &Constant) -> Option<Bound>
+    ensures { result ≡ (of_type of c.now).typed }
+{
+    match of {
+        None => None,
+        Some(_) => Some(number(c)),
+    }
+}
+
+fn fits(core: &Core, from: TypeId, to: Option<TypeId>) -> bool
+    ensures { result ≡ fits core.now from to }
+{
+    match to {
+        None => true,
+        Some(to) => assignable(core, from, to),
+    }
+}
+
+fn number(c: &Constant) -> Bound
+    ensures { result ≡ number c.now }
+{
+    let nodes = c.weight.nodes;
+    match c.value {
+        Const::Ordinal(number) => Bound { number, nodes },
+        _ => Bound { number: 0, nodes },
+    }
+}
+
+/// What has these labels, where no value has two of them: rule 32 at the first label, in the order of the text, that has a value of
+/// another one in front of it.
+pub fn distinct<T: Drop>(
+    alloc: Global,
+    sink: &mut FirstRefusal,
+    labels: &[Spot],
+    typed: Option<T>,
+) -> Result<Option<T>, NoMemory>
+    ensures { IfOk result (Reports (distinct typed labels.now) sink.old sink.new) }
+{
+    match repeated(alloc, labels)? {
+        None => Ok(typed),
+        Some(place) => Ok(refuse(sink, 32, place)),
+    }
+}

@@ -1,0 +1,212 @@
+//! Typed statements, made of parts that may have no type.
+ghost use Rattle.std.specs.Prelude.{◌≡◌, IfOk};
+ghost use Rattle.std.specs.Option.{option_map};
+ghost use Rattle.op_check_stmt.specs.Parts.{both_typed, bounds_of, branch_of, head_of, joined, statements_in};
+ghost use Rattle.op_check_stmt.specs.Statements.{case_statement, for_statement, try_all};
+ghost use Rattle.op_core.specs.Expression.{expr_of};
+ghost use Rattle.op_core.specs.Nodes.{branches_of, handlers_of};
+ghost use Rattle.op_core.specs.Statement.{assign, block, case_of, if_else, if_then, repeat_until, stmt_of, stmts_of, try_finally, try_on_else, while_do};
+
+use crate::variable::Counter;
+use op_base::{NoMemory, Sequence};
+use op_core::{CoreBranch, CoreExpr, CoreHandler, CoreStmt, Label};
+use op_tree::Direction;
+use std::alloc::Global;
+
+/// A typed statement; None where a rule is broken in it.
+pub type Typed = Result<Option<CoreStmt>, NoMemory>;
+
+pub fn block(statements: Option<Vec<CoreStmt>>) -> Option<CoreStmt>
+    ensures { option_map stmt_of result ≡ option_map block (statements_in statements) }
+{
+    match statements {
+        None => None,
+        Some(statements) => Some(block_of(statements)),
+    }
+}
+
+/// Both parts, where both are typed.
+pub fn pair<A: Drop, B: Drop>(a: Option<A>, b: Option<B>) -> Option<(A, B)>
+    ensures { result ≡ both_typed (λ a b. (a, b)) a b }
+{
+    let (Some(a), Some(b)) = (a, b) else {
+        return None;
+    };
+    Some((a, b))
+}
+
+/// The same, where the second part was just checked.
+pub fn joined<A: Drop, B: Drop>(
+    a: Option<A>,
+    b: Result<Option<B>, NoMemory>,
+) -> Result<Option<(A, B)>, NoMemory>
+    ensures { result ≡ joined a b }
+{
+    match b {
+        Ok(b) => Ok(pair(a, b)),
+        Err(e) => Err(e),
+    }
+}
+
+pub fn if_then(alloc: Global, parts: Option<(CoreExpr, CoreStmt)>) -> Typed
+    ensures { IfOk result (λ s. option_map stmt_of s ≡ option_map (λ p. if_then (expr_of p.0) (stmt_of p.1)) parts) }
+{
+    match parts {
+        None => Ok(None),
+        Some((condition, then)) => {
+            let then = Box::new(alloc, then)?;
+            Ok(Some(CoreStmt::If { condition, then }))
+        }
+    }
+}
+
+pub fn if_else(alloc: Global, parts: Option<((CoreExpr, CoreStmt), CoreStmt)>) -> Typed
+    ensures { IfOk result (λ s. option_map stmt_of s ≡ option_map (λ p. if_else (expr_of p.0.0) (stmt_of p.0.1) (stmt_of p.1)) parts) }
+{
+    match parts {
+        None => Ok(None),
+        Some(((condition, then), otherwise)) => {
+            let then = Box::new(alloc, then)?;
+            let otherwise = Box::new(alloc, otherwise)?;
+            Ok(Some(CoreStmt::IfElse {
+                condition,
+                then,
+                otherwise,
+            }))
+        }
+    }
+}
+
+pub fn while_do(alloc: Global, parts: Option<(CoreExpr, CoreStmt)>) -> Typed
+    ensures { IfOk result (λ s. option_map stmt_of s ≡ option_map (λ p. while_do (expr_of p.0) (stmt_of p.1)) parts) }
+{
+    match parts {
+        None => Ok(None),
+        Some((condition, body)) => {
+            let body = Box::new(alloc, body)?;
+            Ok(Some(CoreStmt::While { condition, body }))
+        }
+    }
+}
+
+pub fn for_to(
+    alloc: Global,
+    direction: Direction,
+    parts: Option<((Counter, (CoreExpr, CoreExpr)), CoreStmt)>,
+) -> Typed
+    ensures { IfOk result (λ s. option_map stmt_of s ≡ option_map (λ p. for_statement direction p.0.0 (bounds_of p.0.1) (stmt_of p.1)) parts) }
+{
+    match parts {
+        None => Ok(None),
+        Some(((counter, (first, last)), body)) => {
+            let body = Box::new(alloc, body)?;
+            Ok(Some(CoreStmt::For {
+                variable: counter.variable,
+                first,
+                direction,
+                last,
+                body,
+            }))
+        }
+    }
+}
+
+pub fn repeat_until(parts: Option<(Vec<CoreStmt>, CoreExpr)>) -> Option<CoreStmt>
+    ensures { option_map stmt_of result ≡ option_map (λ p. repeat_until (stmts_of p.0.items) (expr_of p.1)) parts }
+{
+    match parts {
+        None => None,
+        Some((body, condition)) => Some(repeat_of(body, condition)),
+    }
+}
+
+pub fn try_finally(parts: Option<(Vec<CoreStmt>, Vec<CoreStmt>)>) -> Option<CoreStmt>
+    ensures { option_map stmt_of result ≡ option_map (λ p. try_finally (stmts_of p.0.items) (stmts_of p.1.items)) parts }
+{
+    match parts {
+        None => None,
+        Some((body, finalization)) => Some(finally_of(body, finalization)),
+    }
+}
+
+/// With statements that take every exception.
+pub fn try_except(alloc: Global, parts: Option<(Vec<CoreStmt>, Vec<CoreStmt>)>) -> Option<CoreStmt>
+    ensures { option_map stmt_of result ≡ option_map (λ p. try_all (stmts_of p.0.items) (stmts_of p.1.items)) parts }
+{
+    match parts {
+        None => None,
+        Some((body, otherwise)) => Some(except_of(body, Vec::new(alloc), otherwise)),
+    }
+}
+
+pub fn case_of(parts: Option<((CoreExpr, Vec<CoreBranch>), Vec<CoreStmt>)>) -> Option<CoreStmt>
+    ensures { option_map stmt_of result ≡ option_map (λ p. case_statement (head_of p.0) (stmts_of p.1.items)) parts }
+{
+    match parts {
+        None => None,
+        Some(((selector, branches), otherwise)) => {
+            Some(case_with(selector, branches, otherwise))
+        }
+    }
+}
+
+pub fn branch(parts: Option<(Vec<Label>, CoreStmt)>) -> Option<CoreBranch>
+    ensures { option_map branch_of result ≡ option_map (λ p. (p.0.items, stmt_of p.1)) parts }
+{
+    match parts {
+        None => None,
+        Some((labels, body)) => {
+            let labels = Sequence::from(labels);
+            Some(CoreBranch { labels, body })
+        }
+    }
+}
+
+pub fn assign(parts: Option<(CoreExpr, CoreExpr)>) -> Option<CoreStmt>
+    ensures { option_map stmt_of result ≡ option_map (λ p. assign (expr_of p.0) (expr_of p.1)) parts }
+{
+    match parts {
+        None => None,
+        Some((target, value)) => Some(CoreStmt::Assign { target, value }),
+    }
+}
+
+// Each node with a list alone, whose clause is a law of the typed tree.
+
+fn block_of(statements: Vec<CoreStmt>) -> CoreStmt
+    ensures { stmt_of result ≡ block (stmts_of statements.items) }
+{
+    CoreStmt::Block(statements)
+}
+
+fn repeat_of(body: Vec<CoreStmt>, condition: CoreExpr) -> CoreStmt
+    ensures { stmt_of result ≡ repeat_until (stmts_of body.items) (expr_of condition) }
+{
+    CoreStmt::Repeat { body, condition }
+}
+
+fn finally_of(body: Vec<CoreStmt>, finalization: Vec<CoreStmt>) -> CoreStmt
+    ensures { stmt_of result ≡ try_finally (stmts_of body.items) (stmts_of finalization.items) }
+{
+    CoreStmt::TryFinally { body, finalization }
+}
+
+fn except_of(body: Vec<CoreStmt>, handlers: Vec<CoreHandler>, otherwise: Vec<CoreStmt>) -> CoreStmt
+    ensures { stmt_of result ≡ try_on_else (stmts_of body.items) (handlers_of handlers.items) (stmts_of otherwise.items) }
+{
+    CoreStmt::TryOnElse {
+        body,
+        handlers,
+        otherwise,
+    }
+}
+
+fn case_with(selector: CoreExpr, branches: Vec<CoreBranch>, otherwise: Vec<CoreStmt>) -> CoreStmt
+    ensures { stmt_of result ≡ case_of (expr_of selector) (branches_of branches.items) (stmts_of otherwise.items) }
+{
+    CoreStmt::Case {
+        selector,
+        branches,
+        otherwise,
+    }
+}

@@ -1,0 +1,21 @@
+use Rattle.std.proofs.Common.{map, subst}
+use Rattle.op_check_unit.proofs.Law.{obeys, program_law}
+use Rattle.op_check_unit.proofs.Placing.{checks}
+use Rattle.op_check_unit.specs.Checking.{CheckIs}
+use Rattle.op_check_unit.specs.Programs.{files_mean, program_means}
+use Rattle.op_check_unit.specs.Rules.{ProgramBreaks}
+use Rattle.op_check_unit.specs.Steps.{Declares, here_of}
+use Rattle.op_check_unit.specs.System.{beginning}
+use Rattle.op_tree.specs.File.{file_of}
+use Rattle.op_check_unit.proofs.program.check.Goals as goal
+
+pub returns : goal.returns
+returns c =
+    let d = c.in_ok-declarer in
+    let new = c.files.new.self in
+    let fs = map file_of c.args.trees.now in
+    let means : CheckIs (program_means fs) c.finish.result =
+    checks (files_mean fs beginning) d.declarer new c.finish.result d.ensures.sink
+    (subst (λ h. Declares (files_mean fs h) d.declarer new) d.ensures.here c.in_ok-files.ensures)
+    c.finish.ensures in
+    record { means = means; law = obeys (program_means fs) (ProgramBreaks fs) c.finish.result (program_law fs) means }

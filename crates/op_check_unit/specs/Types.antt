@@ -1,0 +1,150 @@
+-- What types denote: rows of the table of types (Free Pascal Reference Guide, "Types").
+use Rattle.std.specs.Prelude.{ℕ, ◌+◌, ℤ, pos, int_le, nat_le, Bool, false, ◌&&◌, List, [], ◌∷◌, length, is_some, Option, Some, None}
+use Rattle.op_base.specs.declared.place.Place.{Place}
+use Rattle.op_check_unit.specs.Naming.{declared_within}
+use Rattle.op_check_unit.specs.Steps.{Here, Given, gives, silent, where_true, followed, by}
+use Rattle.op_core.specs.Faults.{Checked, after, both, by_entry, by_test, fine, none, refused, with_part}
+use Rattle.op_core.specs.Sizes.{extent_of, range_of, type_at}
+use Rattle.op_core.specs.declared.constant.Const.TheVariants.{Ordinal}
+use Rattle.op_core.specs.declared.ids.TypeId.{TypeId}
+use Rattle.op_core.specs.declared.program.Core.{Core}
+use Rattle.op_core.specs.declared.types.CoreType.{CoreType}
+use Rattle.op_core.specs.declared.types.CoreType.TheVariants.{Enumeration, Subrange, Set, Array, DynamicArray}
+use Rattle.op_tree.specs.Denoter.{Denoter, named, string, subrange, enumeration, set, array, record_}
+use Rattle.op_tree.specs.Expression.{Expression}
+use Rattle.op_tree.specs.declared.position.Name.{Name}
+use Rattle.op_types.specs.Constants.{constant, made, nodes, start_of}
+use Rattle.op_types.specs.Entering.{entered}
+use Rattle.op_types.specs.Names.{Named}
+use Rattle.op_types.specs.Operators as table
+use Rattle.op_types.specs.Sorts.{kind_of, same_kind}
+use Rattle.op_types.specs.Values.{number_of}
+use Rattle.op_types.specs.declared.constant.Constant.{Constant}
+use Rattle.op_types.specs.declared.sort.OrdinalKind.{OrdinalKind}
+use Rattle.op_types.specs.declared.sort.OrdinalKind.TheVariants as kind
+use Rattle.op_types.specs.declared.visible.Meaning.{Meaning}
+use Rattle.op_types.specs.declared.visible.Meaning.TheVariants.{Constant as ConstantNamed}
+
+-- ---- places
+
+abbrev start_of_name : Name → Option Name → Place
+start_of_name n None = n.position.place
+start_of_name n (Some u) = u.position.place
+
+-- the first token of a type
+abbrev pub start_of_denoter : Denoter → Place
+start_of_denoter (named q) = start_of_name q.name q.unit
+start_of_denoter (string p) = p.place
+start_of_denoter (subrange first last) = start_of first
+start_of_denoter (enumeration p ns) = p.place
+start_of_denoter (set p base) = p.place
+start_of_denoter (array p packed indices element) = p.place
+start_of_denoter (record_ p packed lists) = p.place
+
+-- ---- rows
+
+-- the number of the next row of the table of types
+abbrev pub number_of_next : Core → TypeId
+number_of_next core = record { 0 = length core.types }
+
+abbrev pub in_core : Core → Here → Here
+in_core core h = record h { core = core }
+
+-- a type more
+abbrev pub row : CoreType → Here → Given TypeId
+row t h = gives (number_of_next h.core) (in_core (entered h.core t) h)
+
+-- the most bytes that a value of a type may have
+abbrev pub most_bytes : ℕ
+most_bytes = 1048576
+
+abbrev pub is_small : Core → TypeId → Bool
+is_small core of = nat_le (extent_of core of).size most_bytes
+
+-- the same of a type that may be too large
+abbrev pub sized_row : Place → CoreType → Here → Given TypeId
+sized_row place t h =
+    let core = entered h.core t in
+    let of = number_of_next h.core in
+    where_true (is_small core of) 67 place (in_core core h) (gives of (in_core core h))
+
+-- ---- constants
+
+abbrev pub needed : Place → Option (Checked Constant) → Checked Constant
+needed place None = refused 30 place
+needed place (Some c) = c
+
+-- the value of an expression that has to be constant
+abbrev pub constant_part : Core → List Named → Expression → Checked Constant
+constant_part core names e = needed (start_of e) (constant core names e)
+
+-- ---- subranges
+
+-- the type of all values of a kind
+abbrev pub whole_type : OrdinalKind → TypeId
+whole_type kind.Integer = table.integer
+whole_type kind.Boolean = table.boolean
+whole_type kind.Char = table.char
+whole_type (kind.Enumeration of) = of
+
+-- a lower bound: its kind, and its number
+abbrev pub lower_bound : Core → Place → Constant → Checked (OrdinalKind × ℤ)
+lower_bound core place c = by_entry 23 place (λ kind. fine (kind, number_of c.value)) (kind_of core c.of)
+
+abbrev pub is_kind : OrdinalKind → Option OrdinalKind → Bool
+is_kind kind None = false
+is_kind kind (Some other) = same_kind kind other
+
+-- the upper bound is of the same kind, and not below the lower one
+abbrev pub bounds : Core → Place → Place → OrdinalKind × ℤ → Constant → Checked CoreType
+bounds core first last low c =
+    by_test 20 last (by_test 31 first (fine (Subrange (whole_type low.0) low.1 (number_of c.value))) (int_le low.1 (number_of c.value))) (is_kind low.0 (kind_of core c.of))
+
+abbrev pub lower_of : Core → List Named → Expression → Checked (OrdinalKind × ℤ)
+lower_of core names e = let c = constant_part core names e in after c.faults (with_part (lower_bound core (start_of e)) c.typed)
+
+abbrev pub subrange_of : Core → List Named → Expression → Expression → Checked CoreType
+subrange_of core names first last =
+    let low = lower_of core names first in
+    let high = constant_part core names last in
+    after (both low.faults high.faults) (with_part (λ l. with_part (bounds core (start_of first) (start_of last) l) high.typed) low.typed)
+
+-- ---- enumerations
+
+abbrev pub value_of : TypeId → ℤ → Meaning
+value_of of n = ConstantNamed (made (Ordinal n) of (nodes 1))
+
+-- the values of an enumeration, numbered from n on
+abbrev pub values : TypeId → ℕ → List Name → Here → Given (Unit {0})
+values of n [] h = gives tt h
+values of n (x ∷ xs) h = followed (declared_within x (value_of of (pos n)) h) (λ t h. values of (n + 1) xs h)
+
+-- An enumeration. Its names are in the scope around it, which has no room for more of them than an enumeration may have values.
+abbrev pub enumerated : List Name → Here → Given TypeId
+enumerated ns h = followed (row (Enumeration (length ns)) h) (by (λ of h. followed (values of 0 ns h) (λ t h. gives of h)))
+
+-- ---- sets and arrays
+
+abbrev pub is_within_set : ℤ × ℤ → Bool
+is_within_set r = int_le (pos 0) r.0 && int_le r.1 (pos 31)
+
+-- the base is ordinal, with numbers from 0 to 31
+abbrev pub set_over : Core → Place → TypeId → Checked CoreType
+set_over core place of = by_entry 23 place (λ r. by_test 34 place (fine (Set of)) (is_within_set r)) (range_of (type_at core of))
+
+-- the type of an index is ordinal
+abbrev pub index_over : Core → Place → TypeId → Checked TypeId
+index_over core place of = by_test 23 place (fine of) (is_some (range_of (type_at core of)))
+
+abbrev pub one_array : Place → Option TypeId → Option TypeId → Here → Given TypeId
+one_array place (Some index) (Some element) h = sized_row place (Array index element) h
+one_array place _ _ h = silent h
+
+-- an array without indices is dynamic, one with several is an array of arrays: of the last index first
+abbrev pub arrays : Place → Option TypeId → List (Option TypeId) → Here → Given TypeId
+arrays place element [] h = record { typed = element; here = h; faults = none }
+arrays place element (index ∷ indices) h = followed (one_array place index element h) (λ t h. arrays place t indices h)
+
+abbrev pub array_of : Place → List (Option TypeId) → Option TypeId → Here → Given TypeId
+array_of place [] element h = by (λ t h. row (DynamicArray t) h) element h
+array_of place (index ∷ indices) element h = arrays place element (index ∷ indices) h

@@ -1,0 +1,118 @@
+//! Constants that types and declarations need, and the bounds of subranges.
+ghost use Rattle.std.specs.Prelude.{◌≡◌, IfOk};
+ghost use Rattle.op_check_expr.specs.Words.{Reports};
+ghost use Rattle.op_check_unit.specs.Steps.{Leaves, checked, here_of};
+ghost use Rattle.op_check_unit.specs.Types.{bounds, constant_part, is_kind, lower_of, subrange_of, whole_type};
+ghost use Rattle.op_core.specs.Faults.{with_part};
+ghost use Rattle.op_tree.specs.Expression.{expr_of};
+
+use crate::Declarer;
+use op_base::{NoMemory, Place};
+use op_check_expr::refuse;
+use op_core::{CoreType, FirstRefusal, TypeId};
+use op_tree::Expr;
+use op_types::{Constant, OrdinalKind, Setting, kind_of, number_of, start_of};
+
+/// The value of an expression that has to be constant, which is rule 30 where it is none.
+pub fn needed_constant(
+    setting: Setting,
+    sink: &mut FirstRefusal,
+    e: &Expr,
+) -> Result<Option<Constant>, NoMemory>
+    ensures { IfOk result (Reports (constant_part setting.entry.core.now setting.entry.visible.now (expr_of e.now)) sink.old sink.new) }
+{
+    let before = *sink;
+    match setting.constant(sink, e)? {
+        Some(constant) => Ok(constant),
+        None => {
+            *sink = before;
+            Ok(refuse(sink, 30, start_of(e)))
+        }
+    }
+}
+
+impl Declarer {
+    /// The value of an expression that has to be constant.
+    pub fn constant_part(&mut self, e: &Expr) -> Result<Option<Constant>, NoMemory>
+        ensures { IfOk result (Leaves (checked (here_of self.old) (constant_part self.old.core self.old.visible (expr_of e.now))) self.old self.new) }
+    {
+        let setting = Setting {
+            alloc: self.alloc,
+            core: &self.core,
+            visible: &self.visible,
+        };
+        needed_constant(setting, &mut self.sink, e)
+    }
+
+    /// The subrange between two constants: rule 23 at a lower one that is not ordinal, 20 at an upper one of another kind, 31 at
+    /// the lower one where it is above the upper one.
+    pub fn subrange(&mut self, first: &Expr, last: &Expr) -> Result<Option<CoreType>, NoMemory>
+        ensures { IfOk result (Leaves (checked (here_of self.old) (subrange_of self.old.core self.old.visible (expr_of first.now) (expr_of last.now))) self.old self.new) }
+    {
+        let low = self.lower_bound(first)?;
+        let high = self.constant_part(last)?;
+        Ok(self.bounds(start_of(first), start_of(last), low, high))
+    }
+
+    /// The kind and the number of a lower bound.
+    fn lower_bound(&mut self, e: &Expr) -> Result<Option<(OrdinalKind, i32)>, NoMemory>
+        ensures { IfOk result (Leaves (checked (here_of self.old) (lower_of self.old.core self.old.visible (expr_of e.now))) self.old self.new) }
+    {
+        let Some(constant) = self.constant_part(e)? else {
+            return Ok(None);
+        };
+        match kind_of(&self.core, constant.of) {
+            Some(kind) => Ok(Some((kind, number_of(&constant.value)))),
+            None => {
+                self.refuse(23, start_of(e));
+                Ok(None)
+            }
+        }
+    }
+
+    /// A subrange by its lower bound, which begins at `first`, and its upper one, which begins at `last`.
+    fn bounds(
+        &mut self,
+        first: Place,
+        last: Place,
+        low: Option<(OrdinalKind, i32)>,
+        high: Option<Constant>,
+    ) -> Option<CoreType>
+        ensures { Leaves (checked (here_of self.old) (with_part (λ l. with_part (bounds self.old.core first last l) high) low)) self.old self.new result }
+    {
+        let (kind, low) = low?;
+        let high = high?;
+        if !is_kind(kind, kind_of(&self.core, high.of)) {
+            self.refuse(20, last);
+            return None;
+        }
+        let high = number_of(&high.value);
+        if high < low {
+            self.refuse(31, first);
+            return None;
+        }
+        let base = whole_type(kind);
+        Some(CoreType::Subrange { base, low, high })
+    }
+}
+
+/// The type of all values of a kind.
+fn whole_type(kind: OrdinalKind) -> TypeId
+    ensures { result ≡ whole_type kind }
+{
+    match kind {
+        OrdinalKind::Integer => TypeId::INTEGER,
+        OrdinalKind::Boolean => TypeId::BOOLEAN,
+        OrdinalKind::Char => TypeId::CHAR,
+        OrdinalKind::Enumeration(of) => of,
+    }
+}
+
+fn is_kind(kind: OrdinalKind, other: Option<OrdinalKind>) -> bool
+    ensures { result ≡ is_kind kind other }
+{
+    match other {
+        None => false,
+        Some(other) => kind.is_same(other),
+    }
+}

@@ -1,0 +1,177 @@
+//! Types that are named.
+ghost use Rattle.std.specs.Prelude.{◌≡◌, IfOk};
+ghost use Rattle.op_check_expr.specs.Naming.{feature_of_type};
+ghost use Rattle.op_core.specs.Faults.{fine, refused};
+ghost use Rattle.std.specs.Option.{option_copied};
+ghost use Rattle.op_check_unit.specs.Naming.{by_type, own_type, place_of, told_by, told_in, type_alone, type_meant, type_named, type_of_unit};
+ghost use Rattle.op_check_unit.specs.Steps.{Declares, Leaves, checked, here_of};
+ghost use Rattle.op_types.specs.Names.{lower};
+
+use crate::Declarer;
+use crate::declarer::is_name;
+use op_base::{NoMemory, Place};
+use op_core::{CoreType, TypeId};
+use op_tree::{Name, QualifiedName};
+use op_types::{Meaning, type_at};
+
+/// What a name stands for, as far as types ask.
+#[derive(Clone, Copy, Debug)]
+pub enum Told {
+    Unknown,
+    /// Its declaration breaks a rule.
+    Spoiled,
+    /// It is a type.
+    Known(TypeId),
+    Unit,
+    Other,
+}
+
+pub fn told_by(meaning: Option<&Meaning>) -> Told
+    ensures { result ≡ told_by (option_copied meaning.entry) }
+{
+    match meaning {
+        None => Told::Unknown,
+        Some(Meaning::Spoiled) => Told::Spoiled,
+        Some(Meaning::TypeName(of)) => Told::Known(*of),
+        Some(Meaning::Unit(_)) => Told::Unit,
+        Some(_) => Told::Other,
+    }
+}
+
+impl Declarer {
+    /// The type that a name stands for in the declaration of another one: rule 15 where it is unknown, 16 where it is no type,
+    /// 38 where the other one would contain itself.
+    pub fn type_named(
+        &mut self,
+        own: Option<&Name>,
+        inside: bool,
+        q: &QualifiedName,
+    ) -> Result<Option<TypeId>, NoMemory>
+        ensures { IfOk result (Leaves (checked (here_of self.old) (type_named self.old.core self.old.visible (option_copied own.entry) inside q.now)) self.old self.new) }
+    {
+        match &q.unit {
+            Some(unit) => self.type_of_unit(unit, &q.name),
+            None => self.type_alone(own, inside, &q.name),
+        }
+    }
+
+    /// A name without a unit.
+    fn type_alone(
+        &mut self,
+        own: Option<&Name>,
+        inside: bool,
+        name: &Name,
+    ) -> Result<Option<TypeId>, NoMemory>
+        ensures { IfOk result (Leaves (checked (here_of self.old) (type_alone self.old.core self.old.visible (option_copied own.entry) inside name.now)) self.old self.new) }
+    {
+        let place = name.position.place;
+        if is_name(own, name) {
+            return Ok(self.own_type(own, inside, place));
+        }
+        let meaning = told_by(self.visible.look_up(name.text.as_slice())?);
+        Ok(self.type_meant(place, meaning))
+    }
+
+    /// A name of a unit.
+    fn type_of_unit(&mut self, unit: &Name, name: &Name) -> Result<Option<TypeId>, NoMemory>
+        ensures { IfOk result (Leaves (checked (here_of self.old) (type_of_unit self.old.core self.old.visible unit.now name.now (told_in self.old.visible (lower unit.now.text)))) self.old self.new) }
+    {
+        let place = unit.position.place;
+        match told_by(self.visible.look_up(unit.text.as_slice())?) {
+            Told::Unit => {
+                let mut joined = Vec::from_slice(self.alloc, unit.text.as_slice())?;
+                joined.push(b'.')?;
+                joined.extend_from_slice(name.text.as_slice())?;
+                let meaning = told_by(self.visible.look_up(joined.as_slice())?);
+                Ok(self.type_meant(name.position.place, meaning))
+            }
+            Told::Known(of) => {
+                self.no_type(place, of);
+                Ok(None)
+            }
+            other => Ok(self.type_meant(place, other)),
+        }
+    }
+
+    /// The type of a name of this meaning.
+    fn type_meant(&mut self, place: Place, meaning: Told) -> Option<TypeId>
+        ensures { Leaves (checked (here_of self.old) (type_meant self.old.core place meaning)) self.old self.new result }
+    {
+        match meaning {
+            Told::Unknown => {
+                self.refuse(15, place);
+                None
+            }
+            Told::Spoiled => None,
+            Told::Known(of) => self.built(place, of),
+            Told::Unit | Told::Other => {
+                self.refuse(16, place);
+                None
+            }
+        }
+    }
+
+    /// The type, unless its name shows a feature that is left out.
+    fn built(&mut self, place: Place, of: TypeId) -> Option<TypeId>
+        ensures { Leaves (checked (here_of self.old) (by_type self.old.core place of (fine of))) self.old self.new result }
+    {
+        match feature_of_type(type_at(&self.core, of)) {
+            None => Some(of),
+            Some(feature) => {
+                self.leave_out(feature, place);
+                None
+            }
+        }
+    }
+
+    /// A type where something else is needed.
+    pub fn no_type(&mut self, place: Place, of: TypeId)
+        ensures { Declares (checked (here_of self.old) (by_type self.old.core place of (refused 16 place))) self.old self.new }
+    {
+        match feature_of_type(type_at(&self.core, of)) {
+            None => self.refuse(16, place),
+            Some(feature) => self.leave_out(feature, place),
+        }
+    }
+
+    /// The type that is being declared.
+    fn own_type(&mut self, own: Option<&Name>, inside: bool, place: Place) -> Option<TypeId>
+        ensures { Leaves (checked (here_of self.old) (own_type (option_copied own.entry) inside place)) self.old self.new result }
+    {
+        if inside {
+            self.refuse(38, place_of(place, own));
+        } else {
+            self.refuse(15, place);
+        }
+        None
+    }
+}
+
+/// The feature that the name of a type shows: strings, classes, interfaces.
+fn feature_of_type(of: Option<CoreType>) -> Option<u8>
+    ensures { result ≡ feature_of_type of }
+{
+    match of {
+        Some(CoreType::String) => Some(40),
+        Some(CoreType::Class(id)) => match id.0 {
+            0 => Some(42),
+            1 => Some(43),
+            _ => None,
+        },
+        Some(CoreType::Interface(id)) => match id.0 {
+            0 => Some(43),
+            _ => None,
+        },
+        _ => None,
+    }
+}
+
+/// Where the name stands.
+fn place_of(place: Place, own: Option<&Name>) -> Place
+    ensures { result ≡ place_of place (option_copied own.entry) }
+{
+    match own {
+        None => place,
+        Some(own) => own.position.place,
+    }
+}

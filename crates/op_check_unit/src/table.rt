@@ -1,0 +1,33 @@
+//! Rows of the table of types.
+ghost use Rattle.std.specs.Prelude.{IfOk, Some};
+ghost use Rattle.op_check_unit.specs.Steps.{Leaves, here_of};
+ghost use Rattle.op_check_unit.specs.Types.{is_small, row, sized_row};
+
+use crate::Declarer;
+use op_base::{NoMemory, Place};
+use op_core::{CoreType, TypeId};
+use op_types::{enter_type, size_of};
+
+/// The most bytes that a value of a type may have.
+const MOST_BYTES: u32 = 1_048_576;
+
+impl Declarer {
+    /// A new row of the table of types.
+    pub fn row(&mut self, of: CoreType) -> Result<TypeId, NoMemory>
+        ensures { IfOk result (λ id. Leaves (row of (here_of self.old)) self.old self.new (Some id)) }
+    {
+        enter_type(&mut self.core, of)
+    }
+
+    /// A new row of a type that may be too large, which is rule 67 at the place.
+    pub fn sized_row(&mut self, place: Place, of: CoreType) -> Result<Option<TypeId>, NoMemory>
+        ensures { IfOk result (Leaves (sized_row place of (here_of self.old)) self.old self.new) }
+    {
+        let id = self.row(of)?;
+        if size_of(&self.core, id) <= MOST_BYTES {
+            return Ok(Some(id));
+        }
+        self.refuse(67, place);
+        Ok(None)
+    }
+}

@@ -1,0 +1,64 @@
+-- What a part means and which rules it breaks, said as relations; and when what is checked agrees with them.
+use Rattle.std.specs.Prelude.{◌≡◌, ℕ, ◌⊎◌, ◌↔◌, Bool, false, Option, Some, None}
+use Rattle.op_base.specs.declared.place.Place.{Place}
+use Rattle.op_base.specs.declared.rule.Refusal.{Refusal}
+use Rattle.op_core.specs.Faults.{Checked, Faults, IsIn, broken, comes_before}
+
+-- ---- the words of relations
+
+-- this one
+abbrev pub Only : {A : Type 0} → A → A → Type 0
+Only a b = a ≡ b
+
+-- what stands in a table, if anything does
+abbrev pub Entry : {A : Type 0} → Option A → A → Type 0
+Entry o a = o ≡ Some a
+
+-- by a part that means T, what it gives
+abbrev pub Through : {A B : Type 0} → (A → Type 0) → (A → B → Type 0) → B → Type 0
+Through {A} T U b = (a : A) × T a × U a b
+
+abbrev pub Either : {A : Type 0} → (A → Type 0) → (A → Type 0) → A → Type 0
+Either P Q a = P a ⊎ Q a
+
+-- only where the condition holds
+abbrev pub Where : {A : Type 0} → Type 0 → (A → Type 0) → A → Type 0
+Where C P a = C × P a
+
+abbrev pub Never : {A : Type 0} → A → Type 0
+Never a = ⊥
+
+-- the rule number, at a place
+abbrev pub At : ℕ → Place → Refusal → Type 0
+At number place r = broken number place ≡ r
+
+-- the table has no entry: the rule, at a place
+abbrev pub Lacks : {A : Type 0} → Option A → ℕ → Place → Refusal → Type 0
+Lacks o number place r = (o ≡ None) × At number place r
+
+-- the test fails: the rule, at a place
+abbrev pub Fails : Bool → ℕ → Place → Refusal → Type 0
+Fails b number place r = (b ≡ false) × At number place r
+
+-- ---- what is checked
+
+-- exactly what is meant
+abbrev pub Holds : {A : Type 0} → Option A → (A → Type 0) → Type 0
+Holds {A} o T = (a : A) → (o ≡ Some a) ↔ T a
+
+-- exactly the rules that are broken
+abbrev pub Lists : Faults → (Refusal → Type 0) → Type 0
+Lists faults B = (r : Refusal) → IsIn r faults ↔ B r
+
+abbrev pub Agrees : {A : Type 0} → Checked A → (A → Type 0) → (Refusal → Type 0) → Type 0
+Agrees c T B = Holds c.typed T × Lists c.faults B
+
+-- ---- answers
+
+-- no rule is broken
+abbrev pub NoneBroken : (Refusal → Type 0) → Type 0
+NoneBroken B = (r : Refusal) → B r → ⊥
+
+-- this rule is broken, and none that comes before it
+abbrev pub IsFirstOf : (Refusal → Type 0) → Refusal → Type 0
+IsFirstOf B r = B r × ((q : Refusal) → B q → comes_before q r ≡ false)

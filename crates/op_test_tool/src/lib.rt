@@ -1,0 +1,5 @@
+//! Tests of the compiler as one call.
+#![tactic(auto)]
+
+#[cfg(test)]
+mod tool;

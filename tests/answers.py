@@ -1,0 +1,52 @@
+"""What the built compiler, and Free Pascal where it is at hand, answer for the texts of the scripts beside this file."""
+import os
+import re
+import shutil
+import subprocess
+
+TOP = os.path.dirname(os.path.dirname(os.path.abspath(__file__)))
+COMPILER = os.path.join(TOP, "crates", "opc", "out", "opc")
+FREE_PASCAL = shutil.which(os.environ.get("FPC32", "fpc32"))
+LINE = re.compile(r"opc: [^\n]*:(\d+:\d+): (V\d+) (.*)\n")
+
+
+def features():
+    """The numbers of the features, by their texts."""
+    with open(os.path.join(TOP, "crates", "op_base", "specs", "Rule.antt"), encoding="utf-8") as file:
+        return {text: number for number, text in re.findall(r'\((\d+), codes "(not in this profile: [^"]*)"\)', file.read())}
+
+
+NUMBERS = features()
+
+
+def expanded(text):
+    """«a × 3» is aaa, and «a#, × 3» is a0,a1,a2,."""
+    return re.sub(r"«([^»]+?) × (\d+)»", lambda m: "".join(m[1].replace("#", str(k)) for k in range(int(m[2]))), text)
+
+
+def written(folder, name, text):
+    with open(os.path.join(folder, name), "w", encoding="latin-1") as file:
+        file.write(text)
+
+
+def refusal(line):
+    """The place, the rule and the feature of a line on the error stream, or None."""
+    told = LINE.fullmatch(line)
+    if not told or told[2] == "V13" and told[3] not in NUMBERS:
+        return None
+    return f"{told[1]}: {told[2]}" + (f" {NUMBERS[told[3]]}" if told[2] == "V13" else "")
+
+
+def checked(folder, name):
+    """`ok`, or where which rule is broken; what else `opc check` tells of a file begins with its status."""
+    run = subprocess.run([COMPILER, "check", name], cwd=folder, capture_output=True)
+    out, err = run.stdout.decode("latin-1"), run.stderr.decode("latin-1")
+    if (run.returncode, out, err) == (0, "ok\n", ""):
+        return "ok"
+    told = refusal(err) if run.returncode == 121 and not out else None
+    return told or f"status {run.returncode}: {(out + err)[:200]}"
+
+
+def taken(folder, name):
+    """Free Pascal takes the program."""
+    return subprocess.run([FREE_PASCAL, name, "program"], cwd=folder, capture_output=True).returncode == 0
