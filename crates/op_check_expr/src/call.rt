@@ -17,6 +17,7 @@ use crate::convert::stored;
 use crate::denoted::{Denoted, Meant};
 use crate::place::variable_value;
 use crate::scope::Checker;
+use crate::tree::make_room;
 use crate::value::Value;
 use op_base::{NoMemory, Place};
 use op_core::{CoreArgument, CoreExpr, FirstRefusal, Function, Parameter, Root, RoutineId, TypeId};
@@ -229,6 +230,7 @@ pub fn given_behind(given: Given, more: Option<CoreArgument>) -> Result<Given, N
     let (Some(mut given), Some(more)) = (given, more) else {
         return Ok(None);
     };
+    make_room(&mut given)?;
     given.push(more)?;
     Ok(Some(given))
 }

@@ -23,9 +23,32 @@ pub fn type_of(e: &CoreExpr) -> TypeId
 pub fn then(e: CoreExpr, action: Action, of: TypeId) -> Result<CoreExpr, NoMemory>
     ensures { IfOk result (λ r. expr_of r ≡ then (expr_of e) (action_of action) of) }
 {
-    let mut e = e;
+    let mut e = with_room(e)?;
     e.push(action, of)?;
     Ok(e)
+}
+
+/// How many items a list has before the room for them is doubled.
+const FEW: usize = 4;
+
+/// Makes room for an item more; while there are few, for no more than that.
+pub fn make_room<T>(list: &mut Vec<T>) -> Result<(), NoMemory>
+    ensures { list.new.items ≡ list.old.items }
+{
+    if list.len() < FEW {
+        list.reserve_exact(1)?;
+    }
+    Ok(())
+}
+
+/// The same expression, with room for a step more.
+fn with_room(e: CoreExpr) -> Result<CoreExpr, NoMemory>
+    ensures { IfOk result (λ r. expr_of r ≡ expr_of e) }
+{
+    let CoreExpr { root, of, steps } = e;
+    let mut steps = steps;
+    make_room(&mut steps)?;
+    Ok(CoreExpr { root, of, steps })
 }
 
 pub fn constant_tree(alloc: Global, c: Constant) -> CoreExpr

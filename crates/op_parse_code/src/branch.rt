@@ -14,6 +14,7 @@ use crate::compound::{statement_at, statements};
 use crate::error::syntax;
 use crate::list::elements;
 use crate::mark::{Mark, after_mark, behind_mark};
+use crate::nodes::fitted;
 use crate::statement_nodes::{case_else_node, case_node};
 use op_base::Place;
 use op_scan::{Token, TokenKind};
@@ -65,7 +66,7 @@ fn branches<'a>(
     let mut rest = tokens;
     loop {
         if ends_list(rest) {
-            return Ok((branches, rest));
+            return Ok((fitted(branches), rest));
         }
         let (labels, after) = elements(alloc, Mark::Colon, left, end, rest)?;
         let (body, behind) = statement_at(alloc, left, end, after)?;
@@ -74,7 +75,7 @@ fn branches<'a>(
             Some(after) => rest = after,
             None => {
                 if ends_list(behind) {
-                    return Ok((branches, behind));
+                    return Ok((fitted(branches), behind));
                 }
                 return Err(syntax(end, behind));
             }

@@ -15,6 +15,7 @@ use crate::error::left_out;
 use crate::factor::enter;
 use crate::handler::try_statement;
 use crate::mark::{Mark, after_mark, behind_mark};
+use crate::nodes::fitted;
 use crate::opening::{StatementOpening, Word, statement_opening};
 use crate::repetition::{for_loop, repeat_loop, while_loop};
 use crate::statement_nodes::{block_node, if_else_node, if_node};
@@ -120,7 +121,7 @@ pub fn statements<'a>(
         statements.push(statement)?;
         match behind_mark(Mark::Semicolon, behind) {
             Some(after) => rest = after,
-            None => return Ok((statements, behind)),
+            None => return Ok((fitted(statements), behind)),
         }
     }
 }

@@ -16,7 +16,7 @@ use crate::error::{GENERIC, left_out, syntax};
 use crate::factor::enter;
 use crate::list::{arguments, indices};
 use crate::mark::{Mark, after_mark, behind_mark};
-use crate::nodes::{bracketed_node, call_node, index_node};
+use crate::nodes::{bracketed_node, call_node, fitted, index_node};
 use crate::opening::{RootOpening, SelectorOpening, root_opening, selector_opening};
 use crate::token::{is_identifier, is_word, name, position_of};
 use op_base::Place;
@@ -38,6 +38,7 @@ pub fn designator<'a>(
 {
     let (root, rest) = root(alloc, left, end, tokens)?;
     let (selectors, rest) = selectors(alloc, left, end, rest)?;
+    let selectors = fitted(selectors);
     Ok((Designator { root, selectors }, rest))
 }
 

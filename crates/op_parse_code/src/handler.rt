@@ -13,6 +13,7 @@ use crate::branch::ends_list;
 use crate::compound::{statement_at, statements};
 use crate::error::syntax;
 use crate::mark::{Mark, after_mark, behind_mark};
+use crate::nodes::fitted;
 use crate::statement_nodes::try_node;
 use crate::token::{is_identifier, is_word, name};
 use op_base::Place;
@@ -104,7 +105,7 @@ fn handlers<'a>(
     let mut rest = tokens;
     loop {
         if ends_list(rest) {
-            return Ok((handlers, rest));
+            return Ok((fitted(handlers), rest));
         }
         let (variable, class, after) = on_clause(alloc, end, rest)?;
         let (body, behind) = statement_at(alloc, left, end, after)?;
@@ -117,7 +118,7 @@ fn handlers<'a>(
             Some(after) => rest = after,
             None => {
                 if ends_list(behind) {
-                    return Ok((handlers, behind));
+                    return Ok((fitted(handlers), behind));
                 }
                 return Err(syntax(end, behind));
             }

@@ -11,6 +11,7 @@ use crate::ParseError;
 use crate::chain::chain;
 use crate::error::{FRACTION_WIDTH, left_out};
 use crate::mark::{Mark, after_mark, behind_mark};
+use crate::nodes::fitted;
 use op_base::Place;
 use op_scan::Token;
 use op_tree::{Argument, Element, Expr, Level};
@@ -39,7 +40,7 @@ pub fn elements<'a>(
             Some(after) => rest = after,
             None => {
                 let rest = after_mark(close, end, behind)?;
-                return Ok((elements, rest));
+                return Ok((fitted(elements), rest));
             }
         }
     }

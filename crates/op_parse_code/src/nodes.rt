@@ -11,6 +11,15 @@ use op_tree::{
 };
 use std::alloc::Global;
 
+/// The list in a block of its own size, where there is room for one.
+pub fn fitted<T>(list: Vec<T>) -> Vec<T>
+    ensures { result.items ≡ list.items }
+{
+    let mut list = list;
+    list.shrink_to_fit();
+    list
+}
+
 /// An operand and the operations that follow it; where none does, the operand itself.
 pub fn chain_node(alloc: Global, first: Expr, rest: Vec<Operation>) -> Result<Expr, NoMemory>
     ensures { IfOk result (λ e. expr_of e ≡ chain_of (expr_of first) (operations_of rest.items)) }
@@ -19,6 +28,7 @@ pub fn chain_node(alloc: Global, first: Expr, rest: Vec<Operation>) -> Result<Ex
         return Ok(first);
     }
     let first = Box::new(alloc, first)?;
+    let rest = fitted(rest);
     Ok(Expr::Chain { first, rest })
 }
 
@@ -47,6 +57,7 @@ pub fn set_node(position: Position, elements: Vec<Element>) -> Expr
 pub fn literal_node(text: Text, position: Position, selectors: Vec<Selector>) -> Expr
     ensures { expr_of result ≡ literal text position (selectors_of selectors.items) }
 {
+    let selectors = fitted(selectors);
     Expr::Literal {
         text,
         position,
@@ -79,11 +90,13 @@ pub fn bracketed_node(alloc: Global, position: Position, inside: Expr) -> Result
 pub fn index_node(position: Position, indices: Vec<Expr>) -> Selector
     ensures { selector_of result ≡ index position (expressions_of indices.items) }
 {
+    let indices = fitted(indices);
     Selector::Index { position, indices }
 }
 
 pub fn call_node(arguments: Vec<Argument>) -> Selector
     ensures { selector_of result ≡ call (arguments_of arguments.items) }
 {
+    let arguments = fitted(arguments);
     Selector::Call { arguments }
 }

@@ -6,5 +6,5 @@ pub use crate::designator::{is_specialized, selectors};
 pub use crate::error::{GENERIC, left_out, nested, syntax};
 pub use crate::factor::enter;
 pub use crate::mark::{Mark, after_mark, behind_mark};
-pub use crate::nodes::{bracketed_node, chain_node, designator_node};
+pub use crate::nodes::{bracketed_node, chain_node, designator_node, fitted};
 pub use crate::token::{is_identifier, is_word, name, position_of, spelled};

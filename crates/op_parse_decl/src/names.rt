@@ -6,7 +6,7 @@ ghost use Rattle.op_tree.specs.Terminal.{terminals};
 
 use crate::part::{Answer, Setting};
 use crate::stops::no_dot;
-use op_parse_code::shared::{Mark, after_mark, behind_mark, enter, name};
+use op_parse_code::shared::{Mark, after_mark, behind_mark, enter, fitted, name};
 use op_scan::Token;
 use op_tree::{Names, QualifiedName};
 
@@ -23,7 +23,7 @@ pub fn names<'a>(setting: Setting, tokens: &'a [Token]) -> Answer<'a, Names>
         names.push(name)?;
         match behind_mark(Mark::Comma, behind) {
             Some(after) => rest = after,
-            None => return Ok((Names::from(names), behind)),
+            None => return Ok((Names::from(fitted(names)), behind)),
         }
     }
 }

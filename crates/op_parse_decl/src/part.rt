@@ -13,7 +13,7 @@ ghost use Rattle.op_tree.specs.Terminal.{Terminal, terminals};
 use crate::sign::Sign;
 use op_base::Place;
 use op_parse_code::ParseError;
-use op_parse_code::shared::{after_mark, behind_mark};
+use op_parse_code::shared::{after_mark, behind_mark, fitted};
 use op_scan::{Token, TokenKind};
 use std::alloc::Global;
 use std::marker::PhantomData;
@@ -163,6 +163,7 @@ impl<A: Item> Part for Repeated<A> {
             items.push(item)?;
             rest = behind;
         }
+        let items = fitted(items);
         Ok((Repeated { items }, rest))
     }
 
@@ -195,6 +196,7 @@ impl<S: Sign, A: Part> Part for Separated<S, A> {
                 Some(after) => rest = after,
                 None => {
                     let sign = PhantomData;
+                    let items = fitted(items);
                     return Ok((Separated { items, sign }, behind));
                 }
             }

@@ -18,7 +18,7 @@ use crate::declared_form::form_of_part;
 use crate::leaf::Statements;
 use crate::part::{Answer, Item, Made, Part, Repeated, Setting, Stands, begins};
 use crate::sign;
-use op_parse_code::shared::{enter, is_word};
+use op_parse_code::shared::{enter, fitted, is_word};
 use op_scan::{Token, TokenKind};
 use op_tree::{Body, Declaration, Directive, Directives, Heading, Method, Routine, Stmt};
 use std::alloc::Global;
@@ -189,6 +189,7 @@ fn body<'a>(setting: Setting, tokens: &'a [Token]) -> Answer<'a, Body>
 fn block_body(declarations: Vec<Declaration>, statements: Vec<Stmt>) -> Body
     ensures { body_of result ≡ body (declarations_of declarations.items) (stmts_of statements.items) }
 {
+    let declarations = fitted(declarations);
     Body::Block {
         declarations,
         statements,

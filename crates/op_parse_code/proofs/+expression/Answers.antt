@@ -76,7 +76,7 @@ pub designator::designator-returns-in_err-selectors-clause-refused : goal.design
 designator::designator-returns-in_err-selectors-clause-refused t c = passed c.from_residual-in_err-selectors.result c.from_residual-in_err-selectors.ensures.1 (λ y e. rw e (designator_selectors c.args.left c.args.end _ _ _ _ c.in_ok-root.ensures.whole c.in_err-selectors.ensures.refused))
 
 pub designator::designator-returns-clause-whole : goal.designator::designator-returns-clause-whole
-designator::designator-returns-clause-whole t c = designator_whole c.args.left _ _ _ _ _ c.in_ok-root.ensures.whole c.in_ok-selectors.ensures.whole
+designator::designator-returns-clause-whole t c = rw c.fitted-selectors.ensures (designator_whole c.args.left _ _ _ _ _ c.in_ok-root.ensures.whole c.in_ok-selectors.ensures.whole)
 
 pub designator::root-returns-in_default-clause-refused : goal.designator::root-returns-in_default-clause-refused
 designator::root-returns-in_default-clause-refused t c = root_none c.args.left c.args.end _ _ (empty_not begins_designator c.args.tokens.now c.in_default.ensures.cases) c.syntax.ensures
@@ -263,7 +263,7 @@ pub list::elements-returns-in_err-rest-in-None-clause-refused : goal.list::eleme
 list::elements-returns-in_err-rest-in-None-clause-refused t c = passed c.from_residual-in_err-rest-in-None.result c.from_residual-in_err-rest-in-None.ensures.1 (λ y e. rw e (listed_close (elements_list c.args.close c.requires) c.args.left c.args.end _ _ _ _ _ _ c.loop-elements.invariant.0 c.in_ok-element.ensures.whole c.in-None.ensures.mark (c.in_err-rest-in-None.ensures.refused _)))
 
 pub list::elements-returns-in-None-clause-whole : goal.list::elements-returns-in-None-clause-whole
-list::elements-returns-in-None-clause-whole t c = rw c.in_ok-push.ensures.items (listed_ends (elements_list c.args.close c.requires) c.args.left c.args.end _ _ _ _ _ _ _ c.loop-elements.invariant.0 c.in_ok-element.ensures.whole c.in_ok-rest-in-None.ensures.mark.1)
+list::elements-returns-in-None-clause-whole t c = rw (c.fitted.ensures, c.in_ok-push.ensures.items) (listed_ends (elements_list c.args.close c.requires) c.args.left c.args.end _ _ _ _ _ _ _ c.loop-elements.invariant.0 c.in_ok-element.ensures.whole c.in_ok-rest-in-None.ensures.mark.1)
 
 pub list::indices-returns-in_err-index-clause-refused : goal.list::indices-returns-in_err-index-clause-refused
 list::indices-returns-in_err-index-clause-refused t c = passed c.from_residual.result c.from_residual.ensures.1 (λ y e. rw e (listed_item indices_list c.args.left c.args.end _ _ _ _ c.loop-indices.invariant.0 c.in_err-index.ensures.refused))

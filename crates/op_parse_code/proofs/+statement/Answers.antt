@@ -101,7 +101,7 @@ pub compound::statements-loop-statements-preserved : goal.compound::statements-l
 compound::statements-loop-statements-preserved t c = (rw c.in_ok-push.ensures.items (sequencing_more c.args.left c.args.end _ _ _ _ _ _ _ c.loop-statements.invariant.0 c.in_ok-statement.ensures.whole c.in-Some.ensures.mark.1), omega (arith, c.loop-statements.invariant.1, c.in-Some.ensures.shorter, c.in_ok-statement.ensures.shorter))
 
 pub compound::statements-returns-in-None-clause-whole : goal.compound::statements-returns-in-None-clause-whole
-compound::statements-returns-in-None-clause-whole t c = rw c.in_ok-push.ensures.items (sequencing_ends c.args.left c.args.end _ _ _ _ _ c.loop-statements.invariant.0 c.in_ok-statement.ensures.whole c.in-None.ensures.mark)
+compound::statements-returns-in-None-clause-whole t c = rw (c.fitted.ensures, c.in_ok-push.ensures.items) (sequencing_ends c.args.left c.args.end _ _ _ _ _ c.loop-statements.invariant.0 c.in_ok-statement.ensures.whole c.in-None.ensures.mark)
 
 pub compound::if_statement-returns-in_err-condition-clause-refused : goal.compound::if_statement-returns-in_err-condition-clause-refused
 compound::if_statement-returns-in_err-condition-clause-refused t c = passed c.from_residual.result c.from_residual.ensures.1 (λ y e. rw e (if_refuses c.args.position c.args.left c.args.end _ _ (headed_first mark.Then IfBody c.args.left c.args.end _ _ c.in_err-condition.ensures.refused)))
@@ -221,7 +221,7 @@ pub branch::case_statement-returns-in_ok-rest-in-Some-clause-whole : goal.branch
 branch::case_statement-returns-in_ok-rest-in-Some-clause-whole t c = rw c.case_else_node.ensures (case_else_whole c.args.position _ _ _ c.args.left _ _ _ _ _ _ _ _ _ _ c.in_ok-selector.ensures.whole c.in_ok-rest.ensures.mark.1 c.in_ok-branches.ensures.whole c.in-Some.ensures.mark.1 c.in_ok-otherwise-in-Some.ensures.whole c.in_ok-rest-in-Some.ensures.mark.1)
 
 pub branch::branches-returns-then-ends_list-clause-whole : goal.branch::branches-returns-then-ends_list-clause-whole
-branch::branches-returns-then-ends_list-clause-whole t c = led_ends branches_list c.args.left c.args.end _ _ _ c.loop-alloc.invariant.0 (sym c.ends_list.ensures ∙ c.if-ends_list.true)
+branch::branches-returns-then-ends_list-clause-whole t c = rw c.fitted.ensures (led_ends branches_list c.args.left c.args.end _ _ _ c.loop-alloc.invariant.0 (sym c.ends_list.ensures ∙ c.if-ends_list.true))
 
 pub branch::branches-returns-in_err-labels-clause-refused : goal.branch::branches-returns-in_err-labels-clause-refused
 branch::branches-returns-in_err-labels-clause-refused t c = passed c.from_residual.result c.from_residual.ensures.1 (λ y e. rw e (led_lead branches_list c.args.left c.args.end _ _ _ _ c.loop-alloc.invariant.0 (sym c.ends_list.ensures ∙ c.if-ends_list.false) c.in_err-labels.ensures.refused))
@@ -236,13 +236,13 @@ pub branch::branches-loop-alloc-preserved : goal.branch::branches-loop-alloc-pre
 branch::branches-loop-alloc-preserved t c = (rw c.in_ok-push.ensures.items (led_more branches_list c.args.left c.args.end _ _ _ _ _ _ _ _ c.loop-alloc.invariant.0 (sym c.ends_list.ensures ∙ c.if-ends_list.false) c.in_ok-labels.ensures.whole c.in_ok-body.ensures.whole c.in-Some.ensures.mark.1), omega (arith, c.loop-alloc.invariant.1, c.in-Some.ensures.shorter, c.in_ok-body.ensures.shorter, c.in_ok-labels.ensures.shorter))
 
 pub branch::branches-returns-then-ends_list-2-clause-whole : goal.branch::branches-returns-then-ends_list-2-clause-whole
-branch::branches-returns-then-ends_list-2-clause-whole t c = rw c.in_ok-push.ensures.items (led_last branches_list c.args.left c.args.end _ _ _ _ _ _ c.loop-alloc.invariant.0 c.in_ok-labels.ensures.whole c.in_ok-body.ensures.whole (sym c.ends_list-in-None.ensures ∙ c.if-ends_list-2.true))
+branch::branches-returns-then-ends_list-2-clause-whole t c = rw (c.fitted-then-ends_list-2.ensures, c.in_ok-push.ensures.items) (led_last branches_list c.args.left c.args.end _ _ _ _ _ _ c.loop-alloc.invariant.0 c.in_ok-labels.ensures.whole c.in_ok-body.ensures.whole (sym c.ends_list-in-None.ensures ∙ c.if-ends_list-2.true))
 
 pub branch::branches-returns-in-None-clause-refused : goal.branch::branches-returns-in-None-clause-refused
 branch::branches-returns-in-None-clause-refused t c = led_stops branches_list c.args.left c.args.end _ _ _ _ _ _ _ _ c.loop-alloc.invariant.0 (sym c.ends_list.ensures ∙ c.if-ends_list.false) c.in_ok-labels.ensures.whole c.in_ok-body.ensures.whole c.in-None.ensures.mark (sym c.ends_list-in-None.ensures ∙ c.if-ends_list-2.false) c.syntax.ensures
 
 pub handler::handlers-returns-then-ends_list-clause-whole : goal.handler::handlers-returns-then-ends_list-clause-whole
-handler::handlers-returns-then-ends_list-clause-whole t c = led_ends handlers_list c.args.left c.args.end _ _ _ c.loop-alloc.invariant.0 (sym c.ends_list.ensures ∙ c.if-ends_list.true)
+handler::handlers-returns-then-ends_list-clause-whole t c = rw c.fitted.ensures (led_ends handlers_list c.args.left c.args.end _ _ _ c.loop-alloc.invariant.0 (sym c.ends_list.ensures ∙ c.if-ends_list.true))
 
 pub handler::handlers-returns-in_err-variable-clause-refused : goal.handler::handlers-returns-in_err-variable-clause-refused
 handler::handlers-returns-in_err-variable-clause-refused t c = passed c.from_residual.result c.from_residual.ensures.1 (λ y e. rw e (led_lead handlers_list c.args.left c.args.end _ _ _ _ c.loop-alloc.invariant.0 (sym c.ends_list.ensures ∙ c.if-ends_list.false) (c.in_err-variable.ensures.refused _)))
@@ -257,7 +257,7 @@ pub handler::handlers-loop-alloc-preserved : goal.handler::handlers-loop-alloc-p
 handler::handlers-loop-alloc-preserved t c = (rw c.in_ok-push.ensures.items (led_more handlers_list c.args.left c.args.end _ _ _ _ _ _ _ _ c.loop-alloc.invariant.0 (sym c.ends_list.ensures ∙ c.if-ends_list.false) c.in_ok-variable.ensures.whole c.in_ok-body.ensures.whole c.in-Some.ensures.mark.1), omega (arith, c.loop-alloc.invariant.1, c.in-Some.ensures.shorter, c.in_ok-body.ensures.shorter, c.in_ok-variable.ensures.shorter))
 
 pub handler::handlers-returns-then-ends_list-2-clause-whole : goal.handler::handlers-returns-then-ends_list-2-clause-whole
-handler::handlers-returns-then-ends_list-2-clause-whole t c = rw c.in_ok-push.ensures.items (led_last handlers_list c.args.left c.args.end _ _ _ _ _ _ c.loop-alloc.invariant.0 c.in_ok-variable.ensures.whole c.in_ok-body.ensures.whole (sym c.ends_list-in-None.ensures ∙ c.if-ends_list-2.true))
+handler::handlers-returns-then-ends_list-2-clause-whole t c = rw (c.fitted-then-ends_list-2.ensures, c.in_ok-push.ensures.items) (led_last handlers_list c.args.left c.args.end _ _ _ _ _ _ c.loop-alloc.invariant.0 c.in_ok-variable.ensures.whole c.in_ok-body.ensures.whole (sym c.ends_list-in-None.ensures ∙ c.if-ends_list-2.true))
 
 pub handler::handlers-returns-in-None-clause-refused : goal.handler::handlers-returns-in-None-clause-refused
 handler::handlers-returns-in-None-clause-refused t c = led_stops handlers_list c.args.left c.args.end (_, _) _ _ _ _ _ _ _ c.loop-alloc.invariant.0 (sym c.ends_list.ensures ∙ c.if-ends_list.false) c.in_ok-variable.ensures.whole c.in_ok-body.ensures.whole c.in-None.ensures.mark (sym c.ends_list-in-None.ensures ∙ c.if-ends_list-2.false) c.syntax.ensures

@@ -15,4 +15,4 @@ chain_of_some e (x ∷ xs) h = refl
 pub returns : goal.returns
 returns c =
     let some : 0 < length c.args.rest.items = grind (arith, nat_tests) in
-    chain_says c.in_ok-first.first c.args.rest ∙ (ap (λ z. chain z (operations_of c.args.rest.items)) (ap expr_of c.in_ok-first.ensures.ok) ∙ sym (chain_of_some (expr_of c.args.first) c.args.rest.items some))
+    chain_says c.in_ok-first.first c.fitted-rest.result ∙ (ap (λ z. chain z (operations_of c.fitted-rest.result.items)) (ap expr_of c.in_ok-first.ensures.ok) ∙ (ap (λ xs. chain (expr_of c.args.first) (operations_of xs)) c.fitted-rest.ensures ∙ sym (chain_of_some (expr_of c.args.first) c.args.rest.items some)))

@@ -17,4 +17,4 @@ pub loop-names-preserved : goal.loop-names-preserved
 loop-names-preserved c = (rw c.in_ok-push.ensures.items (naming_more _ _ _ _ _ _ _ c.loop-names.invariant.0 c.in_ok-name.ensures.name c.in-Some.ensures.mark.1), omega (arith, c.loop-names.invariant.1, c.in-Some.ensures.shorter, c.in_ok-name.ensures.shorter))
 
 pub returns-in-None-clause-whole : goal.returns-in-None-clause-whole
-returns-in-None-clause-whole c = λ d. rw (c.from.ensures, c.in_ok-push.ensures.items) (naming_ends d _ _ _ _ _ c.loop-names.invariant.0 c.in_ok-name.ensures.name c.in-None.ensures.mark)
+returns-in-None-clause-whole c = λ d. rw (c.from.ensures, c.fitted.ensures, c.in_ok-push.ensures.items) (naming_ends d _ _ _ _ _ c.loop-names.invariant.0 c.in_ok-name.ensures.name c.in-None.ensures.mark)

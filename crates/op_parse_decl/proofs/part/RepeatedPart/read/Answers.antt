@@ -18,4 +18,4 @@ pub loop-setting-preserved : goal.loop-setting-preserved
 loop-setting-preserved g c = (rw c.in_ok-push.ensures.items (repeating_more _ _ _ _ _ _ _ _ _ _ g.met.A.Part.known c.loop-setting.invariant.0 (front_begins _ _ (sym c.begins.ensures ∙ c.loop-setting-test.true)) c.in_ok-item.ensures.whole), omega (arith, c.loop-setting.invariant.1, c.in_ok-item.ensures.shorter, g.met.A.Item.moves))
 
 pub returns-clause-whole : goal.returns-clause-whole
-returns-clause-whole g c = repeating_ends _ _ _ _ _ _ _ _ c.loop-setting.invariant.0 (front_not _ _ (sym c.begins.ensures ∙ c.loop-setting-test.false))
+returns-clause-whole g c = rw c.fitted-items.ensures (repeating_ends _ _ _ _ _ _ _ _ c.loop-setting.invariant.0 (front_not _ _ (sym c.begins.ensures ∙ c.loop-setting-test.false)))

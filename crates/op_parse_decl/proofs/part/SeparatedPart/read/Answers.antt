@@ -17,4 +17,4 @@ pub loop-items-preserved : goal.loop-items-preserved
 loop-items-preserved g c = (rw c.in_ok-push.ensures.items (separated_more _ _ _ _ _ _ _ _ _ _ _ _ g.met.A.Part.known c.loop-items.invariant.0 c.in_ok-part.ensures.whole (rw c.sign.ensures at c.in-Some.ensures.mark.1)), omega (arith, c.loop-items.invariant.1, c.in-Some.ensures.shorter, c.in_ok-part.ensures.shorter))
 
 pub returns-in-None-clause-whole : goal.returns-in-None-clause-whole
-returns-in-None-clause-whole g c = rw c.in_ok-push.ensures.items (separated_ends _ _ _ _ _ _ _ _ _ _ c.loop-items.invariant.0 c.in_ok-part.ensures.whole (rw c.sign.ensures at c.in-None.ensures.mark))
+returns-in-None-clause-whole g c = rw (c.fitted-items.ensures, c.in_ok-push.ensures.items) (separated_ends _ _ _ _ _ _ _ _ _ _ c.loop-items.invariant.0 c.in_ok-part.ensures.whole (rw c.sign.ensures at c.in-None.ensures.mark))
