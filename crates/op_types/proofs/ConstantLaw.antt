@@ -1,5 +1,5 @@
 -- What constant expressions mean agrees with the rules.
-use Rattle.std.proofs.Common.{◌≡◌, inl, inr, ℕ, ℤ, pos, neg_ℤ, Bool, true, false, List, [], ◌∷◌, Option, Some, None, is_some, if◌then◌else◌, Result, Ok, Err, refl, sym}
+use Rattle.std.proofs.Common.{◌≡◌, inl, inr, ℕ, ℤ, pos, neg_ℤ, Bool, true, false, List, [], ◌∷◌, Option, Some, None, is_some, if◌then◌else◌, Result, Ok, Err, refl, subst, sym, ◌↔◌}
 use Rattle.std.specs.Option.{option_and_then, option_flatten, option_map}
 use Rattle.op_base.specs.declared.place.Place.{Place}
 use Rattle.op_base.specs.declared.rule.Refusal.{Refusal}
@@ -18,8 +18,8 @@ use Rattle.op_tree.specs.declared.operator.PrefixOperator.{PrefixOperator}
 use Rattle.op_tree.specs.declared.operator.PrefixOperator.TheVariants.{Minus}
 use Rattle.op_tree.specs.declared.position.Name.{Name}
 use Rattle.op_types.proofs.ConstantValue.{Total, has, breaks, spoiled, has_value}
-use Rattle.op_types.specs.ConstantRules.{ApplicationBreaks, ApplicationIs, ArgumentBreaks, ArgumentIs, ArgumentIsConstant, BoundBreaks, BoundIs, BreaksBehind, CallBreaks, CallIs, CallIsConstant, CastBreaks, CastIs, ConstantBreaks, DesignatorBreaks, DesignatorIs, DesignatorIsConstant, ElementBreaks, ElementIs, ElementIsConstant, ElementsAreConstant, Evaluates, EvaluatesBehind, Folds, GatheringBreaks, Gathers, IsConstant, LiteralIs, MemberBreaks, MemberIs, MemberIsConstant, MembersAre, MembersBreak, NameBreaks, NameIs, NameIsConstant, NumeralBreaks, NumeralIs, OperandsAreConstant, OperationBreaks, OperationIs, OperatorBreaks, OperatorIs, PrefixBreaks, PrefixIs, RangeBreaks, RangeIs, SingleBreaks, SingleIs, UnionBreaks, UnionIs, UseBreaks, UseIs, Without}
-use Rattle.op_types.specs.Constants.{FoldIs, Sole, argument, application_means, bound_means, call_means, cast_means, constant, designated_constant, element, element_means, followed, gathered_means, is_folded, joined_name, literal_means, member_means, members, name_means, no_members, numeral, operation_means, operations, operator_means, prefix_means, range_means, single_means, sole, sole_means, start_of, start_of_element, type_named, use_means, use_of}
+use Rattle.op_types.specs.ConstantRules.{ApplicationBreaks, ApplicationIs, ArgumentBreaks, ArgumentIs, ArgumentIsConstant, BoundBreaks, BoundIs, BreaksBehind, CallBreaks, CallIs, CallIsConstant, CastBreaks, CastIs, ConstantBreaks, DesignatorBreaks, DesignatorIs, DesignatorIsConstant, ElementBreaks, ElementIs, ElementIsConstant, ElementsAreConstant, Evaluates, EvaluatesBehind, Folds, GatheringBreaks, Gathers, IsConstant, LiteralIs, MembersAre, MembersBreak, NameBreaks, NameIs, NameIsConstant, NumeralBreaks, NumeralIs, OfQualified, OperandsAreConstant, OperationBreaks, OperationIs, OperatorBreaks, OperatorIs, PrefixBreaks, PrefixIs, RangeBreaks, RangeIs, SingleBreaks, SingleIs, UnionBreaks, UnionIs, UseBreaks, UseIs, Without}
+use Rattle.op_types.specs.Constants.{FoldIs, Sole, argument, application_means, bound_means, call_means, cast_means, constant, designated_constant, element, element_means, followed, gathered_means, is_folded, literal_means, members, name_means, no_members, numeral, operation_means, operations, operator_means, prefix_means, qualified, range_means, single_means, sole, sole_means, start_of, start_of_element, type_named, use_means, use_of}
 use Rattle.op_types.specs.Names.{Named, lower, meaning_of}
 use Rattle.op_types.specs.declared.constant.Applied.{Applied}
 use Rattle.op_types.specs.declared.constant.Applied.TheVariants.{Cast, Function as Function'}
@@ -27,7 +27,7 @@ use Rattle.op_types.specs.declared.constant.Constant.{Constant}
 use Rattle.op_types.specs.declared.constant.Use.{Use}
 use Rattle.op_types.specs.declared.constant.Use.TheVariants.{Unknown, Silent, Bound, Apply}
 use Rattle.op_types.specs.declared.visible.Meaning.{Meaning}
-use Rattle.op_types.specs.declared.visible.Meaning.TheVariants.{Constant as ConstantNamed, Unit as UnitNamed, Spoiled}
+use Rattle.op_types.specs.declared.visible.Meaning.TheVariants.{Constant as ConstantNamed, Spoiled}
 
 -- ---- single constants
 
@@ -112,10 +112,20 @@ name_law place (Some Spoiled) = is_one (agrees_untyped)
 name_law place (Some (ConstantNamed c)) = is_one (agrees_fine _)
 name_law place (Some m) = is_none (λ c. c)
 
-member_law : (names : List Named) (n m : Name) (o : Option Meaning) → AgreesIf (member_means names n m o) (MemberIsConstant names n m o) (MemberIs names n m o) (MemberBreaks names n m o)
-member_law names n m (Some (UnitNamed id)) = name_law m.position.place (meaning_of names (joined_name n.text m.text))
-member_law names n m None = is_one (agrees_refused 15 n.position.place)
-member_law names n m (Some o) = is_none (λ c. c)
+some_is : {A : Type 0} {a b : A} → Some a ≡ Some b → a ≡ b
+some_is e = cc
+
+through_entry : {A B : Type 0} (T : A → B → Type 0) (a : A) (b : B) → T a b ↔ Through (Entry (Some a)) T b
+through_entry T a b = (λ t. (a, refl, t), λ t. subst (λ x. T x b) (sym (some_is t.1)) t.2)
+
+of_some : {A Q : Type 0} {C : Type 0} {T : Q → A → Type 0} {P : Q → Refusal → Type 0} (o : Option (Checked A)) (q : Q) → AgreesIf o C (T q) (P q) → AgreesIf o C (Through (Entry (Some q)) T) (Through (Entry (Some q)) P)
+of_some None q h = is_none h.part
+of_some {T} {P} (Some c) q h = record { part = (h.part.0, agrees_as h.part.1 (through_entry T q) (through_entry P q)) }
+
+-- of what a name behind another stands for
+if_qualified : {A : Type 0} {f : Option Meaning × Place → Option (Checked A)} {C : Option Meaning × Place → Type 0} {T : Option Meaning × Place → A → Type 0} {P : Option Meaning × Place → Refusal → Type 0} (o : Option (Option Meaning × Place)) → ((q : Option Meaning × Place) → AgreesIf (f q) (C q) (T q) (P q)) → AgreesIf (option_and_then f o) (OfQualified C o) (Through (Entry o) T) (Through (Entry o) P)
+if_qualified None h = is_none (λ c. c)
+if_qualified {f} (Some q) h = of_some (f q) q (h q)
 
 -- ---- calls
 
@@ -197,9 +207,11 @@ mutual
 
   designator_law : (core : Core) (names : List Named) (d : Designator) → AgreesIf (designated_constant core names d) (DesignatorIsConstant core names d) (DesignatorIs core names d) (DesignatorBreaks core names d)
   designator_law core names (designator (named n) no_selectors) = name_law n.position.place (meaning_of names (lower n.text))
-  designator_law core names (designator (named n) (selectors (member m) no_selectors)) = member_law names n m (meaning_of names (lower n.text))
+  designator_law core names (designator (named n) (selectors (member m) no_selectors)) = if_qualified (qualified names n m) (λ q. name_law q.1 q.0)
   designator_law core names (designator (named n) (selectors (call args) no_selectors)) =
       call_law core n.position.place (type_named names args) (sole core names args) (use_of core (meaning_of names (lower n.text))) (argument_law core names n.position.place args)
+  designator_law core names (designator (named n) (selectors (member m) (selectors (call args) no_selectors))) =
+      if_qualified (qualified names n m) (λ q. call_law core q.1 (type_named names args) (sole core names args) (use_of core q.0) (argument_law core names q.1 args))
   designator_law core names (designator (bracketed p e) no_selectors) = if_map (evaluates core names e) (λ a h. agrees_made_of h)
   designator_law core names d = is_none (λ c. c)
 

@@ -11,8 +11,8 @@ use Rattle.op_core.specs.declared.program.Core.{Core}
 use Rattle.op_tree.specs.Expression.{Expression, chain, prefixed, number, nil, set, literal, designated, inherited, Operations, no_operations, operation, Elements, no_elements, elements, Element, one, range, Designator, designator, named, bracketed, no_selectors, selectors, member, call, Arguments, no_arguments, arguments, value}
 use Rattle.op_tree.specs.declared.operator.PrefixOperator.TheVariants.{Minus}
 use Rattle.op_tree.specs.declared.position.Name.{Name}
-use Rattle.op_types.specs.ConstantRules.{ArgumentBreaks, ArgumentIs, ArgumentIsConstant, ArgumentIsSpoiled, BoundBreaks, BoundIs, BreaksBehind, CallBreaks, CallIs, CallIsConstant, ConstantBreaks, DesignatorBreaks, DesignatorIs, DesignatorIsConstant, DesignatorIsSpoiled, ElementBreaks, ElementIs, ElementIsConstant, ElementIsSpoiled, ElementsAreConstant, ElementsAreSpoiled, Evaluates, EvaluatesBehind, GatheringBreaks, Gathers, IsConstant, IsSpoiled, LiteralIs, MemberBreaks, MemberIs, MemberIsConstant, MembersAre, MembersBreak, NameBreaks, NameIs, NameIsConstant, OperandsAreConstant, OperandsAreSpoiled, UseBreaks, UseIs}
-use Rattle.op_types.specs.Constants.{joined_name, no_members, start_of, type_named, use_of, use_of_function}
+use Rattle.op_types.specs.ConstantRules.{ArgumentBreaks, ArgumentIs, ArgumentIsConstant, ArgumentIsSpoiled, BoundBreaks, BoundIs, BreaksBehind, CallBreaks, CallIs, CallIsConstant, ConstantBreaks, DesignatorBreaks, DesignatorIs, DesignatorIsConstant, DesignatorIsSpoiled, ElementBreaks, ElementIs, ElementIsConstant, ElementIsSpoiled, ElementsAreConstant, ElementsAreSpoiled, Evaluates, EvaluatesBehind, GatheringBreaks, Gathers, IsConstant, IsSpoiled, LiteralIs, MembersAre, MembersBreak, NameBreaks, NameIs, NameIsConstant, OfQualified, OperandsAreConstant, OperandsAreSpoiled, UseBreaks, UseIs}
+use Rattle.op_types.specs.Constants.{behind_name, joined_name, no_members, start_of, type_named, use_of, use_of_function}
 use Rattle.op_types.specs.Names.{Named, lower, meaning_of}
 use Rattle.op_types.specs.declared.constant.Applied.{Applied}
 use Rattle.op_types.specs.declared.constant.Applied.TheVariants.{Cast, Function as Function'}
@@ -89,10 +89,20 @@ name_value place (Some Spoiled) c = spoiled refl
 name_value place (Some (ConstantNamed x)) c = has _ refl
 name_value place (Some m) c = absurd c
 
-member_value : (names : List Named) (n m : Name) (o : Option Meaning) → MemberIsConstant names n m o → Total (MemberIs names n m o) (MemberBreaks names n m o) (meaning_of names (joined_name n.text m.text) ≡ Some Spoiled)
-member_value names n m (Some (UnitNamed id)) c = name_value m.position.place (meaning_of names (joined_name n.text m.text)) c
-member_value names n m None c = breaks (broken 15 n.position.place) refl
-member_value names n m (Some o) c = absurd c
+at_entry : {Q : Type 0} {T : Q → Constant → Type 0} {P : Q → Refusal → Type 0} {S : Type 0} (q : Q) → Total (T q) (P q) S → Total (Through (Entry (Some q)) T) (Through (Entry (Some q)) P) S
+at_entry q (has a t) = has a (q, refl, t)
+at_entry q (breaks r p) = breaks r (q, refl, p)
+at_entry q (spoiled s) = spoiled s
+
+not_known : {Z S : Type 0} → (None ≡ Some Spoiled) ⊎ S → Z ⊎ S
+not_known (inl e) = absurd (cc)
+not_known (inr s) = inr s
+
+-- of what a name behind another stands for
+qualified_value : {S : Type 0} {C : Option Meaning × Place → Type 0} {T : Option Meaning × Place → Constant → Type 0} {P : Option Meaning × Place → Refusal → Type 0} (names : List Named) (n m : Name) (o : Option Meaning) → ((q : Option Meaning × Place) → C q → Total (T q) (P q) ((q.0 ≡ Some Spoiled) ⊎ S)) → OfQualified C (behind_name names n m o) → Total (Through (Entry (behind_name names n m o)) T) (Through (Entry (behind_name names n m o)) P) ((meaning_of names (joined_name n.text m.text) ≡ Some Spoiled) ⊎ S)
+qualified_value names n m (Some (UnitNamed id)) h c = at_entry (meaning_of names (joined_name n.text m.text), m.position.place) (h (meaning_of names (joined_name n.text m.text), m.position.place) c)
+qualified_value names n m None h c = total_as (at_entry (None, n.position.place) (h (None, n.position.place) c)) (λ r p. p) not_known
+qualified_value names n m (Some o) h c = absurd c
 
 use_value : {S : Type 0} (core : Core) (what : Applied) (place at : Place) (a : Constant) → Total (UseIs core what a) (UseBreaks core what place at a) S
 use_value core (Cast of) place at a = total_test total_entry_fine
@@ -100,12 +110,7 @@ use_value core (Function' f) place at a = total_entry (λ of. total_entry_fine)
 
 bound_value : {S : Type 0} (core : Core) (f : Function) (of : Option (TypeId × Place)) → is_some of ≡ true → Total (Through (Entry of) (λ of. BoundIs core f of.0)) (Through (Entry of) (λ of. BoundBreaks core f of.0 of.1)) S
 bound_value core f None e = absurd (cc)
-bound_value core f (Some of) e = at_entry total_entry_fine
-  where
-    at_entry : {S : Type 0} → Total (BoundIs core f of.0) (BoundBreaks core f of.0 of.1) S → Total (Through (Entry (Some of)) (λ of. BoundIs core f of.0)) (Through (Entry (Some of)) (λ of. BoundBreaks core f of.0 of.1)) S
-    at_entry (has a t) = has a (of, refl, t)
-    at_entry (breaks r p) = breaks r (of, refl, p)
-    at_entry (spoiled s) = spoiled s
+bound_value core f (Some of) e = at_entry of total_entry_fine
 
 call_value : {C S : Type 0} {T : Constant → Type 0} {B : Applied → Refusal → Type 0} (core : Core) (place : Place) (of : Option (TypeId × Place)) (u : Option Use) → CallIsConstant of C u → ((what : Applied) → C → Total (Through T (UseIs core what)) (B what) S) → Total (CallIs core of T u) (CallBreaks core place of B u) ((u ≡ Some Silent) ⊎ S)
 call_value core place of None c g = absurd c
@@ -158,6 +163,10 @@ regrouped (inl (inl p)) = inl p
 regrouped (inl (inr q)) = inr (inl q)
 regrouped (inr r) = inr (inr r)
 
+first_only : {P : Type 0} → P ⊎ ⊥ → P
+first_only (inl p) = p
+first_only (inr never) = absurd never
+
 unless : {P : Type 0} → ⊥ ⊎ P → P
 unless (inl never) = absurd never
 unless (inr p) = p
@@ -199,9 +208,13 @@ mutual
 
   designator_value : (core : Core) (names : List Named) (d : Designator) → DesignatorIsConstant core names d → Total (DesignatorIs core names d) (DesignatorBreaks core names d) (DesignatorIsSpoiled names d)
   designator_value core names (designator (named n) no_selectors) c = name_value n.position.place (meaning_of names (lower n.text)) c
-  designator_value core names (designator (named n) (selectors (member m) no_selectors)) c = member_value names n m (meaning_of names (lower n.text)) c
+  designator_value core names (designator (named n) (selectors (member m) no_selectors)) c =
+      total_as (qualified_value names n m (meaning_of names (lower n.text)) (λ q k. total_as (name_value q.1 q.0 k) (λ r p. p) inl) c) (λ r p. p) first_only
   designator_value core names (designator (named n) (selectors (call args) no_selectors)) c =
       total_as (call_value core n.position.place (type_named names args) (use_of core (meaning_of names (lower n.text))) c (argument_value core names n.position.place args)) (λ r p. p) (spoiled_call core (meaning_of names (lower n.text)))
+  designator_value core names (designator (named n) (selectors (member m) (selectors (call args) no_selectors))) c =
+      qualified_value names n m (meaning_of names (lower n.text)) (λ q k.
+      total_as (call_value core q.1 (type_named names args) (use_of core q.0) k (argument_value core names q.1 args)) (λ r p. p) (spoiled_call core q.0)) c
   designator_value core names (designator (bracketed p e) no_selectors) c = total_made (has_value core names e c)
   designator_value core names d c = absurd c
 

@@ -18,7 +18,7 @@ use Rattle.op_tree.specs.declared.operator.PrefixOperator.{PrefixOperator}
 use Rattle.op_tree.specs.declared.operator.PrefixOperator.TheVariants.{Minus}
 use Rattle.op_tree.specs.declared.position.Name.{Name}
 use Rattle.op_types.specs.Assignable.{assignable}
-use Rattle.op_types.specs.Constants.{is_folded, is_ordinal, joined, joined_name, loose, made, members_of, no_members, nodes, plus, rule_of, start_of, start_of_element, type_named, use_of}
+use Rattle.op_types.specs.Constants.{is_folded, is_ordinal, joined, joined_name, loose, made, members_of, no_members, nodes, plus, qualified, rule_of, start_of, start_of_element, type_named, use_of}
 use Rattle.op_types.specs.Names.{Named, lower, meaning_of}
 use Rattle.op_types.specs.Operators as table
 use Rattle.op_types.specs.Sets.{between, combined, common_set, set_over}
@@ -31,7 +31,7 @@ use Rattle.op_types.specs.declared.constant.Use.{Use}
 use Rattle.op_types.specs.declared.constant.Use.TheVariants.{Unknown, Bound, Apply}
 use Rattle.op_types.specs.declared.constant.Weight.{Weight}
 use Rattle.op_types.specs.declared.visible.Meaning.{Meaning}
-use Rattle.op_types.specs.declared.visible.Meaning.TheVariants.{Constant as ConstantNamed, Unit as UnitNamed, Spoiled}
+use Rattle.op_types.specs.declared.visible.Meaning.TheVariants.{Constant as ConstantNamed, Spoiled}
 
 -- ---- single constants
 
@@ -142,20 +142,10 @@ abbrev pub NameBreaks : Place → Option Meaning → Refusal → Type 0
 NameBreaks place None = At 15 place
 NameBreaks place _ = Never
 
--- a name of a unit
-abbrev pub MemberIsConstant : List Named → Name → Name → Option Meaning → Type 0
-MemberIsConstant names n m (Some (UnitNamed id)) = NameIsConstant (meaning_of names (joined_name n.text m.text))
-MemberIsConstant names n m None = Unit {0}
-MemberIsConstant names n m _ = ⊥
-
-abbrev pub MemberIs : List Named → Name → Name → Option Meaning → Constant → Type 0
-MemberIs names n m (Some (UnitNamed id)) = NameIs (meaning_of names (joined_name n.text m.text))
-MemberIs names n m _ = Never
-
-abbrev pub MemberBreaks : List Named → Name → Name → Option Meaning → Refusal → Type 0
-MemberBreaks names n m (Some (UnitNamed id)) = NameBreaks m.position.place (meaning_of names (joined_name n.text m.text))
-MemberBreaks names n m None = At 15 n.position.place
-MemberBreaks names n m _ = Never
+-- what is said of a name behind another, by what it stands for and where; nothing where the first is no unit's
+abbrev pub OfQualified : (Option Meaning × Place → Type 0) → Option (Option Meaning × Place) → Type 0
+OfQualified C None = ⊥
+OfQualified C (Some q) = C q
 
 -- ---- calls
 
@@ -270,9 +260,11 @@ abbrev mutual
   pub DesignatorIsConstant : Core → List Named → Designator → Type 0
   DesignatorIsConstant core names (designator (named n) no_selectors) = NameIsConstant (meaning_of names (lower n.text))
   DesignatorIsConstant core names (designator (named n) (selectors (member m) no_selectors)) =
-      MemberIsConstant names n m (meaning_of names (lower n.text))
+      OfQualified (λ q. NameIsConstant q.0) (qualified names n m)
   DesignatorIsConstant core names (designator (named n) (selectors (call args) no_selectors)) =
       CallIsConstant (type_named names args) (ArgumentIsConstant core names args) (use_of core (meaning_of names (lower n.text)))
+  DesignatorIsConstant core names (designator (named n) (selectors (member m) (selectors (call args) no_selectors))) =
+      OfQualified (λ q. CallIsConstant (type_named names args) (ArgumentIsConstant core names args) (use_of core q.0)) (qualified names n m)
   DesignatorIsConstant core names (designator (bracketed p e) no_selectors) = IsConstant core names e
   DesignatorIsConstant core names _ = ⊥
 
@@ -312,9 +304,11 @@ abbrev mutual
 
   pub DesignatorIs : Core → List Named → Designator → Constant → Type 0
   DesignatorIs core names (designator (named n) no_selectors) = NameIs (meaning_of names (lower n.text))
-  DesignatorIs core names (designator (named n) (selectors (member m) no_selectors)) = MemberIs names n m (meaning_of names (lower n.text))
+  DesignatorIs core names (designator (named n) (selectors (member m) no_selectors)) = Through (Entry (qualified names n m)) (λ q. NameIs q.0)
   DesignatorIs core names (designator (named n) (selectors (call args) no_selectors)) =
       CallIs core (type_named names args) (ArgumentIs core names args) (use_of core (meaning_of names (lower n.text)))
+  DesignatorIs core names (designator (named n) (selectors (member m) (selectors (call args) no_selectors))) =
+      Through (Entry (qualified names n m)) (λ q. CallIs core (type_named names args) (ArgumentIs core names args) (use_of core q.0))
   DesignatorIs core names (designator (bracketed p e) no_selectors) = InBrackets (Evaluates core names e)
   DesignatorIs core names _ = Never
 
@@ -355,10 +349,13 @@ abbrev mutual
 
   pub DesignatorBreaks : Core → List Named → Designator → Refusal → Type 0
   DesignatorBreaks core names (designator (named n) no_selectors) = NameBreaks n.position.place (meaning_of names (lower n.text))
-  DesignatorBreaks core names (designator (named n) (selectors (member m) no_selectors)) = MemberBreaks names n m (meaning_of names (lower n.text))
+  DesignatorBreaks core names (designator (named n) (selectors (member m) no_selectors)) = Through (Entry (qualified names n m)) (λ q. NameBreaks q.1 q.0)
   DesignatorBreaks core names (designator (named n) (selectors (call args) no_selectors)) =
       CallBreaks core n.position.place (type_named names args) (ArgumentBreaks core names n.position.place args)
       (use_of core (meaning_of names (lower n.text)))
+  DesignatorBreaks core names (designator (named n) (selectors (member m) (selectors (call args) no_selectors))) =
+      Through (Entry (qualified names n m)) (λ q.
+      CallBreaks core q.1 (type_named names args) (ArgumentBreaks core names q.1 args) (use_of core q.0))
   DesignatorBreaks core names (designator (bracketed p e) no_selectors) = ConstantBreaks core names e
   DesignatorBreaks core names _ = Never
 
@@ -396,6 +393,8 @@ abbrev mutual
   DesignatorIsSpoiled names (designator (named n) (selectors (member m) no_selectors)) = meaning_of names (joined_name n.text m.text) ≡ Some Spoiled
   DesignatorIsSpoiled names (designator (named n) (selectors (call args) no_selectors)) =
       (meaning_of names (lower n.text) ≡ Some Spoiled) ⊎ ArgumentIsSpoiled names args
+  DesignatorIsSpoiled names (designator (named n) (selectors (member m) (selectors (call args) no_selectors))) =
+      (meaning_of names (joined_name n.text m.text) ≡ Some Spoiled) ⊎ ArgumentIsSpoiled names args
   DesignatorIsSpoiled names (designator (bracketed p e) no_selectors) = IsSpoiled names e
   DesignatorIsSpoiled names _ = ⊥
 

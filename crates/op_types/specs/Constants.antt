@@ -134,10 +134,14 @@ name_means place _ = None
 abbrev pub joined_name : List ℕ → List ℕ → List ℕ
 joined_name unit name = lower unit ++ codes "." ++ lower name
 
-abbrev pub member_means : List Named → Name → Name → Option Meaning → Option (Checked Constant)
-member_means names n m (Some (UnitNamed id)) = name_means m.position.place (meaning_of names (joined_name n.text m.text))
-member_means names n m None = Some (refused 15 n.position.place)
-member_means names n m _ = None
+-- what a name behind another stands for, and where: the first name is a unit's, or it is the one that is not known
+abbrev pub behind_name : List Named → Name → Name → Option Meaning → Option (Option Meaning × Place)
+behind_name names n m (Some (UnitNamed id)) = Some (meaning_of names (joined_name n.text m.text), m.position.place)
+behind_name names n m None = Some (None, n.position.place)
+behind_name names n m _ = None
+
+abbrev pub qualified : List Named → Name → Name → Option (Option Meaning × Place)
+qualified names n m = behind_name names n m (meaning_of names (lower n.text))
 
 -- ---- functions and casts
 
@@ -177,12 +181,13 @@ abbrev pub only_value : Arguments → Option Expression
 only_value (arguments (value e) no_arguments) = Some e
 only_value _ = None
 
-abbrev type_in : Option Meaning → Option TypeId
-type_in (Some (TypeName of)) = Some of
-type_in _ = None
+abbrev pub type_in : Place → Option Meaning → Option (TypeId × Place)
+type_in place (Some (TypeName of)) = Some (of, place)
+type_in place _ = None
 
 abbrev pub type_of_name : List Named → Designator → Option (TypeId × Place)
-type_of_name names (designator (named n) no_selectors) = option_map (λ of. (of, n.position.place)) (type_in (meaning_of names (lower n.text)))
+type_of_name names (designator (named n) no_selectors) = type_in n.position.place (meaning_of names (lower n.text))
+type_of_name names (designator (named n) (selectors (member m) no_selectors)) = option_and_then (λ q. type_in q.1 q.0) (qualified names n m)
 type_of_name names _ = None
 
 abbrev pub type_of_value : List Named → Expression → Option (TypeId × Place)
@@ -315,8 +320,11 @@ abbrev mutual
 
   pub designated_constant : Core → List Named → Designator → Option (Checked Constant)
   designated_constant core names (designator (named n) no_selectors) = name_means n.position.place (meaning_of names (lower n.text))
-  designated_constant core names (designator (named n) (selectors (member m) no_selectors)) = member_means names n m (meaning_of names (lower n.text))
-  designated_constant core names (designator (named n) (selectors (call args) no_selectors)) = call_means core n.position.place (type_named names args) (sole core names args) (use_of core (meaning_of names (lower n.text)))
+  designated_constant core names (designator (named n) (selectors (member m) no_selectors)) = option_and_then (λ q. name_means q.1 q.0) (qualified names n m)
+  designated_constant core names (designator (named n) (selectors (call args) no_selectors)) =
+      call_means core n.position.place (type_named names args) (sole core names args) (use_of core (meaning_of names (lower n.text)))
+  designated_constant core names (designator (named n) (selectors (member m) (selectors (call args) no_selectors))) =
+      option_and_then (λ q. call_means core q.1 (type_named names args) (sole core names args) (use_of core q.0)) (qualified names n m)
   designated_constant core names (designator (bracketed p e) no_selectors) = option_map in_brackets (constant core names e)
   designated_constant core names _ = None
 

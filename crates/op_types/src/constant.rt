@@ -1,17 +1,17 @@
 //! Constant expressions (Free Pascal Reference Guide, "Ordinary constants").
 ghost use Rattle.std.specs.Prelude.{◌≡◌, Some, IfOk};
-ghost use Rattle.std.specs.Option.{option_map};
-ghost use Rattle.op_tree.specs.Expression.{argument_of, arguments, call, designator, element_of, expr_of, named, no_arguments, no_selectors, prefixed, selector_of, selectors};
+ghost use Rattle.std.specs.Option.{option_copied, option_map};
+ghost use Rattle.op_tree.specs.Expression.{argument_of, arguments, call, designator, element_of, expr_of, member, named, no_arguments, no_selectors, prefixed, selector_of, selectors};
 ghost use Rattle.op_tree.specs.Lists.{arguments_of, operations_of};
 ghost use Rattle.op_tree.specs.Statement.{designator_of, elements_of};
 ghost use Rattle.op_types.specs.ConstantRules.{Folds};
-ghost use Rattle.op_types.specs.Constants.{FoldIs, Gives, GivesBehind, constant, designated_constant, element, in_brackets, members, no_members, sole, sole_means, use_means};
+ghost use Rattle.op_types.specs.Constants.{FoldIs, Gives, GivesBehind, call_means, constant, designated_constant, element, in_brackets, members, no_members, sole, sole_means, type_named, use_means, use_of};
 
 use crate::part::{
     in_brackets, is_folded, made, no_members, nodes, number_behind, refuse, start_of,
     start_of_element,
 };
-use crate::{Setting, Visible};
+use crate::{Meaning, Setting, Visible};
 use op_base::{NoMemory, Place};
 use op_core::{CheckError, Const, Core, FirstRefusal, Function, TypeId};
 use op_tree::{
@@ -226,7 +226,12 @@ impl<'a> Setting<'a> {
             }
             (Root::Named(name), Some((first, others))) => match others.split_first() {
                 None => self.selected(sink, name, first),
-                Some(_) => Ok(None),
+                Some((second, more)) => match (first, more.split_first()) {
+                    (Selector::Member(member), None) => {
+                        self.selected_in_unit(sink, name, member, second)
+                    }
+                    _ => Ok(None),
+                },
             },
             (Root::Bracketed { inside, .. }, None) => self.bracketed(sink, inside),
             _ => Ok(None),
@@ -250,18 +255,60 @@ impl<'a> Setting<'a> {
     {
         match first {
             Selector::Member(member) => self.member(sink, name, member),
-            Selector::Call { arguments } => self.call(sink, name, arguments),
+            Selector::Call { arguments } => {
+                let meaning = self.visible.look_up(name.text.as_slice())?;
+                self.call(sink, name.position.place, meaning, arguments)
+            }
             Selector::Index { .. } => Ok(None),
         }
     }
 
-    /// A name with one list of arguments.
+    /// A name behind a unit's, and the one thing that is selected of it.
     #[cycle(folding)]
-    fn call(self, sink: &mut FirstRefusal, name: &Name, list: &[Argument]) -> Folded
-        ensures { IfOk result (Gives (designated_constant self.entry.core.now self.entry.visible.now (designator (named name.now) (selectors (call (arguments_of list.now)) no_selectors))) sink.old sink.new) }
+    fn selected_in_unit(
+        self,
+        sink: &mut FirstRefusal,
+        unit: &Name,
+        name: &Name,
+        second: &Selector,
+    ) -> Folded
+        ensures { IfOk result (Gives (designated_constant self.entry.core.now self.entry.visible.now (designator (named unit.now) (selectors (member name.now) (selectors (selector_of second.now) no_selectors)))) sink.old sink.new) }
     {
-        let place = name.position.place;
-        match self.use_of(self.visible.look_up(name.text.as_slice())?) {
+        match second {
+            Selector::Call { arguments } => self.call_in_unit(sink, unit, name, arguments),
+            _ => Ok(None),
+        }
+    }
+
+    /// A name behind a unit's, with one list of arguments.
+    #[cycle(folding)]
+    fn call_in_unit(
+        self,
+        sink: &mut FirstRefusal,
+        unit: &Name,
+        name: &Name,
+        list: &[Argument],
+    ) -> Folded
+        ensures { IfOk result (Gives (designated_constant self.entry.core.now self.entry.visible.now (designator (named unit.now) (selectors (member name.now) (selectors (call (arguments_of list.now)) no_selectors)))) sink.old sink.new) }
+    {
+        match self.qualified(unit, name)? {
+            None => Ok(None),
+            Some((meaning, place)) => self.call(sink, place, meaning, list),
+        }
+    }
+
+    /// What stands for this, at a place, with one list of arguments.
+    #[cycle(folding)]
+    fn call(
+        self,
+        sink: &mut FirstRefusal,
+        place: Place,
+        meaning: Option<&Meaning>,
+        list: &[Argument],
+    ) -> Folded
+        ensures { IfOk result (Gives (call_means self.entry.core.now place (type_named self.entry.visible.now (arguments_of list.now)) (sole self.entry.core.now self.entry.visible.now (arguments_of list.now)) (use_of self.entry.core.now (option_copied meaning.entry))) sink.old sink.new) }
+    {
+        match self.use_of(meaning) {
             None => Ok(None),
             Some(Use::Unknown) => Ok(Some(refuse(sink, 15, place))),
             Some(Use::Silent) => Ok(Some(None)),

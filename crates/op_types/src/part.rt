@@ -1,10 +1,10 @@
 //! What the parts of constant expressions mean, once their own parts are constants.
 ghost use Rattle.std.specs.Prelude.{◌≡◌, [], Some, None, IfOk, if◌then◌else◌};
-ghost use Rattle.std.specs.Option.{option_copied, option_map};
+ghost use Rattle.std.specs.Option.{option_and_then, option_copied, option_map};
 ghost use Rattle.op_core.specs.Faults.{refused, with_part};
 ghost use Rattle.op_tree.specs.Expression.{element_of, expr_of};
 ghost use Rattle.op_tree.specs.Lists.{arguments_of};
-ghost use Rattle.op_types.specs.Constants.{Gives, Reports, application_means, bound_means, cast_means, element_means, entered, gathered_means, is_folded, joined, literal_means, loose, made, member_means, members_of, name_means, no_members, nodes, number_behind, numeral, only_value, operation_means, plus, prefix_means, range_means, rule_of, single_means, start_of, start_of_element, type_named, type_of_name, type_of_value, use_means, use_of, use_of_function};
+ghost use Rattle.op_types.specs.Constants.{Gives, Reports, application_means, bound_means, cast_means, element_means, entered, gathered_means, is_folded, joined, literal_means, loose, made, members_of, name_means, no_members, nodes, number_behind, numeral, only_value, operation_means, plus, prefix_means, qualified, range_means, rule_of, single_means, start_of, start_of_element, type_in, type_named, type_of_name, type_of_value, use_means, use_of, use_of_function};
 ghost use Rattle.op_types.specs.Names.{lower, meaning_of};
 ghost use Rattle.op_tree.specs.Statement.{designator_of, selectors_of};
 
@@ -210,6 +210,15 @@ fn use_of_function(function: Function) -> Option<Use>
     }
 }
 
+fn type_in(place: Place, meaning: Option<&Meaning>) -> Option<(TypeId, Place)>
+    ensures { result ≡ type_in place (option_copied meaning.entry) }
+{
+    match meaning {
+        Some(Meaning::TypeName(of)) => Some((*of, place)),
+        _ => None,
+    }
+}
+
 impl<'a> Setting<'a> {
     /// A number, of one node, or of two with a minus before it.
     pub fn numeral(
@@ -387,20 +396,34 @@ impl<'a> Setting<'a> {
         }
     }
 
-    /// A name behind a unit's.
-    pub fn member(self, sink: &mut FirstRefusal, unit: &Name, name: &Name) -> Folded
-        ensures { IfOk result (Gives (member_means self.entry.visible.now unit.now name.now (meaning_of self.entry.visible.now (lower unit.now.text))) sink.old sink.new) }
+    /// What a name behind a unit's stands for, and where; the unit's name where that is not known.
+    pub fn qualified(
+        self,
+        unit: &Name,
+        name: &Name,
+    ) -> Result<Option<(Option<&'a Meaning>, Place)>, NoMemory>
+        ensures { IfOk result (λ q. option_map (λ q. (option_copied q.0, q.1)) q ≡ qualified self.entry.visible.now unit.now name.now) }
     {
         match self.visible.look_up(unit.text.as_slice())? {
-            None => Ok(Some(refuse(sink, 15, unit.position.place))),
+            None => Ok(Some((None, unit.position.place))),
             Some(Meaning::Unit(_)) => {
                 let mut joined = Vec::from_slice(self.alloc, unit.text.as_slice())?;
                 joined.push(b'.')?;
                 joined.extend_from_slice(name.text.as_slice())?;
                 let meaning = self.visible.look_up(joined.as_slice())?;
-                self.name(sink, name.position.place, meaning)
+                Ok(Some((meaning, name.position.place)))
             }
             _ => Ok(None),
+        }
+    }
+
+    /// A name behind a unit's.
+    pub fn member(self, sink: &mut FirstRefusal, unit: &Name, name: &Name) -> Folded
+        ensures { IfOk result (Gives (option_and_then (λ q. name_means q.1 q.0) (qualified self.entry.visible.now unit.now name.now)) sink.old sink.new) }
+    {
+        match self.qualified(unit, name)? {
+            None => Ok(None),
+            Some((meaning, place)) => self.name(sink, place, meaning),
         }
     }
 
@@ -442,14 +465,28 @@ impl<'a> Setting<'a> {
         }
     }
 
+    fn type_of_unit(self, unit: &Name, name: &Name) -> Result<Option<(TypeId, Place)>, NoMemory>
+        ensures { IfOk result (λ t. t ≡ option_and_then (λ q. type_in q.1 q.0) (qualified self.entry.visible.now unit.now name.now)) }
+    {
+        match self.qualified(unit, name)? {
+            None => Ok(None),
+            Some((meaning, place)) => Ok(type_in(place, meaning)),
+        }
+    }
+
     fn type_of_name(self, called: &Designator) -> Result<Option<(TypeId, Place)>, NoMemory>
         ensures { IfOk result (λ t. t ≡ type_of_name self.entry.visible.now (designator_of called.now)) }
     {
         match (&called.root, called.selectors.split_first()) {
-            (Root::Named(name), None) => match self.visible.look_up(name.text.as_slice())? {
-                Some(Meaning::TypeName(of)) => Ok(Some((*of, name.position.place))),
-                _ => Ok(None),
-            },
+            (Root::Named(name), None) => {
+                let meaning = self.visible.look_up(name.text.as_slice())?;
+                Ok(type_in(name.position.place, meaning))
+            }
+            (Root::Named(name), Some((Selector::Member(member), others))) =>
+                match others.split_first() {
+                    None => self.type_of_unit(name, member),
+                    Some(_) => Ok(None),
+                },
             _ => Ok(None),
         }
     }

@@ -1,4 +1,4 @@
-use Rattle.std.proofs.Common.{◌+◌, drop, get_or, sym, ap, ◌∙◌}
+use Rattle.std.proofs.Common.{◌+◌, drop, sym, ap, ◌∙◌}
 use Rattle.op_core.specs.declared.types.CoreType.TheVariants.{Integer}
 use Rattle.op_core.specs.declared.types.IntegerKind.TheVariants.{Signed8}
 use Rattle.op_types.proofs.Folding.{next_at}

@@ -1,4 +1,4 @@
-use Rattle.std.proofs.Common.{[], sym, ap, subst, ◌∙◌}
+use Rattle.std.proofs.Common.{sym, ap, subst, ◌∙◌}
 use Rattle.op_core.specs.Sizes.{KeepsExtents}
 use Rattle.op_core.specs.Types.{predefined}
 use Rattle.op_types.proofs.Extents.{keeps_all, kept_of_none}

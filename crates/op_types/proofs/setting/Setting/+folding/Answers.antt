@@ -1,7 +1,7 @@
 use Rattle.std.proofs.Common.{◌≡◌, ◌+◌, IfOk, Some, drop, sym, ap, subst, ◌∙◌, arith}
 use Rattle.std.specs.Option.{option_map}
 use Rattle.op_tree.proofs.Rows.{call_says, chain_says, designated_says, literal_says, set_says}
-use Rattle.op_tree.specs.Expression.{call, chain, designator, element_of, expr_of, literal, named, no_selectors, selector_of, selectors}
+use Rattle.op_tree.specs.Expression.{call, chain, designator, element_of, expr_of, literal, member, named, no_selectors, selector_of, selectors}
 use Rattle.op_tree.specs.Lists.{arguments_of, operations_of}
 use Rattle.op_tree.specs.Statement.{elements_of, selectors_of}
 use Rattle.op_types.proofs.Folding.{bracketed, chained, gathers, goes_on, literal_gives, map_ok, next_of, next_operation, one_given, unbracketed}
@@ -29,10 +29,23 @@ constant-returns-in-Designator t c =
     subst (λ e. IfOk c.designated.result (Gives (constant c.args.self.core.now c.args.self.visible.now e) c.args.sink.now c.designated.new.sink))
     (sym (ap expr_of c.in-Designator.is ∙ designated_says c.in-Designator.called)) c.designated.ensures
 
-pub selected-returns-in-Call : goal.selected-returns-in-Call
-selected-returns-in-Call t c =
-    subst (λ s. IfOk c.call.result (Gives (designated_constant c.args.self.core.now c.args.self.visible.now (designator (named c.args.name.now) (selectors s no_selectors))) c.args.sink.now c.call.new.sink))
-    ((λ i. call (arguments_of (c.deref.ensures.value i))) ∙ sym (ap selector_of c.in-Call.is ∙ call_says c.in-Call.arguments)) c.call.ensures
+pub selected-returns-in_ok-meaning-in-Call : goal.selected-returns-in_ok-meaning-in-Call
+selected-returns-in_ok-meaning-in-Call t c =
+    let core = c.args.self.core.now in
+    let names = c.args.self.visible.now in
+    let n = c.args.name.now in
+    let place = n.position.place in
+    subst (λ s. IfOk c.call.result (Gives (designated_constant core names (designator (named n) (selectors s no_selectors))) c.args.sink.now c.call.new.sink))
+    ((λ i. call (arguments_of (c.deref.ensures.value i))) ∙ sym (ap selector_of c.in-Call.is ∙ call_says c.in-Call.arguments))
+    (subst (λ m. IfOk c.call.result (Gives (call_means core place (type_named names (arguments_of c.deref.result.now)) (sole core names (arguments_of c.deref.result.now)) (use_of core m)) c.args.sink.now c.call.new.sink))
+    (c.in_ok-meaning-in-Call.ensures ∙ ap (λ n. meaning_of names (lower n)) c.as_slice.ensures) c.call.ensures)
+
+pub selected_in_unit-returns-in-Call : goal.selected_in_unit-returns-in-Call
+selected_in_unit-returns-in-Call t c =
+    let core = c.args.self.core.now in
+    let names = c.args.self.visible.now in
+    subst (λ s. IfOk c.call_in_unit.result (Gives (designated_constant core names (designator (named c.args.unit.now) (selectors (member c.args.name.now) (selectors s no_selectors)))) c.args.sink.now c.call_in_unit.new.sink))
+    ((λ i. call (arguments_of (c.deref.ensures.value i))) ∙ sym (ap selector_of c.in-Call.is ∙ call_says c.in-Call.arguments)) c.call_in_unit.ensures
 
 pub constant-returns-in-Literal : goal.constant-returns-in-Literal
 constant-returns-in-Literal t c =
@@ -64,9 +77,9 @@ pub call-returns-in-None-split_first-2 : goal.call-returns-in-None-split_first-2
 call-returns-in-None-split_first-2 t c =
     let core = c.args.self.core.now in
     let names = c.args.self.visible.now in
-    let place = c.args.name.now.position.place in
+    let place = c.args.place in
     subst (λ u. IfOk c.argument.result (Gives (call_means core place (type_named names (arguments_of c.args.list.now)) (sole core names (arguments_of c.args.list.now)) u) c.args.sink.now c.argument.new.sink))
-    (sym (c.in-Some-Apply.is ∙ ap Some c.in-Some-Apply.field-0-is) ∙ c.use_of.ensures ∙ ap (use_of core) c.in_ok-look_up.ensures ∙ ap (λ n. use_of core (meaning_of names (lower n))) c.as_slice.ensures)
+    (sym (c.in-Some-Apply.is ∙ ap Some c.in-Some-Apply.field-0-is) ∙ c.use_of.ensures)
     (subst (λ given. IfOk c.argument.result (Gives (call_means core place (type_named names given) (sole core names given) (Some (Apply c.in-Some-Apply.what))) c.args.sink.now c.argument.new.sink))
     (sym (one_given c.args.list.now c.in-Some-split_first.others.now c.in-Some-split_first.first.now c.in-Some-split_first.ensures.cases.0 c.in-None-split_first-2.ensures.cases))
     c.argument.ensures)
