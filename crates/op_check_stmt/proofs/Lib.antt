@@ -6,3 +6,4 @@ pub mod LeavingLaw
 pub mod Parts
 pub mod ProcedureLaw
 pub mod Rows
+pub mod Whole

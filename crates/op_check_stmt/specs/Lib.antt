@@ -1,5 +1,6 @@
 pub mod CaseRules
 pub mod Cases
+pub mod Handled
 pub mod Leaving
 pub mod Parts
 pub mod ProcedureRules

@@ -13,3 +13,10 @@ pub mod LawDeclaring
 pub mod LawHeadings
 pub mod LawRoutines
 pub mod Law
+pub mod WholeSteps
+pub mod WholeConstants
+pub mod WholeTypes
+pub mod WholeDeclaring
+pub mod WholeHeadings
+pub mod WholeRoutines
+pub mod Whole

@@ -22,3 +22,4 @@ pub mod RulesDeclaring
 pub mod RulesHeadings
 pub mod RulesRoutines
 pub mod Rules
+pub mod Complete

@@ -1,6 +1,7 @@
 pub mod Assigning
 pub mod ConstantLaw
 pub mod ConstantValue
+pub mod ConstantWhole
 pub mod Extents
 pub mod Folding
 pub mod Index

@@ -418,3 +418,9 @@ Folds core names e (Ok None) =
     ⊎ (IsConstant core names e × Without (Evaluates core names e) × NoneBroken (ConstantBreaks core names e) × IsSpoiled names e)
 Folds core names e (Err (Refused r)) = IsConstant core names e × IsFirstOf (ConstantBreaks core names e) r
 Folds core names e (Err NoMemory) = Unit {0}
+
+-- ---- names whose declarations break no rule
+
+-- a spoiled name has no meaning, and of it its declaration has spoken
+abbrev pub Unspoiled : List Named → Type 0
+Unspoiled names = (key : List ℕ) → meaning_of names key ≡ Some Spoiled → ⊥
