@@ -89,11 +89,8 @@ fn tells_sizes(rt: HostRuntime) -> Result<(), Fail> {
     Ok(())
 }
 
-/// A record of two of the last one, sixty times: 2^60 walks from part to part would be too many.
-#[test]
-fn tells_sizes_of_what_is_nested_deep(rt: HostRuntime) -> Result<(), Fail> {
-    let alloc = rt.alloc();
-    let mut core = predefined(alloc)?;
+/// Enters a record of two of the last one, sixty times: 2^60 walks from part to part would be too many.
+fn enter_nested(alloc: Global, core: &mut Core) -> Result<TypeId, NoMemory> {
     let mut of = TypeId::BYTE;
     for turn in 0..60 {
         for _ in 0..2 {
@@ -107,8 +104,16 @@ fn tells_sizes_of_what_is_nested_deep(rt: HostRuntime) -> Result<(), Fail> {
             first: 2 * turn,
             count: 2,
         };
-        of = enter_type(&mut core, CoreType::Record { fields })?;
+        of = enter_type(core, CoreType::Record { fields })?;
     }
+    Ok(of)
+}
+
+#[test]
+fn tells_sizes_of_what_is_nested_deep(rt: HostRuntime) -> Result<(), Fail> {
+    let alloc = rt.alloc();
+    let mut core = predefined(alloc)?;
+    let of = enter_nested(alloc, &mut core)?;
     assert_eq!(rt; size_of(&core, TypeId(35)), 1 << 20);
     assert_eq!(rt; size_of(&core, of), u32::MAX);
     Ok(())

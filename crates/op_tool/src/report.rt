@@ -21,8 +21,8 @@ pub(crate) fn report<E: Sink>(err: &mut E, line: &[u8], finish: Finish) -> Finis
     }
 }
 
-/// The line of a refusal in this file. Every rule that is broken has a text; that is not proved of those that the check finds,
-/// so a rule without one would end as want of memory.
+/// The line of a refusal in this file. Every rule that is broken has a text; that is not proved, so a rule without one would
+/// end as want of memory.
 fn refusal_line(alloc: Global, file: &[u8], refusal: Refusal) -> Result<Vec<u8>, NoMemory>
     ensures { IfOk result (λ line. Reports file.now refusal.place refusal.rule line.items) }
 {
