@@ -11,8 +11,9 @@ ghost use Rattle.op_check_expr.specs.Words.{Reports};
 use crate::sink::refuse;
 use crate::tree::{constant_tree, type_of, with_conversion};
 use crate::value::Value;
-use op_base::{NoMemory, Place, Sequence, Text};
+use op_base::{NoMemory, Place, Sequence};
 use op_core::{Const, Conversion, Core, CoreExpr, CoreType, FirstRefusal, TypeId, one_type};
+use op_scan::CompactText;
 use op_types::{Constant, Sort, assignable, bytes_of, in_range, range_of, sort_of, type_at};
 use std::alloc::Global;
 
@@ -76,7 +77,10 @@ fn retyped(alloc: Global, core: &Core, to: TypeId, value: &Const) -> Result<Opti
 {
     match (sort_of(core, to), value) {
         (Sort::Ordinal(_), Const::Ordinal(n)) => Ok(in_range(core, to, *n as i64)),
-        (Sort::String, _) => Ok(Some(Const::Text(Text::from(bytes_of(alloc, value)?)))),
+        (Sort::String, _) => {
+            let bytes = bytes_of(alloc, value)?;
+            Ok(Some(Const::Text(CompactText::copy_of(alloc, bytes.as_slice())?)))
+        }
         (Sort::Set(_), Const::Set(members)) => {
             if are_in(core, base_of(core, to), members.as_slice()) {
                 let members = Vec::from_slice(alloc, members.as_slice())?;

@@ -23,8 +23,9 @@ use crate::set::Member;
 use crate::sink::refuse;
 use crate::tree::then;
 use crate::value::Value;
-use op_base::{NoMemory, Place, Text};
+use op_base::{NoMemory, Place};
 use op_core::{Action, Const, Core, CoreType, FirstRefusal, Parameter, TypeId};
+use op_scan::CompactText;
 use op_tree::{Designator, Expr, Name, Position, Root};
 use op_types::{made, nodes, type_at};
 use std::alloc::Global;
@@ -125,7 +126,9 @@ pub fn ranged(at: Place, end: Place, a: Option<Value>, b: Option<Value>) -> Opti
 {
     match (a, b) {
         (Some(a), Some(b)) => Some(Member::Range(at, a, end, b)),
-        _ => None,
+        (Some(_), None) => None,
+        (None, Some(_)) => None,
+        (None, None) => None,
     }
 }
 
@@ -146,7 +149,7 @@ pub fn with_member(members: Members, more: Option<Member>) -> Result<Members, No
 pub fn text_denoted(alloc: Global, position: Position, text: &[u8]) -> Result<Denoted, NoMemory>
     ensures { IfOk result (λ d. denoted_of d ≡ text_denoted position text.now) }
 {
-    let value = Const::Text(Text::copy_of(alloc, text)?);
+    let value = Const::Text(CompactText::copy_of(alloc, text)?);
     let what = Meant::Value(Value::Constant(made(value, TypeId::STRING, nodes(1))));
     Ok(Denoted { position, what })
 }

@@ -241,8 +241,9 @@ fn element_tree(
         Member::One(_, v) => Ok(CoreElement::One(as_type(alloc, core, true, base, v)?)),
         Member::Range(_, v, _, w) => {
             let first = as_type(alloc, core, true, base, v)?;
+            let first = Box::new(alloc, first)?;
             let last = as_type(alloc, core, true, base, w)?;
-            Ok(CoreElement::Range(first, last))
+            Ok(CoreElement::Range(first, Box::new(alloc, last)?))
         }
     }
 }

@@ -12,8 +12,8 @@ ghost use Rattle.op_tree.specs.Expression.{argument_of, expr_of};
 ghost use Rattle.op_tree.specs.Lists.{arguments_of};
 
 use crate::given::Given;
-use crate::list::collect;
-use crate::node::pair;
+use crate::list::{collect, fitted};
+use crate::node::{Typed, pair};
 use crate::variable::is_ordinal;
 use op_base::{NoMemory, Place};
 use op_check_expr::{Checker, Value, conversion, leave_out, position_of, refuse, type_of};
@@ -36,7 +36,10 @@ pub fn write(
 {
     match items(here, sink, arguments)? {
         None => Ok(None),
-        Some(items) => Ok(Some(CoreStmt::Do(CoreAction::Write { items, ends_line }))),
+        Some(items) => {
+            let action = Box::new(here.alloc, CoreAction::Write { items, ends_line })?;
+            Ok(Some(CoreStmt::Do(action)))
+        }
     }
 }
 
@@ -52,7 +55,7 @@ fn items(
         let part = item(here, sink, argument)?;
         collect(&mut typed, part)?;
     }
-    Ok(typed)
+    Ok(fitted(typed))
 }
 
 /// What is written, with its width: an Integer.
@@ -71,18 +74,18 @@ fn item(
         Argument::Padded(e, width) => {
             let e = text(here, sink, e)?;
             let width = here.given(sink, TypeId::INTEGER, false, width)?;
-            Ok(padded(pair(e, width)))
+            padded(here.alloc, pair(e, width))
         }
         Argument::Rounded(_, _, digits) => Ok(leave_out(sink, 35, start_of(digits))),
     }
 }
 
-fn padded(parts: Option<(CoreExpr, CoreExpr)>) -> Option<CoreItem>
-    ensures { option_map item_of result ≡ option_map (λ p. padded (typed_of p.0) (typed_of p.1)) parts }
+fn padded(alloc: Global, parts: Option<(CoreExpr, CoreExpr)>) -> Result<Option<CoreItem>, NoMemory>
+    ensures { IfOk result (λ i. option_map item_of i ≡ option_map (λ p. padded (typed_of p.0) (typed_of p.1)) parts) }
 {
     match parts {
-        None => None,
-        Some((e, width)) => Some(CoreItem::Padded(e, width)),
+        None => Ok(None),
+        Some((e, width)) => Ok(Some(CoreItem::Padded(e, Box::new(alloc, width)?))),
     }
 }
 
@@ -138,32 +141,36 @@ pub fn count(
         Given::One(e) => {
             let target = counted(here, sink, position_of(e).switches.r, e)?;
             let amount = unit_amount(here.alloc);
-            Ok(count_by(direction, checked, pair(target, Some(amount))))
+            count_by(here.alloc, direction, checked, pair(target, Some(amount)))
         }
         Given::Two(e, by) => {
             let target = counted(here, sink, position_of(e).switches.r, e)?;
             let amount = here.given(sink, TypeId::INTEGER, false, by)?;
-            Ok(count_by(direction, checked, pair(target, amount)))
+            count_by(here.alloc, direction, checked, pair(target, amount))
         }
         _ => Ok(refuse(sink, 26, name.position.place)),
     }
 }
 
 fn count_by(
+    alloc: Global,
     direction: Direction,
     checked: bool,
     parts: Option<(CoreTarget, CoreExpr)>,
-) -> Option<CoreStmt>
-    ensures { option_map stmt_of result ≡ option_map (λ p. built_in (count direction (target_of p.0) (typed_of p.1) checked)) parts }
+) -> Typed
+    ensures { IfOk result (λ s. option_map stmt_of s ≡ option_map (λ p. built_in (count direction (target_of p.0) (typed_of p.1) checked)) parts) }
 {
     match parts {
-        None => None,
-        Some((target, amount)) => Some(CoreStmt::Do(CoreAction::Count {
-            direction,
-            target,
-            amount,
-            checked,
-        })),
+        None => Ok(None),
+        Some((target, amount)) => {
+            let action = CoreAction::Count {
+                direction,
+                target,
+                amount,
+                checked,
+            };
+            Ok(Some(CoreStmt::Do(Box::new(alloc, action)?)))
+        }
     }
 }
 
@@ -226,20 +233,24 @@ pub fn change(
             let set = check_set(here, sink, set)?;
             let base = base_in(here.scope.core, &set);
             let element = member(here, sink, base, element)?;
-            Ok(changed(includes, pair(set, element)))
+            changed(here.alloc, includes, pair(set, element))
         }
         _ => Ok(refuse(sink, 26, name.position.place)),
     }
 }
 
-fn changed(includes: bool, parts: Option<(CoreExpr, CoreExpr)>) -> Option<CoreStmt>
-    ensures { option_map stmt_of result ≡ option_map (λ p. change includes (typed_of p.0) (typed_of p.1)) parts }
+fn changed(alloc: Global, includes: bool, parts: Option<(CoreExpr, CoreExpr)>) -> Typed
+    ensures { IfOk result (λ s. option_map stmt_of s ≡ option_map (λ p. change includes (typed_of p.0) (typed_of p.1)) parts) }
 {
     match (parts, includes) {
-        (None, _) => None,
-        (Some((set, element)), true) => { Some(CoreStmt::Do(CoreAction::Include { set, element })) }
+        (None, _) => Ok(None),
+        (Some((set, element)), true) => {
+            let action = Box::new(alloc, CoreAction::Include { set, element })?;
+            Ok(Some(CoreStmt::Do(action)))
+        }
         (Some((set, element)), false) => {
-            Some(CoreStmt::Do(CoreAction::Exclude { set, element }))
+            let action = Box::new(alloc, CoreAction::Exclude { set, element })?;
+            Ok(Some(CoreStmt::Do(action)))
         }
     }
 }

@@ -19,3 +19,17 @@ pub fn collect<T: Drop>(list: &mut Option<Vec<T>>, part: Option<T>) -> Result<()
         _ => Ok(()),
     }
 }
+
+/// The list in a block of its own size, where there is room for one.
+pub fn fitted<T>(list: Option<Vec<T>>) -> Option<Vec<T>>
+    ensures { items_of result ≡ items_of list }
+{
+    match list {
+        None => None,
+        Some(list) => {
+            let mut list = list;
+            list.shrink_to_fit();
+            Some(list)
+        }
+    }
+}

@@ -99,6 +99,8 @@ pub fn for_to(
     match parts {
         None => Ok(None),
         Some(((counter, (first, last)), body)) => {
+            let first = Box::new(alloc, first)?;
+            let last = Box::new(alloc, last)?;
             let body = Box::new(alloc, body)?;
             Ok(Some(CoreStmt::For {
                 variable: counter.variable,
@@ -111,12 +113,12 @@ pub fn for_to(
     }
 }
 
-pub fn repeat_until(parts: Option<(Vec<CoreStmt>, CoreExpr)>) -> Option<CoreStmt>
-    ensures { option_map stmt_of result ≡ option_map (λ p. repeat_until (stmts_of p.0.items) (expr_of p.1)) parts }
+pub fn repeat_until(alloc: Global, parts: Option<(Vec<CoreStmt>, CoreExpr)>) -> Typed
+    ensures { IfOk result (λ s. option_map stmt_of s ≡ option_map (λ p. repeat_until (stmts_of p.0.items) (expr_of p.1)) parts) }
 {
     match parts {
-        None => None,
-        Some((body, condition)) => Some(repeat_of(body, condition)),
+        None => Ok(None),
+        Some((body, condition)) => Ok(Some(repeat_of(body, Box::new(alloc, condition)?))),
     }
 }
 
@@ -139,13 +141,14 @@ pub fn try_except(alloc: Global, parts: Option<(Vec<CoreStmt>, Vec<CoreStmt>)>) 
     }
 }
 
-pub fn case_of(parts: Option<((CoreExpr, Vec<CoreBranch>), Vec<CoreStmt>)>) -> Option<CoreStmt>
-    ensures { option_map stmt_of result ≡ option_map (λ p. case_statement (head_of p.0) (stmts_of p.1.items)) parts }
+pub fn case_of(alloc: Global, parts: Option<((CoreExpr, Vec<CoreBranch>), Vec<CoreStmt>)>) -> Typed
+    ensures { IfOk result (λ s. option_map stmt_of s ≡ option_map (λ p. case_statement (head_of p.0) (stmts_of p.1.items)) parts) }
 {
     match parts {
-        None => None,
+        None => Ok(None),
         Some(((selector, branches), otherwise)) => {
-            Some(case_with(selector, branches, otherwise))
+            let selector = Box::new(alloc, selector)?;
+            Ok(Some(case_with(selector, branches, otherwise)))
         }
     }
 }
@@ -162,12 +165,15 @@ pub fn branch(parts: Option<(Vec<Label>, CoreStmt)>) -> Option<CoreBranch>
     }
 }
 
-pub fn assign(parts: Option<(CoreExpr, CoreExpr)>) -> Option<CoreStmt>
-    ensures { option_map stmt_of result ≡ option_map (λ p. assign (expr_of p.0) (expr_of p.1)) parts }
+pub fn assign(alloc: Global, parts: Option<(CoreExpr, CoreExpr)>) -> Typed
+    ensures { IfOk result (λ s. option_map stmt_of s ≡ option_map (λ p. assign (expr_of p.0) (expr_of p.1)) parts) }
 {
     match parts {
-        None => None,
-        Some((target, value)) => Some(CoreStmt::Assign { target, value }),
+        None => Ok(None),
+        Some((target, value)) => {
+            let value = Box::new(alloc, value)?;
+            Ok(Some(CoreStmt::Assign { target, value }))
+        }
     }
 }
 
@@ -179,8 +185,8 @@ fn block_of(statements: Vec<CoreStmt>) -> CoreStmt
     CoreStmt::Block(statements)
 }
 
-fn repeat_of(body: Vec<CoreStmt>, condition: CoreExpr) -> CoreStmt
-    ensures { stmt_of result ≡ repeat_until (stmts_of body.items) (expr_of condition) }
+fn repeat_of(body: Vec<CoreStmt>, condition: Box<CoreExpr>) -> CoreStmt
+    ensures { stmt_of result ≡ repeat_until (stmts_of body.items) (expr_of condition.value) }
 {
     CoreStmt::Repeat { body, condition }
 }
@@ -201,8 +207,12 @@ fn except_of(body: Vec<CoreStmt>, handlers: Vec<CoreHandler>, otherwise: Vec<Cor
     }
 }
 
-fn case_with(selector: CoreExpr, branches: Vec<CoreBranch>, otherwise: Vec<CoreStmt>) -> CoreStmt
-    ensures { stmt_of result ≡ case_of (expr_of selector) (branches_of branches.items) (stmts_of otherwise.items) }
+fn case_with(
+    selector: Box<CoreExpr>,
+    branches: Vec<CoreBranch>,
+    otherwise: Vec<CoreStmt>,
+) -> CoreStmt
+    ensures { stmt_of result ≡ case_of (expr_of selector.value) (branches_of branches.items) (stmts_of otherwise.items) }
 {
     CoreStmt::Case {
         selector,

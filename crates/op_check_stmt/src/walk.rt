@@ -16,7 +16,7 @@ ghost use Rattle.op_tree.specs.Statement.{designator_of, stmt_of, stmts_of};
 
 use crate::case::{Spot, distinct, labels, selector};
 use crate::leaving::within;
-use crate::list::collect;
+use crate::list::{collect, fitted};
 use crate::node::{self, Typed, joined, pair};
 use crate::procedure::call;
 use crate::variable::{Counter, check_counter};
@@ -72,7 +72,7 @@ pub fn statement(here: Checker, sink: &mut FirstRefusal, s: &Stmt) -> Typed
         }
         Stmt::Case { selector, branches } => {
             let head = case_head(here, sink, branches, selector)?;
-            Ok(node::case_of(pair(head, Some(Vec::new(here.alloc)))))
+            node::case_of(here.alloc, pair(head, Some(Vec::new(here.alloc))))
         }
         Stmt::CaseElse {
             selector,
@@ -81,7 +81,7 @@ pub fn statement(here: Checker, sink: &mut FirstRefusal, s: &Stmt) -> Typed
         } => {
             let head = case_head(here, sink, branches, selector)?;
             let parts = joined(head, statements(here, sink, otherwise))?;
-            Ok(node::case_of(parts))
+            node::case_of(here.alloc, parts)
         }
         Stmt::While { condition, body } => {
             let around = within(here.alloc, here.scope.around, Around::Loop(None))?;
@@ -96,7 +96,7 @@ pub fn statement(here: Checker, sink: &mut FirstRefusal, s: &Stmt) -> Typed
             let around = within(here.alloc, here.scope.around, Around::Loop(None))?;
             let body = statements(inside(here, around.as_slice()), sink, body)?;
             let parts = joined(body, check_condition(here, sink, condition))?;
-            Ok(node::repeat_until(parts))
+            node::repeat_until(here.alloc, parts)
         }
         Stmt::For {
             variable,
@@ -158,7 +158,7 @@ pub fn statements(
         let part = statement(here, sink, s)?;
         collect(&mut typed, part)?;
     }
-    Ok(typed)
+    Ok(fitted(typed))
 }
 
 /// The selector and the branches of a case.
@@ -196,7 +196,7 @@ fn branches(
         let parts = joined(labels, statement(here, sink, &branch.body))?;
         collect(&mut typed, node::branch(parts))?;
     }
-    Ok(typed)
+    Ok(fitted(typed))
 }
 
 /// The same place, with these parts round it.
@@ -323,5 +323,5 @@ fn assignment(
     let target = here.target(sink, target)?;
     let of = type_in(&target);
     let value = stored(here, sink, of, position.switches.r, value)?;
-    Ok(node::assign(pair(target, value)))
+    node::assign(here.alloc, pair(target, value))
 }

@@ -17,7 +17,7 @@ abbrev pub without_first_values : Core → Core
 without_first_values core = record core { variables = map bare_variable core.variables }
 
 abbrev pub begins_with : Variable → Option FirstValue
-begins_with v = option_map first_value_of v.first_value
+begins_with v = option_map (λ i. first_value_of i.value) v.first_value
 
 abbrev pub begun : List (VariableId × FirstValue) → List (Option FirstValue) → List (Option FirstValue)
 begun [] xs = xs

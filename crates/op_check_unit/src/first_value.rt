@@ -48,6 +48,6 @@ fn beginning(alloc: Global, row: &Variable, value: Initial) -> Result<Variable, 
         name: copy_of(alloc, &row.name)?,
         of: row.of,
         role: row.role,
-        first_value: Some(value),
+        first_value: Some(Box::new(alloc, value)?),
     })
 }

@@ -18,6 +18,7 @@ use crate::heading::Head;
 use crate::variable::copy_of;
 use op_base::{NoMemory, Place, Refusal, Rule, Text};
 use op_core::{CheckError, Core, FirstRefusal, RoutineId, Run, Unit, UnitId};
+use op_scan::CompactText;
 use op_tree::{Declaration, Name, Position, Program, ProgramHeading, RoutineKind, Stmt, Tree};
 use op_types::Meaning;
 use std::alloc::Global;
@@ -165,7 +166,7 @@ fn name_of(
 {
     match heading {
         None => {
-            let text = Text::copy_of(alloc, b"")?;
+            let text = CompactText::copy_of(alloc, b"")?;
             Ok(Name { text, position })
         }
         Some(heading) => copy_of(alloc, &heading.name),

@@ -11,13 +11,14 @@ use crate::Declarer;
 use crate::heading::{Head, is_same_heading};
 use crate::naming::{Told, told_by};
 use crate::variable::copy_of;
-use op_base::{NoMemory, Place, Text};
+use op_base::{NoMemory, Place};
 use op_check_expr::{Checker, Scope};
 use op_check_stmt::statements;
 use op_core::{
     Core, Owner, Parameter, Role, Routine, RoutineId, Run, Table, TypeId, UnitId, Variable,
     VariableId,
 };
+use op_scan::CompactText;
 use op_tree::{Body, Declaration, Directive, Heading, Name, Routine as RoutineTree, Stmt};
 use op_types::{Meaning, Visible};
 use std::alloc::Global;
@@ -410,7 +411,7 @@ fn routine_row(alloc: Global, name: &Name, head: Head, variables: Run) -> Result
 fn result_name(alloc: Global, name: &Name) -> Result<Name, NoMemory>
     ensures { IfOk result (λ own. own ≡ result_name name.now) }
 {
-    let text = Text::copy_of(alloc, b"Result")?;
+    let text = CompactText::copy_of(alloc, b"Result")?;
     let position = name.position;
     Ok(Name { text, position })
 }

@@ -6,8 +6,9 @@ ghost use Rattle.op_check_stmt.specs.Parts.{items_of, with_last};
 ghost use Rattle.op_core.specs.Sizes.{type_at};
 ghost use Rattle.op_core.specs.Typing as typing;
 
-use op_base::{NoMemory, Sequence, Text};
+use op_base::{NoMemory, Sequence};
 use op_core::{Const, Core, CoreType, TypeId};
+use op_scan::CompactText;
 use op_types::{Sort, bytes_of, in_range, sort_of, type_at};
 use std::alloc::Global;
 
@@ -22,7 +23,10 @@ pub fn retyped(
 {
     match (sort_of(core, to), value) {
         (Sort::Ordinal(_), Const::Ordinal(n)) => Ok(in_range(core, to, *n as i64)),
-        (Sort::String, _) => Ok(Some(Const::Text(Text::from(bytes_of(alloc, value)?)))),
+        (Sort::String, _) => {
+            let bytes = bytes_of(alloc, value)?;
+            Ok(Some(Const::Text(CompactText::copy_of(alloc, bytes.as_slice())?)))
+        }
         (Sort::Set(_), Const::Set(members)) => {
             if are_in(core, base_of(core, to), members.as_slice()) {
                 let members = Vec::from_slice(alloc, members.as_slice())?;

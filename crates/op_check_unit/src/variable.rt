@@ -9,8 +9,9 @@ ghost use Rattle.op_tree.specs.Initial.{initial_of};
 
 use crate::Declarer;
 use crate::first_value::Begun;
-use op_base::{NoMemory, Text};
+use op_base::NoMemory;
 use op_core::{Initial, Role, TypeId, Variable, VariableId};
+use op_scan::CompactText;
 use op_tree::{Initializer, Name, Variables};
 use op_types::{Meaning, size_of};
 use std::alloc::Global;
@@ -35,7 +36,8 @@ impl Declarer {
         self.all_ahead(declaration.names.as_slice())?;
         let of = self.denoted(None, false, &declaration.denoter)?;
         self.end();
-        self.names_declared(of, declaration.value.as_ref(), declaration.names.as_slice())
+        let value = first_value(&declaration.value);
+        self.names_declared(of, value, declaration.names.as_slice())
     }
 
     fn names_declared(
@@ -199,11 +201,20 @@ fn variable_meaning(of: Option<TypeId>, number: u32) -> Meaning
     }
 }
 
+fn first_value(value: &Option<Box<Initializer>>) -> Option<&Initializer>
+    ensures { option_map initial_of (option_copied result) ≡ option_map (λ first. initial_of first.value) value.now }
+{
+    match value {
+        None => None,
+        Some(value) => Some(value),
+    }
+}
+
 /// Another copy of a name.
 pub fn copy_of(alloc: Global, name: &Name) -> Result<Name, NoMemory>
     ensures { IfOk result (λ n. n ≡ name.now) }
 {
-    let text = Text::copy_of(alloc, name.text.as_slice())?;
+    let text = CompactText::copy_of(alloc, name.text.as_slice())?;
     let position = name.position;
     Ok(Name { text, position })
 }

@@ -159,8 +159,8 @@ list_nodes = record {
   listed_says = λ of es. ap (listed of) (let row = listed_in (Listed of es) in expr_list row.0 row.1 ∙ ap expressions_of (items_hidden-the_row-CoreExpr-1 es));
   parts_says = λ vs. ap parts (let row = parts_in (Parts vs) in initial_list row.0 row.1 ∙ ap first_values_of (items_hidden-the_row-Initial-0 vs));
   block_says = λ ss. ap block (by_statements (first_in (Block ss)) ss (items_hidden-the_row-CoreStmt-0 ss));
-  case_says = λ e bs ss. both (case_of (expr_of e)) (let row = branches_in (Case e bs ss) in branch_list row.0 row.1 ∙ ap branches_of (items_hidden-the_row-CoreBranch-1 bs)) (by_statements (first_in (Case e bs ss)) ss (items_hidden-the_row-CoreStmt-0 ss));
-  repeat_says = λ ss e. ap (λ x. repeat_until x (expr_of e)) (by_statements (first_in (Repeat ss e)) ss (items_hidden-the_row-CoreStmt-0 ss));
+  case_says = λ e bs ss. both (case_of (expr_of e.value)) (let row = branches_in (Case e bs ss) in branch_list row.0 row.1 ∙ ap branches_of (items_hidden-the_row-CoreBranch-1 bs)) (by_statements (first_in (Case e bs ss)) ss (items_hidden-the_row-CoreStmt-0 ss));
+  repeat_says = λ ss e. ap (λ x. repeat_until x (expr_of e.value)) (by_statements (first_in (Repeat ss e)) ss (items_hidden-the_row-CoreStmt-0 ss));
   finally_says = λ ss ts. both try_finally (by_statements (first_in (TryFinally ss ts)) ss (items_hidden-the_row-CoreStmt-0 ss)) (by_statements (second_in (TryFinally ss ts)) ts (items_hidden-the_row-CoreStmt-0 ts));
   on_says = λ ss hs. both try_on (by_statements (first_in (TryOn ss hs)) ss (items_hidden-the_row-CoreStmt-0 ss)) (by_handlers (handlers_in (TryOn ss hs)) hs (items_hidden-the_row-CoreHandler-2 hs));
   else_says = λ ss hs ts.

@@ -2,11 +2,11 @@
 use Rattle.std.specs.Prelude.{ℕ, Bool}
 use Rattle.op_core.specs.declared.constant.Const.{Const}
 use Rattle.op_core.specs.declared.expression.Action.{Action as RustAction}
-use Rattle.op_core.specs.declared.expression.Action.TheVariants.{Convert, Bracket, Field, Index, Call' as Method', Prefix, Operate, Is, Apply, Copy}
+use Rattle.op_core.specs.declared.expression.Action.TheVariants.{Convert, Bracket, Field, Index, Call' as Method', Prefix, Operate, Is, Apply, Copy'}
 use Rattle.op_core.specs.declared.expression.CoreArgument.{CoreArgument, Row_of-CoreExpr, end_of-CoreExpr, more_of-CoreExpr}
 use Rattle.op_core.specs.declared.expression.CoreArgument.TheVariants.{Value, Place, Array, Elements'}
 use Rattle.op_core.specs.declared.expression.CoreElement.{CoreElement}
-use Rattle.op_core.specs.declared.expression.CoreElement.TheVariants.{One, Range}
+use Rattle.op_core.specs.declared.expression.CoreElement.TheVariants.{One, Range'}
 use Rattle.op_core.specs.declared.expression.CoreExpr.{CoreExpr, CoreExpr', Row_of-Step, end_of-Step, more_of-Step}
 use Rattle.op_core.specs.declared.expression.Root.{Root as RustRoot, Row_of-CoreArgument, end_of-CoreArgument, more_of-CoreArgument, Row_of-CoreElement, end_of-CoreElement, more_of-CoreElement}
 use Rattle.op_core.specs.declared.expression.Root.TheVariants.{Constant, Variable, Object, Call', Construct', Set', Eof, Eoln}
@@ -110,7 +110,7 @@ abbrev mutual
   action_of (Operate operator checked e) = operate operator checked (expr_of e)
   action_of (Is of) = is of
   action_of (Apply function checked) = apply function checked
-  action_of (Copy e e') = copy (expr_of e) (expr_of e')
+  action_of (Copy' _ e _ e') = copy (expr_of e) (expr_of e')
 
   pub element_row : {n : _} → Row_of-CoreElement n → Elements
   element_row end_of-CoreElement = no_elements
@@ -118,7 +118,7 @@ abbrev mutual
 
   pub element_of : CoreElement → Element
   element_of (One e) = one (expr_of e)
-  element_of (Range e e') = range (expr_of e) (expr_of e')
+  element_of (Range' _ e _ e') = range (expr_of e) (expr_of e')
 
   pub argument_row : {n : _} → Row_of-CoreArgument n → Arguments
   argument_row end_of-CoreArgument = no_arguments

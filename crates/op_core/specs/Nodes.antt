@@ -1,5 +1,5 @@
 -- What lists of a typed tree's parts say, and that a node with a list says just that.
-use Rattle.std.specs.Prelude.{◌≡◌, List, [], ◌∷◌, Vec}
+use Rattle.std.specs.Prelude.{◌≡◌, List, [], ◌∷◌, Box, Vec}
 use Rattle.std.specs.declared.alloc.Global.{Global}
 use Rattle.op_core.specs.Expression.{expression, call, construct, set, Steps, no_steps, steps, method, Elements, no_elements, elements, Arguments, no_arguments, arguments, listed, Expressions, no_expressions, expressions, expr_of, root_of, action_of, element_of, argument_of}
 use Rattle.op_core.specs.Initial.{parts, FirstValues, no_values, values, first_value_of}
@@ -60,8 +60,8 @@ pub record ListNodes : Type 0 where
   pub listed_says : (of : TypeId) (es : Vec CoreExpr Global) → argument_of (Listed of es) ≡ listed of (expressions_of es.items)
   pub parts_says : (vs : Vec Initial Global) → first_value_of (Parts vs) ≡ parts (first_values_of vs.items)
   pub block_says : (ss : Vec CoreStmt Global) → stmt_of (Block ss) ≡ block (stmts_of ss.items)
-  pub case_says : (e : CoreExpr) (bs : Vec CoreBranch Global) (ss : Vec CoreStmt Global) → stmt_of (Case e bs ss) ≡ case_of (expr_of e) (branches_of bs.items) (stmts_of ss.items)
-  pub repeat_says : (ss : Vec CoreStmt Global) (e : CoreExpr) → stmt_of (Repeat ss e) ≡ repeat_until (stmts_of ss.items) (expr_of e)
+  pub case_says : (e : Box CoreExpr Global) (bs : Vec CoreBranch Global) (ss : Vec CoreStmt Global) → stmt_of (Case e bs ss) ≡ case_of (expr_of e.value) (branches_of bs.items) (stmts_of ss.items)
+  pub repeat_says : (ss : Vec CoreStmt Global) (e : Box CoreExpr Global) → stmt_of (Repeat ss e) ≡ repeat_until (stmts_of ss.items) (expr_of e.value)
   pub finally_says : (ss ts : Vec CoreStmt Global) → stmt_of (TryFinally ss ts) ≡ try_finally (stmts_of ss.items) (stmts_of ts.items)
   pub on_says : (ss : Vec CoreStmt Global) (hs : Vec CoreHandler Global) → stmt_of (TryOn ss hs) ≡ try_on (stmts_of ss.items) (handlers_of hs.items)
   pub else_says : (ss : Vec CoreStmt Global) (hs : Vec CoreHandler Global) (ts : Vec CoreStmt Global) → stmt_of (TryOnElse ss hs ts) ≡ try_on_else (stmts_of ss.items) (handlers_of hs.items) (stmts_of ts.items)

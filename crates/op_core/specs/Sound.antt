@@ -173,7 +173,7 @@ abbrev mutual
   AreFirst core _ _ = ⊥
 
 abbrev IsVariableRow : Core → Variable → Type 0
-IsVariableRow core v = IsSomeAnd (type_at core v.of) (λ t. IfSome v.first_value (λ i. IsFirst core t v.of (first_value_of i)))
+IsVariableRow core v = IsSomeAnd (type_at core v.of) (λ t. IfSome v.first_value (λ i. IsFirst core t v.of (first_value_of i.value)))
 
 abbrev is_declared : Role → Bool
 is_declared Plain = true

@@ -75,7 +75,7 @@ mutual
 
 abbrev pub item_of : CoreItem → Item
 item_of (Plain e) = plain (expr_of e)
-item_of (Padded e width) = padded (expr_of e) (expr_of width)
+item_of (Padded e width) = padded (expr_of e) (expr_of width.value)
 
 abbrev pub target_of : CoreTarget → Target
 target_of t = record { place = expr_of t.place; store = t.store }
@@ -98,24 +98,24 @@ abbrev mutual
   stmt_of (Block' _ row) = block (stmt_row row)
   stmt_of (If' condition _ then) = if_then (expr_of condition) (stmt_of then)
   stmt_of (IfElse' condition _ then _ otherwise) = if_else (expr_of condition) (stmt_of then) (stmt_of otherwise)
-  stmt_of (Case' selector _ row _ otherwise) = case_of (expr_of selector) (branch_row row) (stmt_row otherwise)
+  stmt_of (Case' selector _ row _ otherwise) = case_of (expr_of selector.value) (branch_row row) (stmt_row otherwise)
   stmt_of (While' condition _ body) = while_do (expr_of condition) (stmt_of body)
-  stmt_of (Repeat' _ body condition) = repeat_until (stmt_row body) (expr_of condition)
-  stmt_of (For' variable first direction last _ body) = for_to variable (expr_of first) direction (expr_of last) (stmt_of body)
-  stmt_of (ForIn' variable store collection _ body) = for_in variable store (expr_of collection) (stmt_of body)
+  stmt_of (Repeat' _ body condition) = repeat_until (stmt_row body) (expr_of condition.value)
+  stmt_of (For' variable first direction last _ body) = for_to variable (expr_of first.value) direction (expr_of last.value) (stmt_of body)
+  stmt_of (ForIn' variable store collection _ body) = for_in variable store (expr_of collection.value) (stmt_of body)
   stmt_of (TryFinally' _ body _ finalization) = try_finally (stmt_row body) (stmt_row finalization)
   stmt_of (TryOn' _ body _ row) = try_on (stmt_row body) (handler_row row)
   stmt_of (TryOnElse' _ body _ row _ otherwise) = try_on_else (stmt_row body) (handler_row row) (stmt_row otherwise)
   stmt_of (Raise e) = raise (expr_of e)
   stmt_of Reraise = reraise
   stmt_of (Call e) = call (expr_of e)
-  stmt_of (Assign target e) = assign (expr_of target) (expr_of e)
+  stmt_of (Assign target e) = assign (expr_of target) (expr_of e.value)
   stmt_of Exit = exit
   stmt_of (ExitWith e) = exit_with (expr_of e)
   stmt_of Break = break
   stmt_of Continue = continue
   stmt_of (Halt e) = halt (expr_of e)
-  stmt_of (Do action) = built_in (built_in_of action)
+  stmt_of (Do action) = built_in (built_in_of action.value)
 
   pub stmt_row : {n : _} → Row_of-CoreStmt n → Statements
   stmt_row end_of-CoreStmt = no_statements

@@ -1,5 +1,6 @@
 //! Constants, and what variables begin with.
-use op_base::{Sequence, Text};
+use op_base::Sequence;
+use op_scan::CompactText;
 
 /// The value of a constant expression.
 #[derive(Drop)]
@@ -7,7 +8,7 @@ pub enum Const {
     /// An integer, or the number of a Boolean, a Char or a value of an enumeration.
     Ordinal(i32),
     /// A literal.
-    Text(Text),
+    Text(CompactText),
     /// Its elements, ascending.
     Set(Sequence<u8>),
     Nil,

@@ -103,8 +103,8 @@ pub enum Action {
     },
     /// So many bytes or elements from one on.
     Copy {
-        first: CoreExpr,
-        count: CoreExpr,
+        first: Box<CoreExpr>,
+        count: Box<CoreExpr>,
     },
 }
 
@@ -113,7 +113,7 @@ pub enum Action {
 #[derive(Drop)]
 pub enum CoreElement {
     One(CoreExpr),
-    Range(CoreExpr, CoreExpr),
+    Range(Box<CoreExpr>, Box<CoreExpr>),
 }
 
 /// What a parameter is given. The parameter tells how it is taken.

@@ -41,7 +41,7 @@ pub struct Variable {
     pub of: TypeId,
     pub role: Role,
     /// What it begins with, where that is declared; a local one begins so at each entry.
-    pub first_value: Option<Initial>,
+    pub first_value: Option<Box<Initial>>,
 }
 
 /// A routine. The parts of a unit are procedures without parameters, under the unit's name.

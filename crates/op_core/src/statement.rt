@@ -21,7 +21,7 @@ pub enum CoreStmt {
     },
     /// `otherwise` is empty where there is no `else`.
     Case {
-        selector: CoreExpr,
+        selector: Box<CoreExpr>,
         branches: Vec<CoreBranch>,
         otherwise: Vec<CoreStmt>,
     },
@@ -31,21 +31,21 @@ pub enum CoreStmt {
     },
     Repeat {
         body: Vec<CoreStmt>,
-        condition: CoreExpr,
+        condition: Box<CoreExpr>,
     },
     /// The bounds are of the variable's base type; error 201 where a loop has a turn and one of them is outside its type.
     For {
         variable: VariableId,
-        first: CoreExpr,
+        first: Box<CoreExpr>,
         direction: Direction,
-        last: CoreExpr,
+        last: Box<CoreExpr>,
         body: Box<CoreStmt>,
     },
     /// Each element is converted so before it is stored.
     ForIn {
         variable: VariableId,
         store: Conversion,
-        collection: CoreExpr,
+        collection: Box<CoreExpr>,
         body: Box<CoreStmt>,
     },
     TryFinally {
@@ -71,7 +71,7 @@ pub enum CoreStmt {
     /// The value is of the place's type.
     Assign {
         target: CoreExpr,
-        value: CoreExpr,
+        value: Box<CoreExpr>,
     },
     /// Leaves the routine.
     Exit,
@@ -81,7 +81,7 @@ pub enum CoreStmt {
     Continue,
     /// Ends the program with this status.
     Halt(CoreExpr),
-    Do(CoreAction),
+    Do(Box<CoreAction>),
 }
 
 /// A branch of a case.
@@ -168,5 +168,5 @@ pub struct CoreTarget {
 #[derive(Drop)]
 pub enum CoreItem {
     Plain(CoreExpr),
-    Padded(CoreExpr, CoreExpr),
+    Padded(CoreExpr, Box<CoreExpr>),
 }

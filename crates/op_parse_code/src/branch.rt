@@ -40,12 +40,14 @@ pub fn case_statement<'a>(
     match behind_mark(Mark::Else_, rest) {
         None => {
             let rest = after_mark(Mark::End, end, rest)?;
-            Ok((case_node(selector, branches), rest))
+            let node = case_node(alloc, selector, branches)?;
+            Ok((node, rest))
         }
         Some(after) => {
             let (otherwise, rest) = statements(alloc, left, end, after)?;
             let rest = after_mark(Mark::End, end, rest)?;
-            Ok((case_else_node(selector, branches, otherwise), rest))
+            let node = case_else_node(alloc, selector, branches, otherwise)?;
+            Ok((node, rest))
         }
     }
 }

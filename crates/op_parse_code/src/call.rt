@@ -39,7 +39,8 @@ pub fn call_or_assignment<'a>(
         return Ok((call_statement_node(target), rest));
     };
     let (value, rest) = chain(alloc, Level::Relational, left, end, after)?;
-    Ok((assign_node(target, position, value), rest))
+    let node = assign_node(alloc, target, position, value)?;
+    Ok((node, rest))
 }
 
 /// The statement `raise`, from the tokens behind the word; `all` are those from the word on.

@@ -56,7 +56,8 @@ pub fn factor<'a>(
         }
         FactorOpening::Inherited => {
             let (designator, rest) = designator(alloc, left, end, rest)?;
-            Ok((inherited_node(position, designator), rest))
+            let factor = inherited_node(alloc, position, designator)?;
+            Ok((factor, rest))
         }
         FactorOpening::Prefix(operator) => {
             let inner = enter_operand(left, end, rest)?;

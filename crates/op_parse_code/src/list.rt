@@ -11,7 +11,7 @@ use crate::ParseError;
 use crate::chain::chain;
 use crate::error::{FRACTION_WIDTH, left_out};
 use crate::mark::{Mark, after_mark, behind_mark};
-use crate::nodes::fitted;
+use crate::nodes::{fitted, padded_node, range_node};
 use op_base::Place;
 use op_scan::Token;
 use op_tree::{Argument, Element, Expr, Level};
@@ -63,7 +63,8 @@ fn element<'a>(
         None => Ok((Element::One(first), rest)),
         Some(rest) => {
             let (last, rest) = chain(alloc, Level::Relational, left, end, rest)?;
-            Ok((Element::Range(first, last), rest))
+            let range = range_node(alloc, first, last)?;
+            Ok((range, rest))
         }
     }
 }
@@ -140,7 +141,10 @@ fn argument<'a>(
     };
     let (width, rest) = chain(alloc, Level::Relational, left, end, after)?;
     match behind_mark(Mark::Colon, rest) {
-        None => Ok((Argument::Padded(value, width), rest)),
+        None => {
+            let argument = padded_node(alloc, value, width)?;
+            Ok((argument, rest))
+        }
         Some(_) => Err(left_out(FRACTION_WIDTH, end, rest)),
     }
 }

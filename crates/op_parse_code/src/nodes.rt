@@ -1,11 +1,12 @@
 //! The nodes of expressions, from their parts.
 ghost use Rattle.std.specs.Prelude.{◌≡◌, IfOk};
-ghost use Rattle.op_tree.specs.Expression.{bracketed, call, designated, index, inherited, literal, prefixed, set, expr_of, root_of, selector_of};
+ghost use Rattle.op_tree.specs.Expression.{argument_of, bracketed, call, designated, element_of, expr_of, index, inherited, literal, padded, prefixed, range, root_of, selector_of, set};
 ghost use Rattle.op_tree.specs.ExpressionGrammar.{chain_of};
 ghost use Rattle.op_tree.specs.Lists.{arguments_of, expressions_of, operations_of};
 ghost use Rattle.op_tree.specs.Statement.{designator_of, elements_of, selectors_of};
 
-use op_base::{NoMemory, Text};
+use op_base::NoMemory;
+use op_scan::CompactText;
 use op_tree::{
     Argument, Designator, Element, Expr, Operation, Position, PrefixOperator, Root, Selector,
 };
@@ -54,7 +55,7 @@ pub fn set_node(position: Position, elements: Vec<Element>) -> Expr
     Expr::Set { position, elements }
 }
 
-pub fn literal_node(text: Text, position: Position, selectors: Vec<Selector>) -> Expr
+pub fn literal_node(text: CompactText, position: Position, selectors: Vec<Selector>) -> Expr
     ensures { expr_of result ≡ literal text position (selectors_of selectors.items) }
 {
     let selectors = fitted(selectors);
@@ -71,13 +72,34 @@ pub fn designator_node(designator: Designator) -> Expr
     Expr::Designator(designator)
 }
 
-pub fn inherited_node(position: Position, designator: Designator) -> Expr
-    ensures { expr_of result ≡ inherited position (designator_of designator) }
+pub fn inherited_node(
+    alloc: Global,
+    position: Position,
+    designator: Designator,
+) -> Result<Expr, NoMemory>
+    ensures { IfOk result (λ e. expr_of e ≡ inherited position (designator_of designator)) }
 {
-    Expr::Inherited {
+    let designator = Box::new(alloc, designator)?;
+    Ok(Expr::Inherited {
         position,
         designator,
-    }
+    })
+}
+
+pub fn range_node(alloc: Global, first: Expr, last: Expr) -> Result<Element, NoMemory>
+    ensures { IfOk result (λ e. element_of e ≡ range (expr_of first) (expr_of last)) }
+{
+    let first = Box::new(alloc, first)?;
+    let last = Box::new(alloc, last)?;
+    Ok(Element::Range(first, last))
+}
+
+pub fn padded_node(alloc: Global, value: Expr, width: Expr) -> Result<Argument, NoMemory>
+    ensures { IfOk result (λ a. argument_of a ≡ padded (expr_of value) (expr_of width)) }
+{
+    let value = Box::new(alloc, value)?;
+    let width = Box::new(alloc, width)?;
+    Ok(Argument::Padded(value, width))
 }
 
 pub fn bracketed_node(alloc: Global, position: Position, inside: Expr) -> Result<Root, NoMemory>

@@ -55,7 +55,8 @@ pub fn repeat_loop<'a>(
     let (body, rest) = statements(alloc, left, end, tokens)?;
     let rest = after_mark(Mark::Until, end, rest)?;
     let (condition, rest) = chain(alloc, Level::Relational, left, end, rest)?;
-    Ok((repeat_node(body, condition), rest))
+    let node = repeat_node(alloc, body, condition)?;
+    Ok((node, rest))
 }
 
 /// What stands behind `for`.

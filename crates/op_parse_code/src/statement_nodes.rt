@@ -47,10 +47,11 @@ pub fn while_node(alloc: Global, condition: Expr, body: Stmt) -> Result<Stmt, No
     Ok(Stmt::While { condition, body })
 }
 
-pub fn repeat_node(body: Vec<Stmt>, condition: Expr) -> Stmt
-    ensures { stmt_of result ≡ repeat_until (stmts_of body.items) (expr_of condition) }
+pub fn repeat_node(alloc: Global, body: Vec<Stmt>, condition: Expr) -> Result<Stmt, NoMemory>
+    ensures { IfOk result (λ s. stmt_of s ≡ repeat_until (stmts_of body.items) (expr_of condition)) }
 {
-    Stmt::Repeat { body, condition }
+    let condition = Box::new(alloc, condition)?;
+    Ok(Stmt::Repeat { body, condition })
 }
 
 pub fn for_node(
@@ -63,6 +64,8 @@ pub fn for_node(
 ) -> Result<Stmt, NoMemory>
     ensures { IfOk result (λ s. stmt_of s ≡ for_to variable (expr_of first) direction (expr_of last) (stmt_of body)) }
 {
+    let first = Box::new(alloc, first)?;
+    let last = Box::new(alloc, last)?;
     let body = Box::new(alloc, body)?;
     Ok(Stmt::For {
         variable,
@@ -81,6 +84,7 @@ pub fn for_in_node(
 ) -> Result<Stmt, NoMemory>
     ensures { IfOk result (λ s. stmt_of s ≡ for_in variable (expr_of collection) (stmt_of body)) }
 {
+    let collection = Box::new(alloc, collection)?;
     let body = Box::new(alloc, body)?;
     Ok(Stmt::ForIn {
         variable,
@@ -89,20 +93,27 @@ pub fn for_in_node(
     })
 }
 
-pub fn case_node(selector: Expr, branches: Vec<Branch>) -> Stmt
-    ensures { stmt_of result ≡ case_of (expr_of selector) (branches_of branches.items) }
+pub fn case_node(alloc: Global, selector: Expr, branches: Vec<Branch>) -> Result<Stmt, NoMemory>
+    ensures { IfOk result (λ s. stmt_of s ≡ case_of (expr_of selector) (branches_of branches.items)) }
 {
-    Stmt::Case { selector, branches }
+    let selector = Box::new(alloc, selector)?;
+    Ok(Stmt::Case { selector, branches })
 }
 
-pub fn case_else_node(selector: Expr, branches: Vec<Branch>, otherwise: Vec<Stmt>) -> Stmt
-    ensures { stmt_of result ≡ case_else (expr_of selector) (branches_of branches.items) (stmts_of otherwise.items) }
+pub fn case_else_node(
+    alloc: Global,
+    selector: Expr,
+    branches: Vec<Branch>,
+    otherwise: Vec<Stmt>,
+) -> Result<Stmt, NoMemory>
+    ensures { IfOk result (λ s. stmt_of s ≡ case_else (expr_of selector) (branches_of branches.items) (stmts_of otherwise.items)) }
 {
-    Stmt::CaseElse {
+    let selector = Box::new(alloc, selector)?;
+    Ok(Stmt::CaseElse {
         selector,
         branches,
         otherwise,
-    }
+    })
 }
 
 pub fn try_node(body: Vec<Stmt>, rest: TryRest) -> Stmt
@@ -135,12 +146,18 @@ pub fn inherited_call_node(position: Position, callee: Designator) -> Stmt
     }
 }
 
-pub fn assign_node(target: Designator, position: Position, value: Expr) -> Stmt
-    ensures { stmt_of result ≡ assign (designator_of target) position (expr_of value) }
+pub fn assign_node(
+    alloc: Global,
+    target: Designator,
+    position: Position,
+    value: Expr,
+) -> Result<Stmt, NoMemory>
+    ensures { IfOk result (λ s. stmt_of s ≡ assign (designator_of target) position (expr_of value)) }
 {
-    Stmt::Assign {
+    let value = Box::new(alloc, value)?;
+    Ok(Stmt::Assign {
         target,
         position,
         value,
-    }
+    })
 }

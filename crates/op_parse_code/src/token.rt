@@ -8,8 +8,8 @@ ghost use Rattle.op_tree.specs.Terminal.{terminal_of, terminals};
 
 use crate::ParseError;
 use crate::error::syntax;
-use op_base::{NoMemory, Place, Text};
-use op_scan::{Token, TokenKind};
+use op_base::{NoMemory, Place};
+use op_scan::{CompactText, Token, TokenKind};
 use op_tree::{Name, Position};
 use std::alloc::Global;
 
@@ -23,13 +23,13 @@ pub fn position_of(token: &Token) -> Position
 }
 
 /// The letters of an identifier or a string, and none of any other token.
-pub fn spelled(alloc: Global, kind: &TokenKind) -> Result<Text, NoMemory>
+pub fn spelled(alloc: Global, kind: &TokenKind) -> Result<CompactText, NoMemory>
     ensures { IfOk result (λ text. text ≡ spelled kind.now) }
 {
     match kind {
-        TokenKind::Identifier(text) => Text::copy_of(alloc, text.as_slice()),
-        TokenKind::CharacterString(text) => Text::copy_of(alloc, text.as_slice()),
-        _ => Text::copy_of(alloc, b""),
+        TokenKind::Identifier(text) => CompactText::copy_of(alloc, text.as_slice()),
+        TokenKind::CharacterString(text) => CompactText::copy_of(alloc, text.as_slice()),
+        _ => CompactText::copy_of(alloc, b""),
     }
 }
 

@@ -1,6 +1,7 @@
 //! Constants, types and variables (Free Pascal Reference Guide, "Constants", "Types", "Variables").
 ghost use Rattle.std.proofs.Common.{suc-le-suc, zero-le};
 ghost use Rattle.std.specs.Prelude.{List, ℕ, ◌≡◌};
+ghost use Rattle.std.specs.Option.{option_map};
 ghost use Rattle.op_parse_code.specs.Opening.{is_identifier};
 ghost use Rattle.op_parse_decl.specs.Blocks.{known_data};
 ghost use Rattle.op_parse_decl.specs.DeclarationParts.{made_constant, made_definition, made_type, made_variables};
@@ -8,11 +9,13 @@ ghost use Rattle.op_parse_decl.specs.Declarations.{DefinitionBefore, SomeData};
 ghost use Rattle.op_tree.proofs.DeclarationUnique.{begins_data};
 ghost use Rattle.op_tree.specs.Declaration.{Constant, Declaration, TypeDeclaration, TypeDefinition, Variables, constant_of, declaration_of, definition_of, type_of, variables_of};
 ghost use Rattle.op_tree.specs.DeclarationGrammar.{AreVariablesOfOneType, IsConstant, IsTypeDeclaration};
+ghost use Rattle.op_tree.specs.Initial.{initial_of};
 
 use crate::choice::{Ahead, Fork, Form, Several, Unless};
 use crate::class::ClassBehind;
 use crate::declared_form::{form_of_definition, form_of_type};
 use crate::interface::InterfaceWhole;
+use crate::leaf::FirstValue;
 use crate::part::{Answer, Behind, Item, Made, Part, Setting, Stands};
 use crate::sign;
 use op_parse_code::shared::{Mark, after_mark, behind_mark, is_identifier};
@@ -69,7 +72,7 @@ impl Made for Variables {
             Stands<sign::Colon>,
             (
                 TypeDenoter,
-                (Behind<sign::Equal, Initializer>, Stands<sign::Semicolon>),
+                (Behind<sign::Equal, FirstValue>, Stands<sign::Semicolon>),
             ),
         ),
     );
@@ -85,11 +88,20 @@ impl Made for Variables {
         Variables {
             names,
             denoter,
-            value: value.part,
+            value: value_of(value.part),
         }
     }
 
     ghost made = { made_variables };
+}
+
+fn value_of(first: Option<FirstValue>) -> Option<Box<Initializer>>
+    ensures { option_map (λ value. initial_of value.value) result ≡ option_map (λ first. initial_of first.value.value) first }
+{
+    match first {
+        None => None,
+        Some(first) => Some(first.value),
+    }
 }
 
 impl Item for Variables {

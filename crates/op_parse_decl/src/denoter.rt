@@ -15,7 +15,7 @@ use crate::form::{
     GIVEN_VALUE, PROCEDURAL_TYPE, form_of_bound, form_of_record, gives_value, is_procedural,
 };
 use crate::names::names;
-use crate::nodes::{array_node, denoted, record_node, set_node};
+use crate::nodes::{array_node, denoted, record_node, set_node, subrange_node};
 use crate::opening::{DenoterOpening, denoter_opening};
 use crate::part::{Answer, Setting};
 use crate::stops::stop_type;
@@ -298,7 +298,8 @@ fn subrange_or_name<'a>(setting: Setting, tokens: &'a [Token]) -> Answer<'a, Typ
             after,
         )?;
         stop_type(setting.end, rest)?;
-        return Ok((TypeDenoter::Subrange { first, last }, rest));
+        let node = subrange_node(setting.alloc, first, last)?;
+        return Ok((node, rest));
     }
     match denoted(setting.alloc, first)? {
         Some(denoter) => Ok((denoter, rest)),

@@ -13,16 +13,15 @@ use crate::declared_form::INTERFACE_PROPERTY;
 use crate::part::{Answer, Made, Part, Repeated, Setting, Stands};
 use crate::routine::LeftOut;
 use crate::sign;
-use op_base::Text;
 use op_parse_code::shared::{Mark, behind_mark, left_out, spelled, syntax};
-use op_scan::{Token, TokenKind};
+use op_scan::{CompactText, Token, TokenKind};
 use op_tree::{Interface, Method, Name, TypeDefinition};
 use std::alloc::Global;
 
 /// A string.
 #[derive(Drop)]
 pub struct Literal {
-    pub text: Text,
+    pub text: CompactText,
 }
 
 impl Part for Literal {
@@ -56,7 +55,7 @@ fn is_literal(kind: &TokenKind) -> bool
 #[derive(Drop)]
 pub struct InterfaceHead {
     pub ancestor: Option<Name>,
-    pub identifier: Option<Text>,
+    pub identifier: Option<CompactText>,
 }
 
 impl Made for InterfaceHead {

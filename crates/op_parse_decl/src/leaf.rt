@@ -84,6 +84,28 @@ impl Part for Initializer {
     ghost known = { known_initial };
 }
 
+/// A first value, in a block of its own.
+#[derive(Drop)]
+pub struct FirstValue {
+    pub value: Box<Initializer>,
+}
+
+impl Part for FirstValue {
+    ghost Said = { Initial };
+
+    ghost says = { λ x. initial_of x.value.value };
+
+    ghost phrase = { SomeInitial };
+
+    fn read<'a>(setting: Setting, tokens: &'a [Token]) -> Answer<'a, FirstValue> {
+        let (first, rest) = initial(setting, tokens)?;
+        let value = Box::new(setting.alloc, first)?;
+        Ok((FirstValue { value }, rest))
+    }
+
+    ghost known = { known_initial };
+}
+
 /// Names in brackets.
 #[derive(Drop)]
 pub struct BracketedNames {

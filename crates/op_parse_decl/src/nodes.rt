@@ -3,7 +3,7 @@ ghost use Rattle.std.specs.Prelude.{◌≡◌, IfOk};
 ghost use Rattle.std.specs.Option.{option_map};
 ghost use Rattle.op_parse_decl.specs.Initials.{name_alone};
 ghost use Rattle.op_parse_decl.specs.Types.{denoted};
-ghost use Rattle.op_tree.specs.Denoter.{array, denoter_of, record_, set};
+ghost use Rattle.op_tree.specs.Denoter.{array, denoter_of, record_, set, subrange};
 ghost use Rattle.op_tree.specs.Expression.{bracketed, designated, designator, expr_of, named as named_root, no_selectors};
 ghost use Rattle.op_tree.specs.Initial.{field_initials, initial_of, initials, list, record_ as record_value};
 ghost use Rattle.op_tree.specs.Lists.{denoters_of, field_initials_of, field_lists_of, initials_of};
@@ -15,6 +15,14 @@ use op_tree::{
     Root, Selector, TypeDenoter,
 };
 use std::alloc::Global;
+
+pub fn subrange_node(alloc: Global, first: Expr, last: Expr) -> Result<TypeDenoter, NoMemory>
+    ensures { IfOk result (λ t. denoter_of t ≡ subrange (expr_of first) (expr_of last)) }
+{
+    let first = Box::new(alloc, first)?;
+    let last = Box::new(alloc, last)?;
+    Ok(TypeDenoter::Subrange { first, last })
+}
 
 pub fn set_node(
     alloc: Global,

@@ -9,7 +9,8 @@ use crate::denoter::{denoter, field_line};
 use crate::list::{Printed, all, in_brackets};
 use crate::name::name;
 use crate::printer::{Printer, end, indent, line, string, tight, word};
-use op_base::{NoMemory, Text};
+use op_base::NoMemory;
+use op_scan::CompactText;
 use op_tree::{Class, Interface, Member, Name, Property, Section, Visibility};
 
 fn visibility_word(visibility: Visibility) -> &'static [u8]
@@ -90,7 +91,7 @@ fn ancestor(page: &mut Printer, ancestor: &Option<Name>) -> Result<(), NoMemory>
 }
 
 /// The text in square brackets of an interface, where there is one.
-pub fn identifier(page: &mut Printer, identifier: &Option<Text>) -> Result<(), NoMemory>
+pub fn identifier(page: &mut Printer, identifier: &Option<CompactText>) -> Result<(), NoMemory>
     ensures { IfOk result (λ _. page.new ≡ after page.old (optional identifier_draft identifier.now)) }
 {
     match identifier {

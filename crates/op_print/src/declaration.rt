@@ -32,8 +32,8 @@ impl Printed for Constant {
 }
 
 /// `=` and a first value, where there is one.
-fn first_value(page: &mut Printer, value: &Option<Initializer>) -> Result<(), NoMemory>
-    ensures { IfOk result (λ _. page.new ≡ after page.old (optional first_value_draft (option_map initial_of value.now))) }
+fn first_value(page: &mut Printer, value: &Option<Box<Initializer>>) -> Result<(), NoMemory>
+    ensures { IfOk result (λ _. page.new ≡ after page.old (optional first_value_draft (option_map (λ first. initial_of first.value) value.now))) }
 {
     match value {
         None => Ok(()),

@@ -1,6 +1,7 @@
 pub mod Byte
 pub mod Class
 pub mod Comment
+pub mod Compact
 pub mod Directive
 pub mod Inside
 pub mod Item

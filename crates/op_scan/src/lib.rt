@@ -7,6 +7,7 @@
 mod byte;
 mod class;
 mod comment;
+mod compact_text;
 mod directive;
 mod effect;
 mod keyword;
@@ -18,5 +19,6 @@ mod string;
 mod symbol;
 mod token;
 
+pub use compact_text::CompactText;
 pub use scanner::scan;
 pub use token::{ScanError, Switches, Token, TokenKind, TokenList, Tokens};

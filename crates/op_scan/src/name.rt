@@ -7,8 +7,8 @@ ghost use Rattle.op_scan.specs.declared.class.Class.TheVariants as class;
 use crate::byte::{ByteKind, run_length};
 use crate::effect::{Effect, Front, LONG_IDENTIFIER};
 use crate::keyword::keyword;
-use crate::{Switches, TokenKind};
-use op_base::{NoMemory, Text};
+use crate::{CompactText, Switches, TokenKind};
+use op_base::NoMemory;
 use std::alloc::Global;
 
 /// The greatest length of an identifier.
@@ -23,7 +23,7 @@ fn effect_of_name(alloc: Global, word: &[u8], switches: Switches) -> Result<Effe
     if let Some(kind) = keyword(word) {
         return Ok(Effect::Gives(kind));
     }
-    let name = Text::copy_of(alloc, word)?;
+    let name = CompactText::copy_of(alloc, word)?;
     Ok(Effect::Gives(TokenKind::Identifier(name)))
 }
 

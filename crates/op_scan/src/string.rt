@@ -8,8 +8,8 @@ ghost use Rattle.op_scan.specs.declared.class.Class.TheVariants as class;
 use crate::byte::{ByteKind, begins_with, is_line_end, run_length};
 use crate::effect::{BAD_CHARACTER, Effect, Front, LONG_STRING, STRING_NOT_CLOSED};
 use crate::number::{Base, digits_value};
-use crate::{Switches, TokenKind};
-use op_base::{NoMemory, Text};
+use crate::{CompactText, Switches, TokenKind};
+use op_base::NoMemory;
 use std::alloc::Global;
 
 /// The greatest length of a string.
@@ -142,7 +142,7 @@ pub fn string(alloc: Global, bytes: &[u8], switches: Switches) -> Result<Front, 
     let rest = parts(&mut value, bytes)?;
     let length = bytes.len() - rest.len();
     if length > 0 {
-        let effect = effect_of_string(value, switches);
+        let effect = effect_of_string(alloc, &value, switches)?;
         return Ok(Front { length, effect });
     }
     if begins_with(bytes, b'#') {
@@ -157,12 +157,12 @@ pub fn string(alloc: Global, bytes: &[u8], switches: Switches) -> Result<Front, 
     })
 }
 
-fn effect_of_string(value: Vec<u8>, switches: Switches) -> Effect
-    ensures { result ≡ effect_of switches (a_string value.items) }
+fn effect_of_string(alloc: Global, value: &[u8], switches: Switches) -> Result<Effect, NoMemory>
+    ensures { IfOk result (λ effect. effect ≡ effect_of switches (a_string value.now)) }
 {
     if LONGEST < value.len() {
-        Effect::Breaks(LONG_STRING)
-    } else {
-        Effect::Gives(TokenKind::CharacterString(Text::from(value)))
+        return Ok(Effect::Breaks(LONG_STRING));
     }
+    let text = CompactText::copy_of(alloc, value)?;
+    Ok(Effect::Gives(TokenKind::CharacterString(text)))
 }

@@ -1,7 +1,8 @@
 //! Tokens: what the scanner makes of a text.
 ghost use Rattle.std.specs.Prelude.{◌≡◌};
 
-use op_base::{NoMemory, Place, Refusal, Span, Text};
+use crate::CompactText;
+use op_base::{NoMemory, Place, Refusal, Span};
 use std::alloc::{AllocError, AllocFailed};
 use std::marker::Model;
 use thiserror::Error;
@@ -11,11 +12,11 @@ use thiserror::Error;
 #[derive(Debug, Drop)]
 pub enum TokenKind {
     /// A name of at most 127 bytes, as it is written.
-    Identifier(Text),
+    Identifier(CompactText),
     /// A number without a sign, at most 2147483648.
     Number(u32),
     /// What a string stands for, at most 65,535 bytes: quotes are undoubled and characters by number put in.
-    CharacterString(Text),
+    CharacterString(CompactText),
     And,
     Array,
     As_,

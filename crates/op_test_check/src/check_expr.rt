@@ -1,10 +1,10 @@
-use op_base::{NoMemory, Place, Refusal, Text};
+use op_base::{NoMemory, Place, Refusal};
 use op_check_expr::*;
 use op_core::{
     CheckError, Const, Core, CoreExpr, CoreType, FirstRefusal, Function, Owner, Parameter, Role,
     Root, Routine, RoutineId, Run, TypeId, UnitId, Variable, VariableId,
 };
-use op_scan::Switches;
+use op_scan::{CompactText, Switches};
 use op_tree::{
     Argument, Designator, Element, Expr, Name, Operation, Operator, ParameterMode, Position,
     Root as Named, RoutineKind, Selector,
@@ -24,7 +24,7 @@ fn at(col: u32) -> Position {
 }
 
 fn name(alloc: Global, col: u32, text: &str) -> Result<Name, NoMemory> {
-    let text = Text::copy_of(alloc, text.as_bytes())?;
+    let text = CompactText::copy_of(alloc, text.as_bytes())?;
     let position = at(col);
     Ok(Name { text, position })
 }

@@ -1,6 +1,6 @@
-use op_base::{NoMemory, Place, Refusal, Rule, Text};
+use op_base::{NoMemory, Place, Refusal, Rule};
 use op_core::*;
-use op_scan::Switches;
+use op_scan::{CompactText, Switches};
 use op_tree::{Name, ParameterMode, Position, RoutineKind};
 use std::alloc::Global;
 use std::test::Fail;
@@ -11,15 +11,13 @@ const NOWHERE: Place = Place {
     col: 1,
 };
 
-fn named(alloc: Global) -> Name {
+fn named(alloc: Global) -> Result<Name, NoMemory> {
     let position = Position {
         place: NOWHERE,
         switches: Switches::OFF,
     };
-    Name {
-        text: Text::from(Vec::new(alloc)),
-        position,
-    }
+    let text = CompactText::copy_of(alloc, b"")?;
+    Ok(Name { text, position })
 }
 
 /// A routine over a run of the parameters.
@@ -31,7 +29,7 @@ fn push_routine(
     gives: Option<TypeId>,
 ) -> Result<(), NoMemory> {
     core.routines.push(Routine {
-        name: named(alloc),
+        name: named(alloc)?,
         kind,
         unit: UnitId(0),
         owner: Owner::Unit,
@@ -66,7 +64,7 @@ fn headings(alloc: Global) -> Result<Core, NoMemory> {
         (ParameterMode::Value, 6),
         (ParameterMode::Var, 0),
     ] {
-        let name = named(alloc);
+        let name = named(alloc)?;
         let of = TypeId(of);
         core.parameters.push(Parameter { name, mode, of })?;
     }

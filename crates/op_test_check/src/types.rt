@@ -1,6 +1,6 @@
-use op_base::{NoMemory, Place, Text};
+use op_base::{NoMemory, Place};
 use op_core::{Core, CoreType, Field, Run, TypeId};
-use op_scan::Switches;
+use op_scan::{CompactText, Switches};
 use op_tree::{Name, Position, Visibility};
 use op_types::*;
 use std::alloc::Global;
@@ -20,7 +20,7 @@ fn at(col: u32) -> Position {
 
 fn name(alloc: Global, col: u32, text: &[u8]) -> Result<Name, NoMemory> {
     Ok(Name {
-        text: Text::copy_of(alloc, text)?,
+        text: CompactText::copy_of(alloc, text)?,
         position: at(col),
     })
 }

@@ -1,6 +1,6 @@
-use op_base::{NoMemory, Place, Text};
+use op_base::{NoMemory, Place};
 use op_print::*;
-use op_scan::{Switches, scan};
+use op_scan::{CompactText, Switches, scan};
 use op_tree::*;
 use std::alloc::{AllocError, AllocFailed, Global};
 use std::test::Fail;
@@ -38,7 +38,7 @@ const HERE: Position = Position {
 
 fn name(alloc: Global, text: &str) -> Result<Name, NoTree> {
     Ok(Name {
-        text: Text::copy_of(alloc, text.as_bytes())?,
+        text: CompactText::copy_of(alloc, text.as_bytes())?,
         position: HERE,
     })
 }
@@ -53,7 +53,7 @@ fn number(value: u32) -> Expr {
 /// `WriteLn('it''s' and a line's end, (1 + 2): 4)`
 fn statement(alloc: Global) -> Result<Stmt, NoTree> {
     let text = Expr::Literal {
-        text: Text::copy_of(alloc, b"it's\r\n")?,
+        text: CompactText::copy_of(alloc, b"it's\r\n")?,
         position: HERE,
         selectors: Vec::new(alloc),
     };
@@ -66,7 +66,8 @@ fn statement(alloc: Global) -> Result<Stmt, NoTree> {
         first: Box::new(alloc, number(1))?,
         rest: vec![in alloc; operation]?,
     };
-    let arguments = vec![in alloc; Argument::Value(text), Argument::Padded(sum, number(4))]?;
+    let padded = Argument::Padded(Box::new(alloc, sum)?, Box::new(alloc, number(4))?);
+    let arguments = vec![in alloc; Argument::Value(text), padded]?;
     Ok(Stmt::Call(Designator {
         root: Root::Named(name(alloc, "WriteLn")?),
         selectors: vec![in alloc; Selector::Call { arguments }]?,

@@ -30,7 +30,7 @@ use Rattle.op_tree.specs.declared.declaration.Body.{Body}
 use Rattle.op_tree.specs.declared.declaration.Body.TheVariants.{Block as BodyBlock}
 use Rattle.op_tree.specs.declared.declaration.Declaration.{Declaration}
 use Rattle.op_tree.specs.declared.position.Position.{Position}
-use Rattle.op_base.specs.declared.text.Text.{Text}
+use Rattle.op_scan.specs.declared.compact_text.CompactText.{CompactText}
 use Rattle.op_tree.specs.Lists.{operations_of, expressions_of, arguments_of, denoters_of, field_lists_of, initials_of, field_initials_of, branches_of, handlers_of, ListNodes}
 use Rattle.op_tree.proofs.ExpressionUnique.{same2, same3}
 use Rattle.op_tree.specs.declared.expression.Expr.{Row_of-Operation, end_of-Operation, more_of-Operation, items-the_row-Operation, items_hidden-the_row-Operation-0, Row_of-Element, end_of-Element, more_of-Element, items-the_row-Element, items_hidden-the_row-Element-1, Row_of-Selector, end_of-Selector, more_of-Selector, items-the_row-Selector, items_hidden-the_row-Selector-2}
@@ -109,7 +109,7 @@ set_row other = (_, end_of-Element)
 abbrev selectors_in : Expr → (n : Count) × Row_of-Selector n
 selectors_in (Literal' text position _ row) = (_, row)
 selectors_in (Designated' root _ row) = (_, row)
-selectors_in (Inherited' position root _ row) = (_, row)
+selectors_in (Inherited' position _ root _ row) = (_, row)
 selectors_in other = (_, end_of-Selector)
 
 abbrev index_row : Selector → (n : Count) × Row_of-Expr n
@@ -172,14 +172,14 @@ chain_says first rest = ap (chain (expr_of first.value)) (let row = chain_row (C
 pub set_says : (position : Position) (parts : Vec Element Global) → expr_of (Set position parts) ≡ set position (elements_of parts.items)
 set_says position parts = ap (set position) (let row = set_row (Set position parts) in element_row-list row.0 row.1 ∙ ap elements_of (items_hidden-the_row-Element-1 parts))
 
-pub literal_says : (text : Text) (position : Position) (parts : Vec Selector Global) → expr_of (Literal text position parts) ≡ literal text position (selectors_of parts.items)
+pub literal_says : (text : CompactText) (position : Position) (parts : Vec Selector Global) → expr_of (Literal text position parts) ≡ literal text position (selectors_of parts.items)
 literal_says text position parts = ap (literal text position) (let row = selectors_in (Literal text position parts) in selector_row-list row.0 row.1 ∙ ap selectors_of (items_hidden-the_row-Selector-2 parts))
 
 pub designated_says : (d : Designator) → expr_of (Designated d) ≡ designated (designator_of d)
 designated_says d = ap (λ x. designated (designator (root_of d.root) x)) (let row = selectors_in (Designated d) in selector_row-list row.0 row.1 ∙ ap selectors_of (items_hidden-the_row-Selector-2 d.selectors))
 
-pub inherited_says : (position : Position) (d : Designator) → expr_of (Inherited position d) ≡ inherited position (designator_of d)
-inherited_says position d = ap (λ x. inherited position (designator (root_of d.root) x)) (let row = selectors_in (Inherited position d) in selector_row-list row.0 row.1 ∙ ap selectors_of (items_hidden-the_row-Selector-2 d.selectors))
+pub inherited_says : (position : Position) (d : Box Designator Global) → expr_of (Inherited position d) ≡ inherited position (designator_of d.value)
+inherited_says position d = ap (λ x. inherited position (designator (root_of d.value.root) x)) (let row = selectors_in (Inherited position d) in selector_row-list row.0 row.1 ∙ ap selectors_of (items_hidden-the_row-Selector-2 d.value.selectors))
 
 pub index_says : (position : Position) (parts : Vec Expr Global) → selector_of (Index position parts) ≡ index position (expressions_of parts.items)
 index_says position parts = ap (index position) (let row = index_row (Index position parts) in expr_row-list row.0 row.1 ∙ ap expressions_of (items_hidden-the_row-Expr-3 parts))
@@ -202,14 +202,14 @@ record_value_says position parts = ap (record_value position) (let row = record_
 pub block_says : (parts : Vec Stmt Global) → stmt_of (Block parts) ≡ block (stmts_of parts.items)
 block_says parts = ap block (let row = first_row (Block parts) in stmt_row-list row.0 row.1 ∙ ap stmts_of (items_hidden-the_row-Stmt-0 parts))
 
-pub case_of_says : (selector : Expr) (parts : Vec Branch Global) → stmt_of (Case selector parts) ≡ case_of (expr_of selector) (branches_of parts.items)
-case_of_says selector parts = ap (case_of (expr_of selector)) (let row = branches_in (Case selector parts) in branch_row-list row.0 row.1 ∙ ap branches_of (items_hidden-the_row-Branch-1 parts))
+pub case_of_says : (selector : Box Expr Global) (parts : Vec Branch Global) → stmt_of (Case selector parts) ≡ case_of (expr_of selector.value) (branches_of parts.items)
+case_of_says selector parts = ap (case_of (expr_of selector.value)) (let row = branches_in (Case selector parts) in branch_row-list row.0 row.1 ∙ ap branches_of (items_hidden-the_row-Branch-1 parts))
 
-pub case_else_says : (selector : Expr) (parts : Vec Branch Global) (otherwise : Vec Stmt Global) → stmt_of (CaseElse selector parts otherwise) ≡ case_else (expr_of selector) (branches_of parts.items) (stmts_of otherwise.items)
-case_else_says selector parts otherwise = same2 (case_else (expr_of selector)) (let row = branches_in (CaseElse selector parts otherwise) in branch_row-list row.0 row.1 ∙ ap branches_of (items_hidden-the_row-Branch-1 parts)) (let row = first_row (CaseElse selector parts otherwise) in stmt_row-list row.0 row.1 ∙ ap stmts_of (items_hidden-the_row-Stmt-0 otherwise))
+pub case_else_says : (selector : Box Expr Global) (parts : Vec Branch Global) (otherwise : Vec Stmt Global) → stmt_of (CaseElse selector parts otherwise) ≡ case_else (expr_of selector.value) (branches_of parts.items) (stmts_of otherwise.items)
+case_else_says selector parts otherwise = same2 (case_else (expr_of selector.value)) (let row = branches_in (CaseElse selector parts otherwise) in branch_row-list row.0 row.1 ∙ ap branches_of (items_hidden-the_row-Branch-1 parts)) (let row = first_row (CaseElse selector parts otherwise) in stmt_row-list row.0 row.1 ∙ ap stmts_of (items_hidden-the_row-Stmt-0 otherwise))
 
-pub repeat_until_says : (parts : Vec Stmt Global) (condition : Expr) → stmt_of (Repeat parts condition) ≡ repeat_until (stmts_of parts.items) (expr_of condition)
-repeat_until_says parts condition = ap (λ x. repeat_until x (expr_of condition)) (let row = first_row (Repeat parts condition) in stmt_row-list row.0 row.1 ∙ ap stmts_of (items_hidden-the_row-Stmt-0 parts))
+pub repeat_until_says : (parts : Vec Stmt Global) (condition : Box Expr Global) → stmt_of (Repeat parts condition) ≡ repeat_until (stmts_of parts.items) (expr_of condition.value)
+repeat_until_says parts condition = ap (λ x. repeat_until x (expr_of condition.value)) (let row = first_row (Repeat parts condition) in stmt_row-list row.0 row.1 ∙ ap stmts_of (items_hidden-the_row-Stmt-0 parts))
 
 pub try_finally_says : (parts others : Vec Stmt Global) → stmt_of (TryFinally parts others) ≡ try_finally (stmts_of parts.items) (stmts_of others.items)
 try_finally_says parts others = same2 try_finally (let row = first_row (TryFinally parts others) in stmt_row-list row.0 row.1 ∙ ap stmts_of (items_hidden-the_row-Stmt-0 parts)) (let row = second_row (TryFinally parts others) in stmt_row-list row.0 row.1 ∙ ap stmts_of (items_hidden-the_row-Stmt-0 others))

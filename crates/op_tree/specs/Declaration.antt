@@ -128,7 +128,7 @@ abbrev pub constant_of : RustConstant → Constant
 constant_of c = record { name = c.name; denoter = option_map denoter_of c.denoter; value = initial_of c.value }
 
 abbrev pub variables_of : RustVariables → Variables
-variables_of v = record { names = v.names; denoter = denoter_of v.denoter; value = option_map initial_of v.value }
+variables_of v = record { names = v.names; denoter = denoter_of v.denoter; value = option_map (λ first. initial_of first.value) v.value }
 
 abbrev pub definition_of : RustTypeDefinition → TypeDefinition
 definition_of (definition.Denoter t) = denotes (denoter_of t)

@@ -29,7 +29,7 @@ abbrev mutual
   pub denoter_of : TypeDenoter → Denoter
   denoter_of (Named name) = named name
   denoter_of (String position) = string position
-  denoter_of (Subrange first last) = subrange (expr_of first) (expr_of last)
+  denoter_of (Subrange first last) = subrange (expr_of first.value) (expr_of last.value)
   denoter_of (Enumeration position values) = enumeration position values
   denoter_of (Set' position _ base) = set position (denoter_of base)
   denoter_of (Array' position packed _ row _ element) = array position packed (denoter_row row) (denoter_of element)

@@ -1,9 +1,9 @@
 -- Expressions as values: what an `Expr` says, wherever it lies in memory.
 use Rattle.std.specs.Prelude.{ℕ, List}
 use Rattle.op_tree.specs.declared.expression.Argument.{Argument as RustArgument}
-use Rattle.op_tree.specs.declared.expression.Argument.TheVariants.{Value, Padded, Rounded}
+use Rattle.op_tree.specs.declared.expression.Argument.TheVariants.{Value, Padded', Rounded'}
 use Rattle.op_tree.specs.declared.expression.Element.{Element as RustElement}
-use Rattle.op_tree.specs.declared.expression.Element.TheVariants.{One, Range}
+use Rattle.op_tree.specs.declared.expression.Element.TheVariants.{One, Range'}
 use Rattle.op_tree.specs.declared.expression.Expr.{Expr, Row_of-Operation, end_of-Operation, more_of-Operation, Row_of-Element, end_of-Element, more_of-Element, Row_of-Selector, end_of-Selector, more_of-Selector}
 use Rattle.op_tree.specs.declared.expression.Expr.TheVariants.{Chain', Prefix', Number, Nil, Set', Literal', Designator', Inherited'}
 use Rattle.op_tree.specs.declared.expression.Root.{Root as RustRoot}
@@ -77,7 +77,7 @@ abbrev mutual
   expr_of (Set' position _ row) = set position (element_row row)
   expr_of (Literal' text position _ row) = literal text position (selector_row row)
   expr_of (Designator' root _ row) = designated (designator (root_of root) (selector_row row))
-  expr_of (Inherited' position root _ row) = inherited position (designator (root_of root) (selector_row row))
+  expr_of (Inherited' position _ root _ row) = inherited position (designator (root_of root) (selector_row row))
 
   pub operation_row : {n : _} → Row_of-Operation n → Operations
   operation_row end_of-Operation = no_operations
@@ -89,7 +89,7 @@ abbrev mutual
 
   pub element_of : RustElement → Element
   element_of (One e) = one (expr_of e)
-  element_of (Range first last) = range (expr_of first) (expr_of last)
+  element_of (Range' _ first _ last) = range (expr_of first) (expr_of last)
 
   pub root_of : RustRoot → Root
   root_of (Named n) = named n
@@ -115,5 +115,5 @@ abbrev mutual
 
   pub argument_of : RustArgument → Argument
   argument_of (Value e) = value (expr_of e)
-  argument_of (Padded e width) = padded (expr_of e) (expr_of width)
-  argument_of (Rounded e width digits) = rounded (expr_of e) (expr_of width) (expr_of digits)
+  argument_of (Padded' _ e _ width) = padded (expr_of e) (expr_of width)
+  argument_of (Rounded' _ e _ width _ digits) = rounded (expr_of e) (expr_of width) (expr_of digits)

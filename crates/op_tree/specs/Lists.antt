@@ -27,7 +27,7 @@ use Rattle.op_tree.specs.declared.statement.Stmt.TheVariants.{Block, Case, CaseE
 use Rattle.op_tree.specs.declared.declaration.Body.TheVariants.{Block as BodyBlock}
 use Rattle.op_tree.specs.declared.declaration.Declaration.{Declaration}
 use Rattle.op_tree.specs.declared.position.Position.{Position}
-use Rattle.op_base.specs.declared.text.Text.{Text}
+use Rattle.op_scan.specs.declared.compact_text.CompactText.{CompactText}
 
 abbrev pub operations_of : List Operation → Operations
 operations_of [] = no_operations
@@ -69,9 +69,9 @@ handlers_of (x ∷ xs) = handlers x.variable x.class (stmt_of x.body) (handlers_
 pub record ListNodes : Type 0 where
   pub chain_says : (first : Box Expr Global) (rest : Vec Operation Global) → expr_of (Chain first rest) ≡ chain (expr_of first.value) (operations_of rest.items)
   pub set_says : (position : Position) (parts : Vec Element Global) → expr_of (Set position parts) ≡ set position (elements_of parts.items)
-  pub literal_says : (text : Text) (position : Position) (parts : Vec Selector Global) → expr_of (Literal text position parts) ≡ literal text position (selectors_of parts.items)
+  pub literal_says : (text : CompactText) (position : Position) (parts : Vec Selector Global) → expr_of (Literal text position parts) ≡ literal text position (selectors_of parts.items)
   pub designated_says : (d : Designator) → expr_of (Designated d) ≡ designated (designator_of d)
-  pub inherited_says : (position : Position) (d : Designator) → expr_of (Inherited position d) ≡ inherited position (designator_of d)
+  pub inherited_says : (position : Position) (d : Box Designator Global) → expr_of (Inherited position d) ≡ inherited position (designator_of d.value)
   pub index_says : (position : Position) (parts : Vec Expr Global) → selector_of (Index position parts) ≡ index position (expressions_of parts.items)
   pub call_says : (parts : Vec Argument Global) → selector_of (Call parts) ≡ call (arguments_of parts.items)
   pub array_says : (position : Position) (packed : Bool) (indices : Vec TypeDenoter Global) (element : Box TypeDenoter Global) → denoter_of (Array position packed indices element) ≡ array position packed (denoters_of indices.items) (denoter_of element.value)
@@ -79,9 +79,9 @@ pub record ListNodes : Type 0 where
   pub list_value_says : (position : Position) (items : Vec Initializer Global) → initial_of (ListOf position items) ≡ list position (initials_of items.items)
   pub record_value_says : (position : Position) (parts : Vec FieldInitializer Global) → initial_of (RecordOf position parts) ≡ record_value position (field_initials_of parts.items)
   pub block_says : (parts : Vec Stmt Global) → stmt_of (Block parts) ≡ block (stmts_of parts.items)
-  pub case_of_says : (selector : Expr) (parts : Vec Branch Global) → stmt_of (Case selector parts) ≡ case_of (expr_of selector) (branches_of parts.items)
-  pub case_else_says : (selector : Expr) (parts : Vec Branch Global) (otherwise : Vec Stmt Global) → stmt_of (CaseElse selector parts otherwise) ≡ case_else (expr_of selector) (branches_of parts.items) (stmts_of otherwise.items)
-  pub repeat_until_says : (parts : Vec Stmt Global) (condition : Expr) → stmt_of (Repeat parts condition) ≡ repeat_until (stmts_of parts.items) (expr_of condition)
+  pub case_of_says : (selector : Box Expr Global) (parts : Vec Branch Global) → stmt_of (Case selector parts) ≡ case_of (expr_of selector.value) (branches_of parts.items)
+  pub case_else_says : (selector : Box Expr Global) (parts : Vec Branch Global) (otherwise : Vec Stmt Global) → stmt_of (CaseElse selector parts otherwise) ≡ case_else (expr_of selector.value) (branches_of parts.items) (stmts_of otherwise.items)
+  pub repeat_until_says : (parts : Vec Stmt Global) (condition : Box Expr Global) → stmt_of (Repeat parts condition) ≡ repeat_until (stmts_of parts.items) (expr_of condition.value)
   pub try_finally_says : (parts others : Vec Stmt Global) → stmt_of (TryFinally parts others) ≡ try_finally (stmts_of parts.items) (stmts_of others.items)
   pub try_except_says : (parts others : Vec Stmt Global) → stmt_of (TryExcept parts others) ≡ try_except (stmts_of parts.items) (stmts_of others.items)
   pub try_on_says : (parts : Vec Stmt Global) (others : Vec Handler Global) → stmt_of (TryOn parts others) ≡ try_on (stmts_of parts.items) (handlers_of others.items)

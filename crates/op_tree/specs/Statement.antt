@@ -64,12 +64,12 @@ abbrev mutual
   stmt_of (Block' _ row) = block (stmt_row row)
   stmt_of (If' condition _ then) = if_then (expr_of condition) (stmt_of then)
   stmt_of (IfElse' condition _ then _ otherwise) = if_else (expr_of condition) (stmt_of then) (stmt_of otherwise)
-  stmt_of (Case' selector _ row) = case_of (expr_of selector) (branch_row row)
-  stmt_of (CaseElse' selector _ row _ otherwise) = case_else (expr_of selector) (branch_row row) (stmt_row otherwise)
+  stmt_of (Case' selector _ row) = case_of (expr_of selector.value) (branch_row row)
+  stmt_of (CaseElse' selector _ row _ otherwise) = case_else (expr_of selector.value) (branch_row row) (stmt_row otherwise)
   stmt_of (While' condition _ body) = while_do (expr_of condition) (stmt_of body)
-  stmt_of (Repeat' _ body condition) = repeat_until (stmt_row body) (expr_of condition)
-  stmt_of (For' variable first direction last _ body) = for_to variable (expr_of first) direction (expr_of last) (stmt_of body)
-  stmt_of (ForIn' variable collection _ body) = for_in variable (expr_of collection) (stmt_of body)
+  stmt_of (Repeat' _ body condition) = repeat_until (stmt_row body) (expr_of condition.value)
+  stmt_of (For' variable first direction last _ body) = for_to variable (expr_of first.value) direction (expr_of last.value) (stmt_of body)
+  stmt_of (ForIn' variable collection _ body) = for_in variable (expr_of collection.value) (stmt_of body)
   stmt_of (TryFinally' _ body _ finalization) = try_finally (stmt_row body) (stmt_row finalization)
   stmt_of (TryExcept' _ body _ handler) = try_except (stmt_row body) (stmt_row handler)
   stmt_of (TryOn' _ body _ row) = try_on (stmt_row body) (handler_row row)
@@ -79,7 +79,7 @@ abbrev mutual
   stmt_of (Inherited position) = inherited position
   stmt_of (InheritedCall position callee) = inherited_call position (designator_of callee)
   stmt_of (Call callee) = call (designator_of callee)
-  stmt_of (Assign target position e) = assign (designator_of target) position (expr_of e)
+  stmt_of (Assign target position e) = assign (designator_of target) position (expr_of e.value)
 
   pub stmt_row : {n : _} → Row_of-Stmt n → Statements
   stmt_row end_of-Stmt = no_statements

@@ -1,6 +1,6 @@
 //! Classes and interfaces.
 use crate::{Fields, Method, Name, Names, TypeDenoter};
-use op_base::Text;
+use op_scan::CompactText;
 
 #[derive(Clone, Copy, Debug, PartialEq, Eq)]
 pub enum Visibility {
@@ -43,6 +43,6 @@ pub struct Property {
 #[derive(Drop)]
 pub struct Interface {
     pub ancestor: Option<Name>,
-    pub identifier: Option<Text>,
+    pub identifier: Option<CompactText>,
     pub methods: Vec<Method>,
 }

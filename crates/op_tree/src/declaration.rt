@@ -2,7 +2,7 @@
 use crate::{
     Class, Directives, Heading, Initializer, Interface, Method, Name, Names, Stmt, TypeDenoter,
 };
-use op_base::Text;
+use op_scan::CompactText;
 
 #[derive(Drop)]
 pub struct Constant {
@@ -15,7 +15,7 @@ pub struct Constant {
 pub struct Variables {
     pub names: Names,
     pub denoter: TypeDenoter,
-    pub value: Option<Initializer>,
+    pub value: Option<Box<Initializer>>,
 }
 
 #[derive(Drop)]
@@ -29,7 +29,7 @@ pub enum TypeDefinition {
     Denoter(TypeDenoter),
     ForwardClass,
     Class(Class),
-    ForwardInterface { identifier: Option<Text> },
+    ForwardInterface { identifier: Option<CompactText> },
     Interface(Interface),
 }
 

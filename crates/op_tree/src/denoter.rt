@@ -11,8 +11,8 @@ pub enum TypeDenoter {
     },
     /// `first .. last`
     Subrange {
-        first: Expr,
-        last: Expr,
+        first: Box<Expr>,
+        last: Box<Expr>,
     },
     Enumeration {
         position: Position,

@@ -3,7 +3,7 @@
 //! Operands with operators of one level between them are one node, which is read from the left: `a - b + c` has the first
 //! operand `a` and the operations `- b` and `+ c`. So a chain is as deep as its operands and not as it is long.
 use crate::{Name, Operator, Position, PrefixOperator};
-use op_base::Text;
+use op_scan::CompactText;
 
 /// An expression. Brackets round a part are kept, as `Root::Bracketed`.
 #[cycle(expression)]
@@ -34,7 +34,7 @@ pub enum Expr {
     },
     /// A string, and what is selected of it.
     Literal {
-        text: Text,
+        text: CompactText,
         position: Position,
         selectors: Vec<Selector>,
     },
@@ -42,7 +42,7 @@ pub enum Expr {
     /// A designator behind `inherited`, with the position of that word.
     Inherited {
         position: Position,
-        designator: Designator,
+        designator: Box<Designator>,
     },
 }
 
@@ -60,7 +60,7 @@ pub struct Operation {
 #[derive(Drop)]
 pub enum Element {
     One(Expr),
-    Range(Expr, Expr),
+    Range(Box<Expr>, Box<Expr>),
 }
 
 /// What can be called or assigned: a root and what is selected of it, from the left.
@@ -105,7 +105,7 @@ pub enum Selector {
 pub enum Argument {
     Value(Expr),
     /// `value : width`
-    Padded(Expr, Expr),
+    Padded(Box<Expr>, Box<Expr>),
     /// `value : width : digits`
-    Rounded(Expr, Expr, Expr),
+    Rounded(Box<Expr>, Box<Expr>, Box<Expr>),
 }

@@ -1,6 +1,6 @@
 //! What a tree keeps of single tokens.
-use op_base::{Place, Text};
-use op_scan::Switches;
+use op_base::Place;
+use op_scan::{CompactText, Switches};
 
 /// Where a token stands, and the switches there. Later passes report there.
 #[derive(Clone, Copy, Debug, PartialEq, Eq)]
@@ -12,7 +12,7 @@ pub struct Position {
 /// An identifier, as it is written.
 #[derive(Debug, Drop)]
 pub struct Name {
-    pub text: Text,
+    pub text: CompactText,
     pub position: Position,
 }
 

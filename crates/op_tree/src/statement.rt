@@ -24,11 +24,11 @@ pub enum Stmt {
         otherwise: Box<Stmt>,
     },
     Case {
-        selector: Expr,
+        selector: Box<Expr>,
         branches: Vec<Branch>,
     },
     CaseElse {
-        selector: Expr,
+        selector: Box<Expr>,
         branches: Vec<Branch>,
         otherwise: Vec<Stmt>,
     },
@@ -38,18 +38,18 @@ pub enum Stmt {
     },
     Repeat {
         body: Vec<Stmt>,
-        condition: Expr,
+        condition: Box<Expr>,
     },
     For {
         variable: Name,
-        first: Expr,
+        first: Box<Expr>,
         direction: Direction,
-        last: Expr,
+        last: Box<Expr>,
         body: Box<Stmt>,
     },
     ForIn {
         variable: Name,
-        collection: Expr,
+        collection: Box<Expr>,
         body: Box<Stmt>,
     },
     TryFinally {
@@ -92,7 +92,7 @@ pub enum Stmt {
     Assign {
         target: Designator,
         position: Position,
-        value: Expr,
+        value: Box<Expr>,
     },
 }
 

@@ -15,8 +15,9 @@ use crate::set::{between, combined, common_set, set_over};
 use crate::sort::{Sort, kind_of, sort_of};
 use crate::value::{applied, before, bound_of, cast, number_of, operated, within};
 use crate::{BuiltIn, Meaning, Setting};
-use op_base::{NoMemory, Place, Refusal, Rule, Sequence, Text};
+use op_base::{NoMemory, Place, Refusal, Rule, Sequence};
 use op_core::{Const, FirstRefusal, Function, TypeId};
+use op_scan::CompactText;
 use op_tree::{
     Argument, Designator, Element, Expr, Name, Operator, PrefixOperator, Root, Selector,
 };
@@ -104,7 +105,8 @@ pub fn start_of_element(element: &Element) -> Place
     ensures { result ≡ start_of_element (element_of element.now) }
 {
     match element {
-        Element::One(e) | Element::Range(e, _) => start_of(e),
+        Element::One(e) => start_of(e),
+        Element::Range(e, _) => start_of(e),
     }
 }
 
@@ -175,7 +177,7 @@ fn copy_of(alloc: Global, value: &Const) -> Result<Const, NoMemory>
 {
     match value {
         Const::Ordinal(n) => Ok(Const::Ordinal(*n)),
-        Const::Text(text) => Ok(Const::Text(Text::copy_of(alloc, text.as_slice())?)),
+        Const::Text(text) => Ok(Const::Text(CompactText::copy_of(alloc, text.as_slice())?)),
         Const::Set(members) => {
             Ok(Const::Set(Sequence::from(Vec::from_slice(alloc, members.as_slice())?)))
         }
@@ -245,7 +247,7 @@ impl<'a> Setting<'a> {
                 nodes(1),
             )))),
             (None, _) => {
-                let value = Const::Text(Text::copy_of(self.alloc, text)?);
+                let value = Const::Text(CompactText::copy_of(self.alloc, text)?);
                 Ok(Some(Some(made(value, TypeId::STRING, nodes(1)))))
             }
         }

@@ -6,8 +6,9 @@ ghost use Rattle.op_types.specs.Values.{IsRange, applied, before, bound_of, by_v
 use crate::set::{combined, is_part};
 use crate::size::{integer_range, range_of, type_at};
 use crate::sort::Sort;
-use op_base::{NoMemory, Sequence, Text, rem_trunc, shl5, shr_logical};
+use op_base::{NoMemory, Sequence, rem_trunc, shl5, shr_logical};
 use op_core::{Const, Core, CoreType, Function, TypeId};
+use op_scan::CompactText;
 use op_tree::{Operator, PrefixOperator};
 use std::alloc::Global;
 
@@ -23,7 +24,7 @@ pub fn operated(
 {
     if sorts.0.is_text() && sorts.1.is_text() {
         let a = bytes_of(alloc, a)?;
-        on_texts(a, operator, bytes_of(alloc, b)?.as_slice())
+        on_texts(alloc, a, operator, bytes_of(alloc, b)?.as_slice())
     } else {
         by_values(alloc, operator, a, b)
     }
@@ -62,14 +63,19 @@ fn on_sets(alloc: Global, operator: Operator, a: &[u8], b: &[u8]) -> Result<Opti
     }
 }
 
-fn on_texts(a: Vec<u8>, operator: Operator, b: &[u8]) -> Result<Option<Const>, NoMemory>
+fn on_texts(
+    alloc: Global,
+    a: Vec<u8>,
+    operator: Operator,
+    b: &[u8],
+) -> Result<Option<Const>, NoMemory>
     ensures { IfOk result (λ v. v ≡ on_texts operator a.items b.now) }
 {
     match operator {
         Operator::Add => {
             let mut both = a;
             both.extend_from_slice(b)?;
-            Ok(Some(Const::Text(Text::from(both))))
+            Ok(Some(Const::Text(CompactText::copy_of(alloc, both.as_slice())?)))
         }
         _ => {
             let (less, more) = (precedes_bytes(&a, b), precedes_bytes(b, &a));

@@ -194,8 +194,11 @@ factor::factor-returns-in_ok-elements-in-Set-clause-whole t c = rw (c.set_node.e
 pub factor::factor-returns-in_ok-selectors-in-Literal-clause-whole : goal.factor::factor-returns-in_ok-selectors-in-Literal-clause-whole
 factor::factor-returns-in_ok-selectors-in-Literal-clause-whole t c = rw (c.literal_node.ensures, c.in_ok-text-in-Literal.ensures, c.position_of-position.ensures, c.in-Some.ensures.cases.0) (factor_literal c.args.left _ _ _ _ _ _ c.in-Literal.ensures c.in_ok-selectors-in-Literal.ensures.whole)
 
-pub factor::factor-returns-in_ok-designator-in-Inherited-clause-whole : goal.factor::factor-returns-in_ok-designator-in-Inherited-clause-whole
-factor::factor-returns-in_ok-designator-in-Inherited-clause-whole t c = rw (c.inherited_node.ensures, c.position_of-position.ensures, c.in-Some.ensures.cases.0) (factor_inherited c.args.left _ _ _ _ _ c.in-Inherited.ensures c.in_ok-designator-in-Inherited.ensures.whole)
+pub factor::factor-returns-in_err-factor-in-Inherited-clause-refused : goal.factor::factor-returns-in_err-factor-in-Inherited-clause-refused
+factor::factor-returns-in_err-factor-in-Inherited-clause-refused t c = passed c.from_residual-in_err-factor-in-Inherited.result c.from_residual-in_err-factor-in-Inherited.ensures.1 (λ y e. out_of_memory e)
+
+pub factor::factor-returns-in_ok-factor-in-Inherited-clause-whole : goal.factor::factor-returns-in_ok-factor-in-Inherited-clause-whole
+factor::factor-returns-in_ok-factor-in-Inherited-clause-whole t c = rw (c.in_ok-factor-in-Inherited.ensures, c.position_of-position.ensures, c.in-Some.ensures.cases.0) (factor_inherited c.args.left _ _ _ _ _ c.in-Inherited.ensures c.in_ok-designator-in-Inherited.ensures.whole)
 
 pub factor::factor-returns-in_ok-factor-in-Prefix-clause-whole : goal.factor::factor-returns-in_ok-factor-in-Prefix-clause-whole
 factor::factor-returns-in_ok-factor-in-Prefix-clause-whole t c = rw (c.in_ok-factor-in-Prefix.ensures, c.position_of-position.ensures, c.in-Some.ensures.cases.0) (factor_prefix c.args.left _ _ _ _ _ _ _ c.in-Prefix.ensures c.in_ok-inner-in-Prefix.ensures.inside c.in_ok-operand-in-Prefix.ensures.whole)
@@ -229,6 +232,9 @@ list::argument-returns-in_err-width-clause-refused t c = passed c.from_residual-
 pub list::argument-returns-in-Some-behind_mark-clause-refused : goal.list::argument-returns-in-Some-behind_mark-clause-refused
 list::argument-returns-in-Some-behind_mark-clause-refused t c = argument_digits c.args.left c.args.end _ _ _ _ _ _ _ _ _ _ c.in_ok-value.ensures.whole c.in-Some.ensures.mark.1 c.in_ok-width.ensures.whole c.in-Some-behind_mark.ensures.mark.1 c.left_out.ensures
 
+pub list::argument-returns-in_err-argument-in-None-clause-refused : goal.list::argument-returns-in_err-argument-in-None-clause-refused
+list::argument-returns-in_err-argument-in-None-clause-refused t c = passed c.from_residual-in_err-argument-in-None.result c.from_residual-in_err-argument-in-None.ensures.1 (λ y e. out_of_memory e)
+
 pub list::arguments-returns-in_err-argument-clause-refused : goal.list::arguments-returns-in_err-argument-clause-refused
 list::arguments-returns-in_err-argument-clause-refused t c = passed c.from_residual.result c.from_residual.ensures.1 (λ y e. rw e (listed_item arguments_list c.args.left c.args.end _ _ _ _ c.loop-arguments.invariant.0 c.in_err-argument.ensures.refused))
 
@@ -249,6 +255,9 @@ list::element-returns-in_err-first-clause-refused t c = passed c.from_residual.r
 
 pub list::element-returns-in_err-last-in-Some-clause-refused : goal.list::element-returns-in_err-last-in-Some-clause-refused
 list::element-returns-in_err-last-in-Some-clause-refused t c = passed c.from_residual-in_err-last-in-Some.result c.from_residual-in_err-last-in-Some.ensures.1 (λ y e. rw e (element_last c.args.left c.args.end _ _ _ _ _ _ c.in_ok-first.ensures.whole c.in-Some.ensures.mark.1 c.in_err-last-in-Some.ensures.refused))
+
+pub list::element-returns-in_err-range-in-Some-clause-refused : goal.list::element-returns-in_err-range-in-Some-clause-refused
+list::element-returns-in_err-range-in-Some-clause-refused t c = passed c.from_residual-in_err-range-in-Some.result c.from_residual-in_err-range-in-Some.ensures.1 (λ y e. out_of_memory e)
 
 pub list::elements-returns-in_err-element-clause-refused : goal.list::elements-returns-in_err-element-clause-refused
 list::elements-returns-in_err-element-clause-refused t c = passed c.from_residual.result c.from_residual.ensures.1 (λ y e. rw e (listed_item (elements_list c.args.close c.requires) c.args.left c.args.end _ _ _ _ c.loop-elements.invariant.0 c.in_err-element.ensures.refused))

@@ -151,8 +151,11 @@ repetition::repeat_loop-returns-in_err-rest-clause-refused t c = passed c.from_r
 pub repetition::repeat_loop-returns-in_err-condition-clause-refused : goal.repetition::repeat_loop-returns-in_err-condition-clause-refused
 repetition::repeat_loop-returns-in_err-condition-clause-refused t c = passed c.from_residual-in_err-condition.result c.from_residual-in_err-condition.ensures.1 (λ y e. rw e (repeat_condition c.args.position _ c.args.left c.args.end _ _ _ _ _ c.in_ok-body.ensures.whole c.in_ok-rest.ensures.mark.1 c.in_err-condition.ensures.refused))
 
+pub repetition::repeat_loop-returns-in_err-node-clause-refused : goal.repetition::repeat_loop-returns-in_err-node-clause-refused
+repetition::repeat_loop-returns-in_err-node-clause-refused t c = passed c.from_residual-in_err-node.result c.from_residual-in_err-node.ensures.1 (λ y e. out_of_memory e)
+
 pub repetition::repeat_loop-returns-clause-whole : goal.repetition::repeat_loop-returns-clause-whole
-repetition::repeat_loop-returns-clause-whole t c = rw c.repeat_node.ensures (repeat_whole c.args.position _ c.args.left _ _ _ _ _ _ c.in_ok-body.ensures.whole c.in_ok-rest.ensures.mark.1 c.in_ok-condition.ensures.whole)
+repetition::repeat_loop-returns-clause-whole t c = rw c.in_ok-node.ensures (repeat_whole c.args.position _ c.args.left _ _ _ _ _ _ c.in_ok-body.ensures.whole c.in_ok-rest.ensures.mark.1 c.in_ok-condition.ensures.whole)
 
 pub repetition::for_loop-returns-in_err-variable-clause-refused : goal.repetition::for_loop-returns-in_err-variable-clause-refused
 repetition::for_loop-returns-in_err-variable-clause-refused t c = passed c.from_residual.result c.from_residual.ensures.1 (λ y e. rw e (for_variable c.args.position c.args.left c.args.end _ _ (c.in_err-variable.ensures.refused _)))
@@ -208,8 +211,11 @@ branch::case_statement-returns-in_err-branches-clause-refused t c = passed c.fro
 pub branch::case_statement-returns-in_err-rest-in-None-clause-refused : goal.branch::case_statement-returns-in_err-rest-in-None-clause-refused
 branch::case_statement-returns-in_err-rest-in-None-clause-refused t c = passed c.from_residual-in_err-rest-in-None.result c.from_residual-in_err-rest-in-None.ensures.1 (λ y e. rw e (case_refuses c.args.position c.args.left c.args.end _ _ (headed_rest mark.Of CaseBranches _ c.args.left c.args.end _ _ _ _ _ c.in_ok-selector.ensures.whole c.in_ok-rest.ensures.mark.1 (list_end SomeBranches c.args.left c.args.end _ _ _ _ known_branches c.in_ok-branches.ensures.whole c.in-None.ensures.mark (c.in_err-rest-in-None.ensures.refused _)))))
 
-pub branch::case_statement-returns-in_ok-rest-in-None-clause-whole : goal.branch::case_statement-returns-in_ok-rest-in-None-clause-whole
-branch::case_statement-returns-in_ok-rest-in-None-clause-whole t c = rw c.case_node.ensures (case_whole c.args.position _ _ c.args.left _ _ _ _ _ _ _ c.in_ok-selector.ensures.whole c.in_ok-rest.ensures.mark.1 c.in_ok-branches.ensures.whole c.in_ok-rest-in-None.ensures.mark.1)
+pub branch::case_statement-returns-in_err-node-in-None-clause-refused : goal.branch::case_statement-returns-in_err-node-in-None-clause-refused
+branch::case_statement-returns-in_err-node-in-None-clause-refused t c = passed c.from_residual-in_err-node-in-None.result c.from_residual-in_err-node-in-None.ensures.1 (λ y e. out_of_memory e)
+
+pub branch::case_statement-returns-in_ok-node-in-None-clause-whole : goal.branch::case_statement-returns-in_ok-node-in-None-clause-whole
+branch::case_statement-returns-in_ok-node-in-None-clause-whole t c = rw c.in_ok-node-in-None.ensures (case_whole c.args.position _ _ c.args.left _ _ _ _ _ _ _ c.in_ok-selector.ensures.whole c.in_ok-rest.ensures.mark.1 c.in_ok-branches.ensures.whole c.in_ok-rest-in-None.ensures.mark.1)
 
 pub branch::case_statement-returns-in_err-otherwise-in-Some-clause-refused : goal.branch::case_statement-returns-in_err-otherwise-in-Some-clause-refused
 branch::case_statement-returns-in_err-otherwise-in-Some-clause-refused t c = passed c.from_residual-in_err-otherwise-in-Some.result c.from_residual-in_err-otherwise-in-Some.ensures.1 (λ y e. rw e (case_refuses c.args.position c.args.left c.args.end _ _ (headed_rest mark.Of CaseBranches _ c.args.left c.args.end _ _ _ _ _ c.in_ok-selector.ensures.whole c.in_ok-rest.ensures.mark.1 (list_else SomeBranches _ c.args.left c.args.end _ _ _ _ _ known_branches c.in_ok-branches.ensures.whole c.in-Some.ensures.mark.1 (end_body c.args.left c.args.end _ _ c.in_err-otherwise-in-Some.ensures.refused)))))
@@ -217,8 +223,11 @@ branch::case_statement-returns-in_err-otherwise-in-Some-clause-refused t c = pas
 pub branch::case_statement-returns-in_err-rest-in-Some-clause-refused : goal.branch::case_statement-returns-in_err-rest-in-Some-clause-refused
 branch::case_statement-returns-in_err-rest-in-Some-clause-refused t c = passed c.from_residual-in_err-rest-in-Some.result c.from_residual-in_err-rest-in-Some.ensures.1 (λ y e. rw e (case_refuses c.args.position c.args.left c.args.end _ _ (headed_rest mark.Of CaseBranches _ c.args.left c.args.end _ _ _ _ _ c.in_ok-selector.ensures.whole c.in_ok-rest.ensures.mark.1 (list_else SomeBranches _ c.args.left c.args.end _ _ _ _ _ known_branches c.in_ok-branches.ensures.whole c.in-Some.ensures.mark.1 (end_open c.args.left c.args.end _ _ _ _ c.in_ok-otherwise-in-Some.ensures.whole (c.in_err-rest-in-Some.ensures.refused _))))))
 
-pub branch::case_statement-returns-in_ok-rest-in-Some-clause-whole : goal.branch::case_statement-returns-in_ok-rest-in-Some-clause-whole
-branch::case_statement-returns-in_ok-rest-in-Some-clause-whole t c = rw c.case_else_node.ensures (case_else_whole c.args.position _ _ _ c.args.left _ _ _ _ _ _ _ _ _ _ c.in_ok-selector.ensures.whole c.in_ok-rest.ensures.mark.1 c.in_ok-branches.ensures.whole c.in-Some.ensures.mark.1 c.in_ok-otherwise-in-Some.ensures.whole c.in_ok-rest-in-Some.ensures.mark.1)
+pub branch::case_statement-returns-in_err-node-in-Some-clause-refused : goal.branch::case_statement-returns-in_err-node-in-Some-clause-refused
+branch::case_statement-returns-in_err-node-in-Some-clause-refused t c = passed c.from_residual-in_err-node-in-Some.result c.from_residual-in_err-node-in-Some.ensures.1 (λ y e. out_of_memory e)
+
+pub branch::case_statement-returns-in_ok-node-in-Some-clause-whole : goal.branch::case_statement-returns-in_ok-node-in-Some-clause-whole
+branch::case_statement-returns-in_ok-node-in-Some-clause-whole t c = rw c.in_ok-node-in-Some.ensures (case_else_whole c.args.position _ _ _ c.args.left _ _ _ _ _ _ _ _ _ _ c.in_ok-selector.ensures.whole c.in_ok-rest.ensures.mark.1 c.in_ok-branches.ensures.whole c.in-Some.ensures.mark.1 c.in_ok-otherwise-in-Some.ensures.whole c.in_ok-rest-in-Some.ensures.mark.1)
 
 pub branch::branches-returns-then-ends_list-clause-whole : goal.branch::branches-returns-then-ends_list-clause-whole
 branch::branches-returns-then-ends_list-clause-whole t c = rw c.fitted.ensures (led_ends branches_list c.args.left c.args.end _ _ _ c.loop-alloc.invariant.0 (sym c.ends_list.ensures ∙ c.if-ends_list.true))

@@ -1,6 +1,7 @@
-use Rattle.std.proofs.Common.{◌∷◌, [], ◌+◌, drop, map, refl, subst}
+use Rattle.std.proofs.Common.{◌∷◌, [], ◌+◌, drop, map, refl, subst, sym}
 use Rattle.std.specs.Option.{option_map}
 use Rattle.op_check_expr.specs.Scopes.{here_of}
+use Rattle.op_check_expr.specs.Words.{Reports}
 use Rattle.op_check_stmt.proofs.Parts.{Completes, ends, next}
 use Rattle.op_check_stmt.proofs.Rows.{all_items, next_argument, none_left}
 use Rattle.op_check_stmt.specs.Parts.{items_of}
@@ -26,5 +27,6 @@ returns c =
     let here = here_of c.args.here.scope in
     let list = c.args.arguments.now in
     let typed = items_of c.loop-argument.typed in
-    ends item_of (λ y ys. y ∷ ys) [] (map item_of) all_items typed (items here (arguments_of list)) c.args.sink.now c.loop-argument.sink
-    (subst (λ r. Completes item_of (λ y ys. y ∷ ys) typed (items here (arguments_of list)) r c.args.sink.now c.loop-argument.sink) (none_left (λ xs. items here (arguments_of xs)) list c.loop-argument.argument-index c.loop-argument-test.false) c.loop-argument.invariant)
+    subst (λ xs. Reports (items here (arguments_of list)) c.args.sink.now c.loop-argument.sink (option_map (map item_of) xs)) (sym c.fitted.ensures)
+    (ends item_of (λ y ys. y ∷ ys) [] (map item_of) all_items typed (items here (arguments_of list)) c.args.sink.now c.loop-argument.sink
+    (subst (λ r. Completes item_of (λ y ys. y ∷ ys) typed (items here (arguments_of list)) r c.args.sink.now c.loop-argument.sink) (none_left (λ xs. items here (arguments_of xs)) list c.loop-argument.argument-index c.loop-argument-test.false) c.loop-argument.invariant))

@@ -4,26 +4,28 @@ use Rattle.op_check_expr.specs.Scopes.{Here, here_of}
 use Rattle.op_check_expr.specs.Words.{Reports}
 use Rattle.op_check_expr.specs.declared.scope.Around.{Around}
 use Rattle.op_check_expr.specs.declared.scope.Around.TheVariants.{Loop, Handler, Finally}
-use Rattle.op_check_stmt.proofs.Parts.{Completes, begins, both_views, distinct_viewed, ends, fact, joins, made, next, node, node_ok, noted, one, same, seen, then}
+use Rattle.op_check_stmt.proofs.Parts.{Completes, begins, both_views, distinct_viewed, ends, fact, joins, next, node, node_ok, noted, one, pairs, same, seen, then}
 use Rattle.std.proofs.lemmas.List.{append-nil}
 use Rattle.op_check_stmt.specs.Parts.{branches_in}
 use Rattle.op_check_expr.specs.Words.{followed}
 use Rattle.op_core.specs.Statement.{Statements, Branches}
+use Rattle.op_core.specs.declared.first_refusal.FirstRefusal.{FirstRefusal}
 use Rattle.op_core.specs.declared.statement.CoreBranch.{CoreBranch}
 use Rattle.op_check_stmt.proofs.Rows.{all_branches, all_statements, next_branch, next_statement, none_left}
 use Rattle.op_check_stmt.specs.Cases.{distinct, labels, selector, spots}
 use Rattle.op_check_stmt.specs.Parts.{bounds_of, branch_of, head_of, items_of, paired, statements_in}
-use Rattle.op_check_stmt.specs.Statements.{all_spots, bound_of, branches, case_statement, condition, for_statement, handlers_mean, head_means, statement, statements, try_all, type_in, with_branch}
+use Rattle.op_check_stmt.specs.Statements.{all_spots, assign_means, bound_of, branches, case_statement, condition, for_statement, handlers_mean, head_means, statement, statements, try_all, type_in, with_branch}
 use Rattle.op_check_stmt.specs.Variables.{counter}
 use Rattle.op_check_stmt.specs.declared.variable.Counter.{Counter}
 use Rattle.op_core.specs.Expression.{Expression, expr_of as typed_of}
-use Rattle.op_core.specs.Faults.{fine}
+use Rattle.op_core.specs.Faults.{Checked, fine}
 use Rattle.op_core.specs.Nodes.{branches_of as typed_branches_of}
 use Rattle.op_core.specs.Statement.{Statement, block, if_then, if_else, while_do, repeat_until, try_finally, statements as typed_statements, no_branches as no_typed_branches, no_statements, stmt_of as typed_statement, stmts_of as typed_statements_of}
 use Rattle.op_core.specs.declared.statement.CoreStmt.{CoreStmt}
 use Rattle.op_tree.proofs.Rows.{block_says, case_of_says, case_else_says, repeat_until_says, try_finally_says, try_except_says, try_on_says, try_on_else_says}
 use Rattle.op_tree.specs.Expression.{expr_of}
 use Rattle.op_tree.specs.Lists.{branches_of, handlers_of}
+use Rattle.op_tree.specs.declared.expression.Expr.{Expr}
 use Rattle.op_tree.specs.Statement.{designator_of, elements_of, stmt_of, stmts_of}
 use Rattle.std.specs.Prelude.{Vec}
 use Rattle.std.specs.declared.alloc.Global.{Global}
@@ -35,9 +37,16 @@ listed v = typed_statements_of v.items
 abbrev branch_list : Vec CoreBranch Global → Branches
 branch_list v = typed_branches_of v.items
 
+abbrev head_at : Here → Rattle.op_tree.specs.Statement.Branches → Expr → Checked (Expression × Branches)
+head_at here bs e = head_means here bs (selector here (expr_of e)) (branches here (type_in (selector here (expr_of e)).typed) bs)
+
 -- with other parts round it
 abbrev moved : Here → List Around → Here
 moved here around = record here { around = around }
+
+-- the head of a case, at a selector that is in a block of its own
+head_of_selector : (here : Here) (bs : Rattle.op_tree.specs.Statement.Branches) (old new : FirstRefusal) (t : Option (Expression × Branches)) {a b : Expr} → a ≡ b → Reports (head_at here bs a) old new t → Reports (head_at here bs b) old new t
+head_of_selector here bs old new t is = subst (λ e. Reports (head_at here bs e) old new t) is
 
 pub statement-returns-in_ok-statements-in-Block : goal.statement-returns-in_ok-statements-in-Block
 statement-returns-in_ok-statements-in-Block t c =
@@ -84,32 +93,36 @@ statement-returns-in_ok-parts-in-IfElse t c =
 pub statement-returns-in_ok-head-in-Case : goal.statement-returns-in_ok-head-in-Case
 statement-returns-in_ok-head-in-Case t c =
     let here = here_of c.args.here.scope in
-    let e = selector here (expr_of c.in-Case.selector) in
+    let e = selector here (expr_of c.in-Case.selector.value) in
     let head = λ (bs : Rattle.op_tree.specs.Statement.Branches). head_means here bs e (branches here (type_in e.typed) bs) in
     let bs = branches_of c.in-Case.branches.items in
     let old = c.args.sink.now in
     let new = c.case_head.new.sink in
-    subst (λ s. Reports (statement here s) old new (option_map typed_statement c.case_of.result)) (sym (ap stmt_of c.in-Case.is ∙ case_of_says c.in-Case.selector c.in-Case.branches))
-    (made head_of listed case_statement (head bs) (fine no_statements) old new new c.in_ok-head-in-Case.head (Some c.new.result) c.pair.result (option_map typed_statement c.case_of.result)
-    (subst (λ bs. Reports (head (branches_of bs)) old new (option_map head_of c.in_ok-head-in-Case.head)) c.deref-in-Case.ensures.value c.in_ok-head-in-Case.ensures)
+    subst (λ s. IfOk c.case_of.result (λ r. Reports (statement here s) old new (option_map typed_statement r))) (sym (ap stmt_of c.in-Case.is ∙ case_of_says c.in-Case.selector c.in-Case.branches))
+    (node_ok (both_views head_of listed) typed_statement case_statement (head bs) (fine no_statements) old new c.pair.result c.case_of.result
+    (pairs head_of listed (head bs) (fine no_statements) old new new c.in_ok-head-in-Case.head (Some c.new.result) c.pair.result
+    (subst (λ bs. Reports (head (branches_of bs)) old new (option_map head_of c.in_ok-head-in-Case.head)) c.deref-in-Case.ensures.value
+    (head_of_selector here (branches_of c.deref-in-Case.result.now) old new (option_map head_of c.in_ok-head-in-Case.head) c.deref-in-Case-2.ensures c.in_ok-head-in-Case.ensures))
     (ap (λ xs. Some (typed_statements_of xs)) c.new.ensures.items, refl)
-    c.pair.ensures c.case_of.ensures)
+    c.pair.ensures)
+    c.case_of.ensures)
 
 pub statement-returns-in_ok-parts-in-CaseElse : goal.statement-returns-in_ok-parts-in-CaseElse
 statement-returns-in_ok-parts-in-CaseElse t c =
     let here = here_of c.args.here.scope in
-    let e = selector here (expr_of c.in-CaseElse.selector) in
+    let e = selector here (expr_of c.in-CaseElse.selector.value) in
     let head = λ (bs : Rattle.op_tree.specs.Statement.Branches). head_means here bs e (branches here (type_in e.typed) bs) in
     let bs = branches_of c.in-CaseElse.branches.items in
     let otherwise = statements here (stmts_of c.in-CaseElse.otherwise.items) in
     let old = c.args.sink.now in
     let mid = c.case_head-in-CaseElse.new.sink in
     let new = c.statements-in-CaseElse.new.sink in
-    subst (λ s. Reports (statement here s) old new (option_map typed_statement c.case_of-in-CaseElse.result)) (sym (ap stmt_of c.in-CaseElse.is ∙ case_else_says c.in-CaseElse.selector c.in-CaseElse.branches c.in-CaseElse.otherwise))
-    (node (both_views head_of listed) case_statement (head bs) otherwise old new c.in_ok-parts-in-CaseElse.parts (option_map typed_statement c.case_of-in-CaseElse.result)
+    subst (λ s. IfOk c.case_of-in-CaseElse.result (λ r. Reports (statement here s) old new (option_map typed_statement r))) (sym (ap stmt_of c.in-CaseElse.is ∙ case_else_says c.in-CaseElse.selector c.in-CaseElse.branches c.in-CaseElse.otherwise))
+    (node_ok (both_views head_of listed) typed_statement case_statement (head bs) otherwise old new c.in_ok-parts-in-CaseElse.parts c.case_of-in-CaseElse.result
     (joins head_of listed (head bs) otherwise old mid new c.in_ok-head-in-CaseElse.head c.statements-in-CaseElse.result c.in_ok-parts-in-CaseElse.parts
-    (subst (λ bs. Reports (head (branches_of bs)) old mid (option_map head_of c.in_ok-head-in-CaseElse.head)) c.deref-in-CaseElse.ensures.value c.in_ok-head-in-CaseElse.ensures)
-    (subst (λ ss. IfOk c.statements-in-CaseElse.result (λ y. Reports (statements here (stmts_of ss)) mid new (statements_in y))) c.deref-in-CaseElse-2.ensures.value c.statements-in-CaseElse.ensures)
+    (subst (λ bs. Reports (head (branches_of bs)) old mid (option_map head_of c.in_ok-head-in-CaseElse.head)) c.deref-in-CaseElse.ensures.value
+    (head_of_selector here (branches_of c.deref-in-CaseElse.result.now) old mid (option_map head_of c.in_ok-head-in-CaseElse.head) c.deref-in-CaseElse-2.ensures c.in_ok-head-in-CaseElse.ensures))
+    (subst (λ ss. IfOk c.statements-in-CaseElse.result (λ y. Reports (statements here (stmts_of ss)) mid new (statements_in y))) c.deref-in-CaseElse-3.ensures.value c.statements-in-CaseElse.ensures)
     (sym c.joined-in-CaseElse.ensures ∙ c.in_ok-parts-in-CaseElse.was))
     c.case_of-in-CaseElse.ensures)
 
@@ -136,17 +149,17 @@ statement-returns-in_ok-parts-in-Repeat t c =
     let here = here_of c.args.here.scope in
     let inner = moved here (here.around ++ Loop None ∷ []) in
     let body = statements inner (stmts_of c.in-Repeat.body.items) in
-    let e = condition here (expr_of c.in-Repeat.condition) in
+    let e = condition here (expr_of c.in-Repeat.condition.value) in
     let old = c.args.sink.now in
     let mid = c.statements-in-Repeat.new.sink in
     let new = c.check_condition-in-Repeat.new.sink in
-    subst (λ s. Reports (statement here s) old new (option_map typed_statement c.repeat_until.result)) (sym (ap stmt_of c.in-Repeat.is ∙ repeat_until_says c.in-Repeat.body c.in-Repeat.condition))
-    (node (both_views listed typed_of) repeat_until body e old new c.in_ok-parts-in-Repeat.parts (option_map typed_statement c.repeat_until.result)
+    subst (λ s. IfOk c.repeat_until.result (λ r. Reports (statement here s) old new (option_map typed_statement r))) (sym (ap stmt_of c.in-Repeat.is ∙ repeat_until_says c.in-Repeat.body c.in-Repeat.condition))
+    (node_ok (both_views listed typed_of) typed_statement repeat_until body e old new c.in_ok-parts-in-Repeat.parts c.repeat_until.result
     (joins listed typed_of body e old mid new c.in_ok-body-in-Repeat.body c.check_condition-in-Repeat.result c.in_ok-parts-in-Repeat.parts
     (subst (λ h. Reports (statements h (stmts_of c.in-Repeat.body.items)) old mid (statements_in c.in_ok-body-in-Repeat.body))
     (c.inside-in-Repeat.ensures ∙ ap (moved here) (c.as_slice-in-Repeat.ensures.value ∙ c.in_ok-around-in-Repeat.ensures))
     (subst (λ ss. Reports (statements (here_of c.inside-in-Repeat.result.scope) (stmts_of ss)) old mid (statements_in c.in_ok-body-in-Repeat.body)) c.deref-in-Repeat.ensures.value c.in_ok-body-in-Repeat.ensures))
-    c.check_condition-in-Repeat.ensures
+    (subst (λ e. IfOk c.check_condition-in-Repeat.result (λ y. Reports (condition here (expr_of e)) mid new (option_map typed_of y))) c.deref-in-Repeat-2.ensures c.check_condition-in-Repeat.ensures)
     (sym c.joined-in-Repeat.ensures ∙ c.in_ok-parts-in-Repeat.was))
     c.repeat_until.ensures)
 
@@ -155,7 +168,7 @@ statement-returns-in_ok-parts-in-For t c =
     let here = here_of c.args.here.scope in
     let k = counter here c.in-For.variable in
     let inner = λ (k : Option Counter). moved here (here.around ++ Loop (option_map (λ c. c.variable) k) ∷ []) in
-    let bounds = λ (k : Option Counter). paired (bound_of here k (expr_of c.in-For.first)) (bound_of here k (expr_of c.in-For.last)) in
+    let bounds = λ (k : Option Counter). paired (bound_of here k (expr_of c.in-For.first.value)) (bound_of here k (expr_of c.in-For.last.value)) in
     let body = λ (k : Option Counter). statement (inner k) (stmt_of c.in-For.body.value) in
     let old = c.args.sink.now in
     let mid = c.check_counter.new.sink in
@@ -167,12 +180,14 @@ statement-returns-in_ok-parts-in-For t c =
     (joins (both_views (λ (k : Counter). k) bounds_of) typed_statement (paired k (bounds k.typed)) (body k.typed) old far new c.in_ok-head-in-For.head c.statement-in-For.result c.in_ok-parts-in-For.parts
     (joins (λ (k : Counter). k) bounds_of k (bounds k.typed) old mid far c.in_ok-counter-in-For.counter c.bounds.result c.in_ok-head-in-For.head
     (subst (Reports k old mid) (same c.in_ok-counter-in-For.counter) c.in_ok-counter-in-For.ensures)
-    (subst (λ k. IfOk c.bounds.result (λ y. Reports (bounds k) mid far (option_map bounds_of y))) is c.bounds.ensures)
+    (subst (λ k. IfOk c.bounds.result (λ y. Reports (bounds k) mid far (option_map bounds_of y))) is
+    (subst (λ e. IfOk c.bounds.result (λ y. Reports (paired (bound_of here c.in_ok-counter-in-For.counter (expr_of e)) (bound_of here c.in_ok-counter-in-For.counter (expr_of c.in-For.last.value))) mid far (option_map bounds_of y))) c.deref-in-For.ensures
+    (subst (λ e. IfOk c.bounds.result (λ y. Reports (paired (bound_of here c.in_ok-counter-in-For.counter (expr_of c.deref-in-For.result.now)) (bound_of here c.in_ok-counter-in-For.counter (expr_of e))) mid far (option_map bounds_of y))) c.deref-in-For-2.ensures c.bounds.ensures)))
     (sym c.joined-in-For.ensures ∙ c.in_ok-head-in-For.was))
     (subst (λ k. IfOk c.statement-in-For.result (λ y. Reports (body k) far new (option_map typed_statement y))) is
     (subst (λ h. IfOk c.statement-in-For.result (λ y. Reports (statement h (stmt_of c.in-For.body.value)) far new (option_map typed_statement y)))
     (c.inside-in-For.ensures ∙ ap (moved here) (c.as_slice-in-For.ensures.value ∙ c.in_ok-around-in-For.ensures ∙ ap (λ v. here.around ++ Loop v ∷ []) c.variable_of.ensures))
-    (subst (λ s. IfOk c.statement-in-For.result (λ y. Reports (statement (here_of c.inside-in-For.result.scope) (stmt_of s)) far new (option_map typed_statement y))) c.deref-in-For.ensures c.statement-in-For.ensures)))
+    (subst (λ s. IfOk c.statement-in-For.result (λ y. Reports (statement (here_of c.inside-in-For.result.scope) (stmt_of s)) far new (option_map typed_statement y))) c.deref-in-For-3.ensures c.statement-in-For.ensures)))
     (sym c.joined-in-For-2.ensures ∙ c.in_ok-parts-in-For.was))
     c.for_to.ensures)
 
@@ -220,7 +235,8 @@ statement-returns-in-Call t c =
 
 pub statement-returns-in-Assign : goal.statement-returns-in-Assign
 statement-returns-in-Assign t c =
-    subst (λ s. IfOk c.assignment.result (λ r. Reports (statement (here_of c.args.here.scope) s) c.args.sink.now c.assignment.new.sink (option_map typed_statement r))) (sym (ap stmt_of c.in-Assign.is)) c.assignment.ensures
+    subst (λ s. IfOk c.assignment.result (λ r. Reports (statement (here_of c.args.here.scope) s) c.args.sink.now c.assignment.new.sink (option_map typed_statement r))) (sym (ap stmt_of c.in-Assign.is))
+    (subst (λ e. IfOk c.assignment.result (λ r. Reports (assign_means (here_of c.args.here.scope) (designator_of c.in-Assign.target) c.in-Assign.position (expr_of e)) c.args.sink.now c.assignment.new.sink (option_map typed_statement r))) c.deref-in-Assign.ensures c.assignment.ensures)
 
 pub statements-loop-s-init : goal.statements-loop-s-init
 statements-loop-s-init t c =
@@ -242,7 +258,7 @@ statements-returns t c =
     let here = here_of c.args.here.scope in
     let list = c.args.list.now in
     let typed = items_of c.loop-s.typed in
-    subst (Reports (statements here (stmts_of list)) c.args.sink.now c.loop-s.sink) (seen typed_statements_of c.loop-s.typed)
+    subst (Reports (statements here (stmts_of list)) c.args.sink.now c.loop-s.sink) (ap (option_map typed_statements_of) (sym c.fitted.ensures) ∙ seen typed_statements_of c.fitted.result)
     (ends typed_statement typed_statements no_statements typed_statements_of all_statements typed (statements here (stmts_of list)) c.args.sink.now c.loop-s.sink
     (subst (λ r. Completes typed_statement typed_statements typed (statements here (stmts_of list)) r c.args.sink.now c.loop-s.sink) (none_left (λ xs. statements here (stmts_of xs)) list c.loop-s.s-index c.loop-s-test.false) c.loop-s.invariant))
 
@@ -286,7 +302,7 @@ branches-returns-clause-reports t c =
     let list = c.args.list.now in
     let typed = items_of c.loop-branch.typed in
     let whole = branches here of (branches_of list) in
-    subst (Reports whole c.args.sink.now c.loop-branch.sink) (seen typed_branches_of c.loop-branch.typed)
+    subst (Reports whole c.args.sink.now c.loop-branch.sink) (ap (option_map typed_branches_of) (sym c.fitted.ensures) ∙ seen typed_branches_of c.fitted.result)
     (ends branch_of with_branch no_typed_branches typed_branches_of all_branches typed whole c.args.sink.now c.loop-branch.sink
     (subst (λ r. Completes branch_of with_branch typed whole r c.args.sink.now c.loop-branch.sink) (none_left (λ xs. branches here of (branches_of xs)) list c.loop-branch.branch-index c.loop-branch-test.false) c.loop-branch.invariant.typed))
 

@@ -16,8 +16,11 @@ returns-in_err-last-clause-refused c = passed c.from_residual-in_err-last.result
 pub returns-in_err-stop_type-clause-refused : goal.returns-in_err-stop_type-clause-refused
 returns-in_err-stop_type-clause-refused c = passed c.from_residual-in_err-stop_type.result c.from_residual-in_err-stop_type.ensures.1 (λ y e. rw e (bound_goes_on c.args.setting.left c.args.setting.end _ _ _ _ _ _ _ _ c.requires.begins c.in_ok-first.ensures.whole c.in-Some.ensures.mark.1 c.in_ok-last.ensures.whole (c.in_err-stop_type.ensures.refused _)))
 
+pub returns-in_err-node-clause-refused : goal.returns-in_err-node-clause-refused
+returns-in_err-node-clause-refused c = passed c.from_residual-in_err-node.result c.from_residual-in_err-node.ensures.1 (λ y e. out_of_memory e)
+
 pub returns-in-Some-clause-whole : goal.returns-in-Some-clause-whole
-returns-in-Some-clause-whole c = bounds_whole c.args.setting.left _ _ _ _ _ _ _ c.in_ok-first.ensures.whole c.in-Some.ensures.mark.1 c.in_ok-last.ensures.whole c.in_ok-stop_type.ensures.stops
+returns-in-Some-clause-whole c = rw c.in_ok-node.ensures (bounds_whole c.args.setting.left _ _ _ _ _ _ _ c.in_ok-first.ensures.whole c.in-Some.ensures.mark.1 c.in_ok-last.ensures.whole c.in_ok-stop_type.ensures.stops)
 
 pub returns-in_err-denoter-clause-refused : goal.returns-in_err-denoter-clause-refused
 returns-in_err-denoter-clause-refused c = passed c.from_residual-in_err-denoter.result c.from_residual-in_err-denoter.ensures.1 (λ y e. out_of_memory e)

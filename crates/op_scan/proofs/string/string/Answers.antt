@@ -18,7 +18,7 @@ returns-then-length-gt0 c =
     let within : length bytes - length rest ≤ length bytes = omega arith in
     stands (a_string a.text) within
     (string_front bytes rest a.text a.are_parts (length bytes - length rest) refl (λ z. omega arith))
-    (c.effect_of_string-effect.ensures ∙ ap (λ z. effect_of c.args.switches (a_string z)) value)
+    (c.in_ok-effect.ensures ∙ ap (λ z. effect_of c.args.switches (a_string z)) (c.deref.ensures.value ∙ value))
 
 pub returns-then-begins_with : goal.returns-then-begins_with
 returns-then-begins_with c =

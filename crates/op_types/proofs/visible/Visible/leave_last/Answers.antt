@@ -15,3 +15,6 @@ invariant_of-self-in-Ok-3 c = left_agrees _ _ _ _ c.in-Some.last c.in-Some.ensur
 
 pub invariant_of-self-in-Ok-4 : goal.invariant_of-self-in-Ok-4
 invariant_of-self-in-Ok-4 c = left_agrees _ _ _ _ c.in-Some.last c.in-Some.ensures.items c.self.invariant c.in-Ok.ensures.updates
+
+pub invariant_of-self-in-Ok-5 : goal.invariant_of-self-in-Ok-5
+invariant_of-self-in-Ok-5 c = left_agrees _ _ _ _ c.in-Some.last c.in-Some.ensures.items c.self.invariant c.in-Ok.ensures.updates
