@@ -98,10 +98,10 @@ abbrev pub or_own : TypeId → Option TypeId → TypeId
 or_own own None = own
 or_own own (Some of) = of
 
--- The type of a set whose own is known: the one that its use wants, where that is one of such elements.
+-- The type of a set whose own is known: the one that its use wants, where a set is assignable to that.
 abbrev pub wanted_or : Core → Option TypeId → TypeId → TypeId
 wanted_or core None own = own
-wanted_or core (Some to) own = if are_sets (sort_of core own) (sort_of core to) then to else own
+wanted_or core (Some to) own = if assignable core own to then to else own
 
 abbrev pub set_tree : Core → TypeId → List Member → Value
 set_tree core of ms = computed (expression (set_root (elements_from (map (element_tree core (or_own of (typing.base_of (type_at core of)))) ms))) of no_steps)

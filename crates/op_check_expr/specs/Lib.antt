@@ -11,5 +11,6 @@ pub mod RuleWords
 pub mod Rules
 pub mod Scopes
 pub mod SetRules
+pub mod Settled
 pub mod Values
 pub mod Words

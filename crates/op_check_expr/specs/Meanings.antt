@@ -1,12 +1,11 @@
 -- What statements and declarations are made of: one word for each that the checkers above this one cite.
-use Rattle.std.specs.Prelude.{◌≡◌, ℕ, ◌+◌, nat_eq, position, Bool, true, false, List, Option, Some, None, Result, Ok, Err, slice_get, if◌then◌else◌}
+use Rattle.std.specs.Prelude.{◌≡◌, ℕ, nat_eq, position, Bool, true, false, List, Option, Some, None, Result, Ok, Err, slice_get, if◌then◌else◌}
 use Rattle.std.specs.Option.{option_and_then, option_map}
 use Rattle.op_base.specs.declared.place.Place.{Place}
 use Rattle.op_base.specs.declared.rule.Refusal.{Refusal}
 use Rattle.op_core.specs.Expression.{Expression as Tree, expr_of as tree_said}
 use Rattle.op_core.specs.Faults.{Checked, FirstIs, by_entry, by_test, fine, refused, with_part}
 use Rattle.op_core.specs.Rows.{rows}
-use Rattle.op_core.specs.Sizes.{capped}
 use Rattle.op_core.specs.declared.error.CheckError.{CheckError}
 use Rattle.op_core.specs.declared.error.CheckError.TheVariants.{Refused, NoMemory}
 use Rattle.op_core.specs.declared.expression.CoreExpr.{CoreExpr}
@@ -28,7 +27,7 @@ use Rattle.op_check_expr.specs.Naming.{Denoted, Meant, variable_tree}
 use Rattle.op_check_expr.specs.Places.{is_writable_row, target_value}
 use Rattle.op_check_expr.specs.Scopes.{Here}
 use Rattle.op_check_expr.specs.Values.{Value, as_type, tree_of, type_of}
-use Rattle.op_check_expr.specs.Words.{changed, followed, standing}
+use Rattle.op_check_expr.specs.Words.{changed, followed, number_at, standing}
 use Rattle.op_check_expr.specs.declared.call.Plan.{Plan}
 use Rattle.op_check_expr.specs.declared.call.Plan.TheVariants.{Bound, Sole}
 use Rattle.op_types.specs.Assignable.{assignable}
@@ -69,7 +68,7 @@ abbrev pub is_result : VariableRow → Bool
 is_result v = is_result_role v.role
 
 abbrev pub result_at : Run → List VariableRow → ℕ → Option (VariableId × TypeId)
-result_at run vs k = option_map (λ v. (record { 0 = capped (run.first + k) }, v.of)) (slice_get vs k)
+result_at run vs k = option_and_then (λ n. option_map (λ v. (record { 0 = n }, v.of)) (slice_get vs k)) (number_at run k)
 
 -- the result of a routine, among its variables
 abbrev pub result_in : Core → Option Routine → Option (VariableId × TypeId)

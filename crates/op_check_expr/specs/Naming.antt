@@ -1,11 +1,11 @@
 -- What names stand for in an expression (Free Pascal Reference Guide, "Identifiers" and "Scope").
-use Rattle.std.specs.Prelude.{ℕ, Bool, ◌+◌, nat_eq, List, Option, Some, None, slice_get, position, if◌then◌else◌}
+use Rattle.std.specs.Prelude.{ℕ, Bool, nat_eq, List, Option, Some, None, slice_get, position, if◌then◌else◌}
 use Rattle.std.specs.Option.{option_and_then, option_map}
 use Rattle.std.specs.Str.{str_eq_ignore_ascii_case}
 use Rattle.op_core.specs.Expression.{Expression as Tree, expression, variable, field, no_steps, then as with_step}
 use Rattle.op_core.specs.Faults.{Checked, by_entry, fine, untyped}
 use Rattle.op_core.specs.Rows.{rows}
-use Rattle.op_core.specs.Sizes.{capped, type_at}
+use Rattle.op_core.specs.Sizes.{type_at}
 use Rattle.op_core.specs.declared.ids.FieldId.{FieldId}
 use Rattle.op_core.specs.declared.ids.RoutineId.{RoutineId}
 use Rattle.op_core.specs.declared.ids.Run.{Run}
@@ -20,7 +20,7 @@ use Rattle.op_core.specs.declared.types.Field.{Field}
 use Rattle.op_tree.specs.declared.position.Name.{Name}
 use Rattle.op_tree.specs.declared.position.Position.{Position}
 use Rattle.op_check_expr.specs.Values.{Value, constant, computed, tree_of, type_of, value_of}
-use Rattle.op_check_expr.specs.Words.{by_feature, changed}
+use Rattle.op_check_expr.specs.Words.{by_feature, changed, number_at}
 use Rattle.op_check_expr.specs.declared.denoted.Denoted.{Denoted as RustDenoted}
 use Rattle.op_check_expr.specs.declared.denoted.Meant.{Meant as RustMeant}
 use Rattle.op_check_expr.specs.declared.denoted.Meant.TheVariants as rust
@@ -120,7 +120,7 @@ abbrev pub is_named : List ℕ → Field → Bool
 is_named name f = str_eq_ignore_ascii_case f.name.text name
 
 abbrev pub field_at : List Field → Run → ℕ → Option (FieldId × TypeId)
-field_at fields run k = option_map (λ f. (record { 0 = capped (run.first + k) }, f.of)) (slice_get fields k)
+field_at fields run k = option_and_then (λ n. option_map (λ f. (record { 0 = n }, f.of)) (slice_get fields k)) (number_at run k)
 
 -- the field of a record by its name, with its type
 abbrev pub field_named : Core → List ℕ → Option CoreType → Option (FieldId × TypeId)

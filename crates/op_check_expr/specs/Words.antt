@@ -1,9 +1,10 @@
 -- The words in which the rules of expressions are said, besides those of typed programs.
-use Rattle.std.specs.Prelude.{◌≡◌, ℕ, Option, Some, None}
+use Rattle.std.specs.Prelude.{◌≡◌, ℕ, ◌+◌, ◌^◌, nat_lt, Option, Some, None, if◌then◌else◌}
 use Rattle.std.specs.Option.{option_map}
 use Rattle.op_base.specs.declared.place.Place.{Place}
 use Rattle.op_core.specs.Faults.{Checked, after, kept, none, one}
 use Rattle.op_core.specs.declared.first_refusal.FirstRefusal.{FirstRefusal}
+use Rattle.op_core.specs.declared.ids.Run.{Run}
 
 -- a part that may be untyped, its faults reported
 abbrev pub Reports : {A : Type 0} → Checked A → FirstRefusal → FirstRefusal → Option A → Type 0
@@ -28,3 +29,7 @@ left_out feature place = record { typed = None; faults = one (record { rule = re
 abbrev pub by_feature : {A : Type 0} → Place → Option ℕ → Checked A → Checked A
 by_feature place None c = c
 by_feature place (Some feature) c = left_out feature place
+
+-- the number of a row among those that lie together, where it has no more than 32 bits
+abbrev pub number_at : Run → ℕ → Option ℕ
+number_at run k = if nat_lt (run.first + k) (2 ^ 32) then Some (run.first + k) else None

@@ -5,7 +5,7 @@ ghost use Rattle.op_core.specs.Expression.{expr_of};
 ghost use Rattle.op_core.specs.Faults.{fine};
 ghost use Rattle.op_check_expr.specs.Naming.{denoted, denoted_of, feature_of, feature_of_type, field_at, field_named, field_of, is_named, meant_of, named, thing_named, variable_named, variable_tree};
 ghost use Rattle.op_check_expr.specs.Values.{value_of};
-ghost use Rattle.op_check_expr.specs.Words.{Reports, by_feature};
+ghost use Rattle.op_check_expr.specs.Words.{Reports, by_feature, number_at};
 
 use crate::sink::{leave_out, refuse};
 use crate::tree::then;
@@ -212,12 +212,17 @@ fn position_named(rows: &[Field], name: &[u8]) -> Option<usize>
         .position(|f| f.name.text.as_slice().eq_ignore_ascii_case(name))
 }
 
+/// The number of a row among those that lie together, where it has no more than 32 bits.
+pub fn number_at(run: Run, k: usize) -> Option<u32>
+    ensures { result ≡ number_at run k }
+{
+    u32::try_from((run.first as usize).saturating_add(k)).ok()
+}
+
 fn field_at(rows: &[Field], run: Run, k: usize) -> Option<(FieldId, TypeId)>
     ensures { result ≡ field_at rows.now run k }
 {
+    let number = number_at(run, k)?;
     let field = rows.get(k)?;
-    let number = (run.first as usize)
-        .saturating_add(k)
-        .min(u32::MAX as usize);
-    Some((FieldId(number as u32), field.of))
+    Some((FieldId(number), field.of))
 }

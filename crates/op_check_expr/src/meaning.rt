@@ -15,7 +15,7 @@ ghost use Rattle.op_check_expr.specs.Words.{Reports};
 
 use crate::call::Plan;
 use crate::convert::{as_type, stored};
-use crate::denoted::{Denoted, Meant, variable_tree};
+use crate::denoted::{Denoted, Meant, number_at, variable_tree};
 use crate::operate::Valued;
 use crate::part::{given_first, position_of, position_of_designator};
 use crate::place::{is_writable_variable, target_value, variable_value};
@@ -295,9 +295,7 @@ fn result_position(variables: &[Variable]) -> Option<usize>
 fn result_at(run: Run, variables: &[Variable], k: usize) -> Option<(VariableId, TypeId)>
     ensures { result ≡ means.result_at run variables.now k }
 {
+    let number = number_at(run, k)?;
     let variable = variables.get(k)?;
-    let number = (run.first as usize)
-        .saturating_add(k)
-        .min(u32::MAX as usize);
-    Some((VariableId(number as u32), variable.of))
+    Some((VariableId(number), variable.of))
 }

@@ -187,13 +187,7 @@ fn wanted_or(core: &Core, wanted: Option<TypeId>, own: TypeId) -> TypeId
     ensures { result ≡ wanted_or core.now wanted own }
 {
     match wanted {
-        Some(to) => {
-            if sort_of(core, own).is_set_as(sort_of(core, to)) {
-                to
-            } else {
-                own
-            }
-        }
+        Some(to) => { if assignable(core, own, to) { to } else { own } }
         None => own,
     }
 }

@@ -1,15 +1,16 @@
 -- What is checked of statements is what the relations say.
-use Rattle.std.proofs.Common.{false, Some, None, Result, Ok, Err, refl, ap, ◌∙◌}
+use Rattle.std.proofs.Common.{false, Option, Some, None, Result, Ok, Err, refl, ap, ◌∙◌}
 use Rattle.std.specs.Option.{option_map}
+use Rattle.op_base.specs.declared.place.Place.{Place}
 use Rattle.op_base.specs.declared.rule.Refusal.{Refusal}
 use Rattle.op_check_expr.proofs.Law.{given_law, target_law, value_of_law}
 use Rattle.op_check_expr.specs.Scopes.{Here}
 use Rattle.op_check_expr.specs.Values.{tree_of}
 use Rattle.op_check_expr.specs.declared.scope.Around.TheVariants.{Handler, Finally}
-use Rattle.op_core.proofs.Agreeing.{agrees_as, agrees_behind, agrees_changed, agrees_fine, agrees_followed, agrees_rule, agrees_test_fine, agrees_untyped, first_broken, holds_map, none_broken}
+use Rattle.op_core.proofs.Agreeing.{agrees_as, agrees_behind, agrees_changed, agrees_fine, agrees_followed, agrees_rule, agrees_test_fine, first_broken, holds_map, none_broken}
 use Rattle.op_core.specs.Expression.{Expression as Tree}
 use Rattle.op_core.specs.Faults.{Checked}
-use Rattle.op_core.specs.Relations.{Agrees, Either, Never, Where}
+use Rattle.op_core.specs.Relations.{Agrees, Either, Where}
 use Rattle.op_core.specs.Statement.{Statement, Statements, Branches, case_of, no_statements, stmt_of as typed_said}
 use Rattle.op_core.specs.Typing as typing
 use Rattle.op_core.specs.declared.error.CheckError.{CheckError}
@@ -25,15 +26,15 @@ use Rattle.op_check_stmt.specs.Cases.{selector}
 use Rattle.op_check_stmt.specs.Parts.{of_two, paired}
 use Rattle.op_check_stmt.specs.Procedures.{called}
 use Rattle.op_check_stmt.specs.RuleWords.{OfThree, OfTwo}
-use Rattle.op_check_stmt.specs.Rules.{BranchesAre, BranchesBreak, ConditionBreaks, ConditionIs, HandlersBreak, StatementBreaks, StatementIs, StatementsAre, StatementsBreak, StmtMeans}
-use Rattle.op_check_stmt.specs.Statements.{StmtIs, bound_of, branches, case_statement, condition, counted, handlers_mean, looped, statement, statements, stored, type_in, within}
+use Rattle.op_check_stmt.specs.Rules.{BranchesAre, BranchesBreak, ConditionBreaks, ConditionIs, StatementBreaks, StatementIs, StatementsAre, StatementsBreak, StmtMeans, TriedBreaks, TriedIs}
+use Rattle.op_check_stmt.specs.Statements.{StmtIs, bound_of, branches, case_statement, condition, counted, first_class, looped, statement, statements, stored, tried, type_in, within}
 
 condition_law : (here : Here) (e : Expression) → Agrees (condition here e) (ConditionIs here e) (ConditionBreaks here e)
 condition_law here e = agrees_behind (value_of_law here None e) (λ v t. agrees_test_fine)
 
-handlers_law : (hs : tree.Handlers) → Agrees (handlers_mean hs) Never (HandlersBreak hs)
-handlers_law tree.no_handlers = agrees_untyped
-handlers_law (tree.handlers v class s hs) = agrees_rule _
+tried_law : {body : Checked Statements} {whole : Checked Statement} {T : Statements → Type 0} {U : Statement → Type 0} {P Q : Refusal → Type 0} (o : Option Place) → Agrees body T P → Agrees whole U Q → Agrees (tried o body whole) (TriedIs o U) (TriedBreaks o P Q)
+tried_law None h k = k
+tried_law (Some place) h k = agrees_followed h (λ o i. agrees_rule _)
 
 -- a case, with what its `else` is
 by_head : (N : Type 0) (S : Tree → Type 0) (B : Branches → Type 0) (U : Statements → Type 0) (s : Statement) → OfTwo case_statement (Where N (OfTwo (λ a b. (a, b)) S B)) U s → Where N (OfThree case_of S B U) s
@@ -64,8 +65,9 @@ mutual
   statement_law here (tree.for_in n e s) = agrees_rule _
   statement_law here (tree.try_finally ss ts) = agrees_two (statements_law here ss) (statements_law (within here Finally) ts)
   statement_law here (tree.try_except ss ts) = agrees_two (statements_law here ss) (statements_law (within here Handler) ts)
-  statement_law here (tree.try_on ss hs) = agrees_followed (statements_law here ss) (λ o h. handlers_law hs)
-  statement_law here (tree.try_on_else ss hs ts) = agrees_followed (statements_law here ss) (λ o h. handlers_law hs)
+  statement_law here (tree.try_on ss hs) = tried_law (first_class hs) (statements_law here ss) (agrees_changed (statements_law here ss))
+  statement_law here (tree.try_on_else ss hs ts) =
+      tried_law (first_class hs) (statements_law here ss) (agrees_two (statements_law here ss) (statements_law (within here Handler) ts))
   statement_law here (tree.raise p e) = agrees_rule _
   statement_law here (tree.reraise p) = agrees_rule _
   statement_law here (tree.inherited p) = agrees_rule _

@@ -8,5 +8,6 @@ pub mod RuleWords
 pub mod Rules
 pub mod Seen
 pub mod Statements
+pub mod Surrounding
 pub mod VariableRules
 pub mod Variables

@@ -1,5 +1,6 @@
 -- What statements are and which rules they break, as relations (Free Pascal Reference Guide, "Statements").
-use Rattle.std.specs.Prelude.{Result, Ok, Err, false, Some, None}
+use Rattle.std.specs.Prelude.{Result, Ok, Err, false, Option, Some, None}
+use Rattle.op_base.specs.declared.place.Place.{Place}
 use Rattle.op_base.specs.declared.rule.Refusal.{Refusal}
 use Rattle.op_check_expr.specs.RuleWords.{LeftOut, Nothing}
 use Rattle.op_check_expr.specs.Rules.{GivenBreaks, GivenIs, TargetBreaks, TargetIs, ValueBreaks, ValueIs}
@@ -23,7 +24,7 @@ use Rattle.op_check_stmt.specs.CaseRules.{LabelsAre, LabelsBreak, RepeatedAt, Se
 use Rattle.op_check_stmt.specs.ProcedureRules.{CalledBreaks, CalledIs}
 use Rattle.op_check_stmt.specs.Procedures.{called}
 use Rattle.op_check_stmt.specs.RuleWords.{ByMeaning, If, OfOne, OfThree, OfTwo, Pair}
-use Rattle.op_check_stmt.specs.Statements.{for_statement, looped, try_all, with_branch, within}
+use Rattle.op_check_stmt.specs.Statements.{first_class, for_statement, looped, try_all, with_branch, within}
 use Rattle.op_check_stmt.specs.VariableRules.{CounterBreaks, CounterIs}
 
 -- a Boolean: rule 22
@@ -38,9 +39,13 @@ ConditionBreaks here e =
     (Through (ValueIs here None e) (λ v. Fails (assignable here.core (type_of v) table.boolean) 22 (start_of e)))
 
 -- handlers of exceptions are not in this profile
-abbrev pub HandlersBreak : tree.Handlers → Refusal → Type 0
-HandlersBreak tree.no_handlers = Never
-HandlersBreak (tree.handlers v class s hs) = LeftOut 44 class.name.position.place
+abbrev pub TriedIs : Option Place → (Statement → Type 0) → Statement → Type 0
+TriedIs None T = T
+TriedIs (Some place) T = Never
+
+abbrev pub TriedBreaks : Option Place → (Refusal → Type 0) → (Refusal → Type 0) → Refusal → Type 0
+TriedBreaks None P Q = Q
+TriedBreaks (Some place) P Q = Either P (LeftOut 44 place)
 
 abbrev mutual
   pub StatementIs : Here → tree.Statement → Statement → Type 0
@@ -62,6 +67,8 @@ abbrev mutual
       (StatementIs (looped here (Some c.variable)) s))
   StatementIs here (tree.try_finally ss ts) = OfTwo try_finally (StatementsAre here ss) (StatementsAre (within here Finally) ts)
   StatementIs here (tree.try_except ss ts) = OfTwo try_all (StatementsAre here ss) (StatementsAre (within here Handler) ts)
+  StatementIs here (tree.try_on ss hs) = TriedIs (first_class hs) (OfOne block (StatementsAre here ss))
+  StatementIs here (tree.try_on_else ss hs ts) = TriedIs (first_class hs) (OfTwo try_all (StatementsAre here ss) (StatementsAre (within here Handler) ts))
   StatementIs here (tree.call d) = CalledIs here d (called here.visible d)
   StatementIs here (tree.assign d p e) = Through (TargetIs here d) (λ t. OfOne (assign t) (GivenIs here (typing.type_of t) p.switches.r e))
   StatementIs here _ = Never
@@ -98,8 +105,9 @@ abbrev mutual
   StatementBreaks here (tree.for_in n e s) = LeftOut 41 n.position.place
   StatementBreaks here (tree.try_finally ss ts) = Either (StatementsBreak here ss) (StatementsBreak (within here Finally) ts)
   StatementBreaks here (tree.try_except ss ts) = Either (StatementsBreak here ss) (StatementsBreak (within here Handler) ts)
-  StatementBreaks here (tree.try_on ss hs) = Either (StatementsBreak here ss) (HandlersBreak hs)
-  StatementBreaks here (tree.try_on_else ss hs ts) = Either (StatementsBreak here ss) (HandlersBreak hs)
+  StatementBreaks here (tree.try_on ss hs) = TriedBreaks (first_class hs) (StatementsBreak here ss) (StatementsBreak here ss)
+  StatementBreaks here (tree.try_on_else ss hs ts) =
+      TriedBreaks (first_class hs) (StatementsBreak here ss) (Either (StatementsBreak here ss) (StatementsBreak (within here Handler) ts))
   StatementBreaks here (tree.raise p e) = LeftOut 44 p.place
   StatementBreaks here (tree.reraise p) = LeftOut 44 p.place
   StatementBreaks here (tree.inherited p) = LeftOut 42 p.place

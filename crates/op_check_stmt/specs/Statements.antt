@@ -9,7 +9,7 @@ use Rattle.op_check_expr.specs.Words.{changed, followed, left_out}
 use Rattle.op_check_expr.specs.declared.scope.Around.{Around}
 use Rattle.op_check_expr.specs.declared.scope.Around.TheVariants.{Loop, Handler, Finally}
 use Rattle.op_core.specs.Expression.{Expression as Tree}
-use Rattle.op_core.specs.Faults.{Checked, FirstIs, by_test, fine, untyped, with_part}
+use Rattle.op_core.specs.Faults.{Checked, FirstIs, by_test, fine, with_part}
 use Rattle.op_core.specs.Statement.{Statement, empty, block, if_then, if_else, case_of, while_do, repeat_until, for_to, try_finally, try_on_else, assign, Statements, no_statements, statements as core_statements, Branches, no_branches, branches as core_branches, no_handlers, stmt_of as typed_said}
 use Rattle.op_core.specs.Typing as typing
 use Rattle.op_core.specs.declared.error.CheckError.{CheckError}
@@ -67,10 +67,15 @@ bound_of here c e = stored here (option_map (λ c. c.bounds) c) false e
 abbrev pub counted : Here → Option Counter → Here
 counted here c = looped here (option_map (λ c. c.variable) c)
 
--- the feature at the first handler's class
-abbrev pub handlers_mean : tree.Handlers → Checked Statement
-handlers_mean tree.no_handlers = untyped
-handlers_mean (tree.handlers v class s hs) = left_out 44 class.name.position.place
+-- where the first handler's class stands
+abbrev pub first_class : tree.Handlers → Option Place
+first_class tree.no_handlers = None
+first_class (tree.handlers v class s hs) = Some class.name.position.place
+
+-- a whole, unless handlers stand behind its body: the feature at the first one's class
+abbrev pub tried : Option Place → Checked Statements → Checked Statement → Checked Statement
+tried None body whole = whole
+tried (Some place) body whole = followed body (λ ss. left_out 44 place)
 
 -- the labels of all branches that have values, in the order of the text
 abbrev pub all_spots : Here → Option TypeId → tree.Branches → List Spot
@@ -115,8 +120,8 @@ abbrev mutual
   statement here (tree.for_in n e s) = left_out 41 n.position.place
   statement here (tree.try_finally ss ts) = of_two try_finally (statements here ss) (statements (within here Finally) ts)
   statement here (tree.try_except ss ts) = of_two try_all (statements here ss) (statements (within here Handler) ts)
-  statement here (tree.try_on ss hs) = followed (statements here ss) (λ ss. handlers_mean hs)
-  statement here (tree.try_on_else ss hs ts) = followed (statements here ss) (λ ss. handlers_mean hs)
+  statement here (tree.try_on ss hs) = tried (first_class hs) (statements here ss) (changed block (statements here ss))
+  statement here (tree.try_on_else ss hs ts) = tried (first_class hs) (statements here ss) (of_two try_all (statements here ss) (statements (within here Handler) ts))
   statement here (tree.raise p e) = left_out 44 p.place
   statement here (tree.reraise p) = left_out 44 p.place
   statement here (tree.inherited p) = left_out 42 p.place

@@ -7,7 +7,7 @@ ghost use Rattle.op_check_expr.specs.Words.{Reports};
 ghost use Rattle.op_check_stmt.specs.Cases.{selector};
 ghost use Rattle.op_check_stmt.specs.Parts.{bounds_of, branches_in, head_of, paired, statements_in};
 ghost use Rattle.op_check_stmt.specs.Rules.{StatementBreaks, StatementIs, StmtMeans};
-ghost use Rattle.op_check_stmt.specs.Statements.{StmtIs, all_spots, assign_means, bound_of, branches, condition, condition_means, handlers_mean, head_means, statement, statements, stored, type_in};
+ghost use Rattle.op_check_stmt.specs.Statements.{StmtIs, all_spots, assign_means, bound_of, branches, condition, condition_means, first_class, head_means, statement, statements, stored, type_in};
 ghost use Rattle.op_core.specs.Expression.{expr_of as typed_of};
 ghost use Rattle.op_core.specs.Statement.{stmt_of as typed_statement};
 ghost use Rattle.op_tree.specs.Expression.{expr_of};
@@ -125,9 +125,27 @@ pub fn statement(here: Checker, sink: &mut FirstRefusal, s: &Stmt) -> Typed
             let handler = statements(inside(here, around.as_slice()), sink, handler);
             Ok(node::try_except(here.alloc, joined(body, handler)?))
         }
-        Stmt::TryOn { body, handlers } | Stmt::TryOnElse { body, handlers, .. } => {
-            drop(statements(here, sink, body)?);
-            Ok(leave_out_handlers(sink, handlers))
+        Stmt::TryOn { body, handlers } => {
+            let body = statements(here, sink, body)?;
+            match first_class(handlers) {
+                None => Ok(node::block(body)),
+                Some(place) => Ok(leave_out(sink, 44, place)),
+            }
+        }
+        Stmt::TryOnElse {
+            body,
+            handlers,
+            otherwise,
+        } => {
+            let around = within(here.alloc, here.scope.around, Around::Handler)?;
+            let body = statements(here, sink, body)?;
+            match first_class(handlers) {
+                None => {
+                    let last = statements(inside(here, around.as_slice()), sink, otherwise);
+                    Ok(node::try_except(here.alloc, joined(body, last)?))
+                }
+                Some(place) => Ok(leave_out(sink, 44, place)),
+            }
         }
         Stmt::Raise { position, .. } | Stmt::Reraise { position } => {
             Ok(leave_out(sink, 44, position.place))
@@ -232,13 +250,13 @@ fn type_in(e: &Option<CoreExpr>) -> Option<TypeId>
     }
 }
 
-/// What handlers of exceptions show, which are left out.
-fn leave_out_handlers(sink: &mut FirstRefusal, handlers: &[Handler]) -> Option<CoreStmt>
-    ensures { Reports (handlers_mean (handlers_of handlers.now)) sink.old sink.new (option_map typed_statement result) }
+/// Where the first handler's class stands. Handlers of exceptions are left out.
+fn first_class(handlers: &[Handler]) -> Option<Place>
+    ensures { result ≡ first_class (handlers_of handlers.now) }
 {
     match handlers.split_first() {
         None => None,
-        Some((first, _)) => leave_out(sink, 44, first.class.name.position.place),
+        Some((first, _)) => Some(first.class.name.position.place),
     }
 }
 

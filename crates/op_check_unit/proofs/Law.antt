@@ -6,7 +6,7 @@ use Rattle.op_check_stmt.proofs.Law.{statements_law}
 use Rattle.op_check_unit.proofs.LawDeclaring.{constants_law, types_law, variables_law}
 use Rattle.op_check_unit.proofs.LawNames.{name_law}
 use Rattle.op_check_unit.proofs.LawRoutines.{routine_law}
-use Rattle.op_check_unit.proofs.LawSteps.{each_declaration_law, lists_also, lists_entry, lists_no_entry}
+use Rattle.op_check_unit.proofs.LawSteps.{agrees_left_out, each_declaration_law, lists_also, lists_entry, lists_no_entry}
 use Rattle.op_check_unit.specs.Checking.{CheckIs}
 use Rattle.op_check_unit.specs.Programs.{all_declared, declaration_means, declared_in, files_mean, main_head, main_means, missing, name_declared, name_of, program_declared, program_means, with_unit}
 use Rattle.op_check_unit.specs.Routines.{next_routine, scope_of, with_routine}
@@ -58,7 +58,7 @@ file_law p h =
 
 files_law : (fs : List File) (h : Here) → Lists (files_mean fs h).faults (FilesBreak fs h)
 files_law (program p ∷ []) h = file_law p h
-files_law _ h = lists_none
+files_law _ h = (agrees_left_out {A = Unit {0}}).1
 
 pub program_law : (fs : List File) → Lists (program_means fs).faults (ProgramBreaks fs)
 program_law fs = files_law fs beginning

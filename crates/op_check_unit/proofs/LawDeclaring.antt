@@ -4,7 +4,7 @@ use Rattle.op_check_unit.proofs.LawConstants.{needed_law}
 use Rattle.op_check_unit.proofs.LawDenoting.{denoted_law}
 use Rattle.op_check_unit.proofs.LawInitials.{first_law}
 use Rattle.op_check_unit.proofs.LawNames.{name_law}
-use Rattle.op_check_unit.proofs.LawSteps.{each_law, from_silent, from_where_fine, lists_also, lists_whether}
+use Rattle.op_check_unit.proofs.LawSteps.{agrees_left_out, each_law, from_silent, from_where_fine, lists_also, lists_whether}
 use Rattle.op_check_unit.specs.Declaring.{constant_by, constant_declared, constants_declared, defined, first_means, globals_fit, one_type_declared, row_entered, rows_entered, type_declared, typed_declared, types_declared, value_means, variable_meaning, variables_declared, variables_named, names_declared, next_variable, with_first, with_row}
 use Rattle.op_check_unit.specs.Naming.{all_ahead, with_ahead}
 use Rattle.op_check_unit.specs.RulesDeclaring.{BeginningBreaks, BeginsWith, ConstantBreaksBy, ConstantDeclarationBreaks, ConstantsBreak, DefinitionBreaks, OneTypeBreaks, PlainValueBreaks, RowBreaks, RowsBreak, TypeDeclarationBreaks, TypedConstantBreaks, TypesBreak, VariableNamesBreak, VariableRowsBreak, VariablesBreak, globals_have_room}
@@ -17,7 +17,7 @@ use Rattle.op_core.specs.Relations.{Holds, Lists}
 use Rattle.op_core.specs.declared.ids.TypeId.{TypeId}
 use Rattle.op_core.specs.declared.routine.Role.{Role}
 use Rattle.op_core.specs.declared.routine.Role.TheVariants.{Plain, Constant}
-use Rattle.op_tree.specs.Declaration.{Constant as ConstantTree, TypeDeclaration, TypeDefinition, Variables, denotes}
+use Rattle.op_tree.specs.Declaration.{Constant as ConstantTree, TypeDeclaration, TypeDefinition, Variables, class, denotes, forward_class, forward_interface, interface}
 use Rattle.op_tree.specs.Denoter.{Denoter}
 use Rattle.op_tree.specs.Initial.{Initial, value, list, record_}
 use Rattle.op_tree.specs.declared.position.Name.{Name}
@@ -27,7 +27,10 @@ use Rattle.op_types.specs.declared.visible.Meaning.TheVariants.{Variable, Spoile
 
 definition_law : (own : Name) (d : TypeDefinition) (h : Here) → Lists (defined own d h).faults (DefinitionBreaks own d h)
 definition_law own (denotes t) h = (denoted_law (Some own) false t h).1
-definition_law own other h = lists_none
+definition_law own forward_class h = (agrees_left_out {A = TypeId}).1
+definition_law own (class c) h = (agrees_left_out {A = TypeId}).1
+definition_law own (forward_interface i) h = (agrees_left_out {A = TypeId}).1
+definition_law own (interface i) h = (agrees_left_out {A = TypeId}).1
 
 type_law : (d : TypeDeclaration) (h : Here) → Lists (type_declared d h).faults (TypeDeclarationBreaks d h)
 type_law d h = lists_also (definition_law d.name d.definition (with_ahead d.name h)) (name_law d.name _ _)

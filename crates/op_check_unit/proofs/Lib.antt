@@ -13,3 +13,14 @@ pub mod LawDeclaring
 pub mod LawHeadings
 pub mod LawRoutines
 pub mod Law
+pub mod Tables
+pub mod Filled
+pub mod WholeGrowth
+pub mod WholeSteps
+pub mod WholeConstants
+pub mod WholeTypes
+pub mod WholeDeclaring
+pub mod WholeHeadings
+pub mod WholeRoutines
+pub mod Whole
+pub mod WholeSound

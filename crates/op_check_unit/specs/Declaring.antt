@@ -1,5 +1,6 @@
 -- What declarations of types, constants and variables mean (Free Pascal Reference Guide, "Types", "Constants" and "Variables").
 use Rattle.std.specs.Prelude.{ℕ, ◌+◌, ◌-◌, ◌^◌, min, nat_le, false, true, ◌||◌, List, [], ◌∷◌, ◌++◌, length, is_some, Option, Some, None}
+use Rattle.op_check_expr.specs.Words.{left_out}
 use Rattle.op_check_unit.specs.Denoting.{denoted}
 use Rattle.op_check_unit.specs.Initials.{first}
 use Rattle.op_check_unit.specs.Naming.{all_ahead, declared, ended, with_ahead}
@@ -13,7 +14,7 @@ use Rattle.op_core.specs.declared.ids.VariableId.{VariableId}
 use Rattle.op_core.specs.declared.routine.Role.{Role}
 use Rattle.op_core.specs.declared.routine.Role.TheVariants.{Plain, Constant}
 use Rattle.op_tree.specs.Denoter.{Denoter}
-use Rattle.op_tree.specs.Declaration.{Constant as ConstantTree, TypeDeclaration, TypeDefinition, Variables, denotes}
+use Rattle.op_tree.specs.Declaration.{Constant as ConstantTree, TypeDeclaration, TypeDefinition, Variables, class, denotes, forward_class, forward_interface, interface}
 use Rattle.op_tree.specs.Initial.{Initial, value, list, record_}
 use Rattle.op_tree.specs.declared.position.Name.{Name}
 use Rattle.op_types.specs.declared.constant.Constant.{Constant as Value}
@@ -22,9 +23,13 @@ use Rattle.op_types.specs.declared.visible.Meaning.TheVariants.{Constant as Cons
 
 -- ---- types
 
+-- classes and interfaces are left out
 abbrev pub defined : Name → TypeDefinition → Here → Given TypeId
 defined own (denotes t) h = denoted (Some own) false t h
-defined own other h = silent h
+defined own forward_class h = checked h (left_out 42 own.position.place)
+defined own (class c) h = checked h (left_out 42 own.position.place)
+defined own (forward_interface i) h = checked h (left_out 43 own.position.place)
+defined own (interface i) h = checked h (left_out 43 own.position.place)
 
 -- a name whose declaration is broken is spoiled
 abbrev pub type_meaning : Option TypeId → Meaning

@@ -40,7 +40,7 @@ single core names of e = followed (constant_part core names e) (with_part (of_ty
 
 -- ---- what a first value is made of
 
-abbrev shape_by : Core → Option CoreType → Shape
+abbrev pub shape_by : Core → Option CoreType → Shape
 shape_by core (Some (type.Array index element)) = Elements (values_of (range_of (type_at core index))) element
 shape_by core (Some (type.DynamicArray element)) = Unbounded
 shape_by core (Some (type.Record run)) = Fields run

@@ -10,6 +10,7 @@ pub mod Declaring
 pub mod Headings
 pub mod Routines
 pub mod System
+pub mod Tables
 pub mod Programs
 pub mod Checking
 pub mod RulesSteps
@@ -22,3 +23,4 @@ pub mod RulesDeclaring
 pub mod RulesHeadings
 pub mod RulesRoutines
 pub mod Rules
+pub mod Complete

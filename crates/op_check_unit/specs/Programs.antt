@@ -2,10 +2,11 @@
 use Rattle.std.specs.Prelude.{ℕ, List, [], ◌∷◌, ◌++◌, length, Option, Some, None}
 use Rattle.std.specs.Option.{option_map}
 use Rattle.op_base.specs.declared.place.Place.{Place}
+use Rattle.op_check_expr.specs.Words.{left_out}
 use Rattle.op_check_unit.specs.Declaring.{constants_declared, types_declared, variables_declared}
 use Rattle.op_check_unit.specs.Naming.{declared}
 use Rattle.op_check_unit.specs.Routines.{next_routine, no_rows, routine_declared, statements_mean, with_routine}
-use Rattle.op_check_unit.specs.Steps.{Here, Given, checked, each_declaration, followed, gives, silent}
+use Rattle.op_check_unit.specs.Steps.{Here, Given, checked, each_declaration, followed, gives}
 use Rattle.op_check_unit.specs.System.{beginning}
 use Rattle.op_check_unit.specs.Types.{in_core}
 use Rattle.op_check_unit.specs.declared.heading.Head.{Head}
@@ -73,10 +74,14 @@ declared_in p h = followed (name_declared p.heading h) (λ t h. all_declared p.d
 abbrev pub program_declared : Program → Here → Given (Unit {0})
 program_declared p h = followed (declared_in p h) (λ t h. followed (all_completed h) (λ t h. main_means (name_of p.position p.heading) p.statements h))
 
--- a program of one file; units are not built yet
+-- where the main file begins
+abbrev pub start : Place
+start = record { file = 0; line = 1; col = 1 }
+
+-- a program of one file; units are left out
 abbrev pub files_mean : List File → Here → Given (Unit {0})
 files_mean (program p ∷ []) h = program_declared p h
-files_mean _ h = silent h
+files_mean _ h = checked h (left_out 39 start)
 
 abbrev pub program_means : List File → Given (Unit {0})
 program_means fs = files_mean fs beginning

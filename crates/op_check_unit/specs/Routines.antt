@@ -193,7 +193,7 @@ ahead_declared id n (Some x) (body ds ss) h = followed (checked (completed id h)
 abbrev pub awaited_of : List (Option Place) → RoutineId → Option RoutineId
 awaited_of places id = option_map (λ place. id) (option_flatten (slice_get places id.0))
 
-abbrev awaited_by : List (Option Place) → Option Meaning → Option RoutineId
+abbrev pub awaited_by : List (Option Place) → Option Meaning → Option RoutineId
 awaited_by places (Some (RoutineName id)) = awaited_of places id
 awaited_by places _ = None
 

@@ -3,12 +3,12 @@ use Rattle.std.specs.Prelude.{List, [], ◌∷◌, Option, Some, None, Result, O
 use Rattle.op_base.specs.declared.place.Place.{Place}
 use Rattle.op_base.specs.declared.rule.Refusal.{Refusal}
 use Rattle.op_check_stmt.specs.Rules.{StatementsBreak}
-use Rattle.op_check_unit.specs.Programs.{declaration_means, declared_in, main_head, name_declared, name_of, with_unit}
+use Rattle.op_check_unit.specs.Programs.{declaration_means, declared_in, main_head, name_declared, name_of, start, with_unit}
 use Rattle.op_check_unit.specs.Routines.{next_routine, scope_of, with_routine}
 use Rattle.op_check_unit.specs.RulesDeclaring.{ConstantsBreak, TypesBreak, VariablesBreak}
 use Rattle.op_check_unit.specs.RulesNames.{NameBreaks}
 use Rattle.op_check_unit.specs.RulesRoutines.{RoutineBreaks}
-use Rattle.op_check_unit.specs.RulesSteps.{EachDeclarationBreaks, behind}
+use Rattle.op_check_unit.specs.RulesSteps.{EachDeclarationBreaks, LeftOut, behind}
 use Rattle.op_check_unit.specs.Steps.{Here}
 use Rattle.op_check_unit.specs.System.{beginning}
 use Rattle.op_core.specs.Relations.{At, Either, Entry, IsFirstOf, Never, NoneBroken, Through}
@@ -55,10 +55,10 @@ ProgramFileBreaks p h =
     let g = behind (declared_in p h) in
     Either (DeclaredBreaks p h) (Either (AwaitedBreaks g.awaited) (MainBreaks (name_of p.position p.heading) p.statements g))
 
--- a program of one file; units are not built yet
+-- a program of one file; units are left out
 abbrev pub FilesBreak : List File → Here → Refusal → Type 0
 FilesBreak (program p ∷ []) h = ProgramFileBreaks p h
-FilesBreak _ h = Never
+FilesBreak _ h = LeftOut 39 start
 
 -- a program stands behind the unit System
 abbrev pub ProgramBreaks : List File → Refusal → Type 0

@@ -7,7 +7,7 @@ use Rattle.op_check_unit.specs.Naming.{all_ahead, declared, ended, with_ahead}
 use Rattle.op_check_unit.specs.RulesDenoting.{DenoterBreaks, DenoterIs}
 use Rattle.op_check_unit.specs.RulesInitials.{FirstValueBreaks, FirstValueIs}
 use Rattle.op_check_unit.specs.RulesNames.{NameBreaks}
-use Rattle.op_check_unit.specs.RulesSteps.{EachBreaks, Whether, behind}
+use Rattle.op_check_unit.specs.RulesSteps.{EachBreaks, LeftOut, Whether, behind}
 use Rattle.op_check_unit.specs.RulesTypes.{NeededBreaks}
 use Rattle.op_check_unit.specs.Steps.{Here}
 use Rattle.op_core.specs.Initial.{FirstValue}
@@ -15,17 +15,20 @@ use Rattle.op_core.specs.Relations.{At, Either, Fails, Never}
 use Rattle.op_core.specs.declared.ids.TypeId.{TypeId}
 use Rattle.op_core.specs.declared.routine.Role.{Role}
 use Rattle.op_core.specs.declared.routine.Role.TheVariants.{Plain, Constant}
-use Rattle.op_tree.specs.Declaration.{Constant as ConstantTree, TypeDeclaration, TypeDefinition, Variables, denotes}
+use Rattle.op_tree.specs.Declaration.{Constant as ConstantTree, TypeDeclaration, TypeDefinition, Variables, class, denotes, forward_class, forward_interface, interface}
 use Rattle.op_tree.specs.Denoter.{Denoter}
 use Rattle.op_tree.specs.Initial.{Initial, value, list, record_}
 use Rattle.op_tree.specs.declared.position.Name.{Name}
 
 -- ---- types
 
--- classes and interfaces are not built yet
+-- classes and interfaces are left out
 abbrev pub DefinitionBreaks : Name → TypeDefinition → Here → Refusal → Type 0
 DefinitionBreaks own (denotes t) h = DenoterBreaks (Some own) false t h
-DefinitionBreaks own other h = Never
+DefinitionBreaks own forward_class h = LeftOut 42 own.position.place
+DefinitionBreaks own (class c) h = LeftOut 42 own.position.place
+DefinitionBreaks own (forward_interface i) h = LeftOut 43 own.position.place
+DefinitionBreaks own (interface i) h = LeftOut 43 own.position.place
 
 -- the type, and then its name
 abbrev pub TypeDeclarationBreaks : TypeDeclaration → Here → Refusal → Type 0

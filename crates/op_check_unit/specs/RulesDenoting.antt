@@ -1,5 +1,5 @@
 -- What a type that is written denotes, and the rules that it breaks.
-use Rattle.std.specs.Prelude.{Bool, true, false, List, [], ◌∷◌, Option, length}
+use Rattle.std.specs.Prelude.{Bool, true, false, List, [], ◌∷◌, Option}
 use Rattle.op_base.specs.declared.rule.Refusal.{Refusal}
 use Rattle.op_check_unit.specs.Denoting.{denoted, field_lists, indices}
 use Rattle.op_check_unit.specs.Records.{no_rows}
@@ -8,11 +8,10 @@ use Rattle.op_check_unit.specs.RulesRecords.{FieldsBreak, RecordBreaks, RecordIs
 use Rattle.op_check_unit.specs.RulesSteps.{Whether, behind}
 use Rattle.op_check_unit.specs.RulesTypes.{ArrayBreaks, ArrayIs, IndexBreaks, IndexIs, SetBreaks, SetIs, SubrangeBreaks, SubrangeIs, ValuesBreak}
 use Rattle.op_check_unit.specs.Steps.{Here}
-use Rattle.op_check_unit.specs.Types.{in_core, number_of_next, start_of_denoter}
+use Rattle.op_check_unit.specs.Types.{enumeration_of, in_core, number_of_next, start_of_denoter}
 use Rattle.op_check_unit.specs.declared.record.FieldRows.{FieldRows}
 use Rattle.op_core.specs.Relations.{Either, Never, Only, Through}
 use Rattle.op_core.specs.declared.ids.TypeId.{TypeId}
-use Rattle.op_core.specs.declared.types.CoreType.TheVariants.{Enumeration}
 use Rattle.op_tree.specs.Denoter.{Denoter, named, string, subrange, enumeration, set, array, record_, Denoters, no_denoters, denoters, FieldLists, no_fields, fields}
 use Rattle.op_tree.specs.declared.position.Name.{Name}
 use Rattle.op_types.specs.Entering.{entered}
@@ -49,7 +48,7 @@ abbrev mutual
 
 -- where an enumeration has its row
 abbrev pub with_enumeration : List Name → Here → Here
-with_enumeration ns h = in_core (entered h.core (Enumeration (length ns))) h
+with_enumeration ns h = in_core (entered h.core (enumeration_of ns)) h
 
 abbrev mutual
   pub DenoterBreaks : Option Name → Bool → Denoter → Here → Refusal → Type 0

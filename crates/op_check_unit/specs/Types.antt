@@ -1,5 +1,5 @@
 -- What types denote: rows of the table of types (Free Pascal Reference Guide, "Types").
-use Rattle.std.specs.Prelude.{ℕ, ◌+◌, ℤ, pos, int_le, nat_le, Bool, false, ◌&&◌, List, [], ◌∷◌, length, is_some, Option, Some, None}
+use Rattle.std.specs.Prelude.{ℕ, ◌+◌, ℤ, pos, int_le, max, nat_le, Bool, false, ◌&&◌, List, [], ◌∷◌, length, is_some, Option, Some, None}
 use Rattle.op_base.specs.declared.place.Place.{Place}
 use Rattle.op_check_unit.specs.Naming.{declared_within}
 use Rattle.op_check_unit.specs.Steps.{Here, Given, gives, silent, where_true, followed, by}
@@ -119,9 +119,13 @@ abbrev pub values : TypeId → ℕ → List Name → Here → Given (Unit {0})
 values of n [] h = gives tt h
 values of n (x ∷ xs) h = followed (declared_within x (value_of of (pos n)) h) (λ t h. values of (n + 1) xs h)
 
+-- with one value at least, as each has that is parsed
+abbrev pub enumeration_of : List Name → CoreType
+enumeration_of ns = Enumeration (max (length ns) 1)
+
 -- An enumeration. Its names are in the scope around it, which has no room for more of them than an enumeration may have values.
 abbrev pub enumerated : List Name → Here → Given TypeId
-enumerated ns h = followed (row (Enumeration (length ns)) h) (by (λ of h. followed (values of 0 ns h) (λ t h. gives of h)))
+enumerated ns h = followed (row (enumeration_of ns) h) (by (λ of h. followed (values of 0 ns h) (λ t h. gives of h)))
 
 -- ---- sets and arrays
 

@@ -43,7 +43,14 @@ impl Declarer {
     {
         match definition {
             TypeDefinition::Denoter(denoter) => self.denoted(Some(own), false, denoter),
-            _ => Ok(None),
+            TypeDefinition::ForwardClass | TypeDefinition::Class(_) => {
+                self.leave_out(42, own.position.place);
+                Ok(None)
+            }
+            TypeDefinition::ForwardInterface { .. } | TypeDefinition::Interface(_) => {
+                self.leave_out(43, own.position.place);
+                Ok(None)
+            }
         }
     }
 

@@ -17,7 +17,9 @@ impl Declarer {
         let Ok(count) = u32::try_from(values.len()) else {
             return Err(NoMemory);
         };
-        let of = self.row(CoreType::Enumeration { values: count })?;
+        let of = self.row(CoreType::Enumeration {
+            values: count.max(1),
+        })?;
         self.values(of, values)?;
         Ok(Some(of))
     }

@@ -7,6 +7,7 @@ ghost use Rattle.op_check_unit.specs.Programs.{all_completed, all_declared, decl
 ghost use Rattle.op_check_unit.specs.Rules.{Obeys, ProgramBreaks};
 ghost use Rattle.op_check_unit.specs.Steps.{Declares, here_of};
 ghost use Rattle.op_core.specs.Faults.{kept};
+ghost use Rattle.op_core.specs.Sound.{IsSound, IsSoundNesting};
 ghost use Rattle.op_tree.specs.Declaration.{declaration_of, declarations_of};
 ghost use Rattle.op_tree.specs.File.{file_of, program_of};
 ghost use Rattle.op_tree.specs.Statement.{stmts_of};
@@ -27,6 +28,7 @@ use std::alloc::Global;
 pub fn check(alloc: Global, trees: &[Tree]) -> Result<Core, CheckError>
     ensures means { CheckIs (program_means (map file_of trees.now)) result }
     ensures law { Obeys (ProgramBreaks (map file_of trees.now)) result }
+    ensures sound { IfOk result (λ core. IsSound core × IsSoundNesting core) }
 {
     let mut declarer = Declarer::new(alloc)?;
     declarer.files(trees)?;
@@ -40,7 +42,10 @@ impl Declarer {
     {
         match trees.split_first() {
             Some((Tree::Program(program), others)) if others.is_empty() => self.program(program),
-            _ => Ok(()),
+            _ => {
+                self.leave_out(39, START);
+                Ok(())
+            }
         }
     }
 
@@ -154,6 +159,13 @@ const MAIN: Head = Head {
     kind: RoutineKind::Procedure,
     parameters: Run { first: 0, count: 0 },
     result: None,
+};
+
+/// Where the main file begins.
+const START: Place = Place {
+    file: 0,
+    line: 1,
+    col: 1,
 };
 
 /// The name of a program; an empty one where it has no heading.

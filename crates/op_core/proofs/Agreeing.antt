@@ -8,7 +8,7 @@ use Rattle.op_core.specs.Relations.{Agrees, At, Either, Entry, Fails, Holds, IsF
 
 -- ---- what has a meaning
 
-some_is : {A : Type 0} {a b : A} → Some a ≡ Some b → a ≡ b
+pub some_is : {A : Type 0} {a b : A} → Some a ≡ Some b → a ≡ b
 some_is e = cc
 
 false_is : false ≡ true → ⊥
@@ -41,7 +41,7 @@ apart : (a b : Faults) (r : Refusal) → IsIn r (both a b) → IsIn r a ⊎ IsIn
 apart a b r (front h) = inl h
 apart a b r (behind h) = inr h
 
-either_by : {P Q R S : Type 0} → (P → R) → (Q → S) → P ⊎ Q → R ⊎ S
+pub either_by : {P Q R S : Type 0} → (P → R) → (Q → S) → P ⊎ Q → R ⊎ S
 either_by f g (inl h) = inl (f h)
 either_by f g (inr h) = inr (g h)
 

@@ -1,3 +1,10 @@
 pub mod Agreeing
+pub mod Completing
 pub mod First
+pub mod Growing
+pub mod GrowingRows
+pub mod GrowingStatements
+pub mod GrowingTrees
+pub mod GrowingTypes
 pub mod Nodes
+pub mod OneType

@@ -62,3 +62,22 @@ NoneBroken B = (r : Refusal) → B r → ⊥
 -- this rule is broken, and none that comes before it
 abbrev pub IsFirstOf : (Refusal → Type 0) → Refusal → Type 0
 IsFirstOf B r = B r × ((q : Refusal) → B q → comes_before q r ≡ false)
+
+-- ---- what is left
+
+-- there is one, and it is so
+pub data Filled {A : Type 0} (P : A → Type 0) : Option A → Type 0 where
+  filled : (a : A) → P a → Filled P (Some a)
+
+-- a type that is so, or a rule that is broken
+pub data Whole {A : Type 0} (P : A → Type 0) (c : Checked A) : Type 0 where
+  typed : Filled P c.typed → Whole P c
+  faulty : (r : Refusal) → IsIn r c.faults → Whole P c
+
+-- whatever it is
+abbrev pub Always : {A : Type 0} → A → Type 0
+Always a = Unit {0}
+
+-- where no rule is broken, there is a typed part
+abbrev pub IsWhole : {A : Type 0} → Checked A → Type 0
+IsWhole c = Whole Always c

@@ -35,19 +35,20 @@ use Rattle.op_core.specs.declared.routine.Role.TheVariants.{Plain, Constant}
 use Rattle.op_core.specs.declared.routine.Routine.{Routine}
 use Rattle.op_core.specs.declared.routine.Variable.{Variable}
 use Rattle.op_core.specs.declared.types.CoreType.{CoreType}
-use Rattle.op_core.specs.declared.types.CoreType.TheVariants.{Enumeration, Subrange, Set, Record, Array, DynamicArray, OpenArray, Class, Interface, Broken}
+use Rattle.op_core.specs.declared.types.CoreType.TheVariants.{Integer, Boolean, Char, Enumeration, Subrange, Set, Record, Array, DynamicArray, OpenArray, Class, Interface, Broken}
+use Rattle.op_core.specs.declared.types.IntegerKind.TheVariants.{Signed32}
 use Rattle.op_tree.specs.declared.heading.RoutineKind.TheVariants.{Destructor}
 
 -- ---- ids in range
 
-abbrev Row : {A : Type 0} → List A → ℕ → Type 0
+abbrev pub Row : {A : Type 0} → List A → ℕ → Type 0
 Row table n = n < length table
 
-abbrev Fit : {A : Type 0} → List A → Run → Type 0
+abbrev pub Fit : {A : Type 0} → List A → Run → Type 0
 Fit table run = run.first + run.count ≤ length table
 
 -- this holds of each row, by its number
-abbrev Each : {A : Type 0} → List A → (ℕ → A → Type 0) → Type 0
+abbrev pub Each : {A : Type 0} → List A → (ℕ → A → Type 0) → Type 0
 Each {A} table P = (n : ℕ) (a : A) → slice_get table n ≡ Some a → P n a
 
 -- ---- chains of ancestors, and of routines round a routine
@@ -57,26 +58,34 @@ pub data Depth (above : ℕ → Option ℕ) : ℕ → ℕ → Type 0 where
   top : {n : ℕ} → above n ≡ None → Depth above n 0
   below : {n m k : ℕ} → above n ≡ Some m → Depth above m k → Depth above n (suc k)
 
-abbrev EndsWithin : ℕ → (ℕ → Option ℕ) → ℕ → Type 0
+abbrev pub EndsWithin : ℕ → (ℕ → Option ℕ) → ℕ → Type 0
 EndsWithin most above n = (k : ℕ) × Depth above n k × (k ≤ most)
 
-abbrev ancestor_of : Core → ℕ → Option ℕ
+abbrev pub ancestor_of : Core → ℕ → Option ℕ
 ancestor_of core n = option_and_then (λ x. option_map (λ a. a.0) x.ancestor) (slice_get core.classes n)
 
-abbrev extended_by : Core → ℕ → Option ℕ
+abbrev pub extended_by : Core → ℕ → Option ℕ
 extended_by core n = option_and_then (λ x. option_map (λ a. a.0) x.ancestor) (slice_get core.interfaces n)
 
-abbrev enclosing_of : Core → ℕ → Option ℕ
+abbrev pub enclosing_of : Core → ℕ → Option ℕ
 enclosing_of core n = option_and_then (λ x. option_map (λ a. a.0) x.enclosing) (slice_get core.routines n)
 
 -- ---- types
 
-abbrev IsRange : Core → ℕ → TypeId → Type 0
+abbrev pub IsRange : Core → ℕ → TypeId → Type 0
 IsRange core n base = (base.0 < n) × IsOrdinal core base
 
-abbrev IsTypeRow : Core → ℕ → CoreType → Type 0
+-- what subranges are of: the type of all values of a kind
+abbrev pub is_whole : Option CoreType → Bool
+is_whole (Some (Integer Signed32)) = true
+is_whole (Some Boolean) = true
+is_whole (Some Char) = true
+is_whole (Some (Enumeration count)) = true
+is_whole _ = false
+
+abbrev pub IsTypeRow : Core → ℕ → CoreType → Type 0
 IsTypeRow core n (Enumeration count) = (0 < count) × (count ≤ 65536)
-IsTypeRow core n (Subrange base low high) = IsRange core n base × IsSomeAnd (range_of (type_at core base)) (λ r. Within r low × Within r high) × (low ≤ℤ high)
+IsTypeRow core n (Subrange base low high) = IsRange core n base × IsSomeAnd (range_of (type_at core base)) (λ r. Within r low × Within r high) × (low ≤ℤ high) × IsTrue (is_whole (type_at core base))
 IsTypeRow core n (Set base) = IsRange core n base × IsSomeAnd (range_of (type_at core base)) (λ r. (pos 0 ≤ℤ r.0) × (r.1 ≤ℤ pos 31))
 IsTypeRow core n (Record fields) = Fit core.fields fields × All (λ f. f.of.0 < n) (rows core.fields fields)
 IsTypeRow core n (Array index element) = IsRange core n index × (element.0 < n)
@@ -89,7 +98,7 @@ IsTypeRow core n _ = Unit {0}
 
 -- Right behind an enumeration or a subrange within 0 to 31 stands its set type, behind a larger enumeration the subrange of its
 -- first 32 values.
-abbrev HasSet : Core → ℕ → CoreType → Type 0
+abbrev pub HasSet : Core → ℕ → CoreType → Type 0
 HasSet core n (Enumeration count) = type_at core (id (n + 1)) ≡ Some (if nat_le count 32 then Set (id n) else Subrange (id n) (pos 0) (pos 31))
 HasSet core n (Subrange base low high) = pos 0 ≤ℤ low → high ≤ℤ pos 31 → type_at core (id (n + 1)) ≡ Some (Set (id n))
 HasSet core n _ = Unit {0}
@@ -100,7 +109,7 @@ pub data Holds (core : Core) : TypeId → TypeId → Type 0 where
   of_field : {a b : TypeId} {fields : Run} → Kind core a (Record fields) → Contains (map (λ f. f.of) (rows core.fields fields)) b → Holds core a b
   through : {a b c : TypeId} → Holds core a b → Holds core b c → Holds core a c
 
-abbrev size_of : Core → TypeId → ℕ
+abbrev pub size_of : Core → TypeId → ℕ
 size_of core of = (extent_of core of).size
 
 -- ---- classes and interfaces
@@ -161,36 +170,36 @@ pub record IsInterface (core : Core) (n : ℕ) (x : Face) : Type 0 where
 -- ---- variables and routines
 
 abbrev mutual
-  IsFirst : Core → CoreType → TypeId → FirstValue → Type 0
+  pub IsFirst : Core → CoreType → TypeId → FirstValue → Type 0
   IsFirst core t of (constant v) = Fits core v of
   IsFirst core (Record fields) of (parts vs) = AreFirst core (map (λ f. f.of) (rows core.fields fields)) vs
   IsFirst core (Array index element) of (parts vs) = AreFirst core (replicate (values_of (range_of (type_at core index))) element) vs
   IsFirst core _ of (parts vs) = ⊥
 
-  AreFirst : Core → List TypeId → FirstValues → Type 0
+  pub AreFirst : Core → List TypeId → FirstValues → Type 0
   AreFirst core [] no_values = Unit {0}
   AreFirst core (of ∷ ofs) (values v vs) = IsSomeAnd (type_at core of) (λ t. IsFirst core t of v) × AreFirst core ofs vs
   AreFirst core _ _ = ⊥
 
-abbrev IsVariableRow : Core → Variable → Type 0
+abbrev pub IsVariableRow : Core → Variable → Type 0
 IsVariableRow core v = IsSomeAnd (type_at core v.of) (λ t. IfSome v.first_value (λ i. IsFirst core t v.of (first_value_of i.value)))
 
-abbrev is_declared : Role → Bool
+abbrev pub is_declared : Role → Bool
 is_declared Plain = true
 is_declared Constant = true
 is_declared _ = false
 
 -- together, in bytes
-abbrev bytes_of : Core → List Variable → ℕ
+abbrev pub bytes_of : Core → List Variable → ℕ
 bytes_of core vs = sum_by (λ v. size_of core v.of) vs
 
-abbrev at_start : Routine → Here
+abbrev pub at_start : Routine → Here
 at_start r = record { result = r.result; handler = false; loop = false; routine = true }
 
-abbrev IsBody : Core → Sees → Routine → Type 0
+abbrev pub IsBody : Core → Sees → Routine → Type 0
 IsBody core sees r = IfSome r.body (λ b. AreStatements core sees (at_start r) (stmts_of b.statements.items))
 
-abbrev IsOwner : Core → Owner → Type 0
+abbrev pub IsOwner : Core → Owner → Type 0
 IsOwner core OfUnit = Unit {0}
 IsOwner core (OfClass c) = Row core.classes c.0
 IsOwner core (OfInterface i) = Row core.interfaces i.0
@@ -205,25 +214,40 @@ pub record IsRoutine (core : Core) (r : Routine) : Type 0 where
   pub has_body : r.owner ≡ OfUnit → IsSome r.body
   pub locals : bytes_of core (filter (λ v. is_declared v.role) (rows core.variables r.variables)) ≤ 1048576
 
+-- ---- while a program is declared
+
+-- a routine that is no method, by its heading
+abbrev pub IsHeaded : Core → Routine → Type 0
+IsHeaded core r = (r.owner ≡ OfUnit) × Fit core.parameters r.parameters × IfSome r.result (λ of. Row core.types of.0)
+
+-- what typed trees rest on
+pub record IsFounded (core : Core) : Type 0 where
+  pub types : Each core.types (IsTypeRow core)
+  pub predefined : take 16 core.types ≡ predefined
+  pub sets : Each core.types (HasSet core)
+  pub parameters : All (λ p. Row core.types p.of.0) core.parameters
+  pub variables : All (λ v. Row core.types v.of.0) core.variables
+  pub routines : All (IsHeaded core) core.routines
+
 -- ---- programs
 
-abbrev IsPart : Core → Option RoutineId → Type 0
+abbrev pub IsPart : Core → Option RoutineId → Type 0
 IsPart core part = IfSome part (λ p. There core.routines p.0 (λ r. (r.owner ≡ OfUnit) × (r.parameters.count ≡ 0)))
 
-abbrev IsUnit : Core → RustUnit → Type 0
+abbrev pub IsUnit : Core → RustUnit → Type 0
 IsUnit core u = Fit core.globals u.globals × All (λ v. Row core.variables v.0) (rows core.globals u.globals) × IsPart core u.initialization × IsPart core u.finalization
 
-abbrev AreExceptions : Core → ExceptionClasses → Type 0
+abbrev pub AreExceptions : Core → ExceptionClasses → Type 0
 AreExceptions core x =
     All (λ c. Row core.classes c.0 × Descends core c x.exception) (x.exception ∷ x.zero_divisor ∷ x.range ∷ x.overflow ∷ x.cast ∷ [])
     × There core.classes x.exception.0 (λ c. InRun c.fields x.message.0)
 
 -- the rows of all global variables
-abbrev globals_of : Core → List Variable
+abbrev pub globals_of : Core → List Variable
 globals_of core = flat_map (λ v. option_to_list (slice_get core.variables v.0)) core.globals
 
 -- bodies may name whatever is there
-abbrev everything : Core → Sees
+abbrev pub everything : Core → Sees
 everything core = record { variable = λ v. Row core.variables v.0; routine = λ r. Row core.routines r.0 }
 
 pub record IsSound (core : Core) : Type 0 where
@@ -250,11 +274,11 @@ pub data Encloses (core : Core) : ℕ → ℕ → Type 0 where
   itself : {n : ℕ} → Encloses core n n
   further : {n m k : ℕ} → enclosing_of core n ≡ Some m → Encloses core m k → Encloses core n k
 
-abbrev IsGlobal : Core → VariableId → Type 0
+abbrev pub IsGlobal : Core → VariableId → Type 0
 IsGlobal core v = Contains core.globals v
 
 -- globals and the variables of the routine and of those round it, routines that stand in none or in one of these
-abbrev within : Core → ℕ → Sees
+abbrev pub within : Core → ℕ → Sees
 within core n = record {
   variable = λ v. IsGlobal core v ⊎ ((m : ℕ) × Encloses core n m × There core.routines m (λ r. InRun r.variables v.0));
   routine = λ r. There core.routines r.0 (λ x. (x.enclosing ≡ None) ⊎ IsSomeAnd x.enclosing (λ e. Encloses core n e.0));

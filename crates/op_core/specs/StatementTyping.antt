@@ -22,34 +22,34 @@ pub record Here : Type 0 where
   pub loop : Bool
   pub routine : Bool
 
-abbrev in_loop : Here → Here
+abbrev pub in_loop : Here → Here
 in_loop here = record here { loop = true }
 
-abbrev in_handler : Here → Here
+abbrev pub in_handler : Here → Here
 in_handler here = record here { handler = true }
 
-abbrev in_finally : Here → Here
+abbrev pub in_finally : Here → Here
 in_finally here = record here { loop = false; routine = false }
 
 -- the class descends from Exception
 abbrev pub IsException : Core → ClassId → Type 0
 IsException core c = IsSomeAnd core.exceptions (λ x. Descends core c x.exception)
 
-abbrev IsRaised : Core → TypeId → Type 0
+abbrev pub IsRaised : Core → TypeId → Type 0
 IsRaised core of = (c : ClassId) × Kind core of (Class c) × IsException core c
 
-abbrev Has : (Core → TypeId → Type 0) → Core → Sees → Expression → Type 0
+abbrev pub Has : (Core → TypeId → Type 0) → Core → Sees → Expression → Type 0
 Has Q core sees e = IsTyped core sees e × Q core (type_of e)
 
-abbrev IsTargetOf : Bool → (Core → TypeId → Type 0) → Core → Sees → Expression → Type 0
+abbrev pub IsTargetOf : Bool → (Core → TypeId → Type 0) → Core → Sees → Expression → Type 0
 IsTargetOf chars Q core sees e = Has Q core sees e × IsTrue (is_place chars core e)
 
 -- the type that a subrange is of, or the type itself
-abbrev host : Core → Option CoreType → Option CoreType
+abbrev pub host : Core → Option CoreType → Option CoreType
 host core (Some (Subrange base low high)) = type_at core base
 host core t = t
 
-abbrev is_text : Option CoreType → Bool
+abbrev pub is_text : Option CoreType → Bool
 is_text (Some (Integer kind)) = true
 is_text (Some Boolean) = true
 is_text (Some Char) = true
@@ -57,33 +57,33 @@ is_text (Some String) = true
 is_text _ = false
 
 -- what is read or written: integers, Booleans, Chars and strings
-abbrev IsText : Core → TypeId → Type 0
+abbrev pub IsText : Core → TypeId → Type 0
 IsText core of = IsTrue (is_text (host core (type_at core of)))
 
 -- what the bounds of a loop over a variable of a type are: Integers, values of a subrange's base, or else of that type
-abbrev Bounds : Core → TypeId → Option CoreType → TypeId → Type 0
+abbrev pub Bounds : Core → TypeId → Option CoreType → TypeId → Type 0
 Bounds core at (Some (Integer kind)) of = IsInteger core of
 Bounds core at (Some (Subrange base low high)) of = base ≡ of
 Bounds core at t of = (at ≡ of) × IsOrdinal core of
 
-abbrev IsItem : Core → Sees → Item → Type 0
+abbrev pub IsItem : Core → Sees → Item → Type 0
 IsItem core sees (plain e) = Has IsText core sees e
 IsItem core sees (padded e width) = Has IsText core sees e × Has IsInteger core sees width
 
-abbrev IsTarget : (Core → TypeId → Type 0) → Core → Sees → Target → Type 0
+abbrev pub IsTarget : (Core → TypeId → Type 0) → Core → Sees → Target → Type 0
 IsTarget Q core sees target = IsTargetOf true Q core sees target.place
 
-abbrev IsVariable : Sees → Core → VariableId → (TypeId → Type 0) → Type 0
+abbrev pub IsVariable : Sees → Core → VariableId → (TypeId → Type 0) → Type 0
 IsVariable sees core id Q = sees.variable id × There core.variables id.0 (λ v. Q v.of)
 
-abbrev IsElementOf : Core → Sees → Expression → Expression → Type 0
+abbrev pub IsElementOf : Core → Sees → Expression → Expression → Type 0
 IsElementOf core sees set e = IsTargetOf false IsSet core sees set × IsTyped core sees e × IsSomeAnd (base_of (type_at core (type_of set))) (λ base. OneType core (type_of e) base)
 
 -- what has a length that can be set
-abbrev IsLength : Core → TypeId → Type 0
+abbrev pub IsLength : Core → TypeId → Type 0
 IsLength core of = IsString core of ⊎ ((element : TypeId) × Kind core of (DynamicArray element))
 
-abbrev IsBuiltIn : Core → Sees → BuiltIn → Type 0
+abbrev pub IsBuiltIn : Core → Sees → BuiltIn → Type 0
 IsBuiltIn core sees (write items ends_line) = All (IsItem core sees) items
 IsBuiltIn core sees (read targets ends_line) = All (IsTarget IsText core sees) targets
 IsBuiltIn core sees (count direction target amount checked) = IsTarget IsOrdinal core sees target × Has IsInteger core sees amount
@@ -95,15 +95,15 @@ IsBuiltIn core sees (str v target) = IsItem core sees v × IsTargetOf false IsSt
 IsBuiltIn core sees (free object empties) = Has IsObject core sees object
 IsBuiltIn core sees (destroy object) = Has IsObject core sees object
 
-abbrev IsLabel : Core → TypeId → Label → Type 0
+abbrev pub IsLabel : Core → TypeId → Label → Type 0
 IsLabel core of label = IsSomeAnd (range_of (type_at core of)) (λ r. Within r label.first × Within r label.last) × (label.first ≤ℤ label.last)
 
-abbrev IsCaught : Core → Sees → ClassId → Option VariableId → Type 0
+abbrev pub IsCaught : Core → Sees → ClassId → Option VariableId → Type 0
 IsCaught core sees c None = Unit {0}
 IsCaught core sees c (Some id) = IsVariable sees core id (λ of. Kind core of (Class c))
 
 -- what `for in` goes over, with its elements' type
-abbrev GivesElements : Core → TypeId → TypeId → Type 0
+abbrev pub GivesElements : Core → TypeId → TypeId → Type 0
 GivesElements core of element = (element_of (type_at core of) ≡ Some element) ⊎ (base_of (type_at core of) ≡ Some element) ⊎ (IsString core of × Kind core element Char)
 
 abbrev mutual

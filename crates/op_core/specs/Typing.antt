@@ -24,7 +24,7 @@ use Rattle.op_core.specs.declared.routine.Owner.TheVariants.{Unit as OfUnit}
 use Rattle.op_core.specs.declared.routine.Parameter.{Parameter}
 use Rattle.op_core.specs.declared.routine.Role.TheVariants.{Object as ObjectRole}
 use Rattle.op_core.specs.declared.types.CoreType.{CoreType}
-use Rattle.op_core.specs.declared.types.CoreType.TheVariants.{Integer, Boolean, Char, String, Set, Record, Array, DynamicArray, OpenArray, Class, Interface, Nil, EmptySet, Nothing}
+use Rattle.op_core.specs.declared.types.CoreType.TheVariants.{Integer, Boolean, Char, String, Subrange, Set, Record, Array, DynamicArray, OpenArray, Class, Interface, Nil, EmptySet, Nothing}
 use Rattle.op_core.specs.declared.types.IntegerKind.TheVariants.{Signed32}
 use Rattle.op_tree.specs.declared.heading.ParameterMode.{ParameterMode}
 use Rattle.op_tree.specs.declared.heading.ParameterMode.TheVariants.{Value, Var, Const_, Out}
@@ -56,6 +56,10 @@ IsBoolean core of = Kind core of Boolean
 
 abbrev pub IsString : Core → TypeId → Type 0
 IsString core of = Kind core of String
+
+-- Chars, and subranges of them
+abbrev pub IsChar : Core → TypeId → Type 0
+IsChar core of = Kind core of Char ⊎ ((base : TypeId) × (low : ℤ) × (high : ℤ) × Kind core of (Subrange base low high) × Kind core base Char)
 
 abbrev pub IsOrdinal : Core → TypeId → Type 0
 IsOrdinal core of = IsSomeAnd (range_of (type_at core of)) (λ r. Unit {0})
@@ -93,7 +97,7 @@ abbrev pub Within : ℤ × ℤ → ℤ → Type 0
 Within r n = (r.0 ≤ℤ n) × (n ≤ℤ r.1)
 
 -- they are values of the base of the set type
-abbrev AreMembers : Core → List ℕ → Option CoreType → Type 0
+abbrev pub AreMembers : Core → List ℕ → Option CoreType → Type 0
 AreMembers core [] (Some EmptySet) = Unit {0}
 AreMembers core members of = IsSomeAnd (base_of of) (λ base. IsSomeAnd (range_of (type_at core base)) (λ r. All (λ n. Within r (pos n)) members))
 
@@ -106,12 +110,18 @@ Fits core NilOf of = IsReference core of
 
 -- ---- conversions and operations
 
+-- sets, also the empty one, whose elements are of no type
+abbrev pub is_set : Option CoreType → Bool
+is_set (Some (Set base)) = true
+is_set (Some EmptySet) = true
+is_set _ = false
+
 -- one type to another of the same values, where no test is needed
 abbrev pub IsUp : Core → Option CoreType → Option CoreType → Type 0
 IsUp core (Some (Class c)) (Some (Class d)) = Descends core c d
 IsUp core (Some (Interface i)) (Some (Interface j)) = Extends core i j
 IsUp core (Some Nil) (Some t) = IsTrue (is_reference (Some t))
-IsUp core (Some EmptySet) (Some (Set base)) = Unit {0}
+IsUp core (Some EmptySet) (Some t) = IsTrue (is_set (Some t))
 IsUp core _ _ = ⊥
 
 abbrev pub IsWider : Option (ℤ × ℤ) → Option (ℤ × ℤ) → Type 0
@@ -136,33 +146,33 @@ abbrev pub Converts : Core → Conversion → TypeId → TypeId → Type 0
 Converts core Keep from to = OneType core from to ⊎ IsUp core (type_at core from) (type_at core to) ⊎ IsWider (range_of (type_at core from)) (range_of (type_at core to))
 Converts core LowBits from to = IsOrdinal core from × IsOrdinal core to
 Converts core Check from to = (IsOrdinal core from × IsOrdinal core to) ⊎ (IsSet core from × IsSet core to)
-Converts core ToString from to = Kind core from Char × IsString core to
+Converts core ToString from to = IsChar core from × IsString core to
 Converts core ToInterface from to = IsImplemented core (type_at core from) (type_at core to)
 Converts core Instance from to = IsInstance (type_at core from) × IsInstance (type_at core to)
 
 -- both sides and what comes out
-abbrev All3 : (TypeId → Type 0) → TypeId → TypeId → TypeId → Type 0
+abbrev pub All3 : (TypeId → Type 0) → TypeId → TypeId → TypeId → Type 0
 All3 Q a b to = Q a × Q b × Q to
 
-abbrev OnSets : Core → TypeId → TypeId → TypeId → Type 0
-OnSets core a b to = IsSet core a × (a ≡ b) × (a ≡ to)
+abbrev pub OnSets : Core → TypeId → TypeId → TypeId → Type 0
+OnSets core a b to = IsTrue (is_set (type_at core a)) × (a ≡ b) × (a ≡ to)
 
-abbrev Both : (TypeId → Type 0) → TypeId → TypeId → Type 0
+abbrev pub Both : (TypeId → Type 0) → TypeId → TypeId → Type 0
 Both Q a b = Q a × Q b
 
-abbrev AreOrdered : Core → TypeId → TypeId → Type 0
+abbrev pub AreOrdered : Core → TypeId → TypeId → Type 0
 AreOrdered core a b = Both (IsOrdinal core) a b ⊎ Both (IsString core) a b
 
-abbrev AreSets : Core → TypeId → TypeId → Type 0
-AreSets core a b = IsSet core a × (a ≡ b)
+abbrev pub AreSets : Core → TypeId → TypeId → Type 0
+AreSets core a b = IsTrue (is_set (type_at core a)) × (a ≡ b)
 
-abbrev Equates : Core → TypeId → TypeId → TypeId → Type 0
+abbrev pub Equates : Core → TypeId → TypeId → TypeId → Type 0
 Equates core a b to = (AreOrdered core a b ⊎ AreSets core a b ⊎ Both (IsReference core) a b) × IsBoolean core to
 
-abbrev Includes : Core → TypeId → TypeId → TypeId → Type 0
+abbrev pub Includes : Core → TypeId → TypeId → TypeId → Type 0
 Includes core a b to = (AreOrdered core a b ⊎ AreSets core a b) × IsBoolean core to
 
-abbrev Combines : Core → TypeId → TypeId → TypeId → Type 0
+abbrev pub Combines : Core → TypeId → TypeId → TypeId → Type 0
 Combines core a b to = All3 (IsInteger core) a b to ⊎ All3 (IsBoolean core) a b to
 
 abbrev pub Operates : Core → Operator → TypeId → TypeId → TypeId → Type 0
@@ -190,7 +200,7 @@ Prefixes core Not of = IsInteger core of ⊎ IsBoolean core of
 Prefixes core Plus of = IsInteger core of
 Prefixes core Minus of = IsInteger core of
 
--- Low of an array is of its index type, or an Integer
+-- Low of an array is of its index type, or an Integer; that of an ordinal value is of the value's type
 abbrev pub bound_of : Option CoreType → Option TypeId
 bound_of (Some (Array at element)) = Some at
 bound_of _ = None
@@ -198,10 +208,13 @@ bound_of _ = None
 abbrev pub IsSequence : Core → TypeId → Type 0
 IsSequence core of = IsString core of ⊎ IsSomeAnd (element_of (type_at core of)) (λ element. Unit {0})
 
+abbrev pub HasBounds : Core → TypeId → TypeId → Type 0
+HasBounds core from to = IsSequence core from × (IsInteger core to ⊎ (bound_of (type_at core from) ≡ Some to))
+
 abbrev pub Applies : Core → Function → TypeId → TypeId → Type 0
 Applies core Length from to = IsSequence core from × IsInteger core to
-Applies core Low from to = IsSequence core from × (IsInteger core to ⊎ (bound_of (type_at core from) ≡ Some to))
-Applies core High from to = IsSequence core from × (IsInteger core to ⊎ (bound_of (type_at core from) ≡ Some to))
+Applies core Low from to = HasBounds core from to ⊎ (IsOrdinal core from × (from ≡ to))
+Applies core High from to = HasBounds core from to ⊎ (IsOrdinal core from × (from ≡ to))
 Applies core Ord from to = IsOrdinal core from × IsInteger core to
 Applies core Succ from to = IsOrdinal core from × (from ≡ to)
 Applies core Pred from to = IsOrdinal core from × (from ≡ to)
@@ -275,7 +288,7 @@ Opens core outer of = IsSomeAnd (element_of (type_at core outer)) (λ a. IsSomeA
 -- what a call gives
 abbrev pub GivesType : Core → Option TypeId → TypeId → Type 0
 GivesType core None of = Kind core of Nothing
-GivesType core (Some result) of = result ≡ of
+GivesType core (Some result) of = OneType core result of
 
 abbrev mutual
   pub IsTyped : Core → Sees → Expression → Type 0
@@ -331,4 +344,4 @@ abbrev mutual
   IsArgument core sees p (value e) = IsValue core sees p.of e × (takes_place p.mode ≡ false)
   IsArgument core sees p (place e) = IsValue core sees p.of e × (takes_place p.mode ≡ true) × IsTrue (is_place false core e)
   IsArgument core sees p (array e) = IsTyped core sees e × Opens core p.of (type_of e)
-  IsArgument core sees p (listed of es) = (p.of ≡ of) × (takes_place p.mode ≡ false) × IsSomeAnd (element_of (type_at core of)) (λ element. AreValues core sees element es)
+  IsArgument core sees p (listed of es) = OneType core p.of of × (takes_place p.mode ≡ false) × IsSomeAnd (element_of (type_at core of)) (λ element. AreValues core sees element es)

@@ -1,5 +1,5 @@
 -- What constant expressions are, what they evaluate to, and the rules that they break.
-use Rattle.std.specs.Prelude.{◌≡◌, ◌⊎◌, ℕ, ℤ, pos, neg_ℤ, Bool, true, List, [], ◌∷◌, Option, Some, None, is_some, Result, Ok, Err}
+use Rattle.std.specs.Prelude.{◌≡◌, ◌⊎◌, ℕ, ℤ, pos, neg_ℤ, ◌%◌, Bool, true, List, [], ◌∷◌, Option, Some, None, is_some, Result, Ok, Err}
 use Rattle.op_base.specs.declared.place.Place.{Place}
 use Rattle.op_base.specs.declared.rule.Refusal.{Refusal}
 use Rattle.op_core.specs.Relations.{At, Either, Entry, Fails, IsFirstOf, Lacks, Never, NoneBroken, Only, Through, Where}
@@ -49,7 +49,7 @@ NumeralBreaks place n = Lacks (within n) 36 place
 
 -- a text of one byte is a Char until a string is needed
 abbrev pub LiteralIs : List ℕ → Constant → Type 0
-LiteralIs (b ∷ []) = Only (made (Ordinal (pos b)) table.char (nodes 1))
+LiteralIs (b ∷ []) = Only (made (Ordinal (pos (b % 256))) table.char (nodes 1))
 LiteralIs text = Only (made (Text text) table.string (nodes 1))
 
 -- ---- operators
@@ -418,3 +418,9 @@ Folds core names e (Ok None) =
     ⊎ (IsConstant core names e × Without (Evaluates core names e) × NoneBroken (ConstantBreaks core names e) × IsSpoiled names e)
 Folds core names e (Err (Refused r)) = IsConstant core names e × IsFirstOf (ConstantBreaks core names e) r
 Folds core names e (Err NoMemory) = Unit {0}
+
+-- ---- names whose declarations break no rule
+
+-- a spoiled name has no meaning, and of it its declaration has spoken
+abbrev pub Unspoiled : List Named → Type 0
+Unspoiled names = (key : List ℕ) → meaning_of names key ≡ Some Spoiled → ⊥

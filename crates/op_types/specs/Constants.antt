@@ -1,5 +1,5 @@
 -- What constant expressions mean: a constant, or the rules that they break.
-use Rattle.std.specs.Prelude.{◌≡◌, ℕ, ℤ, pos, neg_ℤ, ◌+◌, Bool, true, false, List, [], ◌∷◌, ◌++◌, codes, Option, Some, None, Result, Ok, Err, is_some, if◌then◌else◌}
+use Rattle.std.specs.Prelude.{◌≡◌, ℕ, ℤ, pos, neg_ℤ, ◌+◌, ◌%◌, Bool, true, false, List, [], ◌∷◌, ◌++◌, codes, Option, Some, None, Result, Ok, Err, is_some, if◌then◌else◌}
 use Rattle.std.specs.Option.{option_and_then, option_map}
 use Rattle.op_base.specs.declared.place.Place.{Place}
 use Rattle.op_core.specs.Faults.{Faults, none, both, Checked, FirstIs, after, by_entry, by_test, fine, kept, refused, untyped, with_part}
@@ -81,8 +81,8 @@ abbrev pub entered : ℕ → Place → TypeId → Weight → Option Const → Ch
 entered rule place of w v = by_entry rule place (λ v. fine (made v of w)) v
 
 -- a text of one byte is a Char until a string is needed
-abbrev text_constant : List ℕ → Constant
-text_constant (b ∷ []) = made (Ordinal (pos b)) table.char (nodes 1)
+abbrev pub text_constant : List ℕ → Constant
+text_constant (b ∷ []) = made (Ordinal (pos (b % 256))) table.char (nodes 1)
 text_constant text = made (Text text) table.string (nodes 1)
 
 -- with selectors it is none
@@ -285,7 +285,7 @@ in_brackets c = after c.faults (with_part (λ a. fine (made a.value a.of (joined
 abbrev pub prefixed_means : Core → Place → PrefixOperator → Checked Constant → Checked Constant
 prefixed_means core place o c = after c.faults (with_part (prefix_means core place o) c.typed)
 
-abbrev or_number : Option (ℕ × Place) → Option (Checked Constant) → Option (Checked Constant)
+abbrev pub or_number : Option (ℕ × Place) → Option (Checked Constant) → Option (Checked Constant)
 or_number None c = c
 or_number (Some n) c = Some (numeral n.1 2 (neg_ℤ (pos n.0)))
 

@@ -9,7 +9,7 @@ use Rattle.op_core.specs.declared.program.Core.{Core}
 use Rattle.op_core.specs.declared.types.CoreType.{CoreType}
 use Rattle.op_core.specs.declared.types.CoreType.TheVariants as type
 use Rattle.op_tree.specs.declared.operator.Operator.{Operator}
-use Rattle.op_tree.specs.declared.operator.Operator.TheVariants.{Add, Subtract, Multiply}
+use Rattle.op_tree.specs.declared.operator.Operator.TheVariants.{Add, Subtract}
 use Rattle.op_types.specs.Sorts.{kind_of, sort_of}
 use Rattle.op_types.specs.declared.sort.OrdinalKind.{OrdinalKind}
 use Rattle.op_types.specs.declared.sort.OrdinalKind.TheVariants.{Integer, Boolean, Char, Enumeration}
@@ -30,14 +30,15 @@ is_set_of base _ = false
 abbrev pub set_behind : Core → TypeId → Option TypeId
 set_behind core base = if is_set_of base (type_at core (behind base 1)) then Some (behind base 1) else None
 
--- The set type of the values 0 to 31 of a kind. Behind a larger enumeration the subrange of these values stands in between.
+-- The set type of the values 0 to 31 of a kind. Behind a larger enumeration the subrange of these values stands in between. Where
+-- the number of that row is too large there is no such type, and sets of integers stand in for it.
 abbrev pub widest_set : Core → OrdinalKind → TypeId
 widest_set core Integer = id 12
 widest_set core Char = id 14
 widest_set core Boolean = id 15
-widest_set core (Enumeration of) = unwrap_or (set_behind core of) (behind of 2)
+widest_set core (Enumeration of) = unwrap_or (set_behind core of) (unwrap_or (set_behind core (behind of 1)) (id 12))
 
-abbrev widest_of : Core → Option OrdinalKind → TypeId
+abbrev pub widest_of : Core → Option OrdinalKind → TypeId
 widest_of core None = id 10
 widest_of core (Some kind) = widest_set core kind
 
@@ -45,7 +46,7 @@ widest_of core (Some kind) = widest_set core kind
 abbrev pub set_over : Core → TypeId → TypeId
 set_over core of = unwrap_or (set_behind core of) (widest_of core (kind_of core of))
 
-abbrev common_by : Core → TypeId → TypeId → Sort → Sort → TypeId
+abbrev pub common_by : Core → TypeId → TypeId → Sort → Sort → TypeId
 common_by core a b EmptySet s = b
 common_by core a b (Set kind) (Set other) = if is_same a b then a else widest_set core kind
 common_by core a b s t = a

@@ -12,14 +12,14 @@ use Rattle.op_types.specs.declared.sort.Sort.{Sort}
 use Rattle.op_types.specs.declared.sort.Sort.TheVariants.{Ordinal, String, Set, EmptySet, DynamicArray, Class, Interface, Nil, Other}
 
 -- the type of which this one is a subrange, or the type itself
-abbrev root_by : TypeId → Option CoreType → TypeId
+abbrev pub root_by : TypeId → Option CoreType → TypeId
 root_by of (Some (type.Subrange base low high)) = base
 root_by of _ = of
 
 abbrev pub root_of : Core → TypeId → TypeId
 root_of core of = root_by of (type_at core of)
 
-abbrev kind_by : TypeId → Option CoreType → Option OrdinalKind
+abbrev pub kind_by : TypeId → Option CoreType → Option OrdinalKind
 kind_by of (Some (type.Integer kind)) = Some Integer
 kind_by of (Some type.Boolean) = Some Boolean
 kind_by of (Some type.Char) = Some Char
@@ -30,11 +30,11 @@ kind_by of _ = None
 abbrev pub kind_of : Core → TypeId → Option OrdinalKind
 kind_of core of = kind_by (root_of core of) (type_at core (root_of core of))
 
-abbrev by_kind : (OrdinalKind → Sort) → Option OrdinalKind → Sort
+abbrev pub by_kind : (OrdinalKind → Sort) → Option OrdinalKind → Sort
 by_kind sort (Some kind) = sort kind
 by_kind sort None = Other
 
-abbrev sort_by : Core → TypeId → Option CoreType → Sort
+abbrev pub sort_by : Core → TypeId → Option CoreType → Sort
 sort_by core of (Some type.String) = String
 sort_by core of (Some (type.Set base)) = by_kind Set (kind_of core base)
 sort_by core of (Some (type.DynamicArray element)) = DynamicArray

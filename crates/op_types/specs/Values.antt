@@ -158,7 +158,7 @@ abbrev pub index_by : TypeId → Option CoreType → TypeId
 index_by of (Some (type.Array index element)) = index
 index_by of _ = of
 
-abbrev end_by : Function → ℤ × ℤ → ℤ
+abbrev pub end_by : Function → ℤ × ℤ → ℤ
 end_by Low r = r.0
 end_by _ r = r.1
 

@@ -43,7 +43,10 @@ pub fn widest_set(core: &Core, kind: OrdinalKind) -> TypeId
         OrdinalKind::Boolean => TypeId::SET_OF_BOOLEANS,
         OrdinalKind::Enumeration(of) => match set_behind(core, of) {
             Some(set) => set,
-            None => behind(of, 2),
+            None => match set_behind(core, behind(of, 1)) {
+                Some(set) => set,
+                None => behind(TypeId::SMALL_INTEGERS, 1),
+            },
         },
     }
 }

@@ -1,4 +1,4 @@
-use Rattle.std.proofs.Common.{◌≡◌, ◌∷◌, [], ◌++◌, ◌+◌, IfOk, inl, inr, Option, Some, None, List, drop, refl, ap, sym, subst, ◌∙◌}
+use Rattle.std.proofs.Common.{◌≡◌, ◌∷◌, [], ◌++◌, ◌+◌, IfOk, Option, Some, None, List, drop, refl, ap, sym, subst, ◌∙◌}
 use Rattle.std.specs.Option.{option_map}
 use Rattle.op_check_expr.specs.Scopes.{Here, here_of}
 use Rattle.op_check_expr.specs.Words.{Reports}
@@ -7,14 +7,15 @@ use Rattle.op_check_expr.specs.declared.scope.Around.TheVariants.{Loop, Handler,
 use Rattle.op_check_stmt.proofs.Parts.{Completes, begins, both_views, distinct_viewed, ends, fact, joins, next, node, node_ok, noted, one, pairs, same, seen, then}
 use Rattle.std.proofs.lemmas.List.{append-nil}
 use Rattle.op_check_stmt.specs.Parts.{branches_in}
-use Rattle.op_check_expr.specs.Words.{followed}
+use Rattle.op_base.specs.declared.place.Place.{Place}
+use Rattle.op_check_expr.specs.Words.{changed, followed, left_out}
 use Rattle.op_core.specs.Statement.{Statements, Branches}
 use Rattle.op_core.specs.declared.first_refusal.FirstRefusal.{FirstRefusal}
 use Rattle.op_core.specs.declared.statement.CoreBranch.{CoreBranch}
 use Rattle.op_check_stmt.proofs.Rows.{all_branches, all_statements, next_branch, next_statement, none_left}
 use Rattle.op_check_stmt.specs.Cases.{distinct, labels, selector, spots}
-use Rattle.op_check_stmt.specs.Parts.{bounds_of, branch_of, head_of, items_of, paired, statements_in}
-use Rattle.op_check_stmt.specs.Statements.{all_spots, assign_means, bound_of, branches, case_statement, condition, for_statement, handlers_mean, head_means, statement, statements, try_all, type_in, with_branch}
+use Rattle.op_check_stmt.specs.Parts.{bounds_of, branch_of, head_of, items_of, of_two, paired, statements_in}
+use Rattle.op_check_stmt.specs.Statements.{all_spots, assign_means, bound_of, branches, case_statement, condition, first_class, for_statement, head_means, statement, statements, tried, try_all, type_in, with_branch, within}
 use Rattle.op_check_stmt.specs.Variables.{counter}
 use Rattle.op_check_stmt.specs.declared.variable.Counter.{Counter}
 use Rattle.op_core.specs.Expression.{Expression, expr_of as typed_of}
@@ -27,6 +28,9 @@ use Rattle.op_tree.specs.Expression.{expr_of}
 use Rattle.op_tree.specs.Lists.{branches_of, handlers_of}
 use Rattle.op_tree.specs.declared.expression.Expr.{Expr}
 use Rattle.op_tree.specs.Statement.{designator_of, elements_of, stmt_of, stmts_of}
+use Rattle.op_tree.specs.declared.statement.Handler.{Handler as OnHandler}
+use Rattle.op_tree.specs.declared.statement.Stmt.{Stmt}
+use Rattle.op_tree.specs.declared.statement.Stmt.TheVariants.{TryOn, TryOnElse}
 use Rattle.std.specs.Prelude.{Vec}
 use Rattle.std.specs.declared.alloc.Global.{Global}
 use Rattle.op_check_stmt.proofs.walk.+statements.Goals as goal
@@ -48,15 +52,15 @@ moved here around = record here { around = around }
 head_of_selector : (here : Here) (bs : Rattle.op_tree.specs.Statement.Branches) (old new : FirstRefusal) (t : Option (Expression × Branches)) {a b : Expr} → a ≡ b → Reports (head_at here bs a) old new t → Reports (head_at here bs b) old new t
 head_of_selector here bs old new t is = subst (λ e. Reports (head_at here bs e) old new t) is
 
-pub statement-returns-in_ok-statements-in-Block : goal.statement-returns-in_ok-statements-in-Block
-statement-returns-in_ok-statements-in-Block t c =
+pub statement-returns-in-Block : goal.statement-returns-in-Block
+statement-returns-in-Block t c =
     let here = here_of c.args.here.scope in
     subst (λ s. Reports (statement here s) c.args.sink.now c.statements.new.sink (option_map typed_statement c.block.result)) (sym (ap stmt_of c.in-Block.is ∙ block_says c.in-Block.list))
     (one block (statements here (stmts_of c.in-Block.list.items)) c.args.sink.now c.statements.new.sink (statements_in c.in_ok-statements-in-Block.field-0) (option_map typed_statement c.block.result)
     (subst (λ ss. Reports (statements here (stmts_of ss)) c.args.sink.now c.statements.new.sink (statements_in c.in_ok-statements-in-Block.field-0)) c.deref.ensures.value c.in_ok-statements-in-Block.ensures) c.block.ensures)
 
-pub statement-returns-in_ok-parts-in-If : goal.statement-returns-in_ok-parts-in-If
-statement-returns-in_ok-parts-in-If t c =
+pub statement-returns-in-If : goal.statement-returns-in-If
+statement-returns-in-If t c =
     let here = here_of c.args.here.scope in
     let e = condition here (expr_of c.in-If.condition) in
     let body = statement here (stmt_of c.in-If.then.value) in
@@ -70,8 +74,8 @@ statement-returns-in_ok-parts-in-If t c =
     (sym c.joined.ensures ∙ c.in_ok-parts-in-If.was))
     c.if_then.ensures)
 
-pub statement-returns-in_ok-parts-in-IfElse : goal.statement-returns-in_ok-parts-in-IfElse
-statement-returns-in_ok-parts-in-IfElse t c =
+pub statement-returns-in-IfElse : goal.statement-returns-in-IfElse
+statement-returns-in-IfElse t c =
     let here = here_of c.args.here.scope in
     let e = condition here (expr_of c.in-IfElse.condition) in
     let then = statement here (stmt_of c.in-IfElse.then.value) in
@@ -90,8 +94,8 @@ statement-returns-in_ok-parts-in-IfElse t c =
     (sym c.joined-in-IfElse-2.ensures ∙ c.in_ok-parts-in-IfElse.was))
     c.if_else.ensures)
 
-pub statement-returns-in_ok-head-in-Case : goal.statement-returns-in_ok-head-in-Case
-statement-returns-in_ok-head-in-Case t c =
+pub statement-returns-in-Case : goal.statement-returns-in-Case
+statement-returns-in-Case t c =
     let here = here_of c.args.here.scope in
     let e = selector here (expr_of c.in-Case.selector.value) in
     let head = λ (bs : Rattle.op_tree.specs.Statement.Branches). head_means here bs e (branches here (type_in e.typed) bs) in
@@ -107,8 +111,8 @@ statement-returns-in_ok-head-in-Case t c =
     c.pair.ensures)
     c.case_of.ensures)
 
-pub statement-returns-in_ok-parts-in-CaseElse : goal.statement-returns-in_ok-parts-in-CaseElse
-statement-returns-in_ok-parts-in-CaseElse t c =
+pub statement-returns-in-CaseElse : goal.statement-returns-in-CaseElse
+statement-returns-in-CaseElse t c =
     let here = here_of c.args.here.scope in
     let e = selector here (expr_of c.in-CaseElse.selector.value) in
     let head = λ (bs : Rattle.op_tree.specs.Statement.Branches). head_means here bs e (branches here (type_in e.typed) bs) in
@@ -126,8 +130,8 @@ statement-returns-in_ok-parts-in-CaseElse t c =
     (sym c.joined-in-CaseElse.ensures ∙ c.in_ok-parts-in-CaseElse.was))
     c.case_of-in-CaseElse.ensures)
 
-pub statement-returns-in_ok-parts-in-While : goal.statement-returns-in_ok-parts-in-While
-statement-returns-in_ok-parts-in-While t c =
+pub statement-returns-in-While : goal.statement-returns-in-While
+statement-returns-in-While t c =
     let here = here_of c.args.here.scope in
     let inner = moved here (here.around ++ Loop None ∷ []) in
     let e = condition here (expr_of c.in-While.condition) in
@@ -144,8 +148,8 @@ statement-returns-in_ok-parts-in-While t c =
     (sym c.joined-in-While.ensures ∙ c.in_ok-parts-in-While.was))
     c.while_do.ensures)
 
-pub statement-returns-in_ok-parts-in-Repeat : goal.statement-returns-in_ok-parts-in-Repeat
-statement-returns-in_ok-parts-in-Repeat t c =
+pub statement-returns-in-Repeat : goal.statement-returns-in-Repeat
+statement-returns-in-Repeat t c =
     let here = here_of c.args.here.scope in
     let inner = moved here (here.around ++ Loop None ∷ []) in
     let body = statements inner (stmts_of c.in-Repeat.body.items) in
@@ -163,8 +167,8 @@ statement-returns-in_ok-parts-in-Repeat t c =
     (sym c.joined-in-Repeat.ensures ∙ c.in_ok-parts-in-Repeat.was))
     c.repeat_until.ensures)
 
-pub statement-returns-in_ok-parts-in-For : goal.statement-returns-in_ok-parts-in-For
-statement-returns-in_ok-parts-in-For t c =
+pub statement-returns-in-For : goal.statement-returns-in-For
+statement-returns-in-For t c =
     let here = here_of c.args.here.scope in
     let k = counter here c.in-For.variable in
     let inner = λ (k : Option Counter). moved here (here.around ++ Loop (option_map (λ c. c.variable) k) ∷ []) in
@@ -191,8 +195,8 @@ statement-returns-in_ok-parts-in-For t c =
     (sym c.joined-in-For-2.ensures ∙ c.in_ok-parts-in-For.was))
     c.for_to.ensures)
 
-pub statement-returns-in_ok-joined-in-TryFinally : goal.statement-returns-in_ok-joined-in-TryFinally
-statement-returns-in_ok-joined-in-TryFinally t c =
+pub statement-returns-in-TryFinally : goal.statement-returns-in-TryFinally
+statement-returns-in-TryFinally t c =
     let here = here_of c.args.here.scope in
     let inner = moved here (here.around ++ Finally ∷ []) in
     let body = statements here (stmts_of c.in-TryFinally.body.items) in
@@ -210,8 +214,8 @@ statement-returns-in_ok-joined-in-TryFinally t c =
     (sym c.joined-in-TryFinally.ensures ∙ c.in_ok-joined-in-TryFinally.was))
     c.try_finally.ensures)
 
-pub statement-returns-in_ok-joined-in-TryExcept : goal.statement-returns-in_ok-joined-in-TryExcept
-statement-returns-in_ok-joined-in-TryExcept t c =
+pub statement-returns-in-TryExcept : goal.statement-returns-in-TryExcept
+statement-returns-in-TryExcept t c =
     let here = here_of c.args.here.scope in
     let inner = moved here (here.around ++ Handler ∷ []) in
     let body = statements here (stmts_of c.in-TryExcept.body.items) in
@@ -233,8 +237,8 @@ pub statement-returns-in-Call : goal.statement-returns-in-Call
 statement-returns-in-Call t c =
     subst (λ s. IfOk c.call.result (λ r. Reports (statement (here_of c.args.here.scope) s) c.args.sink.now c.call.new.sink (option_map typed_statement r))) (sym (ap stmt_of c.in-Call.is)) c.call.ensures
 
-pub statement-returns-in-Assign : goal.statement-returns-in-Assign
-statement-returns-in-Assign t c =
+pub statement-returns : goal.statement-returns
+statement-returns t c =
     subst (λ s. IfOk c.assignment.result (λ r. Reports (statement (here_of c.args.here.scope) s) c.args.sink.now c.assignment.new.sink (option_map typed_statement r))) (sym (ap stmt_of c.in-Assign.is))
     (subst (λ e. IfOk c.assignment.result (λ r. Reports (assign_means (here_of c.args.here.scope) (designator_of c.in-Assign.target) c.in-Assign.position (expr_of e)) c.args.sink.now c.assignment.new.sink (option_map typed_statement r))) c.deref-in-Assign.ensures c.assignment.ensures)
 
@@ -333,19 +337,71 @@ case_head-returns t c =
     (sym c.joined.ensures ∙ c.in_ok-head.was))
     c.distinct.ensures)
 
-pub statement-returns-in_ok-statements-in-TryOn : goal.statement-returns-in_ok-statements-in-TryOn
-statement-returns-in_ok-statements-in-TryOn t c =
+-- what a statement with handlers means
+tried_on : (here : Here) (s : Stmt) (body : Vec Stmt Global) (hs : Vec OnHandler Global) (o : Option Place) → s ≡ TryOn body hs → first_class (handlers_of hs.items) ≡ o → statement here (stmt_of s) ≡ tried o (statements here (stmts_of body.items)) (changed block (statements here (stmts_of body.items)))
+tried_on here s body hs o e f =
+    ap (λ s. statement here (stmt_of s)) e ∙ ap (statement here) (try_on_says body hs) ∙ ap (λ o. tried o (statements here (stmts_of body.items)) (changed block (statements here (stmts_of body.items)))) f
+
+tried_else : (here : Here) (s : Stmt) (body : Vec Stmt Global) (hs : Vec OnHandler Global) (others : Vec Stmt Global) (o : Option Place) → s ≡ TryOnElse body hs others → first_class (handlers_of hs.items) ≡ o → statement here (stmt_of s) ≡ tried o (statements here (stmts_of body.items)) (of_two try_all (statements here (stmts_of body.items)) (statements (within here Handler) (stmts_of others.items)))
+tried_else here s body hs others o e f =
+    ap (λ s. statement here (stmt_of s)) e ∙ ap (statement here) (try_on_else_says body hs others)
+    ∙ ap (λ o. tried o (statements here (stmts_of body.items)) (of_two try_all (statements here (stmts_of body.items)) (statements (within here Handler) (stmts_of others.items)))) f
+
+-- handlers that are left out, behind their body
+left_behind : (here : Here) (ss : List Stmt) (place : Place) (old mid new : FirstRefusal) (body : Option (Vec CoreStmt Global)) (t : Option CoreStmt) → Reports (statements here (stmts_of ss)) old mid (statements_in body) → Reports (left_out 44 place) mid new t → Reports (followed (statements here (stmts_of ss)) (λ ss. left_out 44 place)) old new (option_map typed_statement t)
+left_behind here ss place old mid new body t h k = then (statements here (stmts_of ss)) (λ ss. left_out 44 place) old mid new (statements_in body) (option_map typed_statement t) h (ap (option_map typed_statement) k.0, k.1)
+
+pub statement-returns-in-None : goal.statement-returns-in-None
+statement-returns-in-None t c =
     let here = here_of c.args.here.scope in
-    let body = statements here (stmts_of c.in-TryOn.body.items) in
     let old = c.args.sink.now in
     let mid = c.statements-in-TryOn.new.sink in
-    let new = c.leave_out_handlers.new.sink in
-    let is : statement here (stmt_of c.args.s.now) ≡ followed body (λ ss. handlers_mean (handlers_of c.in-TryOn.handlers.items)) =
-    elim c.in-TryOn.is [
-      | inl e ↦ ap (λ s. statement here (stmt_of s)) e ∙ ap (statement here) (try_on_says c.in-TryOn.body c.in-TryOn.handlers)
-      | inr e ↦ ap (λ s. statement here (stmt_of s)) e.1 ∙ ap (statement here) (try_on_else_says c.in-TryOn.body c.in-TryOn.handlers e.0)
-    ] in
-    subst (λ m. Reports m old new (option_map typed_statement c.leave_out_handlers.result)) (sym is)
-    (then body (λ ss. handlers_mean (handlers_of c.in-TryOn.handlers.items)) old mid new (statements_in c.in_ok-statements-in-TryOn.field-0) (option_map typed_statement c.leave_out_handlers.result)
-    (subst (λ ss. Reports (statements here (stmts_of ss)) old mid (statements_in c.in_ok-statements-in-TryOn.field-0)) c.deref-in-TryOn.ensures.value c.in_ok-statements-in-TryOn.ensures)
-    (subst (λ hs. Reports (handlers_mean (handlers_of hs)) mid new (option_map typed_statement c.leave_out_handlers.result)) c.deref-in-TryOn-2.ensures.value c.leave_out_handlers.ensures))
+    let body = c.in_ok-body-in-TryOn.body in
+    let hs = ap (λ hs. first_class (handlers_of hs)) c.deref-in-TryOn-2.ensures.value in
+    subst (λ m. Reports m old mid (option_map typed_statement c.block-in-None.result)) (sym (tried_on here c.args.s.now c.in-TryOn.body c.in-TryOn.handlers None c.in-TryOn.is (sym hs ∙ sym c.first_class.ensures ∙ c.in-None.is)))
+    (one block (statements here (stmts_of c.in-TryOn.body.items)) old mid (statements_in body) (option_map typed_statement c.block-in-None.result)
+    (subst (λ ss. Reports (statements here (stmts_of ss)) old mid (statements_in body)) c.deref-in-TryOn.ensures.value c.in_ok-body-in-TryOn.ensures) c.block-in-None.ensures)
+
+pub statement-returns-in-TryOn : goal.statement-returns-in-TryOn
+statement-returns-in-TryOn t c =
+    let here = here_of c.args.here.scope in
+    let old = c.args.sink.now in
+    let mid = c.statements-in-TryOn.new.sink in
+    let new = c.leave_out-in-Some.new.sink in
+    let body = c.in_ok-body-in-TryOn.body in
+    let hs = ap (λ hs. first_class (handlers_of hs)) c.deref-in-TryOn-2.ensures.value in
+    subst (λ m. Reports m old new (option_map typed_statement c.leave_out-in-Some.result)) (sym (tried_on here c.args.s.now c.in-TryOn.body c.in-TryOn.handlers (Some c.in-Some.place) c.in-TryOn.is (sym hs ∙ sym c.first_class.ensures ∙ c.in-Some.is)))
+    (left_behind here c.in-TryOn.body.items c.in-Some.place old mid new body c.leave_out-in-Some.result
+    (subst (λ ss. Reports (statements here (stmts_of ss)) old mid (statements_in body)) c.deref-in-TryOn.ensures.value c.in_ok-body-in-TryOn.ensures) c.leave_out-in-Some.ensures)
+
+pub statement-returns-in-None-first_class : goal.statement-returns-in-None-first_class
+statement-returns-in-None-first_class t c =
+    let here = here_of c.args.here.scope in
+    let inner = moved here (here.around ++ Handler ∷ []) in
+    let body = statements here (stmts_of c.in-TryOnElse.body.items) in
+    let rest = statements inner (stmts_of c.in-TryOnElse.otherwise.items) in
+    let old = c.args.sink.now in
+    let mid = c.statements-in-TryOnElse.new.sink in
+    let new = c.statements-last-in-None-first_class.new.sink in
+    let hs = ap (λ hs. first_class (handlers_of hs)) c.deref-in-TryOnElse-2.ensures.value in
+    subst (λ m. Reports m old new (option_map typed_statement c.try_except-in-None-first_class.result)) (sym (tried_else here c.args.s.now c.in-TryOnElse.body c.in-TryOnElse.handlers c.in-TryOnElse.otherwise None c.in-TryOnElse.is (sym hs ∙ sym c.first_class-in-TryOnElse.ensures ∙ c.in-None-first_class.is)))
+    (node (both_views listed listed) try_all body rest old new c.in_ok-joined-in-None-first_class.field-0 (option_map typed_statement c.try_except-in-None-first_class.result)
+    (joins listed listed body rest old mid new c.in_ok-body-in-TryOnElse.body c.statements-last-in-None-first_class.result c.in_ok-joined-in-None-first_class.field-0
+    (subst (λ ss. Reports (statements here (stmts_of ss)) old mid (statements_in c.in_ok-body-in-TryOnElse.body)) c.deref-in-TryOnElse.ensures.value c.in_ok-body-in-TryOnElse.ensures)
+    (subst (λ h. IfOk c.statements-last-in-None-first_class.result (λ y. Reports (statements h (stmts_of c.in-TryOnElse.otherwise.items)) mid new (statements_in y)))
+    (c.inside-in-None-first_class.ensures ∙ ap (moved here) (c.as_slice-in-None-first_class.ensures.value ∙ c.in_ok-around-in-TryOnElse.ensures))
+    (subst (λ ss. IfOk c.statements-last-in-None-first_class.result (λ y. Reports (statements (here_of c.inside-in-None-first_class.result.scope) (stmts_of ss)) mid new (statements_in y))) c.deref-in-None-first_class.ensures.value c.statements-last-in-None-first_class.ensures))
+    (sym c.joined-in-None-first_class.ensures ∙ c.in_ok-joined-in-None-first_class.was))
+    c.try_except-in-None-first_class.ensures)
+
+pub statement-returns-in-TryOnElse : goal.statement-returns-in-TryOnElse
+statement-returns-in-TryOnElse t c =
+    let here = here_of c.args.here.scope in
+    let old = c.args.sink.now in
+    let mid = c.statements-in-TryOnElse.new.sink in
+    let new = c.leave_out-in-Some-first_class.new.sink in
+    let body = c.in_ok-body-in-TryOnElse.body in
+    let hs = ap (λ hs. first_class (handlers_of hs)) c.deref-in-TryOnElse-2.ensures.value in
+    subst (λ m. Reports m old new (option_map typed_statement c.leave_out-in-Some-first_class.result)) (sym (tried_else here c.args.s.now c.in-TryOnElse.body c.in-TryOnElse.handlers c.in-TryOnElse.otherwise (Some c.in-Some-first_class.place) c.in-TryOnElse.is (sym hs ∙ sym c.first_class-in-TryOnElse.ensures ∙ c.in-Some-first_class.is)))
+    (left_behind here c.in-TryOnElse.body.items c.in-Some-first_class.place old mid new body c.leave_out-in-Some-first_class.result
+    (subst (λ ss. Reports (statements here (stmts_of ss)) old mid (statements_in body)) c.deref-in-TryOnElse.ensures.value c.in_ok-body-in-TryOnElse.ensures) c.leave_out-in-Some-first_class.ensures)

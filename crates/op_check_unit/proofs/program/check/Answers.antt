@@ -1,6 +1,7 @@
 use Rattle.std.proofs.Common.{map, subst}
 use Rattle.op_check_unit.proofs.Law.{obeys, program_law}
 use Rattle.op_check_unit.proofs.Placing.{checks}
+use Rattle.op_check_unit.proofs.WholeSound.{answer_sound}
 use Rattle.op_check_unit.specs.Checking.{CheckIs}
 use Rattle.op_check_unit.specs.Programs.{files_mean, program_means}
 use Rattle.op_check_unit.specs.Rules.{ProgramBreaks}
@@ -18,4 +19,4 @@ returns c =
     checks (files_mean fs beginning) d.declarer new c.finish.result d.ensures.sink
     (subst (λ h. Declares (files_mean fs h) d.declarer new) d.ensures.here c.in_ok-files.ensures)
     c.finish.ensures in
-    record { means = means; law = obeys (program_means fs) (ProgramBreaks fs) c.finish.result (program_law fs) means }
+    record { means = means; law = obeys (program_means fs) (ProgramBreaks fs) c.finish.result (program_law fs) means; sound = answer_sound fs c.finish.result means }

@@ -1,0 +1,176 @@
+-- What is so of a state is so where tables have grown.
+use Rattle.std.proofs.Common.{◌≡◌, inl, inr, ◌⊎◌, ◌≤◌, ℕ, ◌+◌, Bool, true, false, cond, List, [], ◌∷◌, ◌++◌, All, Contains, IfSome, IsSomeAnd, drop, filter, flat_map, length, length-append, option_to_list, slice_get, unwrap_or, Option, Some, None, refl, sym, ap, ap₂, subst, ◌∙◌, arith}
+use Rattle.std.proofs.lemmas.List.Elements.{All-append, All-cons, All-drop, All-head, All-nil, All-take, All-tail, All-weaker, Contains-append_left}
+use Rattle.std.proofs.lemmas.List.Sums.{sum_by-cons}
+use Rattle.op_check_unit.specs.Complete.{Counts, Inside, IsBareRoutine, IsBareVariable, IsPeopled, IsTypedBody, IsTypedFirst, declared_in, scope, scope_of}
+use Rattle.op_check_unit.specs.Declaring.{most_global_bytes}
+use Rattle.op_check_unit.specs.Routines.{most_bytes}
+use Rattle.op_check_unit.specs.Tables.{IsTabled}
+use Rattle.op_core.proofs.Growing.{all_at, front_fit, front_row, front_rows, front_stays}
+use Rattle.op_core.proofs.GrowingRows.{first_grows}
+use Rattle.op_core.proofs.GrowingStatements.{statements_grow}
+use Rattle.op_core.proofs.GrowingTypes.{fits_grows}
+use Rattle.op_core.specs.Growing.{Grows, IsFrontOf, SeesMore}
+use Rattle.op_core.specs.Initial.{FirstValue}
+use Rattle.op_core.specs.Rows.{rows}
+use Rattle.op_core.specs.Sizes.{KeepsExtents, plain, type_at}
+use Rattle.op_core.specs.Sound.{IsFirst, IsFounded, Row, at_start, bytes_of, globals_of, is_declared, size_of}
+use Rattle.op_core.specs.Statement.{Statements}
+use Rattle.op_core.specs.StatementTyping.{AreStatements}
+use Rattle.op_core.specs.Typing.{Sees}
+use Rattle.op_core.specs.declared.ids.RoutineId.{RoutineId}
+use Rattle.op_core.specs.declared.ids.TypeId.{TypeId}
+use Rattle.op_core.specs.declared.ids.VariableId.{VariableId}
+use Rattle.op_core.specs.declared.program.Core.{Core}
+use Rattle.op_core.specs.declared.routine.Parameter.{Parameter}
+use Rattle.op_core.specs.declared.routine.Routine.{Routine}
+use Rattle.op_core.specs.declared.routine.Variable.{Variable}
+use Rattle.op_types.proofs.Extents.{front}
+use Rattle.op_types.specs.Names.{Named}
+use Rattle.op_types.specs.Standing.{AllStand, StandsFor}
+use Rattle.op_types.specs.declared.visible.Meaning.{Meaning}
+use Rattle.op_types.specs.declared.visible.Meaning.TheVariants as meaning
+
+-- ---- tables behind others
+
+-- tables grow, and those of variables and globals by rows behind the others alone
+pub record Wider (old new : Core) : Type 0 where
+  pub grows : Grows old new
+  pub variables : IsFrontOf old.variables new.variables
+  pub globals : IsFrontOf old.globals new.globals
+  pub routines : length old.routines ≤ length new.routines
+
+pub some_is : {A : Type 0} {P : A → Type 0} (o : Option A) → IsSomeAnd o P → (a : A) × (o ≡ Some a) × P a
+some_is (Some a) p = (a, refl, p)
+some_is None p = absurd p
+
+pub front_length : {A : Type 0} {xs ys : List A} → IsFrontOf xs ys → length xs ≤ length ys
+front_length {xs = xs} f = let e = ap length f.is in let l = length-append xs f.more in omega (arith, e, l)
+
+pub contains_on : {A : Type 0} {xs ys : List A} (x : A) → IsFrontOf xs ys → Contains xs x → Contains ys x
+contains_on {xs = xs} x f c = subst (λ ys. Contains ys x) (sym f.is) (Contains-append_left xs f.more x c)
+
+pub or_on : {A B C : Type 0} → (A → B) → A ⊎ C → B ⊎ C
+or_on f (inl a) = inl (f a)
+or_on f (inr c) = inr c
+
+-- ---- names
+
+pub stands_on : {old new : Core} {less more : Sees} → Wider old new → SeesMore less more → (m : Meaning) → StandsFor old less m → StandsFor new more m
+stands_on w m meaning.Spoiled s = s
+stands_on w m (meaning.Constant c) s = fits_grows w.grows c.value c.of s
+stands_on w m (meaning.Variable id writable) s = (m.variable id s.0, front_row w.variables s.1)
+stands_on w m (meaning.TypeName of) s = front_row w.grows.types s
+stands_on w m (meaning.Routine id) s = let lt = s.1 in let more = w.routines in (m.routine id s.0, omega (arith, lt, more))
+stands_on w m other s = tt
+
+pub scope_on : {old new : Core} (i : Option Inside) → Wider old new → SeesMore (scope i old) (scope i new)
+scope_on i w = record { variable = λ v x. or_on (contains_on v w.globals) x; routine = λ r x. let more = w.routines in omega (arith, x, more) }
+
+pub names_on : {old new : Core} (i : Option Inside) → Wider old new → (ns : List Named) → AllStand old (scope i old) ns → AllStand new (scope i new) ns
+names_on {old} {new} i w ns s = All-weaker (λ n. StandsFor old (scope i old) n.meaning) (λ n. StandsFor new (scope i new) n.meaning) (λ n x. stands_on w (scope_on i w) n.meaning x) ns s
+
+-- ---- bodies and first values
+
+body_scope : {old new : Core} (r : Routine) → Wider old new → SeesMore (scope_of old r) (scope_of new r)
+body_scope r w = record { variable = λ v x. or_on (contains_on v w.globals) x; routine = λ q x. let more = w.routines in omega (arith, x, more) }
+
+pub body_on : {old new : Core} → Wider old new → (b : RoutineId × Statements) → slice_get new.routines b.0.0 ≡ slice_get old.routines b.0.0 → IsTypedBody old b → IsTypedBody new b
+body_on {old} {new} w b e t =
+    let x = some_is (slice_get old.routines b.0.0) t in
+    subst (λ o. IsSomeAnd o (λ r. AreStatements new (scope_of new r) (at_start r) b.1)) (sym (e ∙ x.1)) (statements_grow w.grows (body_scope x.0 w) (at_start x.0) b.1 x.2)
+
+pub value_on : {old new : Core} → Wider old new → IsFounded old → (b : VariableId × FirstValue) → IsTypedFirst old b → IsTypedFirst new b
+value_on {old} {new} w f b t =
+    let x = some_is (slice_get old.variables b.0.0) t in
+    let y = some_is (type_at old x.0.of) x.2 in
+    subst (λ o. IsSomeAnd o (λ v. IsSomeAnd (type_at new v.of) (λ u. IsFirst new u v.of b.1))) (sym (front_stays w.variables b.0.0 x.0 x.1))
+    (subst (λ o. IsSomeAnd o (λ u. IsFirst new u x.0.of b.1)) (sym (front_stays w.grows.types x.0.of.0 y.0 y.1)) (first_grows w.grows f y.0 x.0.of b.1 x.0.of.0 y.1 y.2))
+
+-- ---- bytes
+
+size_on : {old : Core} (new : Core) → KeepsExtents old → IsFrontOf old.extents new.extents → (of : TypeId) → Row old.types of.0 → size_of new of ≡ size_of old of
+size_on {old} new k f of lt = let e = k.count in ap (λ o. (unwrap_or o (plain 4 false)).size) (ap (λ xs. slice_get xs of.0) f.is ∙ front old.extents f.more of.0 (omega (arith, lt, e)))
+
+pub bytes_on : {old : Core} (new : Core) → KeepsExtents old → IsFrontOf old.extents new.extents → (vs : List Variable) → All (λ v. Row old.types v.of.0) vs → bytes_of new vs ≡ bytes_of old vs
+bytes_on new k f [] a = refl
+bytes_on {old} new k f (v ∷ vs) a =
+    sum_by-cons (λ x. size_of new x.of) v vs
+    ∙ ap₂ (λ n m. n + m) (size_on new k f v.of (All-head (λ x. Row old.types x.of.0) v vs a)) (bytes_on new k f vs (All-tail (λ x. Row old.types x.of.0) v vs a))
+    ∙ sym (sum_by-cons (λ x. size_of old x.of) v vs)
+
+rows_of_globals : (P : Variable → Type 0) (vs : List Variable) (gs : List VariableId) → All P vs → All P (flat_map (λ v. option_to_list (slice_get vs v.0)) gs)
+rows_of_globals P vs [] a = All-nil P
+rows_of_globals P vs (g ∷ gs) a = All-append P (option_to_list (slice_get vs g.0)) (flat_map (λ v. option_to_list (slice_get vs v.0)) gs) (one (slice_get vs g.0) refl) (rows_of_globals P vs gs a)
+  where
+    one : (o : Option Variable) → slice_get vs g.0 ≡ o → All P (option_to_list o)
+    one None e = All-nil P
+    one (Some v) e = All-cons P v [] (all_at P vs g.0 v a e) (All-nil P)
+
+kept : (P : Variable → Type 0) (b : Bool) (v : Variable) (vs : List Variable) → P v → All P vs → All P (cond b (v ∷ vs) vs)
+kept P true v vs p a = All-cons P v vs p a
+kept P false v vs p a = a
+
+all_filter : (P : Variable → Type 0) (test : Variable → Bool) (vs : List Variable) → All P vs → All P (filter test vs)
+all_filter P test [] a = All-nil P
+all_filter P test (v ∷ vs) a = kept P (test v) v (filter test vs) (All-head P v vs a) (all_filter P test vs (All-tail P v vs a))
+
+typed_variables : {core : Core} → IsPeopled core → All (λ v. Row core.types v.of.0) core.variables
+typed_variables {core} p = All-weaker (IsBareVariable core) (λ v. Row core.types v.of.0) (λ v x. x.0) core.variables p.variables
+
+pub declared_rows : {core : Core} (i : Option Inside) → IsPeopled core → All (λ v. Row core.types v.of.0) (declared_in i core)
+declared_rows {core} None p = rows_of_globals (λ v. Row core.types v.of.0) core.variables core.globals (typed_variables p)
+declared_rows {core} (Some i) p = all_filter (λ v. Row core.types v.of.0) (λ v. is_declared v.role) (drop i.first core.variables) (All-drop (λ v. Row core.types v.of.0) i.first core.variables (typed_variables p))
+
+same_declared : (old new : Core) (i : Option Inside) → new.variables ≡ old.variables → new.globals ≡ old.globals → declared_in i new ≡ declared_in i old
+same_declared old new None e f = ap₂ (λ vs gs. flat_map (λ v. option_to_list (slice_get vs v.0)) gs) e f
+same_declared old new (Some i) e f = ap (λ vs. filter (λ v. is_declared v.role) (drop i.first vs)) e
+
+-- where variables and globals stay as they are
+pub declared_bytes : {old : Core} (new : Core) (i : Option Inside) → IsTabled old → IsPeopled old → IsFrontOf old.extents new.extents → new.variables ≡ old.variables → new.globals ≡ old.globals → bytes_of new (declared_in i new) ≡ bytes_of old (declared_in i old)
+declared_bytes {old} new i t p x e f = ap (bytes_of new) (same_declared old new i e f) ∙ bytes_on new t.extents x (declared_in i old) (declared_rows i p)
+
+pub counts_on : (old new : Core) (i : Option Inside) (bytes : ℕ) → bytes_of new (declared_in i new) ≡ bytes_of old (declared_in i old) → Counts old i bytes → Counts new i bytes
+counts_on old new i bytes e c le = subst (λ n. n ≤ bytes) (sym e) (c le)
+
+-- ---- rows
+
+pub bare_variable_on : {old new : Core} → Wider old new → (vs : List Variable) → All (IsBareVariable old) vs → All (IsBareVariable new) vs
+bare_variable_on {old} {new} w vs a = All-weaker (IsBareVariable old) (IsBareVariable new) (λ v x. (front_row w.grows.types x.0, x.1)) vs a
+
+result_row : {old new : Core} → Wider old new → (o : Option TypeId) → IfSome o (λ of. Row old.types of.0) → IfSome o (λ of. Row new.types of.0)
+result_row w None x = tt
+result_row w (Some of) x = front_row w.grows.types x
+
+pub bare_routine_on : {old new : Core} → Wider old new → IsTabled old → IsPeopled old → (r : Routine) → IsBareRoutine old r → IsBareRoutine new r
+bare_routine_on {old} {new} w t p r b = record {
+  unit = b.unit;
+  owner = b.owner;
+  enclosing = b.enclosing;
+  body = b.body;
+  runs = (front_fit r.parameters w.grows.parameters b.runs.0, front_fit r.variables w.variables b.runs.1);
+  result = result_row w r.result b.result;
+  locals = subst (λ n. n ≤ most_bytes) (sym e) b.locals;
+}
+  where
+    run : List Variable
+    run = rows old.variables r.variables
+
+    typed : All (λ v. Row old.types v.of.0) (filter (λ v. is_declared v.role) run)
+    typed = all_filter (λ v. Row old.types v.of.0) (λ v. is_declared v.role) run (All-take (λ v. Row old.types v.of.0) r.variables.count (drop r.variables.first old.variables) (All-drop (λ v. Row old.types v.of.0) r.variables.first old.variables (typed_variables p)))
+
+    e : bytes_of new (filter (λ v. is_declared v.role) (rows new.variables r.variables)) ≡ bytes_of old (filter (λ v. is_declared v.role) run)
+    e = ap (λ vs. bytes_of new (filter (λ v. is_declared v.role) vs)) (front_rows r.variables w.variables b.runs.1) ∙ bytes_on new t.extents w.grows.extents (filter (λ v. is_declared v.role) run) typed
+
+pub bare_routines_on : {old new : Core} → Wider old new → IsTabled old → IsPeopled old → All (IsBareRoutine new) old.routines
+bare_routines_on {old} {new} w t p = All-weaker (IsBareRoutine old) (IsBareRoutine new) (bare_routine_on w t p) old.routines p.routines
+
+-- rows are put behind those of parameters, variables and globals
+pub people_on : {old new : Core} → Wider old new → IsTabled old → IsPeopled old → (ps : List Parameter) (vs : List Variable) (gs : List VariableId) → new.parameters ≡ old.parameters ++ ps → new.variables ≡ old.variables ++ vs → new.globals ≡ old.globals ++ gs → new.routines ≡ old.routines → All (λ p. Row new.types p.of.0) ps → All (IsBareVariable new) vs → All (λ v. Row new.variables v.0) gs → bytes_of new (globals_of new) ≤ most_global_bytes → IsPeopled new
+people_on {old} {new} w t p ps vs gs e f g h a b c room = record {
+  parameters = subst (All (λ p. Row new.types p.of.0)) (sym e) (All-append (λ p. Row new.types p.of.0) old.parameters ps (All-weaker (λ p. Row old.types p.of.0) (λ p. Row new.types p.of.0) (λ p x. front_row w.grows.types x) old.parameters p.parameters) a);
+  variables = subst (All (IsBareVariable new)) (sym f) (All-append (IsBareVariable new) old.variables vs (bare_variable_on w old.variables p.variables) b);
+  routines = subst (All (IsBareRoutine new)) (sym h) (bare_routines_on w t p);
+  globals = subst (All (λ v. Row new.variables v.0)) (sym g) (All-append (λ v. Row new.variables v.0) old.globals gs (All-weaker (λ v. Row old.variables v.0) (λ v. Row new.variables v.0) (λ v x. front_row w.variables x) old.globals p.globals) c);
+  room = room;
+}

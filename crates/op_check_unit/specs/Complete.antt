@@ -1,0 +1,149 @@
+-- What is declared where no rule is broken: every name stands for what is there, every row is sound, and every routine has its body.
+use Rattle.std.specs.Prelude.{◌≡◌, ◌⊎◌, ◌<◌, ◌≤◌, ◌+◌, ℕ, zero, suc, List, [], ◌∷◌, drop, length, take, is_some, IfSome, IsSomeAnd, Option, Some, None}
+use Rattle.std.specs.List.{All, Contains, filter}
+use Rattle.op_base.specs.declared.place.Place.{Place}
+use Rattle.op_base.specs.declared.rule.Refusal.{Refusal}
+use Rattle.op_check_unit.specs.Declaring.{most_global_bytes}
+use Rattle.op_check_unit.specs.Routines.{most_bytes}
+use Rattle.op_check_unit.specs.Steps.{Given, Here}
+use Rattle.op_check_unit.specs.Tables.{IsTabled}
+use Rattle.op_core.specs.Faults.{IsIn}
+use Rattle.op_core.specs.Growing.{IsFrontOf}
+use Rattle.op_core.specs.Initial.{FirstValue}
+use Rattle.op_core.specs.Members.{InRun, There}
+use Rattle.op_core.specs.Relations.{Always, Filled}
+use Rattle.op_core.specs.Rows.{rows}
+use Rattle.op_core.specs.Sizes.{type_at}
+use Rattle.op_core.specs.Sound.{Fit, IsFirst, Row, at_start, bytes_of, globals_of, is_declared}
+use Rattle.op_core.specs.Statement.{Statements}
+use Rattle.op_core.specs.StatementTyping.{AreStatements}
+use Rattle.op_core.specs.Typing.{Sees}
+use Rattle.op_core.specs.declared.ids.RoutineId.{RoutineId}
+use Rattle.op_core.specs.declared.ids.VariableId.{VariableId}
+use Rattle.op_core.specs.declared.program.Core.{Core}
+use Rattle.op_core.specs.declared.program.Unit.{Unit as RustUnit}
+use Rattle.op_core.specs.declared.routine.Owner.TheVariants.{Unit as OfUnit}
+use Rattle.op_core.specs.declared.routine.Routine.{Routine}
+use Rattle.op_core.specs.declared.routine.Variable.{Variable}
+use Rattle.op_types.specs.Names.{Named}
+use Rattle.op_types.specs.Standing.{AllStand}
+
+-- ---- scopes
+
+-- the scope of a body, by its first variable, and the names and bytes of the scope round it
+pub record Inside : Type 0 where
+  pub first : ℕ
+  pub names : ℕ
+  pub bytes : ℕ
+
+-- what is under way: the routine whose body comes, the scope of a body, and the units that there are
+pub record Stage : Type 0 where
+  pub current : Option ℕ
+  pub inside : Option Inside
+  pub units : List RustUnit
+
+-- outside of bodies
+abbrev pub outside : Option ℕ → Stage
+outside current = record { current = current; inside = None; units = [] }
+
+-- globals and, in a body, the variables from its first one on; and routines
+abbrev pub scope : Option Inside → Core → Sees
+scope inside core = record { variable = λ v. Contains core.globals v ⊎ IsSomeAnd inside (λ i. i.first ≤ v.0); routine = λ r. Row core.routines r.0 }
+
+-- globals and the routine's variables
+abbrev pub scope_of : Core → Routine → Sees
+scope_of core r = record { variable = λ v. Contains core.globals v ⊎ InRun r.variables v.0; routine = λ x. Row core.routines x.0 }
+
+-- the variables that are declared in a scope
+abbrev pub declared_in : Option Inside → Core → List Variable
+declared_in None core = globals_of core
+declared_in (Some i) core = filter (λ v. is_declared v.role) (drop i.first core.variables)
+
+-- so many bytes are counted for them, unless there are too many
+abbrev pub Counts : Core → Option Inside → ℕ → Type 0
+Counts core inside bytes = bytes ≤ most_global_bytes → bytes_of core (declared_in inside core) ≤ bytes
+
+-- the scope round a body is left as it was
+pub record IsInside (core : Core) (ns : List Named) (i : Inside) : Type 0 where
+  pub first : i.first ≤ length core.variables
+  pub names : i.names ≤ length ns
+  pub stand : AllStand core (scope None core) (take i.names ns)
+  pub counts : Counts core None i.bytes
+
+-- ---- rows
+
+abbrev pub IsBareVariable : Core → Variable → Type 0
+IsBareVariable core v = Row core.types v.of.0 × (v.first_value ≡ None)
+
+-- a routine of the program without its body
+pub record IsBareRoutine (core : Core) (r : Routine) : Type 0 where
+  pub unit : r.unit.0 ≡ 0
+  pub owner : r.owner ≡ OfUnit
+  pub enclosing : r.enclosing ≡ None
+  pub body : r.body ≡ None
+  pub runs : Fit core.parameters r.parameters × Fit core.variables r.variables
+  pub result : IfSome r.result (λ of. Row core.types of.0)
+  pub locals : bytes_of core (filter (λ v. is_declared v.role) (rows core.variables r.variables)) ≤ most_bytes
+
+pub record IsPeopled (core : Core) : Type 0 where
+  pub parameters : All (λ p. Row core.types p.of.0) core.parameters
+  pub variables : All (IsBareVariable core) core.variables
+  pub routines : All (IsBareRoutine core) core.routines
+  pub globals : All (λ v. Row core.variables v.0) core.globals
+  pub room : bytes_of core (globals_of core) ≤ most_global_bytes
+
+-- ---- bodies and first values
+
+abbrev pub IsTypedBody : Core → RoutineId × Statements → Type 0
+IsTypedBody core b = There core.routines b.0.0 (λ r. AreStatements core (scope_of core r) (at_start r) b.1)
+
+abbrev pub IsTypedFirst : Core → VariableId × FirstValue → Type 0
+IsTypedFirst core b = There core.variables b.0.0 (λ v. IsSomeAnd (type_at core v.of) (λ t. IsFirst core t v.of b.1))
+
+abbrev pub IsAwaited : List (Option Place) → ℕ → Type 0
+IsAwaited [] n = ⊥
+IsAwaited (p ∷ ps) zero = Filled Always p
+IsAwaited (p ∷ ps) (suc n) = IsAwaited ps n
+
+abbrev pub HasBody : List (RoutineId × Statements) → ℕ → Type 0
+HasBody [] n = ⊥
+HasBody (b ∷ bs) n = (b.0.0 ≡ n) ⊎ HasBody bs n
+
+-- the body of a routine is under way, or awaited
+abbrev pub IsOpen : Option ℕ → List (Option Place) → ℕ → Type 0
+IsOpen current places n = (current ≡ Some n) ⊎ IsAwaited places n
+
+-- ---- states
+
+pub record Settled (s : Stage) (h : Here) : Type 0 where
+  pub tables : IsTabled h.core
+  pub people : IsPeopled h.core
+  pub units : h.core.units ≡ s.units
+  pub names : AllStand h.core (scope s.inside h.core) h.names
+  pub first : h.first ≤ length h.names
+  pub counts : Counts h.core s.inside h.bytes
+  pub routine : is_some h.routine ≡ is_some s.inside
+  pub inside : IfSome s.inside (IsInside h.core h.names)
+  pub current : IfSome s.current (λ n. (n < length h.core.routines) × (IsAwaited h.awaited n → ⊥))
+  pub awaits : length h.awaited ≡ length h.core.routines
+  pub accounted : (n : ℕ) → n < length h.core.routines → IsOpen s.current h.awaited n ⊎ HasBody h.bodies n
+  pub bodies : All (λ b. IsTypedBody h.core b × (IsOpen s.current h.awaited b.0.0 → ⊥)) h.bodies
+  pub values : All (IsTypedFirst h.core) h.first_values
+
+-- what a part that is no routine does to tables
+pub record Later (old new : Core) : Type 0 where
+  pub types : IsFrontOf old.types new.types
+  pub parameters : IsFrontOf old.parameters new.parameters
+  pub globals : IsFrontOf old.globals new.globals
+  pub routines : new.routines ≡ old.routines
+
+-- a part that means something and leaves a state of which this is so, or a rule that is broken
+pub data From {A : Type 0} (R : A → Here → Type 0) (g : Given A) : Type 0 where
+  settled : Filled (λ a. R a g.here) g.typed → From R g
+  faulty : (r : Refusal) → IsIn r g.faults → From R g
+
+-- what a part that begins in a state means, and that it leaves a settled one
+pub record Leads {A : Type 0} (s : Stage) (h : Here) (P : A → Core → Type 0) (a : A) (i : Here) : Type 0 where
+  pub state : Settled s i
+  pub later : Later h.core i.core
+  pub so : P a i.core
