@@ -5,13 +5,26 @@
 //! `build N..` writes its image.
 #![tactic(auto)]
 
+mod answers;
 mod building;
+mod cases;
+mod images;
+mod items;
+mod low_text;
+mod object_text;
+mod operands;
+mod parts;
 mod tokens;
 mod trees;
 mod words;
 
 use op_base::{FileAnswer, Files, StdFiles};
 use std::io;
+
+const COMMANDS: [&str; 17] = [
+    "count", "list", "parse", "print", "words", "make", "build", "decode", "header", "run", "valid",
+    "select", "frame", "execute", "linkable", "link", "segments",
+];
 
 /// The most bytes that are read.
 const MOST_BYTES: usize = 1 << 26;
@@ -22,24 +35,33 @@ fn tell_file(rt: &HostRuntime, command: &str, name: &str) -> io::Result<()> {
         Ok(FileAnswer::Found(text)) => match command {
             "words" => words::tell(rt, text.as_slice()),
             "parse" | "print" => trees::tell(rt, name, text.as_slice(), command == "print"),
-            _ => tokens::tell(rt, name, text.as_slice(), command == "list"),
+            "count" | "list" => tokens::tell(rt, name, text.as_slice(), command == "list"),
+            _ => match str::from_utf8(text.as_slice()) {
+                Ok(text) => cases::tell(rt, command, text),
+                Err(_) => println!(rt; "no text"),
+            },
         },
         _ => println!(rt; "not read"),
     }
 }
 
+/// Whether a word is a command, so that the words behind it are told by it.
+fn is_command(word: &str) -> bool {
+    COMMANDS.iter().any(|command| *command == word)
+}
+
 fn main(rt: HostRuntime) -> io::Result<()> {
-    let mut words = std::env::args(&rt)?.skip(1);
-    let Some(command) = words.next() else {
-        return Ok(());
-    };
-    for word in words {
-        match command.as_str() {
-            "make" | "build" => {
-                let count = word.as_str().parse::<u32>().unwrap_or(0);
-                building::tell(&rt, count, command.as_str() == "build")?;
-            }
-            command => tell_file(&rt, command, word.as_str())?,
+    let words: Vec<String> = std::env::args(&rt)?.skip(1).collect(rt.alloc())?;
+    let mut command = "";
+    for word in words.as_slice() {
+        let word = word.as_str();
+        if is_command(word) {
+            command = word;
+        } else if command == "make" || command == "build" {
+            let count = word.parse::<u32>().unwrap_or(0);
+            building::tell(&rt, count, command == "build")?;
+        } else {
+            tell_file(&rt, command, word)?;
         }
     }
     Ok(())
