@@ -10,11 +10,7 @@ use std::alloc::Global;
 use std::io;
 
 /// The frame with a case in it.
-fn framed<'a>(
-    alloc: Global,
-    frame: &'a str,
-    case: &[&'a str],
-) -> Result<Vec<&'a str>, NoMemory> {
+fn framed<'a>(alloc: Global, frame: &'a str, case: &[&'a str]) -> Result<Vec<&'a str>, NoMemory> {
     let mut lines = Vec::new(alloc);
     for line in frame.lines() {
         if line == "..." {

@@ -26,7 +26,11 @@ pub fn image(alloc: Global, lines: &[&str]) -> Result<Vec<u8>, NoMemory> {
             "cut" => bytes.truncate(number as usize),
             "at" => {
                 let changed = u32::from_str_radix(operands.word(2), 16).unwrap_or(0);
-                for (byte, new) in bytes.iter_mut().skip(number as usize).zip(changed.to_le_bytes()) {
+                for (byte, new) in bytes
+                    .iter_mut()
+                    .skip(number as usize)
+                    .zip(changed.to_le_bytes())
+                {
                     *byte = new;
                 }
             }

@@ -73,7 +73,12 @@ fn computing(name: &str, operands: Operands) -> Option<Instruction> {
     let left = operands.register(1);
     if let Some(op) = find(&OPERATIONS, name) {
         let right = operands.register(2);
-        return Some(Instruction::Alu { op, to, left, right });
+        return Some(Instruction::Alu {
+            op,
+            to,
+            left,
+            right,
+        });
     }
     if let Some(op) = find(&IMMEDIATES, name) {
         let imm = operands.signed(2);
@@ -81,7 +86,12 @@ fn computing(name: &str, operands: Operands) -> Option<Instruction> {
     }
     let op = find(&SHIFTS, name)?;
     let amount = operands.byte(2);
-    Some(Instruction::Shift { op, to, left, amount })
+    Some(Instruction::Shift {
+        op,
+        to,
+        left,
+        amount,
+    })
 }
 
 /// An instruction that moves a value.
@@ -90,16 +100,35 @@ fn moving(name: &str, operands: Operands) -> Option<Instruction> {
     let base = operands.register(1);
     let offset = operands.signed(2);
     if let Some(op) = find(&LOADS, name) {
-        return Some(Instruction::Load { op, to, base, offset });
+        return Some(Instruction::Load {
+            op,
+            to,
+            base,
+            offset,
+        });
     }
     if let Some(op) = find(&STORES, name) {
         let value = to;
-        return Some(Instruction::Store { op, value, base, offset });
+        return Some(Instruction::Store {
+            op,
+            value,
+            base,
+            offset,
+        });
     }
     match name {
-        "const" => Some(Instruction::Const { to, value: operands.natural(1) }),
-        "address" => Some(Instruction::Address { to, symbol: operands.symbol(1)? }),
-        "local" => Some(Instruction::Local { to, offset: operands.natural(1) }),
+        "const" => Some(Instruction::Const {
+            to,
+            value: operands.natural(1),
+        }),
+        "address" => Some(Instruction::Address {
+            to,
+            symbol: operands.symbol(1)?,
+        }),
+        "local" => Some(Instruction::Local {
+            to,
+            offset: operands.natural(1),
+        }),
         "move" => Some(Instruction::Move { to, from: base }),
         _ => None,
     }
@@ -118,14 +147,28 @@ fn going(name: &str, operands: Operands) -> Option<Instruction> {
     let first = operands.register(0);
     let buffer = operands.register(1);
     let length = operands.register(2);
-    let output = if operands.word(0) == "errors" { Output::Errors } else { Output::Console };
+    let output = if operands.word(0) == "errors" {
+        Output::Errors
+    } else {
+        Output::Console
+    };
     match name {
-        "jump" => Some(Instruction::Jump { block: BlockId(operands.natural(0)) }),
+        "jump" => Some(Instruction::Jump {
+            block: BlockId(operands.natural(0)),
+        }),
         "return" => Some(Instruction::Return { value: first }),
         "raise" => Some(Instruction::Raise),
         "exit" => Some(Instruction::Exit { status: first }),
-        "read" => Some(Instruction::Read { to: first, buffer, length }),
-        "write" => Some(Instruction::Write { output, buffer, length }),
+        "read" => Some(Instruction::Read {
+            to: first,
+            buffer,
+            length,
+        }),
+        "write" => Some(Instruction::Write {
+            output,
+            buffer,
+            length,
+        }),
         _ => None,
     }
 }
@@ -143,8 +186,14 @@ fn calling(alloc: Global, name: &str, operands: Operands) -> Result<Option<Instr
         landing: operands.landing(2),
     };
     Ok(match name {
-        "call" => Some(Instruction::Call { routine: RoutineId(operands.natural(0)), call }),
-        "callat" => Some(Instruction::CallAt { address: operands.register(0), call }),
+        "call" => Some(Instruction::Call {
+            routine: RoutineId(operands.natural(0)),
+            call,
+        }),
+        "callat" => Some(Instruction::CallAt {
+            address: operands.register(0),
+            call,
+        }),
         _ => None,
     })
 }
@@ -174,7 +223,9 @@ fn block(alloc: Global, lines: &[&str]) -> Result<Option<Block>, NoMemory> {
             None => return Ok(None),
         }
     }
-    Ok(Some(Block { code: Sequence::from(code) }))
+    Ok(Some(Block {
+        code: Sequence::from(code),
+    }))
 }
 
 /// A routine of so many parameters, registers and bytes of locals.

@@ -22,8 +22,8 @@ use op_base::{FileAnswer, Files, StdFiles};
 use std::io;
 
 const COMMANDS: [&str; 17] = [
-    "count", "list", "parse", "print", "words", "make", "build", "decode", "header", "run", "valid",
-    "select", "frame", "execute", "linkable", "link", "segments",
+    "count", "list", "parse", "print", "words", "make", "build", "decode", "header", "run",
+    "valid", "select", "frame", "execute", "linkable", "link", "segments",
 ];
 
 /// The most bytes that are read.

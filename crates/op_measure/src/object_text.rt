@@ -4,9 +4,7 @@ use crate::low_text::BRANCHES;
 use crate::operands::{Operands, find};
 use crate::parts::{Parts, first_word, words_of};
 use op_base::{NoMemory, Sequence};
-use op_rv::{
-    BlockId, Instr, Item, ObjectBlock, ObjectRoutine, Objects, RoutineId, decode,
-};
+use op_rv::{BlockId, Instr, Item, ObjectBlock, ObjectRoutine, Objects, RoutineId, decode};
 use std::alloc::Global;
 use std::mem;
 
@@ -21,13 +19,20 @@ fn item(name: &str, operands: Operands) -> Option<Item> {
         });
     }
     match name {
-        "jump" => Some(Item::Jump { block: BlockId(operands.natural(0)) }),
+        "jump" => Some(Item::Jump {
+            block: BlockId(operands.natural(0)),
+        }),
         "call" => Some(Item::Call {
             routine: RoutineId(operands.natural(0)),
             landing: operands.landing(1),
         }),
-        "callat" => Some(Item::CallAt { landing: operands.landing(0) }),
-        "address" => Some(Item::Address { rd: operands.byte(0), symbol: operands.symbol(1)? }),
+        "callat" => Some(Item::CallAt {
+            landing: operands.landing(0),
+        }),
+        "address" => Some(Item::Address {
+            rd: operands.byte(0),
+            symbol: operands.symbol(1)?,
+        }),
         "lui" => Some(Item::Plain(Instr::Lui {
             rd: operands.byte(0),
             upper: operands.natural(1),
