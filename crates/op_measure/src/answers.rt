@@ -76,6 +76,21 @@ fn executed(alloc: Global, low: &Low, layout: &Layout) -> Result<String, NoMemor
     }
 }
 
+/// The image of low code, which is a text of its own. It is empty where it is not asked for, and where there is none.
+pub fn built(alloc: Global, text: &str, builds: bool) -> Result<Vec<u8>, NoMemory> {
+    let lines: Vec<&str> = text.lines().collect(alloc)?;
+    let mut parts = Parts::read(alloc, lines.as_slice())?;
+    let layout = parts.layout(alloc)?;
+    let none = Vec::new(alloc);
+    let Some(low) = low_code(alloc, &mut parts)? else {
+        return Ok(none);
+    };
+    if !buildable(&low, &layout) || !builds {
+        return Ok(none);
+    }
+    Ok(build(alloc, &low, &layout, &FOR_LOW_CODE).unwrap_or(none))
+}
+
 /// The items of the last routine: those of its first block, or its head and its last block.
 fn selected(alloc: Global, low: &Low, frame: bool) -> Result<String, NoMemory>
     requires { IsTrue (is_valid low.now) }

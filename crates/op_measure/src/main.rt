@@ -1,12 +1,12 @@
 //! What the scripts in `bench/` and `tests/` ask of parts of the compiler.
 //!
-//! `count FILE..` tells how many tokens each file has, and `list FILE..` each token with its place. `parse FILE..` tells what each file
-//! is, and `print FILE..` prints its tree. `words FILE..` decodes the words of code. `make N..` makes low code of N instructions, and
-//! `build N..` writes its image.
+//! A word that is a command says what is told of the files behind it. `count` tells how many tokens a file has, and `list` each token
+//! with its place. `parse` tells what a file is, and `print` prints its tree. `words` decodes the words of code. `make` reads low
+//! code, and `build` writes its image. The others tell of each case of a file (`cases`): `decode` of a word, `header` and `run` of an
+//! image, `valid`, `select`, `frame` and `execute` of low code, and `linkable`, `link` and `segments` of objects.
 #![tactic(auto)]
 
 mod answers;
-mod building;
 mod cases;
 mod images;
 mod items;
@@ -18,8 +18,9 @@ mod tokens;
 mod trees;
 mod words;
 
+use crate::answers::built;
 use op_base::{FileAnswer, Files, StdFiles};
-use std::io;
+use std::io::{self, Write};
 
 const COMMANDS: [&str; 17] = [
     "count", "list", "parse", "print", "words", "make", "build", "decode", "header", "run",
@@ -37,11 +38,21 @@ fn tell_file(rt: &HostRuntime, command: &str, name: &str) -> io::Result<()> {
             "parse" | "print" => trees::tell(rt, name, text.as_slice(), command == "print"),
             "count" | "list" => tokens::tell(rt, name, text.as_slice(), command == "list"),
             _ => match str::from_utf8(text.as_slice()) {
-                Ok(text) => cases::tell(rt, command, text),
+                Ok(text) => tell_text(rt, command, text),
                 Err(_) => println!(rt; "no text"),
             },
         },
         _ => println!(rt; "not read"),
+    }
+}
+
+fn tell_text(rt: &HostRuntime, command: &str, text: &str) -> io::Result<()> {
+    match command {
+        "make" | "build" => match built(rt.alloc(), text, command == "build") {
+            Ok(image) => rt.stdout().write_all(image.as_slice()),
+            Err(error) => println!(rt; "{error}"),
+        },
+        _ => cases::tell(rt, command, text),
     }
 }
 
@@ -57,9 +68,6 @@ fn main(rt: HostRuntime) -> io::Result<()> {
         let word = word.as_str();
         if is_command(word) {
             command = word;
-        } else if command == "make" || command == "build" {
-            let count = word.parse::<u32>().unwrap_or(0);
-            building::tell(&rt, count, command == "build")?;
         } else {
             tell_file(&rt, command, word)?;
         }
