@@ -109,15 +109,43 @@ type Case = (
 );
 
 const CASES: [Case; 10] = [
-    (EXEC, NO_FILES, Finish::ReadFault, 122, ("", "opc: read fault\n"), 6),
+    (
+        EXEC,
+        NO_FILES,
+        Finish::ReadFault,
+        122,
+        ("", "opc: read fault\n"),
+        6,
+    ),
     (EXEC, NO_OUTPUT, Finish::WriteFault, 123, ("", ""), 6),
     (EXEC, ROOM_FOR_3, Finish::WriteFault, 123, ("Hel", ""), 6),
     (&["exec"], NO_ERRORS, Finish::WriteFault, 123, ("", ""), 6),
-    (&["check", "h.pas"], ROOM_FOR_1, Finish::WriteFault, 123, ("o", ""), 6),
-    (&["build", "h.pas"], ROOM_FOR_4, Finish::WriteFault, 123, ("\x7fELF", ""), 6),
+    (
+        &["check", "h.pas"],
+        ROOM_FOR_1,
+        Finish::WriteFault,
+        123,
+        ("o", ""),
+        6,
+    ),
+    (
+        &["build", "h.pas"],
+        ROOM_FOR_4,
+        Finish::WriteFault,
+        123,
+        ("\x7fELF", ""),
+        6,
+    ),
     (EXEC, LATER, Finish::Ended(0), 0, ("Hello\n", ""), 0),
     (RUN, SOUND, Finish::Ended(1), 1, ("abcde", "f"), 0),
-    (RUN, NO_INPUT, Finish::ReadFault, 122, ("", "opc: read fault\n"), 6),
+    (
+        RUN,
+        NO_INPUT,
+        Finish::ReadFault,
+        122,
+        ("", "opc: read fault\n"),
+        6,
+    ),
     (RUN, ROOM_FOR_2, Finish::WriteFault, 123, ("ab", ""), 1),
 ];
 
