@@ -1,7 +1,7 @@
 //! Headings of routines and methods.
 use crate::{Directives, Name, Names, Parameters, Position, QualifiedName, TypeDenoter};
 
-#[derive(Clone, Copy)]
+#[derive(Clone, Copy, PartialEq, Eq)]
 pub enum RoutineKind {
     Procedure,
     Function,
@@ -22,7 +22,7 @@ pub enum Directive {
     Register,
 }
 
-#[derive(Clone, Copy)]
+#[derive(Clone, Copy, PartialEq, Eq)]
 pub enum ParameterMode {
     Value,
     Var,

@@ -38,7 +38,7 @@ pub enum PrefixOperator {
 }
 
 /// How tightly an operator binds, the loosest first.
-#[derive(Clone, Copy)]
+#[derive(Clone, Copy, PartialEq, Eq)]
 pub enum Level {
     Relational,
     Additive,
