@@ -57,8 +57,13 @@ fn sinks_take_a_part(rt: HostRuntime) -> Result<(), Fail> {
 /// How a read of at most three bytes is answered.
 fn read(files: &mut impl Files, alloc: Global, name: &str) -> Result<&'static str, Fail> {
     Ok(match files.read(alloc, name, 3)? {
-        FileAnswer::Found(bytes) if bytes.as_slice() == b"abc".as_slice() => "found",
-        FileAnswer::Found(_) => "other",
+        FileAnswer::Found(bytes) => {
+            if bytes.as_slice() == b"abc".as_slice() {
+                "found"
+            } else {
+                "other"
+            }
+        }
         FileAnswer::Long => "long",
         FileAnswer::Missing => "missing",
         FileAnswer::Failed => "failed",
