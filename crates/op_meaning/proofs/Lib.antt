@@ -1,3 +1,8 @@
 pub mod Endings
 pub mod Programs
-mod First
+mod RunsCalls
+mod RunsFinally
+mod RunsLoops
+mod RunsNumbers
+mod RunsParts
+mod RunsSets
