@@ -6,3 +6,4 @@ mod RunsLoops
 mod RunsNumbers
 mod RunsParts
 mod RunsSets
+mod RunsWhole

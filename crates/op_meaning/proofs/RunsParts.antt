@@ -12,7 +12,7 @@ use Rattle.op_core.specs.declared.operation.Conversion.TheVariants.{Keep, Check}
 use Rattle.op_core.specs.declared.operation.Function.TheVariants.{Length, Low, High}
 use Rattle.op_core.specs.declared.types.CoreType.{CoreType}
 use Rattle.op_core.specs.declared.types.CoreType.TheVariants.{Subrange, Array, Record}
-use Rattle.op_meaning.proofs.Programs.{outcome, writes, fails_with, said, var, num, known, calc, applying, to, at, dot, called, line, shown, do_call, rows_at, own, by_val, by_var, gives, part, procedure, function, core_of, runs}
+use Rattle.op_meaning.proofs.Programs.{quoted, outcome, writes, fails_with, said, var, num, known, calc, applying, to, at, dot, called, line, shown, do_call, rows_at, own, by_val, by_var, gives, part, procedure, function, core_of, runs}
 use Rattle.op_meaning.specs.Frames.{Program}
 use Rattle.op_tree.specs.declared.operator.Operator.TheVariants.{Add, Multiply}
 use Rattle.op_tree.specs.declared.position.Name.{Name}
@@ -195,6 +195,34 @@ module _ (name : Name) where
       ≡ writes (said (codes "1502"))
   unfolding outcome
   found_once = refl
+
+  -- ---- literals
+
+  -- a Char of a literal by its index, which is checked; its bounds (in Free Pascal 0 and 2, though its indices are 1 to 3)
+  --   var
+  --     i: Integer;
+  --   begin
+  --     i := 2;
+  --     WriteLn('abc'[i], 'abc'[i + 1], Low('abc'), High('abc'));
+  --   end.
+  abbrev abc : Expression
+  abc = quoted (codes "abc")
+
+  abbrev literal_program : ℤ → Program
+  literal_program n = runs name (core_of name [] [] 1 (own name 4 ∷ []) [])
+      ((assign (var 0 4) (num n) ∷ line (at abc (var 0 4) 6 ∷ at abc (calc (var 0 4) Add (num (pos 1))) 6 ∷ applying Low false abc 4 ∷ applying High false abc 4 ∷ []) ∷ []) ∷ [])
+
+  literal_runs : outcome 60 (literal_program (pos 2)) ≡ writes (said (codes "bc13"))
+  unfolding outcome
+  literal_runs = refl
+
+  literal_too_low : outcome 60 (literal_program (pos 0)) ≡ fails_with [] (codes "201") 201
+  unfolding outcome
+  literal_too_low = refl
+
+  literal_too_high : outcome 60 (literal_program (pos 3)) ≡ fails_with (codes "c") (codes "201") 201
+  unfolding outcome
+  literal_too_high = refl
 
   -- ---- first values
 

@@ -1,6 +1,6 @@
 -- Actions: what an activation does between two choices, each in one step. Their operands and what they give are in temporaries, which
 -- are named by their numbers. (Free Pascal Reference Guide, "Expressions" and "Assignments"; reference of the unit System.)
-use Rattle.std.specs.Prelude.{ℕ, ℤ, pos, ◌+ℤ◌, neg_ℤ, unsigned_abs, Bool, not, ◌&&◌, List, Option, Some, None, if◌then◌else◌}
+use Rattle.std.specs.Prelude.{ℕ, ℤ, pos, ◌+ℤ◌, ◌-ℤ◌, neg_ℤ, nat_abs, unsigned_abs, Bool, not, ◌&&◌, List, length, slice_index, Option, Some, None, if◌then◌else◌}
 use Rattle.std.specs.Int.{w32, int_bit_not}
 use Rattle.std.specs.Ordering.{int_eq}
 use Rattle.op_core.specs.Initial.{FirstValue}
@@ -28,6 +28,8 @@ pub data Action : Type 0 where
   look : (at : Path) → Action
   -- a variable of the activation begins with its first value
   begin_with : (variable : ℕ) → (of : TypeId) → (value : FirstValue) → Action
+  -- a Char of a literal, by its index from 1
+  pick : (to : ℕ) → (text : List ℕ) → (index : ℕ) → Action
   -- ---- numbers
   arithmetic : (operator : Operator) → (checked : Bool) → (to left right : ℕ) → Action
   compare : (operator : Operator) → (to left right : ℕ) → Action
@@ -74,6 +76,10 @@ calculated core o checked to a b w = if divides o && int_eq b (pos 0) then faile
 abbrev pub within : Core → ℤ → ℤ → ℕ → ℤ → World → World
 within core low high to n w = if between low high n then with_number to n w else failed core 201 w
 
+-- error 201 where the literal has no such Char
+abbrev pub picked : Core → ℕ → List ℕ → ℤ → World → World
+picked core to text n w = if between (pos 1) (pos (length text)) n then with_number to (pos (slice_index text (nat_abs (n -ℤ pos 1)))) w else failed core 201 w
+
 unfoldable pub perform : Core → Action → World → World
 perform core (constant to n) w = with_number to (wrapped n) w
 perform core (load to kind from) w = at_place core (place_of w from) (λ p. with_number to (number_in (value_at w p)) w) w
@@ -81,6 +87,7 @@ perform core (store to kind from) w = at_place core (place_of w to) (λ p. with_
 perform core (copy of to from) w = at_place core (place_of w from) (λ q. at_place core (place_of w to) (λ p. with_value p (value_at w q) w) w) w
 perform core (look at) w = at_place core (place_of w at) (λ p. w) w
 perform core (begin_with v of value) w = with_value (all_of (local w.depth v)) (first_of core of value) w
+perform core (pick to text index) w = picked core to text (number_at w index) w
 perform core (arithmetic o checked to a b) w = calculated core o checked to (number_at w a) (number_at w b) w
 perform core (compare o to a b) w = with_number to (truth (compared o (number_at w a) (number_at w b))) w
 perform core (negate checked to a) w = computed core checked to (neg_ℤ (number_at w a)) w

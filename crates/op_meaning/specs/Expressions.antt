@@ -1,11 +1,11 @@
 -- How an expression becomes items. Operands are evaluated from the left to the right; the value of an expression goes to the first
 -- temporary that is free, or stays in its place where only a part of it is looked at. (Free Pascal Reference Guide, "Expressions".)
-use Rattle.std.specs.Prelude.{ℕ, ◌+◌, ℤ, pos, negsuc, Bool, true, false, List, [], ◌∷◌, Option, Some, None, slice_get, if◌then◌else◌}
-use Rattle.op_core.specs.Expression.{Expression, expression, Root as Start, constant as fixed, variable, object, call, set as bracketed, Steps, no_steps, steps, Action as Doing, convert, bracket, field, index, prefixed, operate, apply, Elements, no_elements, elements, Element as Member, one, range, Arguments, no_arguments, arguments, Argument, value, place}
+use Rattle.std.specs.Prelude.{length, ℕ, ◌+◌, ℤ, pos, negsuc, Bool, true, false, List, [], ◌∷◌, Option, Some, None, slice_get, if◌then◌else◌}
+use Rattle.op_core.specs.Expression.{Expression, expression, Root as Start, constant as fixed, variable, object, call, construct as constructed, set as bracketed, Steps, no_steps, steps, Action as Doing, convert, bracket, field, index, prefixed, operate, apply, Elements, no_elements, elements, Element as Member, one, range, Arguments, no_arguments, arguments, Argument, value, place}
 use Rattle.op_core.specs.Sizes.{type_at, range_of, values_of}
 use Rattle.op_core.specs.Typing.{type_of, type_after}
 use Rattle.op_core.specs.declared.constant.Const.{Const}
-use Rattle.op_core.specs.declared.constant.Const.TheVariants.{Ordinal, Set as SetOf}
+use Rattle.op_core.specs.declared.constant.Const.TheVariants.{Ordinal, Text, Set as SetOf, Nil as NilOf}
 use Rattle.op_core.specs.declared.ids.TypeId.{TypeId}
 use Rattle.op_core.specs.declared.operation.Conversion.{Conversion}
 use Rattle.op_core.specs.declared.operation.Conversion.TheVariants.{LowBits, Check}
@@ -16,10 +16,10 @@ use Rattle.op_core.specs.declared.routine.Routine.{Routine}
 use Rattle.op_core.specs.declared.types.CoreType.{CoreType}
 use Rattle.op_core.specs.declared.types.CoreType.TheVariants.{Integer, Boolean, Char, Set, Array}
 use Rattle.op_core.specs.declared.types.IntegerKind.TheVariants.{Unsigned8, Signed32}
-use Rattle.op_meaning.specs.Actions.{Action, constant, load, copy, look, arithmetic, compare, negate, complement, invert, absolute, odd, upper, low_bits, check, neighbour, single as lone, span, combine, contains, check_set}
-use Rattle.op_meaning.specs.Items.{Given, by_value, by_reference, by_place, by_copy, Receiver, nowhere, to_temp, to_place, act, also, enter, Items, none, then_do, ◌&◌, only, acts}
+use Rattle.op_meaning.specs.Actions.{Action, constant, load, copy, look, arithmetic, compare, negate, complement, invert, absolute, odd, upper, pick, low_bits, check, neighbour, single as lone, span, combine, contains, check_set}
+use Rattle.op_meaning.specs.Items.{Given, by_value, by_reference, by_place, by_copy, Receiver, nowhere, to_temp, to_place, act, also, enter, construct, Items, none, then_do, ◌&◌, only, acts}
 use Rattle.op_meaning.specs.Numbers.{between}
-use Rattle.op_meaning.specs.Paths.{Path, Step, field as part_field, element as part_element, in_local, in_temporary, path_to, with_step, root_of}
+use Rattle.op_meaning.specs.Paths.{Path, Step, field as part_field, element as part_element, in_temporary, path_to, with_step, root_of}
 use Rattle.op_meaning.specs.Sets.{set_of, set_of_elements}
 use Rattle.op_meaning.specs.Shapes.{Shape, single, composite, shape_of, no_type, field_number}
 use Rattle.op_tree.specs.declared.operator.Operator.{Operator}
@@ -52,10 +52,11 @@ pub record Env : Type 0 where
 
 -- ---- where a value is
 
--- in the first free temporary, or at a place
+-- in the first free temporary, by its type one for a value or one for a record or an array; at a place; or a literal
 pub data Now : Type 0 where
-  in_temp : Now
+  ready : Now
   at_path : (path : Path) → Now
+  a_text : (bytes : List ℕ) → Now
 
 -- what was to be done for it, and how many temporaries the indices of its path keep
 pub record Found : Type 0 where
@@ -69,23 +70,22 @@ found items now = record { items = items; now = now; used = 0 }
 abbrev pub whole_path : TypeId → Here → Path
 whole_path of here = path_to (in_temporary of here.whole)
 
-abbrev pub path_of : Now → Path
-path_of in_temp = path_to (in_local 0)
-path_of (at_path p) = p
+abbrev pub path_of : TypeId → Here → Now → Path
+path_of of here (at_path p) = p
+path_of of here _ = whole_path of here
 
 -- a value of its own: a number is loaded, a record or an array copied
-abbrev pub own_by : Shape → TypeId → Here → Now → Items
-own_by _ of here in_temp = none
-own_by (single kind) of here (at_path p) = only (act (load here.temp kind p))
-own_by composite of here (at_path p) = only (act (copy of (whole_path of here) p))
-own_by _ of here (at_path p) = none
+abbrev pub loaded : Shape → TypeId → Here → Path → Items
+loaded (single kind) of here p = only (act (load here.temp kind p))
+loaded composite of here p = only (act (copy of (whole_path of here) p))
+loaded _ of here p = none
 
-abbrev pub now_by : Shape → TypeId → Here → Now
-now_by composite of here = at_path (whole_path of here)
-now_by _ of here = in_temp
+abbrev pub own_by : Core → TypeId → Here → Found → Now → Found
+own_by core of here f (at_path p) = found (f.items & loaded (shape_of core of) of here p) ready
+own_by core of here f now = f
 
 abbrev pub own : Env → TypeId → Here → Found → Found
-own env of here f = record { items = f.items & own_by (shape_of env.core of) of here f.now; now = now_by (shape_of env.core of) of here; used = 0 }
+own env of here f = own_by env.core of here f f.now
 
 abbrev pub then_acts : Found → List Action → Found
 then_acts f actions = record f { items = f.items & acts actions }
@@ -120,19 +120,20 @@ base_type _ = no_type
 
 -- ---- selections ("Record types" and "Arrays")
 
-abbrev pub then_step : Step → ℕ → Found → Found
-then_step s used f = by f.now
-  where
-    by : Now → Found
-    by in_temp = f
-    by (at_path p) = record f { now = at_path (with_step s p); used = f.used + used }
+-- of what is at a place, or of a value in its temporary
+abbrev pub then_step : TypeId → Here → Step → ℕ → Found → Found
+then_step of here step used f = record f { now = at_path (with_step step (path_of of here f.now)); used = f.used + used }
 
 abbrev pub element_step : Core → TypeId → ℕ → Step
 element_step core of t = part_element of (low_in core (counted_of core of)) (high_in core (counted_of core of)) t
 
--- the index is evaluated behind the temporaries of the indices in front of it
+-- the index is evaluated behind the temporaries of the indices in front of it; a literal gives a Char
+abbrev pub then_index_by : Core → TypeId → Here → Found → Items → Now → Found
+then_index_by core of here f i (a_text bytes) = found (f.items & i & only (act (pick here.temp bytes here.temp))) ready
+then_index_by core of here f i now = then_step of here (element_step core of (here.temp + f.used)) 1 (record f { items = f.items & i })
+
 abbrev pub then_index : Core → TypeId → Here → Found → Items → Found
-then_index core of here f i = then_step (element_step core of (here.temp + f.used)) 1 (record f { items = f.items & i })
+then_index core of here f i = then_index_by core of here f i f.now
 
 -- ---- operators ("Operators")
 
@@ -164,8 +165,8 @@ second_here None here = past 1 here
 second_here (Some truth) here = here
 
 abbrev pub two_by : Option Bool → Operator → Bool → Option CoreType → Here → Found → Items → Found
-two_by None o checked of here f second = found (f.items & second & only (act (on_two o checked of here.temp))) in_temp
-two_by (Some truth) o checked of here f second = found (f.items & only (also truth here.temp second)) in_temp
+two_by None o checked of here f second = found (f.items & second & only (act (on_two o checked of here.temp))) ready
+two_by (Some truth) o checked of here f second = found (f.items & only (also truth here.temp second)) ready
 
 abbrev pub is_boolean : Option CoreType → Bool
 is_boolean (Some Boolean) = true
@@ -205,28 +206,34 @@ applied core Odd checked of t = odd t t ∷ []
 applied core UpCase checked of t = upper t t ∷ []
 applied core _ checked of t = []
 
--- of an array's and a type's bounds, only the type is asked
-abbrev pub measured : Core → Function → TypeId → Option ℤ
-measured core Low of = Some (low_in core (counted_of core of))
-measured core High of = Some (high_in core (counted_of core of))
-measured core Length of = Some (pos (values_of (range_of (type_at core (counted_of core of)))))
-measured core _ of = None
+-- the bounds and the length of an array, and the bounds of an ordinal type, are those of the type
+abbrev pub measured_by : Function → Option (ℤ × ℤ) → Option ℤ
+measured_by Low (Some r) = Some r.0
+measured_by High (Some r) = Some r.1
+measured_by Length (Some r) = Some (pos (values_of (Some r)))
+measured_by _ _ = None
+
+-- those of a literal begin at 1
+abbrev pub measured : Core → Function → TypeId → Now → Option ℤ
+measured core f of (a_text bytes) = measured_by f (Some (pos 1, pos (length bytes)))
+measured core f of now = measured_by f (range_of (type_at core (counted_of core of)))
 
 -- the place is looked at where it is
 abbrev pub looked_at : Now → Items
-looked_at in_temp = none
 looked_at (at_path p) = only (act (look p))
+looked_at _ = none
 
 abbrev pub applied_by : Option ℤ → Env → Function → Bool → TypeId → Here → Found → Found
 applied_by None env function checked of here f = then_acts (own env of here f) (applied env.core function checked of here.temp)
-applied_by (Some n) env function checked of here f = found (f.items & looked_at f.now & only (act (constant here.temp n))) in_temp
+applied_by (Some n) env function checked of here f = found (f.items & looked_at f.now & only (act (constant here.temp n))) ready
 
 -- ---- constants, calls and arguments
 
-abbrev pub of_constant : Const → ℕ → List Action
-of_constant (Ordinal n) t = constant t n ∷ []
-of_constant (SetOf es) t = constant t (set_of_elements es) ∷ []
-of_constant _ t = []
+abbrev pub of_constant : Const → ℕ → Found
+of_constant (Ordinal n) t = found (only (act (constant t n))) ready
+of_constant (SetOf es) t = found (only (act (constant t (set_of_elements es)))) ready
+of_constant (Text bytes) t = found none (a_text bytes)
+of_constant NilOf t = found none ready
 
 abbrev pub receiver_by : Shape → TypeId → Here → Receiver
 receiver_by composite of here = to_place of (whole_path of here)
@@ -241,10 +248,10 @@ result_of None = None
 result_of (Some r) = r.result
 
 -- what a value parameter is given ("Value parameters")
-abbrev pub given_by : Shape → TypeId → Here → Now → Given
-given_by (single kind) of here now = by_value kind here.temp
-given_by composite of here now = by_copy of (path_of now)
-given_by _ of here now = by_reference here.temp
+abbrev pub given_by : Shape → TypeId → Here → Given
+given_by (single kind) of here = by_value kind here.temp
+given_by composite of here = by_copy of (whole_path of here)
+given_by _ of here = by_reference here.temp
 
 pub record Passing : Type 0 where
   pub items : Items
@@ -268,14 +275,17 @@ abbrev mutual
   make env here (expression root of others) = own env (type_after of others) here (find_steps env here of others (find_root env here of root))
 
   pub find_root : Env → Here → TypeId → Start → Found
-  find_root env here of (fixed c nodes words) = found (acts (of_constant c here.temp)) in_temp
+  find_root env here of (fixed c nodes words) = of_constant c here.temp
   find_root env here of (variable v) = found none (at_path (path_to (root_of env.core env.routine v)))
   find_root env here of (object v) = found none (at_path (path_to (root_of env.core env.routine v)))
   find_root env here of (call r given) =
       let passing = pass env (past_whole here) given in
-      found (passing.items & only (enter r.0 passing.given (receiver_of env.core (result_of (slice_get env.core.routines r.0)) here))) (now_by (shape_of env.core of) of here)
-  find_root env here of (bracketed es) = found (then_do (act (constant here.temp (pos 0))) (gather env here es)) in_temp
-  find_root env here of _ = found none in_temp
+      found (passing.items & only (enter r.0 passing.given (receiver_of env.core (result_of (slice_get env.core.routines r.0)) here))) ready
+  find_root env here of (constructed c r given) =
+      let passing = pass env (past_whole here) given in
+      found (passing.items & only (construct c r.0 passing.given here.temp)) ready
+  find_root env here of (bracketed es) = found (then_do (act (constant here.temp (pos 0))) (gather env here es)) ready
+  find_root env here of _ = found none ready
 
   pub find_steps : Env → Here → TypeId → Steps → Found → Found
   find_steps env here of no_steps f = f
@@ -285,13 +295,13 @@ abbrev mutual
   pub find_step : Env → Here → TypeId → Doing → TypeId → Found → Found
   find_step env here of (convert c origin) to f = then_acts (own env of here f) (converted env.core c to here.temp)
   find_step env here of bracket to f = own env of here f
-  find_step env here of (field id) to f = then_step (part_field of (field_number env.core of id)) 0 f
+  find_step env here of (field id) to f = then_step of here (part_field of (field_number env.core of id)) 0 f
   find_step env here of (index e) to f = then_index env.core of here f (make env (past f.used (past_whole here)) e).items
   find_step env here of (prefixed o checked) to f = then_acts (own env of here f) (prefix o checked (type_at env.core of) here.temp)
   find_step env here of (operate o checked e) to f =
       let goes_on = goes_on_at o (type_at env.core of) in
       two_by goes_on o checked (type_at env.core of) here (own env of here f) (make env (second_here goes_on here) e).items
-  find_step env here of (apply function checked) to f = applied_by (measured env.core function of) env function checked of here f
+  find_step env here of (apply function checked) to f = applied_by (measured env.core function of f.now) env function checked of here f
   find_step env here of _ to f = f
 
   -- the elements of a set constructor are joined one after the other ("Set Constructors")
@@ -312,6 +322,6 @@ abbrev mutual
       record { items = first.items & rest.items; given = first.given ∷ rest.given }
 
   pub pass_one : Env → Here → Argument → Passed
-  pass_one env here (value e) = let f = make env here e in record { items = f.items; given = given_by (shape_of env.core (type_of e)) (type_of e) here f.now; used = 1 }
-  pass_one env here (place e) = let f = find env here e in record { items = f.items; given = by_place (path_of f.now); used = f.used }
+  pass_one env here (value e) = let f = make env here e in record { items = f.items; given = given_by (shape_of env.core (type_of e)) (type_of e) here; used = 1 }
+  pass_one env here (place e) = let f = find env here e in record { items = f.items; given = by_place (path_of (type_of e) here f.now); used = f.used }
   pass_one env here _ = record { items = none; given = by_reference here.temp; used = 0 }

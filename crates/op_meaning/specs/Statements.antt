@@ -1,13 +1,12 @@
 -- How a statement becomes items. (Free Pascal Reference Guide, "Statements" and "Exceptions"; reference of the unit System, "Inc",
 -- "Dec", "Include", "Exclude", "Write", "Exit", "Break", "Continue" and "Halt".)
 use Rattle.std.specs.Prelude.{ℕ, zero, suc, ◌+◌, pos, Bool, true, false, List, [], ◌∷◌, Option, Some, None}
-use Rattle.op_core.specs.Expression.{Expression, expression, constant as fixed}
+use Rattle.op_core.specs.Expression.{Expression}
 use Rattle.op_core.specs.Initial.{FirstValue}
 use Rattle.op_core.specs.Sizes.{type_at}
 use Rattle.op_core.specs.Statement.{Statement, empty, block, if_then, if_else, case_of, while_do, repeat_until, for_to, for_in, try_finally, try_on, try_on_else, raise, reraise, call, assign, exit, exit_with, break, continue, halt as halt_with, built_in, Statements, no_statements, statements, Branches, no_branches, branches, Handlers, no_handlers, handlers, BuiltIn, write, count, include, exclude, free as free_of, destroy, Item as Output, plain, padded, Target}
 use Rattle.op_core.specs.StatementTyping.{host}
 use Rattle.op_core.specs.Typing.{type_of}
-use Rattle.op_core.specs.declared.constant.Const.TheVariants.{Text}
 use Rattle.op_core.specs.declared.ids.TypeId.{TypeId}
 use Rattle.op_core.specs.declared.ids.VariableId.{VariableId}
 use Rattle.op_core.specs.declared.operation.Conversion.{Conversion}
@@ -17,7 +16,7 @@ use Rattle.op_core.specs.declared.types.CoreType.TheVariants.{Boolean, Char, Set
 use Rattle.op_core.specs.declared.types.IntegerKind.{IntegerKind}
 use Rattle.op_core.specs.declared.types.IntegerKind.TheVariants.{Signed32}
 use Rattle.op_meaning.specs.Actions.{Action, constant, load, store, copy, begin_with, arithmetic, compare, check, single as lone, combine, contains, write_number, write_truth, write_char, write_text}
-use Rattle.op_meaning.specs.Expressions.{Here, past, past_whole, Env, at_path, Found, found, whole_path, path_of, own, then_acts, low_in, high_in, counted_of, element_step, converted, find, make}
+use Rattle.op_meaning.specs.Expressions.{Here, past, past_whole, Env, at_path, Found, found, whole_path, path_of, own, then_acts, low_in, high_in, counted_of, element_step, converted, find, make, Now, a_text}
 use Rattle.op_meaning.specs.Items.{act, choose, select, loop, body_first, protect, leave, attempt, throw, rethrow, halt, free, Items, none, then_do, Turns, turns, Cases, no_cases, cases, Clauses, no_clauses, for_others, clauses, ◌&◌, only, acts}
 use Rattle.op_meaning.specs.Paths.{Path, Root, in_local, path_to, with_step, root_of}
 use Rattle.op_meaning.specs.Shapes.{Shape, single, composite, shape_of, type_of_variable, type_of_local, variables_of, result_of_routine}
@@ -29,15 +28,15 @@ use Rattle.op_tree.specs.declared.statement.Direction.TheVariants.{To, Downto}
 
 -- ---- assignments ("Assignments")
 
--- a value that was evaluated goes into a place that is found with the temporaries behind it
+-- a value that was evaluated, of a type, goes into a place of a shape, which is found with the temporaries behind it
 abbrev pub stored_by : Shape → TypeId → Here → Found → Found → Items
-stored_by (single kind) of here v target = v.items & target.items & only (act (store (path_of target.now) kind here.temp))
-stored_by composite of here v target = v.items & target.items & only (act (copy of (path_of target.now) (path_of v.now)))
+stored_by (single kind) of here v target = v.items & target.items & only (act (store (path_of of here target.now) kind here.temp))
+stored_by composite of here v target = v.items & target.items & only (act (copy of (path_of of here target.now) (whole_path of here)))
 stored_by _ of here v target = v.items & target.items
 
 -- the right side is evaluated first, then the indices of the place
 abbrev pub assigned : Env → Here → Expression → Expression → Items
-assigned env here target e = stored_by (shape_of env.core (type_of target)) (type_of target) here (make env here e) (find env (past 1 (past_whole here)) target)
+assigned env here target e = stored_by (shape_of env.core (type_of target)) (type_of e) here (make env here e) (find env (past 1 (past_whole here)) target)
 
 abbrev pub result_path : Env → Path
 result_path env = path_to (in_local (result_of_routine env.core env.routine))
@@ -62,21 +61,20 @@ write_by (Some Boolean) t = write_truth t (t + 1)
 write_by (Some Char) t = write_char t (t + 1)
 write_by _ t = write_number t (t + 1)
 
-abbrev pub text_in : Expression → Option (List ℕ)
-text_in (expression (fixed (Text bytes) nodes words) of others) = Some bytes
-text_in _ = None
+-- the value is in the first temporary and the width in the second one; a literal is written as it is
+abbrev pub write_by_now : Env → Here → TypeId → Found → Items → Now → Items
+write_by_now env here of f width (a_text bytes) = f.items & width & only (act (write_text bytes (here.temp + 1)))
+write_by_now env here of f width now = f.items & width & only (act (write_by (host env.core (type_at env.core of)) here.temp))
 
--- the width is in the second temporary
-abbrev pub write_value : Env → Here → Expression → Items → Option (List ℕ) → Items
-write_value env here e width None = (make env here e).items & width & only (act (write_by (host env.core (type_at env.core (type_of e))) here.temp))
-write_value env here e width (Some text) = width & only (act (write_text text (here.temp + 1)))
+abbrev pub write_value : Env → Here → TypeId → Found → Items → Items
+write_value env here of f width = write_by_now env here of f width f.now
 
 abbrev pub no_width : Here → Items
 no_width here = only (act (constant (here.temp + 1) (pos 0)))
 
 abbrev pub write_one : Env → Here → Output → Items
-write_one env here (plain e) = write_value env here e (no_width here) (text_in e)
-write_one env here (padded e w) = write_value env here e (make env (past 1 here) w).items (text_in e)
+write_one env here (plain e) = write_value env here (type_of e) (make env here e) (no_width here)
+write_one env here (padded e w) = write_value env here (type_of e) (make env here e) (make env (past 1 here) w).items
 
 -- each is written before the next one is evaluated
 abbrev pub write_all : Env → Here → List Output → Items
@@ -98,22 +96,22 @@ abbrev pub counted_at : Env → Here → Direction → Target → Expression →
 counted_at env here d target amount checked f =
     let t = here.temp + f.used in
     let of = type_of target.place in
-    f.items & only (act (load t (kind_of env.core of) (path_of f.now)))
+    f.items & only (act (load t (kind_of env.core of) (path_of of here f.now)))
     & (make env (past (f.used + 1) (past_whole here)) amount).items
     & acts (arithmetic (sum_or_difference d) checked t t (t + 1) ∷ []) & acts (converted env.core target.store of t)
-    & only (act (store (path_of f.now) (kind_of env.core of) t))
+    & only (act (store (path_of of here f.now) (kind_of env.core of) t))
 
-abbrev pub changed_set : Env → Here → Operator → Expression → Found → Items
-changed_set env here o e f =
+abbrev pub changed_set : Env → Here → Operator → TypeId → Expression → Found → Items
+changed_set env here o of e f =
     let t = here.temp + f.used in
     f.items & (make env (past (f.used + 1) (past_whole here)) e).items
-    & acts (lone (t + 1) (t + 1) ∷ load t Signed32 (path_of f.now) ∷ combine o t t (t + 1) ∷ store (path_of f.now) Signed32 t ∷ [])
+    & acts (lone (t + 1) (t + 1) ∷ load t Signed32 (path_of of here f.now) ∷ combine o t t (t + 1) ∷ store (path_of of here f.now) Signed32 t ∷ [])
 
 abbrev pub done_built_in : Env → Here → BuiltIn → Items
 done_built_in env here (write items ends) = write_all env here items & line_end here ends
 done_built_in env here (count d target amount checked) = counted_at env here d target amount checked (find env here target.place)
-done_built_in env here (include s e) = changed_set env here Add e (find env here s)
-done_built_in env here (exclude s e) = changed_set env here Subtract e (find env here s)
+done_built_in env here (include s e) = changed_set env here Add (type_of s) e (find env here s)
+done_built_in env here (exclude s e) = changed_set env here Subtract (type_of s) e (find env here s)
 done_built_in env here (free_of e empties) = (make env here e).items & only (free true here.temp)
 done_built_in env here (destroy e) = (make env here e).items & only (free false here.temp)
 done_built_in env here _ = none
@@ -155,7 +153,7 @@ in_array env here of element v into body =
     let to = type_of_variable env.core v.0 in
     let each = own env element (past 3 (past_whole here)) (found none (at_path (with_step (element_step env.core of t) (whole_path of here)))) in
     acts (constant t (low_in env.core (counted_of env.core of)) ∷ constant (t + 1) (high_in env.core (counted_of env.core of)) ∷ [])
-    & only (body_first (counting t To (stored_by (shape_of env.core to) to (past 3 (past_whole here)) (then_acts each (converted env.core into to (t + 3))) (at_variable env v) & body)))
+    & only (body_first (counting t To (stored_by (shape_of env.core to) element (past 3 (past_whole here)) (then_acts each (converted env.core into to (t + 3))) (at_variable env v) & body)))
 
 -- behind the collection, a set in the first temporary: those of the base's values that are in it
 abbrev pub in_set : Env → Here → TypeId → VariableId → Conversion → Items → Items
