@@ -2,6 +2,7 @@ pub mod Endings
 pub mod Programs
 mod RunsCalls
 mod RunsFinally
+mod RunsHeld
 mod RunsLoops
 mod RunsNumbers
 mod RunsParts
