@@ -1,0 +1,99 @@
+-- What is done on an activation before it goes on: walks over what ends, destructions, the end of a construction, and the closing of the
+-- program. (Free Pascal Reference Guide, "Managed types", "Class instantiation", "Class destruction" and "Units".)
+use Rattle.std.specs.Prelude.{ℕ, zero, suc, Bool, true, false, not, ◌&&◌, ◌||◌, List, [], ◌∷◌, length, Option, Some, None, slice_get, if◌then◌else◌}
+use Rattle.op_core.specs.Rows.{rows}
+use Rattle.op_core.specs.declared.class.Class.{Class as ClassRow}
+use Rattle.op_core.specs.declared.class.Method.{Method}
+use Rattle.op_core.specs.declared.ids.ClassId.{ClassId}
+use Rattle.op_core.specs.declared.program.Core.{Core}
+use Rattle.op_core.specs.declared.routine.Routine.{Routine}
+use Rattle.op_meaning.specs.Calls.{a_value, begun}
+use Rattle.op_meaning.specs.Frames.{Program, State, Frame, walk, destruction, construction, closing, Started, Pending, finalize, empty_global, with_world, with_frames, popped, fails}
+use Rattle.op_meaning.specs.Holding.{is_held}
+use Rattle.op_meaning.specs.Items.{nowhere}
+use Rattle.op_meaning.specs.Losing.{ends_place, is_empty_value, is_managed_value}
+use Rattle.op_meaning.specs.Values.{instance, Place, global, object, all_of}
+use Rattle.op_meaning.specs.World.{World, Object, gone, fields, Phase, Live, Destruction, Dead, Ended, with_object}
+use Rattle.op_tree.specs.declared.heading.RoutineKind.{RoutineKind}
+use Rattle.op_tree.specs.declared.heading.RoutineKind.TheVariants.{Destructor}
+
+-- ---- walks: one place in a step; an array is gone when its walk is done
+
+abbrev gone_array : Option ℕ → State → State
+gone_array None s = s
+gone_array (Some n) s = with_world (with_object n gone s.world) s
+
+abbrev pub walked : Program → List Place → Option ℕ → Option ℕ → List Frame → State → State
+walked p [] array waits rest s = popped waits rest (gone_array array s)
+walked p (q ∷ qs) array waits rest s = ends_place p q (with_frames (walk qs array waits ∷ rest) s)
+
+-- ---- destructions
+
+abbrev is_destructor_kind : RoutineKind → Bool
+is_destructor_kind Destructor = true
+is_destructor_kind _ = false
+
+abbrev is_destructor : Option Routine → Bool
+is_destructor None = false
+is_destructor (Some r) = is_destructor_kind r.kind
+
+abbrev destructor_among : Core → List Method → Option ℕ → Option ℕ
+destructor_among core [] above = above
+destructor_among core (m ∷ ms) above = if is_destructor (slice_get core.routines m.routine.0) then Some m.routine.0 else destructor_among core ms above
+
+abbrev destructor_by : (ClassId → Option ℕ) → Core → Option ClassRow → Option ℕ
+destructor_by inner core None = None
+destructor_by inner core (Some x) = destructor_among core (rows core.methods x.methods) (above x.ancestor)
+  where
+    above : Option ClassId → Option ℕ
+    above None = None
+    above (Some a) = inner a
+
+abbrev destructor_within : ℕ → Core → ClassId → Option ℕ
+destructor_within zero core c = None
+destructor_within (suc n) core c = destructor_by (destructor_within n core) core (slice_get core.classes c.0)
+
+-- Destroy of the class, or of the nearest ancestor that has one
+abbrev pub destructor_of : Core → ClassId → Option ℕ
+destructor_of core c = destructor_within (suc (length core.classes)) core c
+
+abbrev class_under : Object → ClassId
+class_under (fields c phase) = c
+class_under _ = record { 0 = 0 }
+
+abbrev pub class_of : World → ℕ → ClassId
+class_of w i = class_under (w.objects i)
+
+abbrev pub in_phase : Phase → ℕ → World → World
+in_phase phase i w = with_object i (fields (class_of w i) phase) w
+
+abbrev enters_destroy : Program → ℕ → Option ℕ → State → State
+enters_destroy p i None s = s
+enters_destroy p i (Some r) s = begun p r nowhere s.work (a_value (instance false (Some i)) ∷ []) s
+
+-- the instance has no holder, and no field was filled again
+abbrev pub may_die : Program → ℕ → State → Bool
+may_die p i s = not (is_held p s i) && (not (is_managed_value (s.world.memory (object i))) || is_empty_value (s.world.memory (object i)))
+
+-- Destroy is entered, then the fields end, ancestors' fields first, and then the instance is dead, or the pointer is invalid
+abbrev pub destroyed : Program → ℕ → Started → Bool → List Place → Option ℕ → List Frame → State → State
+destroyed p i started false places waits rest s =
+    enters_destroy p i (destructor_of p.core (class_of s.world i)) (with_frames (destruction i started true places waits ∷ rest) (with_world (in_phase Destruction i s.world) s))
+destroyed p i started true (q ∷ qs) waits rest s = ends_place p q (with_frames (destruction i started true qs waits ∷ rest) s)
+destroyed p i started true [] waits rest s = if may_die p i s then popped waits rest (with_world (in_phase Dead i s.world) s) else fails p 204 s
+
+-- ---- the closing
+
+-- finalization parts and globals, each taken once; then the program ends
+abbrev pub closed : Program → ℕ → List Pending → State → State
+closed p status [] s = with_world (record s.world { ending = Ended status }) s
+closed p status (finalize r ∷ pending) s = begun p r.0 nowhere s.work [] (record s { pending = pending })
+closed p status (empty_global v ∷ pending) s = ends_place p (all_of (global v.0)) (record s { pending = pending })
+
+-- ---- a frame acts
+
+abbrev pub framed : Program → Frame → List Frame → State → State
+framed p (walk places array waits) rest s = walked p places array waits rest s
+framed p (destruction i started entered places waits) rest s = destroyed p i started entered places waits rest s
+framed p (construction i) rest s = with_frames rest (with_world (in_phase Live i s.world) s)
+framed p (closing status) rest s = closed p status s.pending s

@@ -1,0 +1,133 @@
+-- The state of a program that runs: the activation under way with what is still to be done in it, the activations that wait for it,
+-- and on each of them what has to be ended before it goes on. (Free Pascal Reference Guide, "Using functions and procedures",
+-- "Managed types", "Class destruction", "Exceptions" and "Programs, units, blocks".)
+use Rattle.std.specs.Prelude.{ℕ, ◌+◌, ◌-◌, Bool, List, ◌∷◌, Option, Some, None, slice_get, nat_lt, if◌then◌else◌}
+use Rattle.std.specs.Option.{option_map}
+use Rattle.op_core.specs.Initial.{FirstValue, first_value_of}
+use Rattle.op_core.specs.Statement.{Statements, no_statements, stmts_of}
+use Rattle.op_core.specs.declared.ids.RoutineId.{RoutineId}
+use Rattle.op_core.specs.declared.ids.VariableId.{VariableId}
+use Rattle.op_core.specs.declared.program.Core.{Core}
+use Rattle.op_core.specs.declared.routine.Body.{Body}
+use Rattle.op_core.specs.declared.routine.Routine.{Routine}
+use Rattle.op_core.specs.declared.routine.Variable.{Variable}
+use Rattle.op_meaning.specs.Charge.{charge_of}
+use Rattle.op_meaning.specs.Errors.{failed}
+use Rattle.op_meaning.specs.Items.{Task, Receiver}
+use Rattle.op_meaning.specs.Values.{Value, Place}
+use Rattle.op_meaning.specs.World.{World, Temporary}
+
+-- ---- programs
+
+-- the tables of a program, the statements of each routine, what variables begin with, what an activation of each routine is charged,
+-- and the bytes of stack that all activations have together
+pub record Program : Type 0 where
+  pub core : Core
+  pub body : ℕ → Statements
+  pub first : ℕ → Option FirstValue
+  pub charge : ℕ → ℕ
+  pub stack : ℕ
+
+abbrev statements_in : Option Body → Statements
+statements_in None = no_statements
+statements_in (Some b) = stmts_of b.statements.items
+
+abbrev body_in : Option Routine → Statements
+body_in None = no_statements
+body_in (Some r) = statements_in r.body
+
+abbrev first_in : Option Variable → Option FirstValue
+first_in None = None
+first_in (Some v) = option_map (λ i. first_value_of i.value) v.first_value
+
+-- a typed program with a stack of so many bytes
+abbrev pub program_of : Core → ℕ → Program
+program_of core stack = record {
+  core = core;
+  body = λ r. body_in (slice_get core.routines r);
+  first = λ v. first_in (slice_get core.variables v);
+  charge = λ r. charge_of core (record { 0 = r });
+  stack = stack;
+}
+
+-- ---- frames
+
+-- what started a destruction
+pub data Started : Type 0 where
+  by_free : Started
+  by_loss : Started
+  by_constructor : Started
+  by_handler : Started
+
+-- What has to be done before the activation below goes on. An exception that waits in a frame is under way again when the frame is
+-- done.
+pub data Frame : Type 0 where
+  -- the places still to be ended, which keep their values until then; of an array that was lost, its name
+  walk : (places : List Place) → (array waits : Option ℕ) → Frame
+  -- of an instance: whether Destroy was entered, and the fields still to be ended
+  destruction : (instance : ℕ) → (started : Started) → (entered : Bool) → (places : List Place) → (waits : Option ℕ) → Frame
+  -- its constructor is under way
+  construction : (instance : ℕ) → Frame
+  -- the program ends with this status
+  closing : (status : ℕ) → Frame
+
+-- an activation that waits for the one above it, with its temporaries, what is still to be done in it, where a result goes, and the
+-- frames on it
+pub record Caller : Type 0 where
+  pub routine : ℕ
+  pub temps : ℕ → Value
+  pub made : List Temporary
+  pub work : List Task
+  pub receiver : Receiver
+  pub frames : List Frame
+
+-- what the closing still has to do
+pub data Pending : Type 0 where
+  finalize : (routine : RoutineId) → Pending
+  empty_global : (variable : VariableId) → Pending
+
+-- The activation that everything else stands on is the program itself: it has no variables, and enters the parts of the units.
+pub record State : Type 0 where
+  pub world : World
+  pub routine : ℕ
+  pub work : List Task
+  -- on the activation under way, the one that acts first
+  pub frames : List Frame
+  pub callers : List Caller
+  pub pending : List Pending
+  -- the charges of all activations, walks and destructions
+  pub charged : ℕ
+
+abbrev pub with_work : List Task → State → State
+with_work work s = record s { work = work }
+
+abbrev pub with_world : World → State → State
+with_world w s = record s { world = w }
+
+abbrev pub with_frames : List Frame → State → State
+with_frames frames s = record s { frames = frames }
+
+-- the error with this number
+abbrev pub fails : Program → ℕ → State → State
+fails p n s = with_world (failed p.core n s.world) s
+
+-- ---- charges
+
+-- what a walk and a destruction are charged
+abbrev pub frame_charge : ℕ
+frame_charge = 64
+
+-- error 202 comes exactly where a push would make the sum of the charges pass the stack
+abbrev pub charged_for : Program → ℕ → State → (State → State) → State
+charged_for p bytes s push = if nat_lt p.stack (s.charged + bytes) then fails p 202 s else push (record s { charged = s.charged + bytes })
+
+abbrev pub discharged : ℕ → State → State
+discharged bytes s = record s { charged = s.charged - bytes }
+
+-- a walk or a destruction is pushed, and the exception under way waits in it
+abbrev pub pushed : Program → (Option ℕ → Frame) → State → State
+pushed p frame s = charged_for p frame_charge s (λ t. with_frames (frame t.world.raised ∷ t.frames) (with_world (record t.world { raised = None }) t))
+
+-- a walk or a destruction is done, and what waits in it is under way again
+abbrev pub popped : Option ℕ → List Frame → State → State
+popped waits rest s = with_frames rest (with_world (record s.world { raised = waits }) (discharged frame_charge s))

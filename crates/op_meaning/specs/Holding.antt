@@ -1,0 +1,88 @@
+-- Who holds what. The holders of a name are all places of a state that contain it, found by a walk over the whole state: there are no
+-- counts. (Free Pascal Reference Guide, "Managed types" and "Reference counting".)
+use Rattle.std.specs.Prelude.{ℕ, zero, suc, Bool, true, false, ◌&&◌, ◌||◌, List, [], ◌∷◌, ◌++◌, length, Option, Some, None, nat_eq, if◌then◌else◌}
+use Rattle.std.specs.List.{flat_map}
+use Rattle.op_meaning.specs.Frames.{Program, State, Caller}
+use Rattle.op_meaning.specs.Shapes.{no_type, variables_of}
+use Rattle.op_meaning.specs.Values.{Value, parts, text, line, array, instance, named, Holder, global, local, temporary, object, Place, all_of, part_at}
+use Rattle.op_meaning.specs.World.{World, Object, elements, fields, Dead, Temporary, one, whole}
+
+-- ---- what a value contains
+
+abbrev pub is_name : Option ℕ → ℕ → Bool
+is_name None y = false
+is_name (Some n) y = nat_eq n y
+
+-- a string and an array are held by what contains their name, an instance by an interface alone
+abbrev pub names : Value → ℕ → Bool
+names (text (named n)) y = nat_eq n y
+names (line n) y = nat_eq n y
+names (array n) y = is_name n y
+names (instance holds n) y = holds && is_name n y
+names _ y = false
+
+-- what there is of so many parts, in order
+unfoldable pub each : {A : Type 0} → ℕ → (ℕ → List A) → List A
+each zero of = []
+each (suc n) of = each n of ++ of n
+
+unfoldable pub any_below : ℕ → (ℕ → Bool) → Bool
+any_below zero test = false
+any_below (suc n) test = any_below n test || test n
+
+-- the places in a value that contain the name
+abbrev pub places_in : ℕ → Place → Value → List Place
+places_in y p (parts count part) = each count (λ k. places_in y (part_at k p) (part k))
+places_in y p v = if names v y then p ∷ [] else []
+
+-- ---- what holds
+
+-- the temporaries of an activation, in order of making; of one value, by a holder without a type
+abbrev pub temporary_place : ℕ → Temporary → Holder
+temporary_place d (one n) = temporary d no_type n
+temporary_place d (whole of n) = temporary d of n
+
+abbrev pub holders_in_temporaries : World → ℕ → ℕ → (ℕ → Value) → List Temporary → List Place
+holders_in_temporaries w y d temps [] = []
+holders_in_temporaries w y d temps (one n ∷ made) = holders_in_temporaries w y d temps made ++ places_in y (all_of (temporary d no_type n)) (temps n)
+holders_in_temporaries w y d temps (whole of n ∷ made) = holders_in_temporaries w y d temps made ++ places_in y (all_of (temporary d of n)) (w.memory (temporary d of n))
+
+abbrev pub in_holder : World → ℕ → Holder → List Place
+in_holder w y h = places_in y (all_of h) (w.memory h)
+
+-- the variables of an activation of a routine: its parameters, its locals and its result. What a variable parameter stands for is
+-- elsewhere.
+abbrev pub holders_in_variables : Program → World → ℕ → ℕ → ℕ → List Place
+holders_in_variables p w y d r = each (variables_of p.core r).count (λ v. in_holder w y (local d v))
+
+abbrev pub holders_in_activation : Program → World → ℕ → ℕ → ℕ → (ℕ → Value) → List Temporary → List Place
+holders_in_activation p w y d r temps made = holders_in_variables p w y d r ++ holders_in_temporaries w y d temps made
+
+-- the activations that wait; the last one of the list is the lowest
+abbrev pub holders_in_callers : Program → World → ℕ → List Caller → List Place
+holders_in_callers p w y [] = []
+holders_in_callers p w y (c ∷ cs) = holders_in_callers p w y cs ++ holders_in_activation p w y (length cs) c.routine c.temps c.made
+
+-- under a name: the elements of an array, also of one that is walked over, and the fields of an instance that is not dead
+abbrev pub holders_in_object : World → ℕ → ℕ → Object → List Place
+holders_in_object w y n (elements of count) = in_holder w y (object n)
+holders_in_object w y n (fields c Dead) = []
+holders_in_object w y n (fields c phase) = in_holder w y (object n)
+holders_in_object w y n _ = []
+
+-- ---- the whole state
+
+-- globals, activations from the lowest one up, and all names that were given
+abbrev pub holders : Program → State → ℕ → List Place
+holders p s y =
+    flat_map (λ v. in_holder s.world y (global v.0)) p.core.globals
+    ++ holders_in_callers p s.world y s.callers
+    ++ holders_in_activation p s.world y (length s.callers) s.routine s.world.temps s.world.made
+    ++ each s.world.next (λ n. holders_in_object s.world y n (s.world.objects n))
+
+abbrev is_some_place : List Place → Bool
+is_some_place [] = false
+is_some_place (p ∷ ps) = true
+
+abbrev pub is_held : Program → State → ℕ → Bool
+is_held p s y = is_some_place (holders p s y)

@@ -1,0 +1,168 @@
+-- The source machine: what a program does in one step. A state that has not ended has exactly one next state: the exception under way
+-- goes on, or the frame on the activation acts, or the first task of the activation is done. (Free Pascal Reference Guide, "Statements",
+-- "Using functions and procedures", "Programs, units, blocks" and "Exceptions".)
+use Rattle.std.specs.Prelude.{ℕ, zero, suc, ℤ, pos, unsigned_abs, Bool, true, false, List, [], ◌∷◌, length, Option, Some, None, nat_lt, if◌then◌else◌}
+use Rattle.std.specs.Int.{int_rem_euclid}
+use Rattle.std.specs.List.{list_any}
+use Rattle.op_core.specs.declared.ids.ClassId.{ClassId}
+use Rattle.op_core.specs.declared.statement.Label.{Label}
+use Rattle.op_meaning.specs.Actions.{perform}
+use Rattle.op_meaning.specs.Calls.{Handed, a_value, all_handed, begun, called, gone_back}
+use Rattle.op_meaning.specs.Ending.{framed}
+use Rattle.op_meaning.specs.Frames.{Program, State, Frame, destruction, construction, by_free, Caller, finalize, with_work, with_world, with_frames, fails, pushed}
+use Rattle.op_meaning.specs.Holding.{is_held}
+use Rattle.op_meaning.specs.Items.{Given, nowhere, Item, act, also, choose, select, loop, body_first, protect, leave, enter, finish, attempt, throw, rethrow, halt, construct, free, Items, Turns, turns, head_of, body_of, Cases, no_cases, cases, Task, item, mark, turn, finally, resume, catching, handling, leaving, ending, due, onto}
+use Rattle.op_meaning.specs.Leaving.{left, resumed, name_in}
+use Rattle.op_meaning.specs.Losing.{ends_last, ends_place, freed, walk_over}
+use Rattle.op_meaning.specs.Numbers.{between, is_true}
+use Rattle.op_meaning.specs.Shapes.{zero_instance}
+use Rattle.op_meaning.specs.Unwinding.{closes, unwound}
+use Rattle.op_meaning.specs.Values.{instance, local, object, all_of}
+use Rattle.op_meaning.specs.World.{World, Object, fields, Construction, Live, Dead, Ending, Running, Ended, with_temp, with_number, with_value, number_at, making}
+
+-- ---- choices ("The Case statement", "The If..then..else statement" and "Boolean operators")
+
+abbrev pub label_has : ℤ → Label → Bool
+label_has n label = between label.first label.last n
+
+-- the first branch with a label that has the value
+abbrev pub selected : ℤ → Cases → Items → Items
+selected n no_cases others = others
+selected n (cases labels is cs) others = if list_any (label_has n) labels then is else selected n cs others
+
+-- what is done where a temporary is true, and where it is false
+abbrev pub tested : World → ℕ → List Task → List Task → List Task
+tested w t a b = if is_true (number_at w t) then a else b
+
+-- ---- loops
+
+-- a further turn: what stands between turns, the body, and then the head again
+abbrev pub another_turn : Turns → List Task → List Task
+another_turn (turns head t ends between body) work = onto between (onto body (mark (turns head t ends between body) ∷ work))
+
+abbrev pub turned : World → Turns → List Task → List Task
+turned w (turns head t false between body) work = tested w t (another_turn (turns head t false between body) work) work
+turned w (turns head t true between body) work = tested w t work (another_turn (turns head t true between body) work)
+
+-- ---- temporaries
+
+abbrev pub finishes : Program → ℕ → List Task → State → State
+finishes p keep work s = if nat_lt keep (length s.world.made) then ends_last p (with_work (item (finish keep) ∷ work) s) else with_work work s
+
+-- ---- exceptions ("The raise statement")
+
+abbrev raised_if : Program → ℕ → Object → List Task → State → State
+raised_if p e (fields c Dead) work s = fails p 216 s
+raised_if p e (fields c phase) work s = record s { world = record s.world { raised = Some e }; work = work }
+raised_if p e o work s = fails p 216 s
+
+-- nil and what is dead is not raised
+abbrev pub throws : Program → Option ℕ → List Task → State → State
+throws p None work s = fails p 216 s
+throws p (Some e) work s = raised_if p e (s.world.objects e) work s
+
+-- the instance of the handler round it
+abbrev pub handled_in : List Task → Option ℕ
+handled_in [] = None
+handled_in (handling keep i ∷ work) = Some i
+handled_in (task ∷ work) = handled_in work
+
+-- ---- instances ("Class instantiation" and "Class destruction")
+
+-- the next name is an instance whose fields are zero; its constructor is entered
+abbrev constructs_with : Program → ClassId → ℕ → ℕ → List Task → Option (List Handed) → State → State
+constructs_with p c r to work None s = with_work work (fails p 201 s)
+constructs_with p c r to work (Some given) s =
+    let n = s.world.next in
+    let made = with_value (all_of (object n)) (zero_instance p.core c) (making (fields c Construction) s.world) in
+    begun p r nowhere work (a_value (instance false (Some n)) ∷ given) (with_frames (construction n ∷ s.frames) (with_world (with_temp to (instance false (Some n)) made) s))
+
+abbrev pub constructs : Program → ClassId → ℕ → List Given → ℕ → List Task → State → State
+constructs p c r given to work s = constructs_with p c r to work (all_handed s.world given) s
+
+-- what an interface holds, or what is under construction or destruction, is not freed
+abbrev frees_under : Program → ℕ → Object → State → State
+frees_under p i (fields c Live) s =
+    if is_held p s i then fails p 204 s else pushed p (destruction i by_free false (walk_over (all_of (object i)) (s.world.memory (object i)))) s
+frees_under p i (fields c Dead) s = fails p 216 s
+frees_under p i (fields c phase) s = fails p 204 s
+frees_under p i o s = fails p 216 s
+
+abbrev pub frees : Program → Bool → Option ℕ → State → State
+frees p takes_nil (Some i) s = frees_under p i (s.world.objects i) s
+frees p true None s = s
+frees p false None s = fails p 216 s
+
+-- ---- the program's end
+
+abbrev pub low_eight : ℤ → ℕ
+low_eight n = unsigned_abs (int_rem_euclid n (pos 256))
+
+abbrev pub halts : ℤ → State → State
+halts n s = closes (low_eight n) s.frames s
+
+-- ---- items
+
+unfoldable pub do_item : Program → Item → List Task → State → State
+do_item p (act a) work s = record s { world = perform p.core a s.world; work = work }
+do_item p (also true t is) work s = with_work (tested s.world t (onto is work) work) s
+do_item p (also false t is) work s = with_work (tested s.world t work (onto is work)) s
+do_item p (choose t a b) work s = with_work (tested s.world t (onto a work) (onto b work)) s
+do_item p (select t cs others) work s = with_work (onto (selected (number_at s.world t) cs others) work) s
+do_item p (loop l) work s = with_work (onto (head_of l) (turn l ∷ work)) s
+do_item p (body_first l) work s = with_work (onto (body_of l) (mark l ∷ work)) s
+do_item p (protect t keep is ts) work s = record s { world = with_number t (pos 0) s.world; work = onto is (finally t keep ts ∷ work) }
+do_item p (leave what) work s = left (suc what) work s
+do_item p (enter r given receiver) work s = called p r given receiver work s
+do_item p (finish keep) work s = finishes p keep work s
+do_item p (attempt keep is cs) work s = with_work (onto is (catching keep cs ∷ work)) s
+do_item p (throw t) work s = throws p (name_in (s.world.temps t)) work s
+do_item p rethrow work s = throws p (handled_in work) work s
+do_item p (halt t) work s = halts (number_at s.world t) (with_work work s)
+do_item p (construct c r given to) work s = constructs p c r given to work s
+do_item p (free takes_nil t) work s = frees p takes_nil (name_in (s.world.temps t)) (with_work work s)
+
+-- ---- tasks
+
+unfoldable pub do_task : Program → Task → List Task → State → State
+do_task p (item i) work s = do_item p i work s
+do_task p (mark l) work s = with_work (onto (head_of l) (turn l ∷ work)) s
+do_task p (turn l) work s = with_work (turned s.world l work) s
+do_task p (finally t keep ts) work s = with_work (onto ts (resume t keep ∷ work)) s
+do_task p (resume t keep) work s = resumed (number_at s.world t) t work s
+do_task p (catching keep cs) work s = with_work work s
+do_task p (handling keep i) work s = freed p i (with_work work s)
+do_task p (leaving reason) work s = left reason work s
+do_task p (ending [] result) work s = with_work work s
+do_task p (ending (v ∷ vs) result) work s = ends_place p (all_of (local s.world.depth v)) (with_work (ending vs result ∷ work) s)
+do_task p (due f) work s = record s { work = work; pending = finalize f ∷ s.pending }
+
+-- an activation that has nothing more to do returns; below the last one the program ends
+abbrev pub returned : Program → List Caller → State → State
+returned p [] s = closes 0 s.frames s
+returned p (c ∷ cs) s = gone_back p c cs s
+
+unfoldable pub done : Program → List Task → State → State
+done p [] s = returned p s.callers s
+done p (task ∷ work) s = do_task p task work s
+
+unfoldable pub acted : Program → List Frame → State → State
+acted p [] s = done p s.work s
+acted p (frame ∷ rest) s = framed p frame rest s
+
+-- ---- the step
+
+unfoldable pub stepped : Program → Option ℕ → State → State
+stepped p None s = acted p s.frames s
+stepped p (Some e) s = unwound p e s
+
+unfoldable pub step_by : Program → Ending → State → State
+step_by p Running s = stepped p s.world.raised s
+step_by p (Ended status) s = s
+
+unfoldable pub step : Program → State → State
+step p s = step_by p s.world.ending s
+
+unfoldable pub run_for : ℕ → Program → State → State
+run_for zero p s = s
+run_for (suc n) p s = run_for n p (step p s)

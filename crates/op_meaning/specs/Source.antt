@@ -1,0 +1,62 @@
+-- The source machine as a machine among others: its states, its step, what a step costs, and what it shows to the outside.
+use Rattle.std.specs.Prelude.{ℕ, ◌-◌, Bool, true, false, List, [], ◌∷◌, ◌++◌, length, map, take, drop}
+use Rattle.op_simulation.specs.System.{System}
+use Rattle.op_meaning.specs.Actions.{Action}
+use Rattle.op_meaning.specs.Costs.{cost}
+use Rattle.op_meaning.specs.Demands.{Demand, nothing, demand, let_go}
+use Rattle.op_meaning.specs.Frames.{Program, State, Frame}
+use Rattle.op_meaning.specs.Items.{act, Task, item}
+use Rattle.op_meaning.specs.Machine.{step}
+use Rattle.op_meaning.specs.World.{World}
+
+pub data Event : Type 0 where
+  -- a block is asked for, and a name is let go
+  Asked : (demand : Demand) → Event
+  LetGo : (name : ℕ) → Event
+  -- the input is looked at, and bytes of it are taken
+  Looked : Event
+  Taken : (bytes : List ℕ) → Event
+  -- bytes go to the console, and to the error stream
+  Written : (bytes : List ℕ) → Event
+  Reported : (bytes : List ℕ) → Event
+
+-- what two lists differ in, the first one being the front of the other
+abbrev pub behind : List ℕ → List ℕ → List ℕ
+behind old new = drop (length old) new
+
+-- what was taken off the front
+abbrev pub taken : List ℕ → List ℕ → List ℕ
+taken old new = take (length old - length new) old
+
+abbrev where_some : (List ℕ → Event) → List ℕ → List Event
+where_some event [] = []
+where_some event (b ∷ bs) = event (b ∷ bs) ∷ []
+
+abbrev asked : Demand → List Event
+asked nothing = []
+asked d = Asked d ∷ []
+
+-- no action of numbers looks at the input
+abbrev pub looks : Action → Bool
+looks a = false
+
+abbrev looks_in : List Task → Bool
+looks_in (item (act a) ∷ work) = looks a
+looks_in _ = false
+
+abbrev looks_on : State → List Frame → Bool
+looks_on s [] = looks_in s.work
+looks_on s (frame ∷ rest) = false
+
+abbrev looked : Bool → List Event
+looked false = []
+looked true = Looked ∷ []
+
+abbrev shown_by : World → World → List Event
+shown_by v w = where_some (λ bytes. Taken bytes) (taken v.input w.input) ++ where_some (λ bytes. Written bytes) (behind v.output w.output) ++ where_some (λ bytes. Reported bytes) (behind v.errors w.errors)
+
+abbrev pub shows : Program → State → List Event
+shows p s = looked (looks_on s s.frames) ++ asked (demand p s) ++ shown_by s.world (step p s).world ++ map (λ n. LetGo n) (let_go p s)
+
+abbrev pub source : Program → System Event
+source p = record { State = State; step = step p; cost = cost p; shows = shows p }

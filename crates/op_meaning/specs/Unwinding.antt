@@ -1,0 +1,167 @@
+-- An exception under way: the frame that acts next decides. Temporaries end first, a finally part runs while the exception waits, the
+-- first clause that fits becomes a handler, an activation ends what it has and is left; where nothing is left, nothing handles it.
+-- (Free Pascal Reference Guide, "Exceptions"; User's Guide, "Run-time errors".)
+use Rattle.std.specs.Prelude.{ℕ, zero, suc, ◌+◌, ℤ, pos, Bool, false, ◌||◌, List, [], ◌∷◌, ◌++◌, length, Option, Some, None, codes, slice_get, nat_eq, nat_lt, if◌then◌else◌}
+use Rattle.op_core.specs.declared.class.Class.{Class as ClassRow}
+use Rattle.op_core.specs.declared.ids.ClassId.{ClassId}
+use Rattle.op_core.specs.declared.program.Core.{Core}
+use Rattle.op_core.specs.declared.program.ExceptionClasses.{ExceptionClasses}
+use Rattle.op_meaning.specs.Calls.{gone_back_raising}
+use Rattle.op_meaning.specs.Frames.{Program, State, Frame, destruction, construction, closing, by_free, by_constructor, Caller, with_work, with_world, with_frames, pushed, fails}
+use Rattle.op_meaning.specs.Items.{Items, Clauses, no_clauses, for_others, clauses, Task, item, mark, turn, finally, resume, catching, handling, leaving, ending, due, onto}
+use Rattle.op_meaning.specs.Leaving.{name_in}
+use Rattle.op_meaning.specs.Losing.{ends_last, ends_place, freed, walk_over}
+use Rattle.op_meaning.specs.Paths.{Root, place_of_root}
+use Rattle.op_meaning.specs.Shapes.{field_of_class}
+use Rattle.op_meaning.specs.Texts.{line_feed}
+use Rattle.op_meaning.specs.Values.{Value, text, instance, empty, literal, named, Text, local, object, all_of, part_of}
+use Rattle.op_meaning.specs.World.{World, Object, chars, fields, Dead, with_temp, with_number, with_value, number_at, reported}
+
+-- ---- classes ("Classes")
+
+abbrev descends_by : (ClassId → Bool) → Option ClassRow → Bool
+descends_by inner None = false
+descends_by inner (Some x) = above x.ancestor
+  where
+    above : Option ClassId → Bool
+    above None = false
+    above (Some a) = inner a
+
+abbrev descends_within : ℕ → Core → ClassId → ClassId → Bool
+descends_within zero core d c = false
+descends_within (suc n) core d c = nat_eq c.0 d.0 || descends_by (descends_within n core d) (slice_get core.classes c.0)
+
+-- the class is that one or descends from it
+abbrev pub descends : Core → ClassId → ClassId → Bool
+descends core c d = descends_within (suc (length core.classes)) core d c
+
+-- ---- no handler is left
+
+abbrev class_name : Option ClassRow → List ℕ
+class_name None = []
+class_name (Some x) = x.name
+
+abbrev bytes_under : Object → List ℕ
+bytes_under (chars bytes) = bytes
+bytes_under _ = []
+
+abbrev bytes_of_text : World → Text → List ℕ
+bytes_of_text w empty = []
+bytes_of_text w (literal bytes) = bytes
+bytes_of_text w (named n) = bytes_under (w.objects n)
+
+abbrev pub bytes_in : World → Value → List ℕ
+bytes_in w (text t) = bytes_of_text w t
+bytes_in w _ = []
+
+abbrev message_by : World → ClassId → ℕ → Core → Option ExceptionClasses → List ℕ
+message_by w c e core None = []
+message_by w c e core (Some x) = bytes_in w (part_of (field_of_class core c x.message) (w.memory (object e)))
+
+abbrev pub message_of : Program → World → ClassId → ℕ → List ℕ
+message_of p w c e = message_by w c e p.core p.core.exceptions
+
+-- the program ends with this status once the closing is done; a closing that is on top goes on with it
+abbrev pub closes : ℕ → List Frame → State → State
+closes status (closing old ∷ rest) s = with_frames (closing status ∷ rest) s
+closes status frames s = with_frames (closing status ∷ frames) s
+
+abbrev unhandled_as : Program → ℕ → Object → State → State
+unhandled_as p e (fields c Dead) s = fails p 216 s
+unhandled_as p e (fields c phase) s =
+    let said = codes "Unhandled " ++ class_name (slice_get p.core.classes c.0) ++ codes ": " ++ message_of p s.world c e ++ line_feed in
+    closes 217 s.frames (with_world (record (reported said s.world) { raised = None }) s)
+unhandled_as p e o s = fails p 216 s
+
+abbrev pub unhandled : Program → ℕ → State → State
+unhandled p e s = unhandled_as p e (s.world.objects e) s
+
+-- ---- an activation
+
+-- up to what an exception stops at
+abbrev pub stops_at : List Task → List Task
+stops_at [] = []
+stops_at (item i ∷ work) = stops_at work
+stops_at (mark l ∷ work) = stops_at work
+stops_at (turn l ∷ work) = stops_at work
+stops_at (leaving reason ∷ work) = stops_at work
+stops_at (due f ∷ work) = stops_at work
+stops_at (task ∷ work) = task ∷ work
+
+-- how many temporaries stay there
+abbrev pub keep_at : List Task → ℕ
+keep_at (finally t keep ts ∷ work) = keep
+keep_at (resume t keep ∷ work) = keep
+keep_at (catching keep cs ∷ work) = keep
+keep_at (handling keep i ∷ work) = keep
+keep_at _ = 0
+
+-- the clause that takes an instance of the class, with the variable that names the instance
+abbrev pub clause_for : Core → ClassId → Clauses → Option (Option Root × Items)
+clause_for core c no_clauses = None
+clause_for core c (for_others is) = Some (None, is)
+clause_for core c (clauses d v is others) = if descends core c d then Some (v, is) else clause_for core c others
+
+abbrev pub named_by : Option Root → ℕ → World → World
+named_by None e w = w
+named_by (Some root) e w = with_value (place_of_root w root) (instance false (Some e)) w
+
+-- the handler is under way, and nothing is raised
+abbrev pub caught : ℕ → ℕ → Option (Option Root × Items) → List Task → State → State
+caught keep e None work s = with_work work s
+caught keep e (Some clause) work s = record s { world = named_by clause.0 e (record s.world { raised = None }); work = onto clause.1 (handling keep e ∷ work) }
+
+abbrev caught_as : Program → ℕ → ℕ → Object → Clauses → List Task → State → State
+caught_as p keep e (fields c Dead) cs work s = fails p 216 s
+caught_as p keep e (fields c phase) cs work s = caught keep e (clause_for p.core c cs) work s
+caught_as p keep e o cs work s = fails p 216 s
+
+-- the instance is asked for its class only where there is a clause with one
+abbrev pub catches : Program → ℕ → ℕ → Clauses → List Task → State → State
+catches p keep e no_clauses work s = with_work work s
+catches p keep e (for_others is) work s = caught keep e (Some (None, is)) work s
+catches p keep e (clauses d v is others) work s = caught_as p keep e (s.world.objects e) (clauses d v is others) work s
+
+-- the exception that waited in a finally part is replaced, and freed
+abbrev replaces : Program → ℤ → Option ℕ → State → State
+replaces p (pos (suc (suc (suc (suc zero))))) (Some old) s = freed p old s
+replaces p reason waited s = s
+
+abbrev pub leaves_activation : Program → ℕ → List Caller → State → State
+leaves_activation p e [] s = unhandled p e s
+leaves_activation p e (c ∷ cs) s = gone_back_raising p c cs s
+
+abbrev pub unwound_at : Program → ℕ → List Task → State → State
+unwound_at p e (finally t keep ts ∷ work) s = record s {
+  world = record (with_temp (t + 1) (instance false (Some e)) (with_number t (pos 4) s.world)) { raised = None };
+  work = onto ts (resume t keep ∷ work);
+}
+unwound_at p e (resume t keep ∷ work) s = replaces p (number_at s.world t) (name_in (s.world.temps (t + 1))) (with_work work s)
+unwound_at p e (catching keep cs ∷ work) s = catches p keep e cs work s
+unwound_at p e (handling keep i ∷ work) s = freed p i (with_work work s)
+unwound_at p e (ending (v ∷ vs) result ∷ work) s = ends_place p (all_of (local s.world.depth v)) (with_work (ending vs result ∷ work) s)
+unwound_at p e (ending [] (Some v) ∷ work) s = ends_place p (all_of (local s.world.depth v)) (with_work (ending [] None ∷ work) s)
+unwound_at p e (ending [] None ∷ work) s = with_work work s
+unwound_at p e _ s = leaves_activation p e s.callers s
+
+-- temporaries that were made behind it end first
+abbrev pub unwound_to : Program → ℕ → List Task → State → State
+unwound_to p e work s = if nat_lt (keep_at work) (length s.world.made) then ends_last p (with_work work s) else unwound_at p e work s
+
+-- ---- frames on an activation
+
+-- A destruction that Free started goes on while the exception waits; any other destruction makes it unhandled at once. A construction
+-- gives way to a destruction.
+abbrev pub unwound_frame : Program → ℕ → Frame → List Frame → State → State
+unwound_frame p e (destruction i by_free entered places waits) rest s =
+    with_frames (destruction i by_free entered places (Some e) ∷ rest) (with_world (record s.world { raised = None }) s)
+unwound_frame p e (construction i) rest s = pushed p (destruction i by_constructor false (walk_over (all_of (object i)) (s.world.memory (object i)))) (with_frames rest s)
+unwound_frame p e frame rest s = unhandled p e s
+
+abbrev pub unwound_by : Program → ℕ → List Frame → State → State
+unwound_by p e [] s = unwound_to p e (stops_at s.work) s
+unwound_by p e (frame ∷ rest) s = unwound_frame p e frame rest s
+
+-- one step of unwinding
+abbrev pub unwound : Program → ℕ → State → State
+unwound p e s = unwound_by p e s.frames s

@@ -1,0 +1,89 @@
+-- What actions read and change: the temporaries of the activation under way, what all variables hold, what stands under names, and
+-- the console. (Free Pascal Reference Guide, "Variables" and "Managed types"; User's Guide, "Run-time errors".)
+use Rattle.std.specs.Prelude.{ℕ, suc, ℤ, List, ◌++◌, Option, nat_eq, if◌then◌else◌}
+use Rattle.op_core.specs.declared.ids.ClassId.{ClassId}
+use Rattle.op_core.specs.declared.ids.TypeId.{TypeId}
+use Rattle.op_meaning.specs.Values.{Value, number, Holder, Place, number_in, get, put, same_holder}
+
+-- how far an instance has come ("Class instantiation" and "Class destruction")
+pub data Phase : Type 0 where
+  Construction : Phase
+  Live : Phase
+  Destruction : Phase
+  Dead : Phase
+
+-- What stands under a name: the bytes of a string, a line that is being read, an array, an instance, or nothing any more. The
+-- elements of an array and the fields of an instance are the parts of what the name holds.
+pub data Object : Type 0 where
+  gone : Object
+  chars : (bytes : List ℕ) → Object
+  buffer : (bytes : List ℕ) → (capacity : ℕ) → Object
+  elements : (of : TypeId) → (count : ℕ) → Object
+  fields : (class : ClassId) → (phase : Phase) → Object
+
+-- a temporary that was made and has to be ended: one value, or one of a record or array type
+pub data Temporary : Type 0 where
+  one : (n : ℕ) → Temporary
+  whole : (of : TypeId) → (n : ℕ) → Temporary
+
+-- a program ends with a status from 0 to 255
+pub data Ending : Type 0 where
+  Running : Ending
+  Ended : (status : ℕ) → Ending
+
+pub record World : Type 0 where
+  -- the temporaries of the activation under way that are one value
+  pub temps : ℕ → Value
+  -- those of its temporaries that have to be ended, the last one that was made first
+  pub made : List Temporary
+  -- how many activations are below it
+  pub depth : ℕ
+  pub memory : Holder → Value
+  -- what the variable parameters of each activation stand for
+  pub bound : (depth variable : ℕ) → Place
+  -- what stands under each name, and the next name; names are given in order of making, one sequence for all kinds
+  pub objects : ℕ → Object
+  pub next : ℕ
+  -- the exception under way
+  pub raised : Option ℕ
+  -- what is left of the input, and what went to the console and to the error stream
+  pub input : List ℕ
+  pub output : List ℕ
+  pub errors : List ℕ
+  pub ending : Ending
+
+-- ---- temporaries
+
+abbrev pub with_temp : ℕ → Value → World → World
+with_temp t v w = record w { temps = λ u. if nat_eq u t then v else w.temps u }
+
+abbrev pub number_at : World → ℕ → ℤ
+number_at w t = number_in (w.temps t)
+
+abbrev pub with_number : ℕ → ℤ → World → World
+with_number t n w = with_temp t (number n) w
+
+-- ---- places
+
+abbrev pub value_at : World → Place → Value
+value_at w p = get p.path (w.memory p.holder)
+
+abbrev pub with_value : Place → Value → World → World
+with_value p v w = record w { memory = λ h. if same_holder h p.holder then put p.path v (w.memory h) else w.memory h }
+
+-- ---- names
+
+abbrev pub with_object : ℕ → Object → World → World
+with_object name o w = record w { objects = λ n. if nat_eq n name then o else w.objects n }
+
+-- the next name stands for this
+abbrev pub making : Object → World → World
+making o w = record w { objects = λ n. if nat_eq n w.next then o else w.objects n; next = suc w.next }
+
+-- ---- the console
+
+abbrev pub written : List ℕ → World → World
+written bytes w = record w { output = w.output ++ bytes }
+
+abbrev pub reported : List ℕ → World → World
+reported bytes w = record w { errors = w.errors ++ bytes }
