@@ -10,7 +10,7 @@ use Rattle.op_core.specs.Expression.{Expression, expression, Root, constant, var
 use Rattle.op_core.specs.Rows.{rows}
 use Rattle.op_core.specs.Sizes.{type_at, extent_of}
 use Rattle.op_core.specs.Statement.{Item, plain, padded, Target, BuiltIn, write, read, count, set_length, include, exclude, val, str, free, destroy, Statement, empty, block, if_then, if_else, case_of, while_do, repeat_until, for_to, for_in, try_finally, try_on, try_on_else, raise, reraise, call as call_statement, assign, exit, exit_with, break, continue, halt, built_in, Statements, no_statements, statements, Branches, no_branches, branches, Handlers, no_handlers, handlers, stmts_of}
-use Rattle.op_core.specs.Typing.{element_of, takes_place}
+use Rattle.op_core.specs.Typing.{takes_place}
 use Rattle.op_core.specs.declared.ids.RoutineId.{RoutineId}
 use Rattle.op_core.specs.declared.ids.TypeId.{TypeId}
 use Rattle.op_core.specs.declared.operation.Origin.{Origin}
@@ -84,13 +84,13 @@ words_by takes bytes = if takes then words_in bytes else 0
 unfoldable pub valued : Core → TypeId → Weight
 valued core of = weight 1 (words_by (is_composite (type_at core of)) (size_of core of))
 
--- a list of so many elements for an open array of this type
-abbrev pub element_size : Core → Option TypeId → ℕ
-element_size core None = 0
-element_size core (Some element) = size_of core element
+abbrev pub element_size : Core → Option CoreType → ℕ
+element_size core (Some (OpenArray element)) = size_of core element
+element_size core _ = 0
 
+-- a list of so many elements for an open array of this type
 unfoldable pub listed_values : Core → TypeId → ℕ → Weight
-listed_values core of n = weight 1 (words_in (n * element_size core (element_of (type_at core of))))
+listed_values core of n = weight 1 (words_in (n * element_size core (type_at core of)))
 
 -- ---- expressions
 

@@ -1,12 +1,10 @@
 //! What expressions count for in the charge of their routine, in bytes.
-ghost use Rattle.std.specs.Prelude.{◌≡◌, ◌<◌, ◌^◌, slice_get};
+ghost use Rattle.std.specs.Prelude.{◌≡◌, ◌<◌, ◌^◌};
 ghost use Rattle.op_core.specs.Expression.{action_of, argument_of, element_of, expr_of, root_of};
-ghost use Rattle.op_core.specs.Nodes.{arguments_of, elements_of, expressions_of, steps_of};
-ghost use Rattle.op_core.specs.Sizes.{type_at};
-ghost use Rattle.op_core.specs.Typing as typing;
-ghost use Rattle.op_meaning.specs.Charge.{action_weight, argument_weight, arguments_weight, charged, conversion_weight, element_size, element_weight, elements_weight, expression_weight, expressions_weight, is_composite, listed_values, root_weight, size_of, steps_weight, valued};
+ghost use Rattle.op_core.specs.Nodes.{arguments_of};
+ghost use Rattle.op_meaning.specs.Charge.{action_weight, argument_weight, arguments_weight, charged, element_weight, expression_weight, listed_values, root_weight, size_of, valued};
 
-use op_core::{Action, Core, CoreArgument, CoreElement, CoreExpr, CoreType, Origin, Root, Step, TypeId};
+use op_core::{Action, Core, CoreArgument, CoreElement, CoreExpr, CoreType, Origin, Root, TypeId};
 
 /// The bytes of a node of the text.
 pub const NODE: u64 = 16;
@@ -18,7 +16,11 @@ pub const WORD: u64 = 4;
 pub fn expression(core: &Core, e: &CoreExpr) -> u64
     ensures { result ≡ charged (expression_weight core.now (expr_of e.now)) }
 {
-    root(core, &e.root, e.of).saturating_add(steps(core, e.steps.as_slice()))
+    let mut sum = root(core, &e.root, e.of);
+    for each in &e.steps {
+        sum = sum.saturating_add(action(core, &each.action, each.of));
+    }
+    sum
 }
 
 #[cycle(expression)]
@@ -32,24 +34,21 @@ fn root(core: &Core, root: &Root, of: TypeId) -> u64
         Root::Eof => valued(core, of),
         Root::Eoln => valued(core, of),
         Root::Call {
-            arguments: given, ..
-        } => valued(core, of).saturating_add(arguments(core, given.as_slice())),
+            arguments: given,
+            ..
+        } => valued(core, of).saturating_add(arguments(core, given)),
         Root::Construct {
-            arguments: given, ..
-        } => valued(core, of).saturating_add(arguments(core, given.as_slice())),
-        Root::Set(list) => valued(core, of).saturating_add(elements(core, list.as_slice())),
+            arguments: given,
+            ..
+        } => valued(core, of).saturating_add(arguments(core, given)),
+        Root::Set(elements) => {
+            let mut sum = valued(core, of);
+            for each in elements {
+                sum = sum.saturating_add(element(core, each));
+            }
+            sum
+        }
     }
-}
-
-#[cycle(expression)]
-fn steps(core: &Core, list: &[Step]) -> u64
-    ensures { result ≡ charged (steps_weight core.now (steps_of list.now)) }
-{
-    let mut sum = 0u64;
-    for each in list {
-        sum = sum.saturating_add(action(core, &each.action, each.of));
-    }
-    sum
 }
 
 #[cycle(expression)]
@@ -57,7 +56,18 @@ fn action(core: &Core, action: &Action, of: TypeId) -> u64
     ensures { result ≡ charged (action_weight core.now of (action_of action.now)) }
 {
     match action {
-        Action::Convert { origin, .. } => conversion(core, of, *origin),
+        Action::Convert {
+            origin: Origin::Implied,
+            ..
+        } => 0,
+        Action::Convert {
+            origin: Origin::Cast,
+            ..
+        } => valued(core, of),
+        Action::Convert {
+            origin: Origin::As_,
+            ..
+        } => valued(core, of).saturating_add(NODE),
         Action::Bracket => valued(core, of),
         Action::Field(_) => valued(core, of),
         Action::Prefix { .. } => valued(core, of),
@@ -68,19 +78,13 @@ fn action(core: &Core, action: &Action, of: TypeId) -> u64
             valued(core, of).saturating_add(expression(core, operand))
         }
         Action::Call {
-            arguments: given, ..
-        } => valued(core, of).saturating_add(arguments(core, given.as_slice())),
+            arguments: given,
+            ..
+        } => valued(core, of).saturating_add(arguments(core, given)),
         Action::Copy { first, count } => valued(core, of)
             .saturating_add(expression(core, first))
             .saturating_add(expression(core, count)),
     }
-}
-
-#[cycle(expression)]
-fn elements(core: &Core, list: &[CoreElement]) -> u64
-    ensures { result ≡ charged (elements_weight core.now (elements_of list.now)) }
-{
-    sum_of!(core, list, element)
 }
 
 #[cycle(expression)]
@@ -99,7 +103,11 @@ fn element(core: &Core, element: &CoreElement) -> u64
 fn arguments(core: &Core, list: &[CoreArgument]) -> u64
     ensures { result ≡ charged (arguments_weight core.now (arguments_of list.now)) }
 {
-    sum_of!(core, list, argument)
+    let mut sum = 0u64;
+    for each in list {
+        sum = sum.saturating_add(argument(core, each));
+    }
+    sum
 }
 
 #[cycle(expression)]
@@ -111,25 +119,12 @@ fn argument(core: &Core, argument: &CoreArgument) -> u64
         CoreArgument::Place(place) => expression(core, place),
         CoreArgument::Array(array) => expression(core, array),
         CoreArgument::Elements { of, values } => {
-            listed(core, *of, values.len()).saturating_add(expressions(core, values.as_slice()))
+            let mut sum = listed(core, *of, values.len());
+            for each in values {
+                sum = sum.saturating_add(expression(core, each));
+            }
+            sum
         }
-    }
-}
-
-#[cycle(expression)]
-fn expressions(core: &Core, list: &[CoreExpr]) -> u64
-    ensures { result ≡ charged (expressions_weight core.now (expressions_of list.now)) }
-{
-    sum_of!(core, list, expression)
-}
-
-fn conversion(core: &Core, of: TypeId, origin: Origin) -> u64
-    ensures { result ≡ charged (conversion_weight core.now of origin) }
-{
-    match origin {
-        Origin::Implied => 0,
-        Origin::Cast => valued(core, of),
-        Origin::As_ => valued(core, of).saturating_add(NODE),
     }
 }
 
@@ -138,21 +133,11 @@ fn conversion(core: &Core, of: TypeId, origin: Origin) -> u64
 pub fn valued(core: &Core, of: TypeId) -> u64
     ensures { result ≡ charged (valued core.now of) }
 {
-    if is_composite(core, of) {
-        NODE + WORD * size_of(core, of).div_ceil(WORD)
-    } else {
-        NODE
-    }
-}
-
-fn is_composite(core: &Core, of: TypeId) -> bool
-    ensures { result ≡ is_composite (type_at core.now of) }
-{
     match core.types.as_slice().get(of.0 as usize) {
-        Some(CoreType::Record { .. }) => true,
-        Some(CoreType::Array { .. }) => true,
-        Some(CoreType::Set { .. }) => true,
-        _ => false,
+        Some(CoreType::Record { .. }) => NODE + WORD * size_of(core, of).div_ceil(WORD),
+        Some(CoreType::Array { .. }) => NODE + WORD * size_of(core, of).div_ceil(WORD),
+        Some(CoreType::Set { .. }) => NODE + WORD * size_of(core, of).div_ceil(WORD),
+        _ => NODE,
     }
 }
 
@@ -172,17 +157,10 @@ pub fn size_of(core: &Core, of: TypeId) -> u64
 fn listed(core: &Core, of: TypeId, count: usize) -> u64
     ensures { result ≡ charged (listed_values core.now of count) }
 {
-    let bytes = (count as u64).saturating_mul(element_size(core, of));
-    bytes.div_ceil(WORD).saturating_mul(WORD).saturating_add(NODE)
-}
-
-fn element_size(core: &Core, of: TypeId) -> u64
-    ensures { result ≡ element_size core.now (typing.element_of (type_at core.now of)) }
-{
-    match core.types.as_slice().get(of.0 as usize) {
-        Some(CoreType::Array { element, .. }) => size_of(core, *element),
-        Some(CoreType::DynamicArray { element }) => size_of(core, *element),
+    let size = match core.types.as_slice().get(of.0 as usize) {
         Some(CoreType::OpenArray { element }) => size_of(core, *element),
-        _ => 0,
-    }
+        _ => return NODE,
+    };
+    let words = (count as u64).saturating_mul(size).div_ceil(WORD);
+    words.saturating_mul(WORD).saturating_add(NODE)
 }

@@ -1,17 +1,21 @@
 //! What statements count for in the charge of their routine, in bytes.
-ghost use Rattle.std.specs.Prelude.{◌≡◌, map, slice_get};
+ghost use Rattle.std.specs.Prelude.{◌≡◌, slice_get};
 ghost use Rattle.op_core.specs.Nodes.{branches_of, handlers_of};
-ghost use Rattle.op_core.specs.Statement.{built_in_of, item_of, stmt_of, stmts_of, target_of};
-ghost use Rattle.op_meaning.specs.Charge.{branches_weight, built_in_weight, charged, counter_weight, handlers_weight, item_weight, items_weight, labels_weight, statement_weight, statements_weight, targets_weight};
+ghost use Rattle.op_core.specs.Statement.{built_in_of, item_of, stmt_of, stmts_of};
+ghost use Rattle.op_meaning.specs.Charge.{branches_weight, built_in_weight, charged, counter_weight, handlers_weight, item_weight, labels_weight, statement_weight, statements_weight};
 
 use crate::charge_expression::{NODE, expression, valued};
-use op_core::{Core, CoreAction, CoreBranch, CoreHandler, CoreItem, CoreStmt, CoreTarget, Label, VariableId};
+use op_core::{Core, CoreAction, CoreBranch, CoreHandler, CoreItem, CoreStmt, Label, VariableId};
 
 #[cycle(statement)]
 pub fn statements(core: &Core, list: &[CoreStmt]) -> u64
     ensures { result ≡ charged (statements_weight core.now (stmts_of list.now)) }
 {
-    sum_of!(core, list, statement)
+    let mut sum = 0u64;
+    for each in list {
+        sum = sum.saturating_add(statement(core, each));
+    }
+    sum
 }
 
 #[cycle(statement)]
@@ -149,8 +153,20 @@ fn built_in(core: &Core, action: &CoreAction) -> u64
     ensures { result ≡ charged (built_in_weight core.now (built_in_of action.now)) }
 {
     match action {
-        CoreAction::Write { items: list, .. } => NODE.saturating_add(items(core, list)),
-        CoreAction::Read { targets: list, .. } => NODE.saturating_add(targets(core, list)),
+        CoreAction::Write { items, .. } => {
+            let mut sum = NODE;
+            for each in items {
+                sum = sum.saturating_add(item(core, each));
+            }
+            sum
+        }
+        CoreAction::Read { targets, .. } => {
+            let mut sum = NODE;
+            for each in targets {
+                sum = sum.saturating_add(expression(core, &each.place));
+            }
+            sum
+        }
         CoreAction::Count { target, amount, .. } => NODE
             .saturating_add(expression(core, &target.place))
             .saturating_add(expression(core, amount)),
@@ -175,12 +191,6 @@ fn built_in(core: &Core, action: &CoreAction) -> u64
     }
 }
 
-fn items(core: &Core, list: &[CoreItem]) -> u64
-    ensures { result ≡ charged (items_weight core.now (map item_of list.now)) }
-{
-    sum_of!(core, list, item)
-}
-
 fn item(core: &Core, item: &CoreItem) -> u64
     ensures { result ≡ charged (item_weight core.now (item_of item.now)) }
 {
@@ -190,14 +200,4 @@ fn item(core: &Core, item: &CoreItem) -> u64
             expression(core, value).saturating_add(expression(core, width))
         }
     }
-}
-
-fn targets(core: &Core, list: &[CoreTarget]) -> u64
-    ensures { result ≡ charged (targets_weight core.now (map target_of list.now)) }
-{
-    let mut sum = 0u64;
-    for each in list {
-        sum = sum.saturating_add(expression(core, &each.place));
-    }
-    sum
 }

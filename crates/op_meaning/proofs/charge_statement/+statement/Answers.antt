@@ -1,9 +1,8 @@
-use Rattle.std.proofs.Common.{arith, refl}
+use Rattle.std.proofs.Common.{arith}
 use Rattle.op_core.proofs.Nodes.{list_nodes}
-use Rattle.op_core.specs.Nodes.{branches_of, handlers_of}
-use Rattle.op_core.specs.Statement.{stmt_of, stmts_of}
-use Rattle.op_meaning.specs.Charge.{branches_weight, charged, handlers_weight, statement_weight, statements_weight}
-use Rattle.op_meaning.proofs.Charged.{begins, ends, says}
+use Rattle.op_core.specs.Statement.{stmt_of}
+use Rattle.op_meaning.specs.Charge.{charged, statement_weight}
+use Rattle.op_meaning.proofs.Charged.{begins, says}
 use Rattle.op_meaning.proofs.charge_statement.+statement.Goals as goal
 
 pub statement-returns-in-Block : goal.statement-returns-in-Block
@@ -27,17 +26,8 @@ statement-returns-in-TryOnElse t c = grind (arith, says (λ s. charged (statemen
 pub statements-loop-each-init : goal.statements-loop-each-init
 statements-loop-each-init t c = record { fits = omega arith; gives = begins _ }
 
-pub statements-returns : goal.statements-returns
-statements-returns t c = ends (λ xs. charged (statements_weight c.args.core.now (stmts_of xs))) c.args.list.now c.loop-each.each-index c.loop-each.sum c.loop-each-test.false refl c.loop-each.invariant.fits c.loop-each.invariant.gives
-
 pub branches-loop-each-init : goal.branches-loop-each-init
 branches-loop-each-init t c = record { fits = omega arith; gives = begins _ }
 
-pub branches-returns : goal.branches-returns
-branches-returns t c = ends (λ xs. charged (branches_weight c.args.core.now (branches_of xs))) c.args.list.now c.loop-each.each-index c.loop-each.sum c.loop-each-test.false refl c.loop-each.invariant.fits c.loop-each.invariant.gives
-
 pub handlers-loop-each-init : goal.handlers-loop-each-init
 handlers-loop-each-init t c = record { fits = omega arith; gives = begins _ }
-
-pub handlers-returns : goal.handlers-returns
-handlers-returns t c = ends (λ xs. charged (handlers_weight c.args.core.now (handlers_of xs))) c.args.list.now c.loop-each.each-index c.loop-each.sum c.loop-each-test.false refl c.loop-each.invariant.fits c.loop-each.invariant.gives
