@@ -1,1 +1,2 @@
 pub mod Charged
+mod ChargeRows
