@@ -1,5 +1,6 @@
 pub mod Endings
 pub mod Programs
+pub mod SetBits
 mod RunsCalls
 mod RunsFinally
 mod RunsHeld
