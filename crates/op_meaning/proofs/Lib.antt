@@ -2,6 +2,7 @@ mod ChargeRows
 pub mod Charged
 pub mod Endings
 pub mod Programs
+pub mod SetBits
 mod RunsCalls
 mod RunsFinally
 mod RunsHeld

@@ -12,4 +12,4 @@ mod charges;
 mod laws;
 
 pub use charges::charge;
-pub use laws::ended_programs_stay;
+pub use laws::{ended_programs_stay, sets_are_their_elements};
