@@ -1,14 +1,13 @@
 -- Routines with the words and nodes that were counted in their texts by hand, and what an activation of each is charged.
-use Rattle.std.specs.Prelude.{◌≡◌, ℕ, ℤ, pos, negsuc, true, false, List, [], ◌∷◌, ◌++◌, Option, Some, None, slice_get, replicate}
+use Rattle.std.specs.Prelude.{◌≡◌, ℕ, ℤ, pos, negsuc, true, false, List, [], ◌∷◌, ◌++◌, Some, None, slice_get, replicate}
 use Rattle.std.proofs.Common.{refl, ap, ◌∙◌}
-use Rattle.op_core.specs.Expression.{Expression, expression, Root, constant, variable, object, call, set, Steps, no_steps, steps, Action, convert, bracket, index, operate, apply, Elements, no_elements, elements, one, range, Arguments, no_arguments, arguments, Argument, value, listed, Expressions, no_expressions, expressions}
+use Rattle.op_core.specs.Expression.{Expression, expression, constant, variable, call, set, no_steps, steps, convert, bracket, index, operate, apply, no_elements, elements, one, range, Arguments, no_arguments, arguments, value, listed, no_expressions, expressions}
 use Rattle.op_core.specs.Rows.{rows}
 use Rattle.op_core.specs.Sizes.{plain as extent}
-use Rattle.op_core.specs.Statement.{Statement, Statements, no_statements, statements, Branches, no_branches, branches, no_handlers, handlers, empty, block, if_then, case_of, for_to, try_on, call as call_statement, assign, halt, built_in, write, count, plain, padded, stmts_of}
+use Rattle.op_core.specs.Statement.{Statement, Statements, no_statements, statements, no_branches, branches, no_handlers, handlers, empty, block, if_then, case_of, for_to, try_on, call as call_statement, assign, halt, built_in, write, count, plain, padded, stmts_of}
 use Rattle.op_core.specs.Types.{id, predefined}
 use Rattle.op_core.specs.declared.constant.Const.TheVariants.{Ordinal}
 use Rattle.op_core.specs.declared.ids.RoutineId.{RoutineId}
-use Rattle.op_core.specs.declared.ids.TypeId.{TypeId}
 use Rattle.op_core.specs.declared.operation.Conversion.TheVariants.{Keep, LowBits, Check}
 use Rattle.op_core.specs.declared.operation.Function.TheVariants.{Length}
 use Rattle.op_core.specs.declared.operation.Origin.TheVariants.{Implied, Cast}
@@ -21,7 +20,7 @@ use Rattle.op_core.specs.declared.routine.Routine.{Routine}
 use Rattle.op_core.specs.declared.routine.Variable.{Variable}
 use Rattle.op_core.specs.declared.statement.Label.{Label}
 use Rattle.op_core.specs.declared.types.CoreType.{CoreType}
-use Rattle.op_core.specs.declared.types.CoreType.TheVariants.{Subrange, Set, Record, Array, OpenArray, Class}
+use Rattle.op_core.specs.declared.types.CoreType.TheVariants.{Subrange, Set, Record, Array, OpenArray}
 use Rattle.op_core.specs.declared.types.Extent.{Extent}
 use Rattle.op_tree.specs.declared.heading.ParameterMode.TheVariants.{Value as ByValue, Var as ByVar}
 use Rattle.op_tree.specs.declared.heading.RoutineKind.TheVariants.{Procedure}
@@ -94,8 +93,20 @@ module _ (name : Name) where
 
   abbrev with_variables : List Variable → List Routine → Core
   with_variables vs rs = record {
-    types = types; extents = extents; fields = []; classes = []; interfaces = []; listed = []; methods = []; properties = [];
-    routines = rs; parameters = []; variables = vs; globals = []; units = []; exceptions = None;
+    types = types;
+    extents = extents;
+    fields = [];
+    classes = [];
+    interfaces = [];
+    listed = [];
+    methods = [];
+    properties = [];
+    routines = rs;
+    parameters = [];
+    variables = vs;
+    globals = [];
+    units = [];
+    exceptions = None;
   }
 
   abbrev Row : List Variable → Statements → ℕ → ℕ → ℕ → Type 0
@@ -138,8 +149,8 @@ module _ (name : Name) where
   -- Two indices are two nodes; the array takes its words, and so does its row: (i: Integer) var g: TGrid; begin g[i, 2] := 7 end
   pub two_indices : Row (one_of 4 (Parameter ByValue) ∷ one_of 20 Plain ∷ [])
       (alone (assign (expression (variable (record { 0 = 1 })) (id 20)
-        (steps (index (expression (variable (record { 0 = 0 })) (id 4) (steps (convert Check Implied) (id 17) no_steps))) (id 19) (steps (index (number (pos 2) 1)) (id 1) no_steps)))
-        (number (pos 7) 1)))
+      (steps (index (expression (variable (record { 0 = 0 })) (id 4) (steps (convert Check Implied) (id 17) no_steps))) (id 19) (steps (index (number (pos 2) 1)) (id 1) no_steps)))
+      (number (pos 7) 1)))
       17 8 452
   unfolding valued
   two_indices = record { words_are = refl; nodes_are = refl; charge_is = refl }
@@ -154,7 +165,7 @@ module _ (name : Name) where
   -- A range in a set is no node, and a Byte takes a word: (n: Byte): Boolean; begin Result := n in [1, n, 4 .. 9] end
   pub set_constructor : Row (one_of 1 (Parameter ByValue) ∷ one_of 5 Result ∷ [])
       (alone (assign (var 1 5) (joined (var 0 1) In_ (expression (set (elements (one (number (pos 1) 1)) (elements (one (expression (variable (record { 0 = 0 })) (id 1) (steps (convert Check Implied) (id 11) no_steps)))
-        (elements (range (number (pos 4) 1) (number (pos 9) 1)) no_elements)))) (id 12) no_steps) 5)))
+      (elements (range (number (pos 4) 1) (number (pos 9) 1)) no_elements)))) (id 12) no_steps) 5)))
       3 10 428
   unfolding valued
   set_constructor = record { words_are = refl; nodes_are = refl; charge_is = refl }
@@ -179,8 +190,8 @@ module _ (name : Name) where
   -- Labels count as they are written, a range has no node: (n: Integer) begin case n of 1: ; 2 .. 3, -5: n := 0 else begin end end end
   pub case_with_labels : Row (one_of 4 (Parameter ByValue) ∷ [])
       (alone (case_of (var 0 4)
-        (branches (label (pos 1) (pos 1) 1 ∷ []) empty (branches (label (pos 2) (pos 3) 2 ∷ label (negsuc 4) (negsuc 4) 2 ∷ []) (assign (var 0 4) (number (pos 0) 1)) no_branches))
-        (alone (block no_statements))))
+      (branches (label (pos 1) (pos 1) 1 ∷ []) empty (branches (label (pos 2) (pos 3) 2 ∷ label (negsuc 4) (negsuc 4) 2 ∷ []) (assign (var 0 4) (number (pos 0) 1)) no_branches))
+      (alone (block no_statements))))
       1 12 452
   unfolding valued
   case_with_labels = record { words_are = refl; nodes_are = refl; charge_is = refl }
@@ -189,8 +200,8 @@ module _ (name : Name) where
   -- begin p([n, n, 3, n, 2], Length(a)) end
   pub open_array : Row (one_of 21 (Parameter ByValue) ∷ one_of 1 (Parameter ByValue) ∷ [])
       (alone (call_statement (call_of 0 9
-        (arguments (listed (id 21) (expressions (var 1 1) (expressions (var 1 1) (expressions (number (pos 3) 1) (expressions (var 1 1) (expressions (number (pos 2) 1) no_expressions))))))
-        (given_one (expression (variable (record { 0 = 0 })) (id 21) (steps (apply Length false) (id 4) (steps (convert LowBits Implied) (id 1) no_steps))))))))
+      (arguments (listed (id 21) (expressions (var 1 1) (expressions (var 1 1) (expressions (number (pos 3) 1) (expressions (var 1 1) (expressions (number (pos 2) 1) no_expressions))))))
+      (given_one (expression (variable (record { 0 = 0 })) (id 21) (steps (apply Length false) (id 4) (steps (convert LowBits Implied) (id 1) no_steps))))))))
       6 10 440
   unfolding valued listed_values
   open_array = record { words_are = refl; nodes_are = refl; charge_is = refl }
@@ -198,7 +209,7 @@ module _ (name : Name) where
   -- Widths count, and an amount that is not written does not: (n: Integer) begin WriteLn(n: 8, Chr(n)); Inc(n) end
   pub written : Row (one_of 4 (Parameter ByValue) ∷ [])
       (two (built_in (write (padded (var 0 4) (number (pos 8) 1) ∷ plain (expression (variable (record { 0 = 0 })) (id 4) (steps (convert LowBits Cast) (id 6) no_steps)) ∷ []) true))
-        (built_in (count To (record { place = var 0 4; store = Keep }) (number (pos 1) 0) false)))
+      (built_in (count To (record { place = var 0 4; store = Keep }) (number (pos 1) 0) false)))
       1 8 388
   unfolding valued
   written = record { words_are = refl; nodes_are = refl; charge_is = refl }
@@ -224,8 +235,15 @@ module _ (name : Name) where
 
   abbrev routine_of : ℕ → ℕ → Body → Routine
   routine_of first size body = record {
-    name = name; kind = Procedure; unit = record { 0 = 0 }; owner = OfUnit; enclosing = None; parameters = record { first = first; count = size };
-    result = None; variables = record { first = first; count = size }; body = Some body;
+    name = name;
+    kind = Procedure;
+    unit = record { 0 = 0 };
+    owner = OfUnit;
+    enclosing = None;
+    parameters = record { first = first; count = size };
+    result = None;
+    variables = record { first = first; count = size };
+    body = Some body;
   }
 
   -- The program of the first two rows, whose bodies say those statements.

@@ -4,7 +4,7 @@
 -- expression of its body that is a record, a static array or a set, and of each list for an open array. The nodes are one
 -- for the body, one for each statement but the empty one, one for each clause of a handler, and one for each part of an
 -- expression: a literal, a name, a selection, an index, an operator, a call, brackets.
-use Rattle.std.specs.Prelude.{ℕ, ◌+◌, ◌*◌, ◌^◌, ◌-◌, min, Bool, true, false, List, [], ◌∷◌, length, Option, Some, None, slice_get, if◌then◌else◌}
+use Rattle.std.specs.Prelude.{ℕ, ◌+◌, ◌*◌, ◌^◌, ◌-◌, min, Bool, true, false, List, [], ◌∷◌, Option, Some, None, slice_get, if◌then◌else◌}
 use Rattle.std.specs.Int.{div_ceil}
 use Rattle.op_core.specs.Expression.{Expression, expression, Root, constant, variable, object, call, construct, set, eof, eoln, Steps, no_steps, steps, Action, convert, bracket, field, index, method, prefixed, operate, is, apply, copy, Elements, no_elements, elements, Element, one, range, Arguments, no_arguments, arguments, Argument, value, place, array, listed, Expressions, no_expressions, expressions}
 use Rattle.op_core.specs.Rows.{rows}
@@ -66,23 +66,20 @@ words_in bytes = div_ceil bytes 4
 abbrev pub size_of : Core → TypeId → ℕ
 size_of core of = (extent_of core of).size
 
--- records, static arrays and sets
-abbrev pub is_composite : Option CoreType → Bool
-is_composite (Some (Record fields)) = true
-is_composite (Some (Array at element)) = true
-is_composite (Some (Set base)) = true
-is_composite _ = false
+-- what a value of so many bytes takes: words are for records, static arrays and sets
+abbrev pub value_words : Option CoreType → ℕ → ℕ
+value_words (Some (Record fields)) bytes = words_in bytes
+value_words (Some (Array at element)) bytes = words_in bytes
+value_words (Some (Set base)) bytes = words_in bytes
+value_words _ bytes = 0
 
 abbrev pub is_open : Option CoreType → Bool
 is_open (Some (OpenArray element)) = true
 is_open _ = false
 
-abbrev pub words_by : Bool → ℕ → ℕ
-words_by takes bytes = if takes then words_in bytes else 0
-
 -- a node of an expression of this type
 unfoldable pub valued : Core → TypeId → Weight
-valued core of = weight 1 (words_by (is_composite (type_at core of)) (size_of core of))
+valued core of = weight 1 (value_words (type_at core of) (size_of core of))
 
 abbrev pub element_size : Core → Option CoreType → ℕ
 element_size core (Some (OpenArray element)) = size_of core element
@@ -189,6 +186,7 @@ built_in_weight core (destroy e) = node & expression_weight core e
 
 -- ---- statements
 
+-- Labels count as they are written. A typed label keeps its nodes alone, so a set within its constant takes no word here.
 abbrev pub labels_weight : List Label → Weight
 labels_weight [] = nothing
 labels_weight (l ∷ ls) = weight l.nodes 0 & labels_weight ls
@@ -268,9 +266,12 @@ statements_in (Some b) = Some (stmts_of b.statements.items)
 abbrev pub activation_weight : Core → List Variable → Option Statements → Weight
 activation_weight core vs body = variables_weight core vs & body_weight core body
 
+abbrev pub activation_charge : Core → Routine → ℕ
+activation_charge core r = charge_by (activation_weight core (rows core.variables r.variables) (statements_in r.body))
+
 abbrev pub charge_at : Core → Option Routine → ℕ
 charge_at core None = 0
-charge_at core (Some r) = charge_by (activation_weight core (rows core.variables r.variables) (statements_in r.body))
+charge_at core (Some r) = activation_charge core r
 
 -- what an activation of the routine is charged, in bytes; nothing where there is no such routine
 abbrev pub charge_of : Core → RoutineId → ℕ

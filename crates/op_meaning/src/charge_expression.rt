@@ -36,11 +36,11 @@ fn root(core: &Core, root: &Root, of: TypeId) -> u64
         Root::Call {
             arguments: given,
             ..
-        } => valued(core, of).saturating_add(arguments(core, given)),
+        } => sum!(core: valued(of), arguments(given)),
         Root::Construct {
             arguments: given,
             ..
-        } => valued(core, of).saturating_add(arguments(core, given)),
+        } => sum!(core: valued(of), arguments(given)),
         Root::Set(elements) => {
             let mut sum = valued(core, of);
             for each in elements {
@@ -73,17 +73,14 @@ fn action(core: &Core, action: &Action, of: TypeId) -> u64
         Action::Prefix { .. } => valued(core, of),
         Action::Apply { .. } => valued(core, of),
         Action::Is(_) => valued(core, of).saturating_add(NODE),
-        Action::Index(at) => valued(core, of).saturating_add(expression(core, at)),
-        Action::Operate { operand, .. } => {
-            valued(core, of).saturating_add(expression(core, operand))
-        }
+        Action::Index(at) => sum!(core: valued(of), expression(at)),
+        Action::Operate { operand, .. } => { sum!(core: valued(of), expression(operand)) }
         Action::Call {
             arguments: given,
             ..
-        } => valued(core, of).saturating_add(arguments(core, given)),
-        Action::Copy { first, count } => valued(core, of)
-            .saturating_add(expression(core, first))
-            .saturating_add(expression(core, count)),
+        } => sum!(core: valued(of), arguments(given)),
+        Action::Copy { first, count } =>
+            sum!(core: valued(of), expression(first), expression(count)),
     }
 }
 
@@ -93,9 +90,7 @@ fn element(core: &Core, element: &CoreElement) -> u64
 {
     match element {
         CoreElement::One(value) => expression(core, value),
-        CoreElement::Range(first, last) => {
-            expression(core, first).saturating_add(expression(core, last))
-        }
+        CoreElement::Range(first, last) => { sum!(core: expression(first), expression(last)) }
     }
 }
 

@@ -24,80 +24,58 @@ fn statement(core: &Core, stmt: &CoreStmt) -> u64
 {
     match stmt {
         CoreStmt::Empty => 0,
-        CoreStmt::Block(body) => NODE.saturating_add(statements(core, body)),
-        CoreStmt::If { condition, then } => NODE
-            .saturating_add(expression(core, condition))
-            .saturating_add(statement(core, then)),
+        CoreStmt::Block(body) => sum!(core: NODE, statements(body)),
+        CoreStmt::If { condition, then } =>
+            sum!(core: NODE, expression(condition), statement(then)),
         CoreStmt::IfElse {
             condition,
             then,
             otherwise,
-        } => NODE
-            .saturating_add(expression(core, condition))
-            .saturating_add(statement(core, then))
-            .saturating_add(statement(core, otherwise)),
+        } => sum!(core: NODE, expression(condition), statement(then), statement(otherwise)),
         CoreStmt::Case {
             selector,
             branches: list,
             otherwise,
-        } => NODE
-            .saturating_add(expression(core, selector))
-            .saturating_add(branches(core, list))
-            .saturating_add(statements(core, otherwise)),
-        CoreStmt::While { condition, body } => NODE
-            .saturating_add(expression(core, condition))
-            .saturating_add(statement(core, body)),
-        CoreStmt::Repeat { body, condition } => NODE
-            .saturating_add(statements(core, body))
-            .saturating_add(expression(core, condition)),
+        } => sum!(core: NODE, expression(selector), branches(list), statements(otherwise)),
+        CoreStmt::While { condition, body } =>
+            sum!(core: NODE, expression(condition), statement(body)),
+        CoreStmt::Repeat { body, condition } =>
+            sum!(core: NODE, statements(body), expression(condition)),
         CoreStmt::For {
             variable,
             first,
             last,
             body,
             ..
-        } => NODE
-            .saturating_add(counter(core, *variable))
-            .saturating_add(expression(core, first))
-            .saturating_add(expression(core, last))
-            .saturating_add(statement(core, body)),
+        } =>
+            sum!(core: NODE, counter(*variable), expression(first), expression(last), statement(body)),
         CoreStmt::ForIn {
             variable,
             collection,
             body,
             ..
-        } => NODE
-            .saturating_add(counter(core, *variable))
-            .saturating_add(expression(core, collection))
-            .saturating_add(statement(core, body)),
-        CoreStmt::TryFinally { body, finalization } => NODE
-            .saturating_add(statements(core, body))
-            .saturating_add(statements(core, finalization)),
+        } => sum!(core: NODE, counter(*variable), expression(collection), statement(body)),
+        CoreStmt::TryFinally { body, finalization } =>
+            sum!(core: NODE, statements(body), statements(finalization)),
         CoreStmt::TryOn {
             body,
             handlers: list,
-        } => NODE
-            .saturating_add(statements(core, body))
-            .saturating_add(handlers(core, list)),
+        } => sum!(core: NODE, statements(body), handlers(list)),
         CoreStmt::TryOnElse {
             body,
             handlers: list,
             otherwise,
-        } => NODE
-            .saturating_add(statements(core, body))
-            .saturating_add(handlers(core, list))
-            .saturating_add(statements(core, otherwise)),
-        CoreStmt::Raise(exception) => NODE.saturating_add(expression(core, exception)),
+        } => sum!(core: NODE, statements(body), handlers(list), statements(otherwise)),
+        CoreStmt::Raise(exception) => sum!(core: NODE, expression(exception)),
         CoreStmt::Reraise => NODE,
         CoreStmt::Call(call) => expression(core, call),
-        CoreStmt::Assign { target, value } => NODE
-            .saturating_add(expression(core, target))
-            .saturating_add(expression(core, value)),
+        CoreStmt::Assign { target, value } =>
+            sum!(core: NODE, expression(target), expression(value)),
         CoreStmt::Exit => NODE,
-        CoreStmt::ExitWith(value) => NODE.saturating_add(expression(core, value)),
+        CoreStmt::ExitWith(value) => sum!(core: NODE, expression(value)),
         CoreStmt::Break => NODE,
         CoreStmt::Continue => NODE,
-        CoreStmt::Halt(status) => NODE.saturating_add(expression(core, status)),
+        CoreStmt::Halt(status) => sum!(core: NODE, expression(status)),
         CoreStmt::Do(action) => built_in(core, action),
     }
 }
@@ -167,27 +145,19 @@ fn built_in(core: &Core, action: &CoreAction) -> u64
             }
             sum
         }
-        CoreAction::Count { target, amount, .. } => NODE
-            .saturating_add(expression(core, &target.place))
-            .saturating_add(expression(core, amount)),
-        CoreAction::SetLength { target, length } => NODE
-            .saturating_add(expression(core, target))
-            .saturating_add(expression(core, length)),
-        CoreAction::Include { set, element } => NODE
-            .saturating_add(expression(core, set))
-            .saturating_add(expression(core, element)),
-        CoreAction::Exclude { set, element } => NODE
-            .saturating_add(expression(core, set))
-            .saturating_add(expression(core, element)),
-        CoreAction::Val { text, value, code } => NODE
-            .saturating_add(expression(core, text))
-            .saturating_add(expression(core, &value.place))
-            .saturating_add(expression(core, &code.place)),
-        CoreAction::Str { value, target } => NODE
-            .saturating_add(item(core, value))
-            .saturating_add(expression(core, target)),
-        CoreAction::Free { object, .. } => NODE.saturating_add(expression(core, object)),
-        CoreAction::Destroy(object) => NODE.saturating_add(expression(core, object)),
+        CoreAction::Count { target, amount, .. } =>
+            sum!(core: NODE, expression(&target.place), expression(amount)),
+        CoreAction::SetLength { target, length } =>
+            sum!(core: NODE, expression(target), expression(length)),
+        CoreAction::Include { set, element } =>
+            sum!(core: NODE, expression(set), expression(element)),
+        CoreAction::Exclude { set, element } =>
+            sum!(core: NODE, expression(set), expression(element)),
+        CoreAction::Val { text, value, code } =>
+            sum!(core: NODE, expression(text), expression(&value.place), expression(&code.place)),
+        CoreAction::Str { value, target } => sum!(core: NODE, item(value), expression(target)),
+        CoreAction::Free { object, .. } => sum!(core: NODE, expression(object)),
+        CoreAction::Destroy(object) => sum!(core: NODE, expression(object)),
     }
 }
 
@@ -196,8 +166,6 @@ fn item(core: &Core, item: &CoreItem) -> u64
 {
     match item {
         CoreItem::Plain(value) => expression(core, value),
-        CoreItem::Padded(value, width) => {
-            expression(core, value).saturating_add(expression(core, width))
-        }
+        CoreItem::Padded(value, width) => { sum!(core: expression(value), expression(width)) }
     }
 }

@@ -1,11 +1,11 @@
 //! What activations of routines are charged on the stack.
 ghost use Rattle.std.specs.Prelude.{◌≡◌, ◌-◌, ◌^◌, ◌<◌, min};
 ghost use Rattle.op_core.specs.Sizes.{type_at};
-ghost use Rattle.op_meaning.specs.Charge.{charge_of, charged, is_open, parameter_words, size_of, variable_words, variables_weight};
+ghost use Rattle.op_meaning.specs.Charge.{activation_charge, charge_of, charged, is_open, parameter_words, size_of, variable_words, variables_weight};
 
 use crate::charge_expression::{NODE, WORD, size_of};
 use crate::charge_statement::statements;
-use op_core::{Core, CoreType, Role, RoutineId, TypeId, Variable};
+use op_core::{Core, CoreType, Role, Routine, RoutineId, TypeId, Variable};
 use op_tree::ParameterMode;
 
 /// What each activation is charged, besides its words and nodes, in bytes.
@@ -17,11 +17,18 @@ const ACTIVATION: u64 = 256;
 pub fn charge(core: &Core, routine: RoutineId) -> u64
     ensures { result ≡ min (charge_of core.now routine) (2 ^ 64 - 1) }
 {
-    let Some(row) = core.routines.as_slice().get(routine.0 as usize) else {
-        return 0;
-    };
-    let bytes = ACTIVATION.saturating_add(variables(core, core.variables.rows(row.variables)));
-    match &row.body {
+    match core.routines.as_slice().get(routine.0 as usize) {
+        None => 0,
+        Some(row) => activation(core, row),
+    }
+}
+
+#[tactic(auto, using(crate::proofs::Charged::charged_is))]
+fn activation(core: &Core, routine: &Routine) -> u64
+    ensures { result ≡ min (activation_charge core.now routine.now) (2 ^ 64 - 1) }
+{
+    let bytes = ACTIVATION.saturating_add(variables(core, core.variables.rows(routine.variables)));
+    match &routine.body {
         None => bytes,
         Some(body) => bytes
             .saturating_add(NODE)
