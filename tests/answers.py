@@ -10,17 +10,20 @@ FREE_PASCAL = shutil.which(os.environ.get("FPC32", "fpc32"))
 LINE = re.compile(r"opc: [^\n]*:(\d+:\d+): (V\d+) (.*)\n")
 
 
-def features():
-    """The numbers of the features, by their texts."""
+def texts():
+    """The texts of the rules by their numbers, and the numbers of the features by their texts."""
     with open(os.path.join(TOP, "crates", "op_base", "specs", "Rule.antt"), encoding="utf-8") as file:
-        return {text: number for number, text in re.findall(r'\((\d+), codes "(not in this profile: [^"]*)"\)', file.read())}
+        rows = re.findall(r'\((\d+), codes "([^"]*)"\)', file.read())
+    is_feature = re.compile("not in this profile: ").match
+    return {int(number): text for number, text in rows if not is_feature(text)}, {text: number for number, text in rows if is_feature(text)}
 
 
-NUMBERS = features()
+RULES, NUMBERS = texts()
 
 
 def expanded(text):
-    """«a × 3» is aaa, and «a#, × 3» is a0,a1,a2,."""
+    """«a × 3» is aaa, «a#, × 3» is a0,a1,a2, and «13» the character of that number."""
+    text = re.sub(r"«(\d+)»", lambda m: chr(int(m[1])), text)
     return re.sub(r"«([^»]+?) × (\d+)»", lambda m: "".join(m[1].replace("#", str(k)) for k in range(int(m[2]))), text)
 
 

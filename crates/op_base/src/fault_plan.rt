@@ -5,7 +5,7 @@ ghost use Rattle.op_base.specs.FaultPlan.{is_listed, next_number};
 
 /// The numbers of the calls that fail, how many calls there were, and how many faults. Both counts stop at their
 /// greatest value, 2^64 - 1.
-#[derive(Debug, Drop)]
+#[derive(Drop)]
 pub struct FaultPlan {
     pub fails: Vec<u64>,
     pub calls: u64,

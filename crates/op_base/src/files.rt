@@ -12,7 +12,7 @@ use std::io::{ErrorKind, Read};
 use std::{fs, io, rt};
 
 /// What a map of files answers.
-#[derive(Debug, Drop)]
+#[derive(Drop)]
 pub enum FileAnswer {
     /// The file's bytes, at most as many as were asked for.
     Found(Text),
@@ -40,14 +40,14 @@ pub trait Files {
 }
 
 /// A file in memory.
-#[derive(Debug, Drop)]
+#[derive(Drop)]
 pub struct NamedFile {
     pub name: Text,
     pub bytes: Text,
 }
 
 /// Files in memory, some of whose reads fail.
-#[derive(Debug, Drop)]
+#[derive(Drop)]
 pub struct MemFiles {
     files: Vec<NamedFile>,
     plan: FaultPlan,

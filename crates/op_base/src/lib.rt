@@ -25,6 +25,3 @@ pub use sequence::Sequence;
 pub use sink::{MemSink, Put, Sink, StdSink};
 pub use source::{Got, MemSource, Source, StdSource};
 pub use text::Text;
-
-#[cfg(test)]
-mod tests;

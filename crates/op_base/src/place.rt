@@ -12,7 +12,7 @@ pub struct Place {
 }
 
 /// The bytes of a file from `first` up to, and without, `past`.
-#[derive(Clone, Copy, Debug, PartialEq, Eq)]
+#[derive(Clone, Copy)]
 pub struct Span {
     pub first: u32,
     pub past: u32,

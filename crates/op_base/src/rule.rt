@@ -12,7 +12,7 @@ pub struct Rule {
 }
 
 /// The rule that a program breaks, and where.
-#[derive(Clone, Copy, Debug, PartialEq, Eq)]
+#[derive(Clone, Copy, Debug)]
 pub struct Refusal {
     pub rule: Rule,
     pub place: Place,

@@ -33,7 +33,7 @@ pub trait Sink {
 }
 
 /// A sink in memory that takes so many bytes, and some of whose calls fail.
-#[derive(Debug, Drop)]
+#[derive(Drop)]
 pub struct MemSink {
     bytes: Vec<u8>,
     room: usize,

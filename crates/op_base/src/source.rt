@@ -36,7 +36,7 @@ pub trait Source {
 }
 
 /// A source over bytes in memory, some of whose calls fail.
-#[derive(Debug, Drop)]
+#[derive(Drop)]
 pub struct MemSource {
     bytes: Vec<u8>,
     at: usize,

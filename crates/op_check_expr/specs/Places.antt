@@ -5,26 +5,18 @@ use Rattle.std.specs.List.{list_any}
 use Rattle.op_base.specs.declared.place.Place.{Place}
 use Rattle.op_core.specs.Expression.{Expression as Tree, expression, Root, variable}
 use Rattle.op_core.specs.Faults.{Checked, by_test, fine, untyped}
+use Rattle.op_core.specs.Roles.{is_written}
 use Rattle.op_core.specs.Types.{is_one_type}
 use Rattle.op_core.specs.Typing.{is_place, is_place_after, is_variable}
 use Rattle.op_core.specs.Typing as typing
 use Rattle.op_core.specs.declared.ids.TypeId.{TypeId}
 use Rattle.op_core.specs.declared.ids.VariableId.{VariableId}
 use Rattle.op_core.specs.declared.program.Core.{Core}
-use Rattle.op_core.specs.declared.routine.Role.{Role}
-use Rattle.op_core.specs.declared.routine.Role.TheVariants.{Constant as ConstantRole, Parameter, Object}
 use Rattle.op_core.specs.declared.routine.Variable.{Variable as VariableRow}
-use Rattle.op_tree.specs.declared.heading.ParameterMode.TheVariants.{Const_}
 use Rattle.op_check_expr.specs.Values.{Value, constant, computed}
 use Rattle.op_check_expr.specs.declared.scope.Around.{Around}
 use Rattle.op_check_expr.specs.declared.scope.Around.TheVariants.{Loop}
 use Rattle.op_check_expr.specs.Scopes.{Here}
-
-abbrev pub is_written : Role → Bool
-is_written ConstantRole = false
-is_written (Parameter Const_) = false
-is_written Object = false
-is_written _ = true
 
 abbrev pub counts : VariableId → Around → Bool
 counts id (Loop (Some counter)) = nat_eq counter.0 id.0

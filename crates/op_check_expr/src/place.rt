@@ -3,7 +3,7 @@ ghost use Rattle.std.specs.Prelude.{◌≡◌, slice_get};
 ghost use Rattle.std.specs.Option.{option_map};
 ghost use Rattle.op_core.specs.Expression.{action_of, expr_of, root_of as core_root_of};
 ghost use Rattle.op_core.specs.Typing.{is_place, is_variable, leads_on};
-ghost use Rattle.op_check_expr.specs.Places.{is_counted, is_very, is_writable, is_writable_root, is_writable_row, is_written, leads, target_value, variable_tree, variable_value};
+ghost use Rattle.op_check_expr.specs.Places.{is_counted, is_very, is_writable, is_writable_root, is_writable_row, leads, target_value, variable_tree, variable_value};
 ghost use Rattle.op_check_expr.specs.Scopes.{here_of};
 ghost use Rattle.op_check_expr.specs.Values.{value_of};
 ghost use Rattle.op_check_expr.specs.Words.{Reports};
@@ -13,10 +13,7 @@ use crate::sink::refuse;
 use crate::tree::type_of;
 use crate::value::Value;
 use op_base::Place;
-use op_core::{
-    Action, Core, CoreExpr, CoreType, FirstRefusal, Role, Root, TypeId, VariableId, one_type,
-};
-use op_tree::ParameterMode;
+use op_core::{Action, Core, CoreExpr, CoreType, FirstRefusal, Root, TypeId, VariableId, one_type};
 use op_types::type_at;
 
 /// An argument at a place that must be a variable, of the very type where one is given, that may be written.
@@ -122,18 +119,9 @@ pub fn is_writable_variable(scope: Scope, id: VariableId) -> bool
     ensures { result ≡ is_writable_row (here_of scope.entry) id (slice_get (here_of scope.entry).core.variables id.0) }
 {
     match scope.core.variables.as_slice().get(id.0 as usize) {
-        Some(variable) => is_written(variable.role) && !is_counted(scope, id),
+        Some(variable) => variable.role.is_written() && !is_counted(scope, id),
         None => false,
     }
-}
-
-fn is_written(role: Role) -> bool
-    ensures { result ≡ is_written role }
-{
-    !matches!(
-        role,
-        Role::Constant | Role::Parameter(ParameterMode::Const_) | Role::Object
-    )
 }
 
 /// Whether it is the variable of a loop round the place.

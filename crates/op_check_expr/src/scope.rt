@@ -6,7 +6,7 @@ use op_types::{Setting, Visible};
 use std::alloc::Global;
 
 /// A part of a statement that stands round a place and tells what may be written there.
-#[derive(Clone, Copy, Debug, PartialEq, Eq)]
+#[derive(Clone, Copy)]
 pub enum Around {
     /// A loop; of a `for` with its variable, which cannot be written in the loop.
     Loop(Option<VariableId>),

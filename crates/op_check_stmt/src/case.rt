@@ -21,14 +21,14 @@ use op_types::{Constant, Sort, assignable, sort_of, start_of};
 use std::alloc::Global;
 
 /// A bound of a label: its number, which stands for so many nodes of the text.
-#[derive(Clone, Copy, Debug, PartialEq, Eq)]
+#[derive(Clone, Copy)]
 pub struct Bound {
     pub number: i32,
     pub nodes: u32,
 }
 
 /// A label, with the place of its first token.
-#[derive(Clone, Copy, Debug, PartialEq, Eq)]
+#[derive(Clone, Copy)]
 pub struct Spot {
     pub label: Label,
     pub place: Place,

@@ -11,7 +11,7 @@ use op_core::{CoreStmt, FirstRefusal};
 use std::alloc::Global;
 
 /// How far the innermost loop is from a place.
-#[derive(Clone, Copy, Debug, PartialEq, Eq)]
+#[derive(Clone, Copy)]
 pub enum Reach {
     /// There is no loop round it.
     Nowhere,
@@ -31,7 +31,7 @@ pub fn within(alloc: Global, around: &[Around], part: Around) -> Result<Vec<Arou
 }
 
 /// What leaves a loop, or its turn.
-#[derive(Clone, Copy, Debug, PartialEq, Eq)]
+#[derive(Clone, Copy)]
 pub enum Jump {
     Break,
     Continue,

@@ -1,15 +1,15 @@
 //! Typed statements, made of parts that may have no type.
-ghost use Rattle.std.specs.Prelude.{◌≡◌, IfOk};
+ghost use Rattle.std.specs.Prelude.{◌≡◌, IfOk, Some};
 ghost use Rattle.std.specs.Option.{option_map};
 ghost use Rattle.op_check_stmt.specs.Parts.{both_typed, bounds_of, branch_of, head_of, joined, statements_in};
 ghost use Rattle.op_check_stmt.specs.Statements.{case_statement, for_statement, try_all};
 ghost use Rattle.op_core.specs.Expression.{expr_of};
 ghost use Rattle.op_core.specs.Nodes.{branches_of, handlers_of};
-ghost use Rattle.op_core.specs.Statement.{assign, block, case_of, if_else, if_then, repeat_until, stmt_of, stmts_of, try_finally, try_on_else, while_do};
+ghost use Rattle.op_core.specs.Statement.{assign, block, case_of, for_to, if_else, if_then, repeat_until, stmt_of, stmts_of, try_finally, try_on_else, while_do};
 
 use crate::variable::Counter;
 use op_base::{NoMemory, Sequence};
-use op_core::{CoreBranch, CoreExpr, CoreHandler, CoreStmt, Label};
+use op_core::{CoreBranch, CoreExpr, CoreHandler, CoreStmt, Label, VariableId};
 use op_tree::Direction;
 use std::alloc::Global;
 
@@ -67,14 +67,25 @@ pub fn if_else(alloc: Global, parts: Option<((CoreExpr, CoreStmt), CoreStmt)>) -
         None => Ok(None),
         Some(((condition, then), otherwise)) => {
             let then = Box::new(alloc, then)?;
-            let otherwise = Box::new(alloc, otherwise)?;
-            Ok(Some(CoreStmt::IfElse {
-                condition,
-                then,
-                otherwise,
-            }))
+            if_else_with(alloc, condition, then, otherwise)
         }
     }
+}
+
+fn if_else_with(
+    alloc: Global,
+    condition: CoreExpr,
+    then: Box<CoreStmt>,
+    otherwise: CoreStmt,
+) -> Typed
+    ensures { IfOk result (λ s. option_map stmt_of s ≡ Some (if_else (expr_of condition) (stmt_of then.value) (stmt_of otherwise))) }
+{
+    let otherwise = Box::new(alloc, otherwise)?;
+    Ok(Some(CoreStmt::IfElse {
+        condition,
+        then,
+        otherwise,
+    }))
 }
 
 pub fn while_do(alloc: Global, parts: Option<(CoreExpr, CoreStmt)>) -> Typed
@@ -100,17 +111,43 @@ pub fn for_to(
         None => Ok(None),
         Some(((counter, (first, last)), body)) => {
             let first = Box::new(alloc, first)?;
-            let last = Box::new(alloc, last)?;
-            let body = Box::new(alloc, body)?;
-            Ok(Some(CoreStmt::For {
-                variable: counter.variable,
-                first,
-                direction,
-                last,
-                body,
-            }))
+            for_with_first(alloc, counter.variable, first, direction, last, body)
         }
     }
+}
+
+fn for_with_first(
+    alloc: Global,
+    variable: VariableId,
+    first: Box<CoreExpr>,
+    direction: Direction,
+    last: CoreExpr,
+    body: CoreStmt,
+) -> Typed
+    ensures { IfOk result (λ s. option_map stmt_of s ≡ Some (for_to variable (expr_of first.value) direction (expr_of last) (stmt_of body))) }
+{
+    let last = Box::new(alloc, last)?;
+    for_with_last(alloc, variable, first, direction, last, body)
+}
+
+fn for_with_last(
+    alloc: Global,
+    variable: VariableId,
+    first: Box<CoreExpr>,
+    direction: Direction,
+    last: Box<CoreExpr>,
+    body: CoreStmt,
+) -> Typed
+    ensures { IfOk result (λ s. option_map stmt_of s ≡ Some (for_to variable (expr_of first.value) direction (expr_of last.value) (stmt_of body))) }
+{
+    let body = Box::new(alloc, body)?;
+    Ok(Some(CoreStmt::For {
+        variable,
+        first,
+        direction,
+        last,
+        body,
+    }))
 }
 
 pub fn repeat_until(alloc: Global, parts: Option<(Vec<CoreStmt>, CoreExpr)>) -> Typed

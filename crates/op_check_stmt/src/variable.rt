@@ -13,7 +13,7 @@ use op_tree::Name;
 use op_types::{Meaning, Sort, sort_of, type_at};
 
 /// The variable of a `for`, and the type of its bounds.
-#[derive(Clone, Copy, Debug, PartialEq, Eq)]
+#[derive(Clone, Copy)]
 pub struct Counter {
     pub variable: VariableId,
     pub bounds: TypeId,

@@ -29,7 +29,7 @@ type First = Result<Option<Initial>, NoMemory>;
 type Parts = Result<Option<Vec<Initial>>, NoMemory>;
 
 /// What a first value of a type is made of.
-#[derive(Clone, Copy, Debug)]
+#[derive(Clone, Copy)]
 pub enum Shape {
     /// It is one constant.
     Single,

@@ -15,7 +15,7 @@ use op_tree::{Name, QualifiedName};
 use op_types::{Meaning, type_at};
 
 /// What a name stands for, as far as types ask.
-#[derive(Clone, Copy, Debug)]
+#[derive(Clone, Copy)]
 pub enum Told {
     Unknown,
     /// Its declaration breaks a rule.

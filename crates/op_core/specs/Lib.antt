@@ -6,6 +6,7 @@ pub mod Initial
 pub mod Members
 pub mod Nodes
 pub mod Relations
+pub mod Roles
 pub mod Rows
 pub mod Sizes
 pub mod Sound

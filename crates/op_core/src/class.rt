@@ -4,7 +4,7 @@ use op_base::Text;
 use op_tree::{Name, Visibility};
 
 /// A class. Its members are those that it declares itself.
-#[derive(Debug, Drop)]
+#[derive(Drop)]
 pub struct Class {
     /// As it is declared: what ClassName gives.
     pub name: Text,
@@ -22,14 +22,14 @@ pub struct Class {
 }
 
 /// Whether the places of an interface type hold their instance.
-#[derive(Clone, Copy, Debug, PartialEq, Eq)]
+#[derive(Clone, Copy)]
 pub enum InterfaceKind {
     Com,
     Corba,
 }
 
 /// An interface. Its methods are those that it declares itself.
-#[derive(Debug, Drop)]
+#[derive(Drop)]
 pub struct Interface {
     pub name: Text,
     pub of: TypeId,
@@ -42,7 +42,7 @@ pub struct Interface {
 }
 
 /// How the routine of a call is found from an instance's class.
-#[derive(Clone, Copy, Debug, PartialEq, Eq)]
+#[derive(Clone, Copy)]
 pub enum Binding {
     Static,
     /// It begins a place in the table of virtual methods; `reintroduce` is no binding of its own.
@@ -52,7 +52,7 @@ pub enum Binding {
 }
 
 /// A method of a class or an interface.
-#[derive(Clone, Copy, Debug, PartialEq, Eq)]
+#[derive(Clone, Copy)]
 pub struct Method {
     pub routine: RoutineId,
     pub visibility: Visibility,
@@ -61,14 +61,14 @@ pub struct Method {
 }
 
 /// What a property is read from or written to.
-#[derive(Clone, Copy, Debug, PartialEq, Eq)]
+#[derive(Clone, Copy)]
 pub enum Accessor {
     Field(FieldId),
     Method(RoutineId),
 }
 
 /// A property. An accessor that is not declared is None.
-#[derive(Debug, Drop)]
+#[derive(Drop)]
 pub struct Property {
     pub name: Name,
     pub of: TypeId,

@@ -6,7 +6,7 @@ use crate::CheckError;
 use op_base::Refusal;
 
 /// What stays of the faults that are reported: the first one by line, column and the rule's number. All are of one file.
-#[derive(Clone, Copy, Debug, PartialEq, Eq)]
+#[derive(Clone, Copy)]
 pub struct FirstRefusal {
     pub kept: Option<Refusal>,
 }

@@ -1,7 +1,7 @@
 //! The numbers by which the parts of a program name each other. Each counts in a table of `Core`, from 0.
 
 /// A type. The built-in ones have the numbers of `TypeId`'s constants.
-#[derive(Clone, Copy, Debug, PartialEq, Eq)]
+#[derive(Clone, Copy)]
 pub struct TypeId(pub u32);
 
 impl TypeId {
@@ -37,11 +37,11 @@ impl TypeId {
 }
 
 /// A field of a record or a class.
-#[derive(Clone, Copy, Debug, PartialEq, Eq)]
+#[derive(Clone, Copy)]
 pub struct FieldId(pub u32);
 
 /// A class. `TObject` and `TInterfacedObject` have the numbers of `ClassId`'s constants.
-#[derive(Clone, Copy, Debug, PartialEq, Eq)]
+#[derive(Clone, Copy)]
 pub struct ClassId(pub u32);
 
 impl ClassId {
@@ -51,7 +51,7 @@ impl ClassId {
 }
 
 /// An interface. `IUnknown` has the number of the constant.
-#[derive(Clone, Copy, Debug, PartialEq, Eq)]
+#[derive(Clone, Copy)]
 pub struct InterfaceId(pub u32);
 
 impl InterfaceId {
@@ -59,19 +59,19 @@ impl InterfaceId {
 }
 
 /// A routine, a method, or the part of a unit that initializes or finalizes it.
-#[derive(Clone, Copy, Debug, PartialEq, Eq)]
+#[derive(Clone, Copy)]
 pub struct RoutineId(pub u32);
 
 /// A variable: a global one, or one of an activation.
-#[derive(Clone, Copy, Debug, PartialEq, Eq)]
+#[derive(Clone, Copy)]
 pub struct VariableId(pub u32);
 
 /// A unit, or the program itself, in their order.
-#[derive(Clone, Copy, Debug, PartialEq, Eq)]
+#[derive(Clone, Copy)]
 pub struct UnitId(pub u32);
 
 /// Rows of a table that lie together: `count` of them from row `first` on.
-#[derive(Clone, Copy, Debug, PartialEq, Eq)]
+#[derive(Clone, Copy)]
 pub struct Run {
     pub first: u32,
     pub count: u32,

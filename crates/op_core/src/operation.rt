@@ -1,7 +1,7 @@
 //! What is done with values, besides operators.
 
 /// A built-in function of one value. Length, Low, High and Assigned look at a variable in place.
-#[derive(Clone, Copy, Debug, PartialEq, Eq)]
+#[derive(Clone, Copy)]
 pub enum Function {
     Length,
     Low,
@@ -21,7 +21,7 @@ pub enum Function {
 }
 
 /// How a value becomes one of another type.
-#[derive(Clone, Copy, Debug, PartialEq, Eq)]
+#[derive(Clone, Copy)]
 pub enum Conversion {
     /// It is one as it is.
     Keep,
@@ -38,7 +38,7 @@ pub enum Conversion {
 }
 
 /// What stands in the text for a conversion.
-#[derive(Clone, Copy, Debug, PartialEq, Eq)]
+#[derive(Clone, Copy)]
 pub enum Origin {
     Implied,
     /// The type as a call.
@@ -48,7 +48,7 @@ pub enum Origin {
 }
 
 /// How the routine of a method call is found.
-#[derive(Clone, Copy, Debug, PartialEq, Eq)]
+#[derive(Clone, Copy)]
 pub enum Dispatch {
     /// It is the one that is named: also behind `inherited`.
     Direct,

@@ -9,7 +9,7 @@ use op_base::Text;
 use std::alloc::Global;
 
 /// A unit, or the program itself.
-#[derive(Debug, Drop)]
+#[derive(Drop)]
 pub struct Unit {
     /// As it is written; empty for a program without a heading.
     pub name: Text,
@@ -21,7 +21,7 @@ pub struct Unit {
 }
 
 /// The classes of SysUtils that the language knows, where some file uses it.
-#[derive(Clone, Copy, Debug, PartialEq, Eq)]
+#[derive(Clone, Copy)]
 pub struct ExceptionClasses {
     pub exception: ClassId,
     /// The field with the message of an exception.

@@ -1,9 +1,12 @@
 //! Routines and variables.
+ghost use Rattle.std.specs.Prelude.{◌≡◌};
+ghost use Rattle.op_core.specs.Roles.{is_written};
+
 use crate::{ClassId, CoreStmt, Initial, InterfaceId, RoutineId, Run, TypeId, UnitId};
 use op_tree::{Name, ParameterMode, RoutineKind};
 
 /// A parameter, as a heading has it. An open array is of the type `OpenArray`.
-#[derive(Debug, Drop)]
+#[derive(Drop)]
 pub struct Parameter {
     pub name: Name,
     pub mode: ParameterMode,
@@ -11,7 +14,7 @@ pub struct Parameter {
 }
 
 /// What a routine is declared in.
-#[derive(Clone, Copy, Debug, PartialEq, Eq)]
+#[derive(Clone, Copy)]
 pub enum Owner {
     /// A unit, or the routine round it.
     Unit,
@@ -20,7 +23,7 @@ pub enum Owner {
 }
 
 /// What a variable is.
-#[derive(Clone, Copy, Debug, PartialEq, Eq)]
+#[derive(Clone, Copy)]
 pub enum Role {
     /// A global or local variable.
     Plain,
@@ -32,6 +35,19 @@ pub enum Role {
     Result,
     /// What `on` declares, while its handler runs. It is no local: a routine's charge does not count it.
     Handler,
+}
+
+impl Role {
+    /// Whether a variable of this role may be written (Free Pascal Reference Guide, "Constant parameters" and "Typed constants"): a
+    /// typed constant, a const parameter and the object of a method may not.
+    pub fn is_written(self) -> bool
+        ensures { result ≡ is_written self }
+    {
+        !matches!(
+            self,
+            Role::Constant | Role::Parameter(ParameterMode::Const_) | Role::Object
+        )
+    }
 }
 
 /// A variable, or what else has a value under a name while a routine or the program runs.

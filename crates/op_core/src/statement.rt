@@ -93,7 +93,7 @@ pub struct CoreBranch {
 }
 
 /// The values from `first` to `last`. It stands for so many nodes of the text.
-#[derive(Clone, Copy, Debug, PartialEq, Eq)]
+#[derive(Clone, Copy)]
 pub struct Label {
     pub first: i32,
     pub last: i32,

@@ -3,7 +3,7 @@ use crate::{ClassId, InterfaceId, Run, TypeId};
 use op_tree::{Name, Visibility};
 
 /// The predefined integer types: ShortInt, Byte, SmallInt, Word, and LongInt, which is Integer.
-#[derive(Clone, Copy, Debug, PartialEq, Eq)]
+#[derive(Clone, Copy)]
 pub enum IntegerKind {
     Signed8,
     Unsigned8,
@@ -19,7 +19,7 @@ pub enum IntegerKind {
 ///
 /// Right behind an enumeration or a subrange of which there are sets stands its set type. Behind a larger enumeration stand the
 /// subrange of its first 32 values and the set type of that.
-#[derive(Clone, Copy, Debug, PartialEq, Eq)]
+#[derive(Clone, Copy)]
 pub enum CoreType {
     Integer(IntegerKind),
     Boolean,
@@ -51,7 +51,7 @@ pub enum CoreType {
 }
 
 /// A field, with its visibility in a class. The fields of records are public.
-#[derive(Debug, Drop)]
+#[derive(Drop)]
 pub struct Field {
     pub name: Name,
     pub of: TypeId,
@@ -60,7 +60,7 @@ pub struct Field {
 
 /// How many bytes a value of a type has, what its address is a multiple of, and whether it is managed: whether it is or holds a
 /// string, a dynamic array or what holds an instance.
-#[derive(Clone, Copy, Debug, PartialEq, Eq)]
+#[derive(Clone, Copy)]
 pub struct Extent {
     pub size: u32,
     pub alignment: u32,

@@ -12,7 +12,7 @@ use op_base::{Got, Source};
 const BLOCK: usize = 1024;
 
 /// What came of filling a range.
-#[derive(Clone, Copy, Debug, PartialEq, Eq)]
+#[derive(Clone, Copy)]
 pub(crate) enum Filled {
     /// All bytes that were wanted came.
     Whole,

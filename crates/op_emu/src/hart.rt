@@ -10,7 +10,7 @@ use op_base::{Sink, Source};
 use op_rv::{FaultKind, Instr, decode};
 
 /// A hardware thread.
-#[derive(Debug, Drop)]
+#[derive(Drop)]
 pub struct Hart {
     pub registers: Registers,
     pub pc: u32,

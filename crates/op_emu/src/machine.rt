@@ -8,7 +8,7 @@ use crate::{Hart, Stepped, Stop};
 use op_base::{Sink, Source};
 
 /// A machine that an image was loaded into.
-#[derive(Debug, Drop)]
+#[derive(Drop)]
 pub struct Machine {
     pub(crate) hart: Hart,
     /// What the last step did. `Went` before the first one.

@@ -10,7 +10,7 @@ ghost use Rattle.op_emu.specs.Segments.{region_of, regions_of, lie_apart, has_ri
 use op_base::{Put, Sink};
 
 /// What may be done with a byte.
-#[derive(Clone, Copy, Debug, PartialEq, Eq)]
+#[derive(Clone, Copy)]
 pub enum Right {
     Read,
     Write,
@@ -18,7 +18,7 @@ pub enum Right {
 }
 
 /// A range of addresses with its rights and bytes.
-#[derive(Debug, Drop)]
+#[derive(Drop)]
 pub struct Segment {
     pub base: u32,
     pub readable: bool,
@@ -28,7 +28,7 @@ pub struct Segment {
 }
 
 /// Segments that lie apart.
-#[derive(Debug, Drop)]
+#[derive(Drop)]
 pub struct Memory {
     pub segments: Vec<Segment>,
     ghost apart: { IsTrue (lie_apart segments.items) },

@@ -3,7 +3,7 @@ ghost use Rattle.std.specs.Prelude.{◌≡◌, ◌<◌, slice_index, replicate};
 ghost use Rattle.op_emu.specs.Registers.{value_of, with_value};
 
 /// 32 words, of which the first is always 0.
-#[derive(Clone, Copy, Debug)]
+#[derive(Clone, Copy)]
 pub struct Registers {
     words: [u32; 32],
     ghost zero: { slice_index words 0 ≡ 0 },

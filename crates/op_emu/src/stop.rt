@@ -6,7 +6,7 @@ use op_rv::FaultKind;
 use thiserror::Error;
 
 /// What a step did.
-#[derive(Clone, Copy, Debug, PartialEq, Eq)]
+#[derive(Clone, Copy)]
 pub enum Stepped {
     /// The machine goes on.
     Went,
@@ -58,7 +58,7 @@ pub enum Stop {
 }
 
 /// Why an image was not loaded.
-#[derive(Clone, Copy, Debug, PartialEq, Eq, Error)]
+#[derive(Clone, Copy, Debug, Error)]
 pub enum MachineError {
     /// The first condition on images that fails, 1 to 9.
     #[error("bad image: Elf{0}")]

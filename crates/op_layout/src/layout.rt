@@ -7,7 +7,7 @@ use op_rv::RoutineId;
 use std::alloc::Global;
 
 /// Where a literal stands in the constants, in bytes from their beginning.
-#[derive(Clone, Copy, Debug, PartialEq, Eq)]
+#[derive(Clone, Copy)]
 pub struct LiteralPlace {
     pub offset: usize,
     pub length: usize,

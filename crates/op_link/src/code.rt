@@ -11,7 +11,7 @@ use op_rv::{BranchOp, ImmOp, Instr, encode};
 use std::alloc::AllocError;
 
 /// Why code is not written.
-#[derive(Clone, Copy, Debug, PartialEq, Eq)]
+#[derive(Clone, Copy)]
 pub enum CodeError {
     /// An item does not reach what it names.
     OutOfReach,

@@ -21,7 +21,7 @@ use op_rv::Objects;
 use std::alloc::{AllocError, Global};
 
 /// Why there is no image.
-#[derive(Clone, Copy, Debug, PartialEq, Eq)]
+#[derive(Clone, Copy, Debug)]
 pub enum LinkError {
     /// Code, constants and initial globals take more than 67,108,864 bytes.
     Limit,

@@ -6,14 +6,14 @@ use crate::table::Segment;
 use op_layout::Layout;
 
 /// What a program gets to run, in KiB: 64 to 262,144 of heap and 16 to 65,536 of stack.
-#[derive(Clone, Copy, Debug, PartialEq, Eq)]
+#[derive(Clone, Copy)]
 pub struct Settings {
     pub heap: u32,
     pub stack: u32,
 }
 
 /// How many bytes the parts of a program take.
-#[derive(Clone, Copy, Debug, PartialEq, Eq)]
+#[derive(Clone, Copy)]
 pub struct Sizes {
     pub code: u32,
     pub constants: u32,

@@ -26,7 +26,7 @@ pub struct Placement {
 }
 
 /// How far the code has come.
-#[derive(Clone, Copy, Debug, PartialEq, Eq)]
+#[derive(Clone, Copy)]
 pub struct Spot {
     /// The address, if every item had its longest form.
     pub longest: u32,

@@ -6,7 +6,7 @@ use crate::place::{RoutinePlace, block_in, head_in};
 use op_rv::Item;
 
 /// By which instructions an item goes to what it names.
-#[derive(Clone, Copy, Debug, PartialEq, Eq)]
+#[derive(Clone, Copy)]
 pub enum Reach {
     /// By one instruction that has the distance.
     Direct,

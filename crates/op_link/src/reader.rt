@@ -9,7 +9,7 @@ use crate::conditions::{
 use crate::table::{FILE_HEADER, PROGRAM_HEADER, Segment, half, program_headers, segment_at, word};
 
 /// What an image says of itself.
-#[derive(Clone, Copy, Debug, PartialEq, Eq)]
+#[derive(Clone, Copy)]
 pub struct Header {
     /// The address at which it begins.
     pub entry: u32,

@@ -14,7 +14,7 @@ pub(crate) const PROGRAM_HEADER: usize = 32;
 pub(crate) const MOST_HEADERS: usize = 16;
 
 /// A segment as its program header describes it, with the numbers of the file.
-#[derive(Clone, Copy, Debug, PartialEq, Eq)]
+#[derive(Clone, Copy)]
 pub struct Segment {
     /// Where it begins in memory.
     pub address: u32,
@@ -29,7 +29,7 @@ pub struct Segment {
 }
 
 /// A program header: what kind of segment it describes, and the segment.
-#[derive(Clone, Copy, Debug)]
+#[derive(Clone, Copy)]
 pub struct ProgramHeader {
     pub kind: u32,
     pub segment: Segment,

@@ -23,7 +23,7 @@ pub struct Routine {
 }
 
 /// How many literals, tables and descriptors the code may name.
-#[derive(Clone, Copy, Debug, PartialEq, Eq)]
+#[derive(Clone, Copy)]
 pub struct Counts {
     pub literals: u32,
     pub tables: u32,

@@ -6,7 +6,7 @@ ghost use Rattle.op_low.specs.Descriptor.{IsClassDescriptor, IsTypeDescriptor, e
 ghost use Rattle.std.specs.Prelude.{◌≡◌, ◌≤◌, ◌<◌, ◌+◌, ◌*◌, ◌^◌, length};
 
 /// The kinds of types, by what ends with a value.
-#[derive(Clone, Copy, Debug, PartialEq, Eq)]
+#[derive(Clone, Copy)]
 pub enum DescKind {
     /// No managed parts.
     Plain,
@@ -23,7 +23,7 @@ pub enum DescKind {
 }
 
 /// A managed part of a value.
-#[derive(Clone, Copy, Debug, PartialEq, Eq)]
+#[derive(Clone, Copy)]
 pub struct DescPart {
     /// Where it begins in the value.
     pub offset: u32,

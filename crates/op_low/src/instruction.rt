@@ -5,7 +5,7 @@ use op_base::Sequence;
 use op_rv::{AluOp, BlockId, BranchOp, ImmOp, LoadOp, RoutineId, ShiftOp, StoreOp, Symbol};
 
 /// Where a write goes.
-#[derive(Clone, Copy, Debug, PartialEq, Eq)]
+#[derive(Clone, Copy)]
 pub enum Output {
     Console,
     Errors,

@@ -1,17 +1,31 @@
 //! What the scripts in `bench/` and `tests/` ask of parts of the compiler.
 //!
-//! `count FILE..` tells how many tokens each file has, and `list FILE..` each token with its place. `parse FILE..` tells what each file
-//! is, and `print FILE..` prints its tree. `words FILE..` decodes the words of code. `make N..` makes low code of N instructions, and
-//! `build N..` writes its image.
+//! A word that is a command says what is told of the files behind it. `count` tells how many tokens a file has, and `list` each token
+//! with its place. `parse` tells what a file is, and `print` prints its tree. `words` decodes the words of code. `make` reads low
+//! code, and `build` writes its image. The others tell of each case of a file (`cases`): `decode` of a word, `header` and `run` of an
+//! image, `valid`, `select`, `frame` and `execute` of low code, and `linkable`, `link` and `segments` of objects.
 #![tactic(auto)]
 
-mod building;
+mod answers;
+mod cases;
+mod images;
+mod items;
+mod low_text;
+mod object_text;
+mod operands;
+mod parts;
 mod tokens;
 mod trees;
 mod words;
 
+use crate::answers::built;
 use op_base::{FileAnswer, Files, StdFiles};
-use std::io;
+use std::io::{self, Write};
+
+const COMMANDS: [&str; 17] = [
+    "count", "list", "parse", "print", "words", "make", "build", "decode", "header", "run",
+    "valid", "select", "frame", "execute", "linkable", "link", "segments",
+];
 
 /// The most bytes that are read.
 const MOST_BYTES: usize = 1 << 26;
@@ -22,24 +36,40 @@ fn tell_file(rt: &HostRuntime, command: &str, name: &str) -> io::Result<()> {
         Ok(FileAnswer::Found(text)) => match command {
             "words" => words::tell(rt, text.as_slice()),
             "parse" | "print" => trees::tell(rt, name, text.as_slice(), command == "print"),
-            _ => tokens::tell(rt, name, text.as_slice(), command == "list"),
+            "count" | "list" => tokens::tell(rt, name, text.as_slice(), command == "list"),
+            _ => match str::from_utf8(text.as_slice()) {
+                Ok(text) => tell_text(rt, command, text),
+                Err(_) => println!(rt; "no text"),
+            },
         },
         _ => println!(rt; "not read"),
     }
 }
 
+fn tell_text(rt: &HostRuntime, command: &str, text: &str) -> io::Result<()> {
+    match command {
+        "make" | "build" => match built(rt.alloc(), text, command == "build") {
+            Ok(image) => rt.stdout().write_all(image.as_slice()),
+            Err(error) => println!(rt; "{error}"),
+        },
+        _ => cases::tell(rt, command, text),
+    }
+}
+
+/// Whether a word is a command, so that the words behind it are told by it.
+fn is_command(word: &str) -> bool {
+    COMMANDS.iter().any(|command| *command == word)
+}
+
 fn main(rt: HostRuntime) -> io::Result<()> {
-    let mut words = std::env::args(&rt)?.skip(1);
-    let Some(command) = words.next() else {
-        return Ok(());
-    };
-    for word in words {
-        match command.as_str() {
-            "make" | "build" => {
-                let count = word.as_str().parse::<u32>().unwrap_or(0);
-                building::tell(&rt, count, command.as_str() == "build")?;
-            }
-            command => tell_file(&rt, command, word.as_str())?,
+    let words: Vec<String> = std::env::args(&rt)?.skip(1).collect(rt.alloc())?;
+    let mut command = "";
+    for word in words.as_slice() {
+        let word = word.as_str();
+        if is_command(word) {
+            command = word;
+        } else {
+            tell_file(&rt, command, word)?;
         }
     }
     Ok(())

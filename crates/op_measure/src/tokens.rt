@@ -2,12 +2,12 @@
 ghost use Rattle.std.specs.Prelude.{◌≤◌, length};
 
 use op_base::Refusal;
-use op_scan::{ScanError, Token, TokenKind, Tokens, scan};
+use op_scan::{ScanError, Switches, Token, TokenKind, Tokens, scan};
 use std::alloc::{AllocError, Global};
 use std::io;
 
 /// Bytes as characters of the same numbers.
-fn characters(alloc: Global, bytes: &[u8]) -> Result<String, AllocError> {
+pub fn characters(alloc: Global, bytes: &[u8]) -> Result<String, AllocError> {
     let mut all = String::new(alloc);
     for byte in bytes {
         all.push(char::from(*byte))?;
@@ -31,10 +31,16 @@ fn kind(alloc: Global, token: &Token) -> Result<String, AllocError> {
     }
 }
 
+/// A line for each token: its place, its kind and the switches that are on there.
 fn list(rt: &HostRuntime, tokens: &Tokens) -> io::Result<()> {
     for token in tokens.list.as_slice() {
         let kind = kind(rt.alloc(), token)?;
-        println!(rt; "{}:{} {kind}", token.place.line, token.place.col)?;
+        let Switches { h, q, r } = token.switches;
+        let h = if h { " H" } else { "" };
+        let q = if q { " Q" } else { "" };
+        let r = if r { " R" } else { "" };
+        let place = token.place;
+        println!(rt; "{}:{} {kind}{h}{q}{r}", place.line, place.col)?;
     }
     Ok(())
 }

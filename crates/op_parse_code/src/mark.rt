@@ -12,7 +12,7 @@ use op_base::Place;
 use op_scan::{Token, TokenKind};
 
 /// A word or symbol that stands between parts.
-#[derive(Clone, Copy, Debug, PartialEq, Eq)]
+#[derive(Clone, Copy, PartialEq, Eq)]
 pub enum Mark {
     Comma,
     Colon,

@@ -6,7 +6,7 @@ use op_scan::TokenKind;
 use op_tree::{PrefixOperator, prefix_operator_of};
 
 /// How a factor begins.
-#[derive(Clone, Copy, Debug)]
+#[derive(Clone, Copy)]
 pub enum FactorOpening {
     Number(u32),
     Nil,
@@ -39,7 +39,7 @@ pub fn factor_opening(kind: &TokenKind) -> FactorOpening
 }
 
 /// How the root of a designator begins.
-#[derive(Clone, Copy, Debug)]
+#[derive(Clone, Copy)]
 pub enum RootOpening {
     Name,
     String,
@@ -60,7 +60,7 @@ pub fn root_opening(kind: &TokenKind) -> RootOpening
 }
 
 /// How a selector begins.
-#[derive(Clone, Copy, Debug)]
+#[derive(Clone, Copy)]
 pub enum SelectorOpening {
     Member,
     Index,
@@ -81,7 +81,7 @@ pub fn selector_opening(kind: &TokenKind) -> SelectorOpening
 }
 
 /// The words that begin a statement.
-#[derive(Clone, Copy, Debug)]
+#[derive(Clone, Copy)]
 pub enum Word {
     Begin,
     If_,
@@ -94,7 +94,7 @@ pub enum Word {
 }
 
 /// How a statement begins.
-#[derive(Clone, Copy, Debug)]
+#[derive(Clone, Copy)]
 pub enum StatementOpening {
     Word(Word),
     Raise,

@@ -1,4 +1,5 @@
-//! The nodes of statements, from their parts.
+//! The nodes of statements, from their parts. A function takes room for one box alone: what each further one would leave behind at
+//! want of memory makes its proof longer by far.
 ghost use Rattle.std.specs.Prelude.{◌≡◌, IfOk};
 ghost use Rattle.op_parse_code.specs.WholeStatement.{rest_of, try_of};
 ghost use Rattle.op_tree.specs.Expression.{expr_of};
@@ -32,6 +33,17 @@ pub fn if_else_node(
     ensures { IfOk result (λ s. stmt_of s ≡ if_else (expr_of condition) (stmt_of then) (stmt_of otherwise)) }
 {
     let then = Box::new(alloc, then)?;
+    if_else_with(alloc, condition, then, otherwise)
+}
+
+fn if_else_with(
+    alloc: Global,
+    condition: Expr,
+    then: Box<Stmt>,
+    otherwise: Stmt,
+) -> Result<Stmt, NoMemory>
+    ensures { IfOk result (λ s. stmt_of s ≡ if_else (expr_of condition) (stmt_of then.value) (stmt_of otherwise)) }
+{
     let otherwise = Box::new(alloc, otherwise)?;
     Ok(Stmt::IfElse {
         condition,
@@ -65,7 +77,33 @@ pub fn for_node(
     ensures { IfOk result (λ s. stmt_of s ≡ for_to variable (expr_of first) direction (expr_of last) (stmt_of body)) }
 {
     let first = Box::new(alloc, first)?;
+    for_with_first(alloc, variable, first, direction, last, body)
+}
+
+fn for_with_first(
+    alloc: Global,
+    variable: Name,
+    first: Box<Expr>,
+    direction: Direction,
+    last: Expr,
+    body: Stmt,
+) -> Result<Stmt, NoMemory>
+    ensures { IfOk result (λ s. stmt_of s ≡ for_to variable (expr_of first.value) direction (expr_of last) (stmt_of body)) }
+{
     let last = Box::new(alloc, last)?;
+    for_with_last(alloc, variable, first, direction, last, body)
+}
+
+fn for_with_last(
+    alloc: Global,
+    variable: Name,
+    first: Box<Expr>,
+    direction: Direction,
+    last: Box<Expr>,
+    body: Stmt,
+) -> Result<Stmt, NoMemory>
+    ensures { IfOk result (λ s. stmt_of s ≡ for_to variable (expr_of first.value) direction (expr_of last.value) (stmt_of body)) }
+{
     let body = Box::new(alloc, body)?;
     Ok(Stmt::For {
         variable,
@@ -85,6 +123,17 @@ pub fn for_in_node(
     ensures { IfOk result (λ s. stmt_of s ≡ for_in variable (expr_of collection) (stmt_of body)) }
 {
     let collection = Box::new(alloc, collection)?;
+    for_in_with(alloc, variable, collection, body)
+}
+
+fn for_in_with(
+    alloc: Global,
+    variable: Name,
+    collection: Box<Expr>,
+    body: Stmt,
+) -> Result<Stmt, NoMemory>
+    ensures { IfOk result (λ s. stmt_of s ≡ for_in variable (expr_of collection.value) (stmt_of body)) }
+{
     let body = Box::new(alloc, body)?;
     Ok(Stmt::ForIn {
         variable,

@@ -33,7 +33,7 @@ use op_scan::Token;
 use op_tree::{Designator, Expr, FieldInitializer, Initializer, Level, Name, Position, Root};
 
 /// How deep lists and records may stand in one another where brackets may be those of an expression.
-#[derive(Clone, Copy, Debug)]
+#[derive(Clone, Copy)]
 enum Room {
     /// So many counted parts may stand in one another there.
     Left(u32),

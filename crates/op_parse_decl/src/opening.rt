@@ -6,7 +6,7 @@ ghost use Rattle.op_tree.specs.Ends.{begins_expression};
 use op_scan::TokenKind;
 
 /// How a type begins.
-#[derive(Clone, Copy, Debug)]
+#[derive(Clone, Copy)]
 pub enum DenoterOpening {
     /// As a bound of a subrange does, or a name.
     Bound,

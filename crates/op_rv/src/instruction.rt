@@ -2,7 +2,7 @@
 
 /// An instruction of RV32IM. Registers are 0 to 31. A signed field is the number that the word's immediate stands for:
 /// -2,048 to 2,047 unless it says otherwise.
-#[derive(Clone, Copy, Debug, PartialEq, Eq)]
+#[derive(Clone, Copy, Debug)]
 pub enum Instr {
     /// `lui rd, upper`: `upper` is the field of 20 bits, below 2^20.
     Lui {
@@ -77,7 +77,7 @@ pub enum Instr {
 }
 
 /// A comparison of two registers, on which a branch is taken.
-#[derive(Clone, Copy, Debug, PartialEq, Eq)]
+#[derive(Clone, Copy, Debug)]
 pub enum BranchOp {
     Beq,
     Bne,
@@ -88,7 +88,7 @@ pub enum BranchOp {
 }
 
 /// A load, of a byte, of two bytes or of a word; `u` is without a sign.
-#[derive(Clone, Copy, Debug, PartialEq, Eq)]
+#[derive(Clone, Copy, Debug)]
 pub enum LoadOp {
     Lb,
     Lh,
@@ -98,7 +98,7 @@ pub enum LoadOp {
 }
 
 /// A store, of a byte, of two bytes or of a word.
-#[derive(Clone, Copy, Debug, PartialEq, Eq)]
+#[derive(Clone, Copy, Debug)]
 pub enum StoreOp {
     Sb,
     Sh,
@@ -106,7 +106,7 @@ pub enum StoreOp {
 }
 
 /// An operation on a register and an immediate.
-#[derive(Clone, Copy, Debug, PartialEq, Eq)]
+#[derive(Clone, Copy, Debug)]
 pub enum ImmOp {
     Addi,
     Slti,
@@ -117,7 +117,7 @@ pub enum ImmOp {
 }
 
 /// A shift by a fixed amount.
-#[derive(Clone, Copy, Debug, PartialEq, Eq)]
+#[derive(Clone, Copy, Debug)]
 pub enum ShiftOp {
     Slli,
     Srli,
@@ -125,7 +125,7 @@ pub enum ShiftOp {
 }
 
 /// An operation on two registers; the last eight are extension M's.
-#[derive(Clone, Copy, Debug, PartialEq, Eq)]
+#[derive(Clone, Copy, Debug)]
 pub enum AluOp {
     Add,
     Sub,

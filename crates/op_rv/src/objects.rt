@@ -4,7 +4,7 @@ use crate::{BlockId, BranchOp, Instr, RoutineId, Symbol};
 use op_base::Sequence;
 
 /// An instruction, or what becomes one or more of them once addresses are known. Register numbers are 0 to 31.
-#[derive(Clone, Copy, Debug, PartialEq, Eq)]
+#[derive(Clone, Copy)]
 pub enum Item {
     Plain(Instr),
     /// The address of a symbol, put in `rd`.

@@ -6,7 +6,7 @@ ghost use Rattle.op_scan.specs.Byte.{begins_with, is_blank, is_line_end, is_name
 use crate::number::{Base, is_digit};
 
 /// The kinds of bytes that stand in runs.
-#[derive(Clone, Copy, Debug)]
+#[derive(Clone, Copy)]
 pub enum ByteKind {
     /// A letter, a digit or `_`.
     NameByte,

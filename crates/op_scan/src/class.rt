@@ -7,7 +7,7 @@ use crate::comment::Marks;
 use crate::number::Base;
 
 /// The kinds of items, and what stands where none does.
-#[derive(Clone, Copy, Debug)]
+#[derive(Clone, Copy)]
 pub enum Class {
     Name,
     Blank,

@@ -14,7 +14,7 @@ use op_base::NoMemory;
 use std::alloc::Global;
 
 /// The marks round a comment.
-#[derive(Clone, Copy, Debug)]
+#[derive(Clone, Copy)]
 pub enum Marks {
     /// `{` and `}`
     Braces,
@@ -23,7 +23,7 @@ pub enum Marks {
 }
 
 /// What begins at a byte inside a comment.
-#[derive(Clone, Copy, Debug)]
+#[derive(Clone, Copy)]
 pub enum Inside {
     /// The end of the comment.
     Closes,

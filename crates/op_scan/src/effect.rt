@@ -3,7 +3,7 @@ use crate::{Switches, TokenKind};
 use op_base::Rule;
 
 /// What a blank, a comment, a directive or a word does.
-#[derive(Debug, Drop)]
+#[derive(Drop)]
 pub enum Effect {
     /// It is passed over, and these switches hold behind it.
     Passes(Switches),
@@ -15,7 +15,7 @@ pub enum Effect {
 
 /// What stands at the front of a text: so many bytes, with this effect. Where nothing does, the length is 0 and the effect
 /// is the rule that is broken.
-#[derive(Debug, Drop)]
+#[derive(Drop)]
 pub struct Front {
     pub length: usize,
     pub effect: Effect,

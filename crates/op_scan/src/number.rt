@@ -16,7 +16,7 @@ use crate::{Switches, TokenKind};
 const GREATEST: u64 = 2147483648;
 
 /// The base in which a number is written.
-#[derive(Clone, Copy, Debug)]
+#[derive(Clone, Copy)]
 pub enum Base {
     Decimal,
     /// Behind `$`.

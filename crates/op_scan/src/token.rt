@@ -125,7 +125,7 @@ pub enum TokenKind {
 }
 
 /// Which of the switches H (long strings), Q (overflow checks) and R (range checks) are on.
-#[derive(Clone, Copy, Debug, PartialEq, Eq)]
+#[derive(Clone, Copy)]
 pub struct Switches {
     pub h: bool,
     pub q: bool,
@@ -142,7 +142,7 @@ impl Switches {
 }
 
 /// A token, with the bytes of the file that spell it, the place of the first of these, and the switches there.
-#[derive(Debug, Drop)]
+#[derive(Drop)]
 pub struct Token {
     pub kind: TokenKind,
     pub span: Span,
@@ -151,7 +151,7 @@ pub struct Token {
 }
 
 /// A list of tokens.
-#[derive(Debug, Drop)]
+#[derive(Drop)]
 pub struct TokenList {
     tokens: Vec<Token>,
 }
@@ -189,7 +189,7 @@ impl From<Vec<Token>> for TokenList {
 }
 
 /// The tokens of a file, in order, and the place of the byte that would follow the file's last one.
-#[derive(Debug, Drop)]
+#[derive(Drop)]
 pub struct Tokens {
     pub list: TokenList,
     pub end: Place,

@@ -9,7 +9,7 @@ use op_rv::{BranchOp, Instr, Item, LoadOp, StoreOp};
 use std::alloc::AllocError;
 
 /// Where a virtual register is kept.
-#[derive(Clone, Copy, Debug, PartialEq, Eq)]
+#[derive(Clone, Copy)]
 pub enum Home {
     /// A word of the frame, so many bytes above sp.
     Frame { offset: u32 },

@@ -2,7 +2,7 @@
 use crate::{Fields, Method, Name, Names, TypeDenoter};
 use op_scan::CompactText;
 
-#[derive(Clone, Copy, Debug, PartialEq, Eq)]
+#[derive(Clone, Copy)]
 pub enum Visibility {
     Private,
     Protected,

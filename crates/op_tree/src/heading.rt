@@ -1,7 +1,7 @@
 //! Headings of routines and methods.
 use crate::{Directives, Name, Names, Parameters, Position, QualifiedName, TypeDenoter};
 
-#[derive(Clone, Copy, Debug, PartialEq, Eq)]
+#[derive(Clone, Copy, PartialEq, Eq)]
 pub enum RoutineKind {
     Procedure,
     Function,
@@ -10,7 +10,7 @@ pub enum RoutineKind {
 }
 
 /// A word behind a heading.
-#[derive(Clone, Copy, Debug, PartialEq, Eq)]
+#[derive(Clone, Copy)]
 pub enum Directive {
     Virtual_,
     Override_,
@@ -22,7 +22,7 @@ pub enum Directive {
     Register,
 }
 
-#[derive(Clone, Copy, Debug, PartialEq, Eq)]
+#[derive(Clone, Copy, PartialEq, Eq)]
 pub enum ParameterMode {
     Value,
     Var,
@@ -31,14 +31,14 @@ pub enum ParameterMode {
 }
 
 /// The type of a parameter, or of an open array's elements.
-#[derive(Debug, Drop)]
+#[derive(Drop)]
 pub enum ParameterType {
     Named(QualifiedName),
     String { position: Position },
 }
 
 /// Parameters of one mode and type.
-#[derive(Debug, Drop)]
+#[derive(Drop)]
 pub struct Parameter {
     pub mode: ParameterMode,
     pub names: Names,

@@ -5,7 +5,7 @@ use crate::{Directive, Name, Parameter};
 use std::marker::Model;
 
 /// Names with commas between them.
-#[derive(Debug, Drop)]
+#[derive(Drop)]
 pub struct Names {
     names: Vec<Name>,
 }
@@ -36,7 +36,7 @@ impl From<Vec<Name>> for Names {
 }
 
 /// The words behind the heading of a routine.
-#[derive(Debug, Drop)]
+#[derive(Drop)]
 pub struct Directives {
     directives: Vec<Directive>,
 }
@@ -67,7 +67,7 @@ impl From<Vec<Directive>> for Directives {
 }
 
 /// The groups of parameters of a routine.
-#[derive(Debug, Drop)]
+#[derive(Drop)]
 pub struct Parameters {
     parameters: Vec<Parameter>,
 }

@@ -5,7 +5,7 @@ ghost use Rattle.op_tree.specs.Operator.{level_of, operator_of, prefix_operator_
 use op_scan::TokenKind;
 
 /// What stands between two operands.
-#[derive(Clone, Copy, Debug, PartialEq, Eq)]
+#[derive(Clone, Copy)]
 pub enum Operator {
     Equal,
     NotEqual,
@@ -30,7 +30,7 @@ pub enum Operator {
 }
 
 /// What stands before an operand.
-#[derive(Clone, Copy, Debug, PartialEq, Eq)]
+#[derive(Clone, Copy)]
 pub enum PrefixOperator {
     Not,
     Plus,
@@ -38,7 +38,7 @@ pub enum PrefixOperator {
 }
 
 /// How tightly an operator binds, the loosest first.
-#[derive(Clone, Copy, Debug, PartialEq, Eq)]
+#[derive(Clone, Copy, PartialEq, Eq)]
 pub enum Level {
     Relational,
     Additive,

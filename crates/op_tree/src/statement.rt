@@ -2,7 +2,7 @@
 use crate::{Designator, Element, Expr, Name, Position, QualifiedName};
 
 /// Which way the variable of a `for` goes.
-#[derive(Clone, Copy, Debug, PartialEq, Eq)]
+#[derive(Clone, Copy)]
 pub enum Direction {
     To,
     Downto,

@@ -28,7 +28,7 @@ pub struct Constant {
 }
 
 /// What an expression counts for in the charge of its routine: its nodes in the text, and a word for each of them that is a set.
-#[derive(Clone, Copy, Debug, PartialEq, Eq)]
+#[derive(Clone, Copy)]
 pub struct Weight {
     pub nodes: u32,
     pub words: u32,

@@ -6,7 +6,7 @@ use crate::size::type_at;
 use op_core::{ClassId, Core, CoreType, InterfaceId, TypeId};
 
 /// What ordinal types with values in common have in common: the type of which they are subranges, and all integers.
-#[derive(Clone, Copy, Debug, PartialEq, Eq)]
+#[derive(Clone, Copy)]
 pub enum OrdinalKind {
     Integer,
     Boolean,
@@ -15,7 +15,7 @@ pub enum OrdinalKind {
 }
 
 /// What the rules ask of a type.
-#[derive(Clone, Copy, Debug, PartialEq, Eq)]
+#[derive(Clone, Copy)]
 pub enum Sort {
     Ordinal(OrdinalKind),
     String,

@@ -1,0 +1,1 @@
+type a = class property b: T; default; end;

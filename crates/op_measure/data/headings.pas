@@ -1,0 +1,1 @@
+unit u; interface procedure c; overload; implementation begin end.
