@@ -1,7 +1,9 @@
 pub mod Endings
 pub mod Programs
+pub mod SetBits
 mod RunsCalls
 mod RunsFinally
+mod RunsHeld
 mod RunsLoops
 mod RunsNumbers
 mod RunsParts

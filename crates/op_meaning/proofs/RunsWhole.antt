@@ -24,10 +24,10 @@ use Rattle.op_tree.specs.declared.operator.Operator.TheVariants.{Div}
 use Rattle.op_tree.specs.declared.position.Name.{Name}
 use Rattle.op_tree.specs.declared.statement.Direction.TheVariants.{To}
 
-abbrev routine_id : ℕ → RoutineId
+abbrev pub routine_id : ℕ → RoutineId
 routine_id n = record { 0 = n }
 
-abbrev class_id : ℕ → ClassId
+abbrev pub class_id : ℕ → ClassId
 class_id n = record { 0 = n }
 
 -- a unit with an initialization and a finalization part
@@ -68,7 +68,7 @@ module _ (name : Name) where
 
   -- Classes: 0 TObject, 1 Exception with its message, 2 EA of Exception, whose constructor writes c and whose destructor writes d, 3 EB of
   -- EA, 4 EC of Exception, 5 EDivByZero of Exception. Routines: 0 the constructor, 1 the destructor, 2 a procedure p, 3 the main part.
-  abbrev class_of : List ℕ → ℕ → Option ClassId → ℕ → ℕ → ℕ → ClassRow
+  abbrev pub class_of : List ℕ → ℕ → Option ClassId → ℕ → ℕ → ℕ → ClassRow
   class_of said_name of above fields first_method methods = record {
     name = said_name;
     of = id of;
@@ -81,7 +81,7 @@ module _ (name : Name) where
     complete = true;
   }
 
-  abbrev raising : List Statement → List Statement → Program
+  abbrev pub raising : List Statement → List Statement → Program
   raising p main = runs name (record (core_of name (Class (class_id 0) ∷ Class (class_id 1) ∷ Class (class_id 2) ∷ Class (class_id 3) ∷ Class (class_id 4) ∷ Class (class_id 5) ∷ []) (part name 7 ∷ []) 1
       (own name 4 ∷ row name 18 Object ∷ []) (maker ∷ ender ∷ procedure name 0 0 0 ∷ [])) {
         classes = class_of (codes "TObject") 16 None 0 0 0 ∷ class_of (codes "Exception") 17 (Some (class_id 0)) 1 0 0 ∷ class_of (codes "EA") 18 (Some (class_id 1)) 0 0 2
@@ -210,9 +210,11 @@ module _ (name : Name) where
   --     end;
   --     WriteLn;
   --   end.
-  error_raised : outcome 60 (raising []
-      (try_on (listed (text (codes "t") ∷ assign (var 0 4) (calc (num (pos 1)) Div (var 0 4)) ∷ [])) (on_class 5 (text (codes "z")) no_handlers) ∷ line [] ∷ []))
-      ≡ writes (said (codes "tz"))
+  abbrev pub error_program : Program
+  error_program = raising []
+      (try_on (listed (text (codes "t") ∷ assign (var 0 4) (calc (num (pos 1)) Div (var 0 4)) ∷ [])) (on_class 5 (text (codes "z")) no_handlers) ∷ line [] ∷ [])
+
+  error_raised : outcome 60 error_program ≡ writes (said (codes "tz"))
   unfolding outcome
   error_raised = refl
 

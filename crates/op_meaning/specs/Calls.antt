@@ -21,34 +21,34 @@ use Rattle.op_meaning.specs.World.{World, number_at, with_temp, value_at, with_v
 abbrev pub env_of : Program → ℕ → Env
 env_of p r = record { core = p.core; routine = r }
 
--- ---- what is passed
+-- ---- what is handed over
 
 -- a value, or what a variable parameter stands for
-pub data Passed : Type 0 where
-  a_value : (value : Value) → Passed
-  a_place : (place : Place) → Passed
+pub data Handed : Type 0 where
+  a_value : (value : Value) → Handed
+  a_place : (place : Place) → Handed
 
 -- nothing where an index is out of its range
-abbrev pub passed : World → Given → Option Passed
-passed w (by_value kind t) = Some (a_value (number (low_bits_of kind (number_at w t))))
-passed w (by_reference t) = Some (a_value (w.temps t))
-passed w (by_place path) = option_map (λ q. a_place q) (place_of w path)
-passed w (by_copy of path) = option_map (λ q. a_value (value_at w q)) (place_of w path)
+abbrev pub handed : World → Given → Option Handed
+handed w (by_value kind t) = Some (a_value (number (low_bits_of kind (number_at w t))))
+handed w (by_reference t) = Some (a_value (w.temps t))
+handed w (by_place path) = option_map (λ q. a_place q) (place_of w path)
+handed w (by_copy of path) = option_map (λ q. a_value (value_at w q)) (place_of w path)
 
-abbrev pub with_first : Option Passed → Option (List Passed) → Option (List Passed)
-with_first (Some x) (Some xs) = Some (x ∷ xs)
-with_first _ _ = None
+abbrev pub with_handed : Option Handed → Option (List Handed) → Option (List Handed)
+with_handed (Some x) (Some xs) = Some (x ∷ xs)
+with_handed _ _ = None
 
-abbrev pub all_passed : World → List Given → Option (List Passed)
-all_passed w [] = Some []
-all_passed w (g ∷ gs) = with_first (passed w g) (all_passed w gs)
+abbrev pub all_handed : World → List Given → Option (List Handed)
+all_handed w [] = Some []
+all_handed w (g ∷ gs) = with_handed (handed w g) (all_handed w gs)
 
 -- parameters are the first variables of an activation, in order; of variables and parameters by value each has its own value
-abbrev pub given_one : ℕ → ℕ → Passed → World → World
+abbrev pub given_one : ℕ → ℕ → Handed → World → World
 given_one d k (a_value v) w = with_value (all_of (local d k)) v w
 given_one d k (a_place q) w = record w { bound = λ e v. if nat_eq e d && nat_eq v k then q else w.bound e v }
 
-abbrev pub given_all : ℕ → ℕ → List Passed → World → World
+abbrev pub given_all : ℕ → ℕ → List Handed → World → World
 given_all d k [] w = w
 given_all d k (x ∷ xs) w = given_all d (suc k) xs (given_one d k x w)
 
@@ -63,7 +63,7 @@ cleared core r d memory h = memory h
 abbrev pub no_temps : ℕ → Value
 no_temps t = number (pos 0)
 
-abbrev pub entered : Program → ℕ → List Passed → World → World
+abbrev pub entered : Program → ℕ → List Handed → World → World
 entered p r given w =
     given_all (suc w.depth) 0 given (record w { temps = no_temps; made = []; depth = suc w.depth; memory = cleared p.core r (suc w.depth) w.memory })
 
@@ -104,7 +104,7 @@ body_work p r =
 abbrev pub caller_of : State → Receiver → List Task → Caller
 caller_of s receiver work = record { routine = s.routine; temps = s.world.temps; made = s.world.made; work = work; receiver = receiver; frames = s.frames }
 
-abbrev pub begun : Program → ℕ → Receiver → List Task → List Passed → State → State
+abbrev pub begun : Program → ℕ → Receiver → List Task → List Handed → State → State
 begun p r receiver work given s = charged_for p (p.charge r) s (λ t. record t {
   world = entered p r given t.world;
   routine = r;
@@ -114,12 +114,12 @@ begun p r receiver work given s = charged_for p (p.charge r) s (λ t. record t {
 })
 
 -- the paths of the arguments are followed first, and then the stack is tested
-abbrev pub called_with : Program → ℕ → Receiver → List Task → Option (List Passed) → State → State
+abbrev pub called_with : Program → ℕ → Receiver → List Task → Option (List Handed) → State → State
 called_with p r receiver work None s = with_work work (fails p 201 s)
 called_with p r receiver work (Some given) s = begun p r receiver work given s
 
 abbrev pub called : Program → ℕ → List Given → Receiver → List Task → State → State
-called p r given receiver work s = called_with p r receiver work (all_passed s.world given) s
+called p r given receiver work s = called_with p r receiver work (all_handed s.world given) s
 
 -- ---- an activation returns
 

@@ -9,7 +9,7 @@ use Rattle.op_meaning.specs.Actions.{Action, load, store, copy, look, begin_with
 use Rattle.op_meaning.specs.Calls.{env_of}
 use Rattle.op_meaning.specs.Demands.{Demand, nothing, block, demand, size_of}
 use Rattle.op_meaning.specs.Expressions.{first_here, result_of}
-use Rattle.op_meaning.specs.Frames.{Program, State, Frame}
+use Rattle.op_meaning.specs.Frames.{Program, State, Frame, Caller}
 use Rattle.op_meaning.specs.Items.{Given, by_value, by_reference, by_place, by_copy, Item, act, also, choose, select, loop, body_first, protect, enter, attempt, construct, Items, none, then_do, Turns, turns, Cases, no_cases, cases, Clauses, no_clauses, for_others, clauses, Task, item}
 use Rattle.op_meaning.specs.Machine.{step}
 use Rattle.op_meaning.specs.Paths.{Path, Step, field, element}
@@ -125,6 +125,11 @@ while_raised p (Some e) = calls_of p
 
 -- ---- the work of the step from here
 
+-- the program itself, below all activations, is charged nothing
+abbrev charge_under_way : Program → ℕ → List Caller → ℕ
+charge_under_way p r [] = 0
+charge_under_way p r (c ∷ cs) = p.charge r
+
 abbrev entered_charge : Program → State → State → ℕ
 entered_charge p s t = if nat_lt (length s.callers) (length t.callers) then p.charge t.routine else 0
 
@@ -132,7 +137,7 @@ abbrev pub descriptions : Core → ℕ
 descriptions core = length core.classes + length core.interfaces
 
 abbrev pub effort : Program → State → ℕ
-effort p s = 1 + bytes_of p s + p.charge s.routine + entered_charge p s (step p s) + descriptions p.core + while_raised p s.world.raised
+effort p s = 1 + bytes_of p s + charge_under_way p s.routine s.callers + entered_charge p s (step p s) + descriptions p.core + while_raised p s.world.raised
 
 -- a state that has ended does nothing
 abbrev cost_by : Program → State → Ending → ℕ

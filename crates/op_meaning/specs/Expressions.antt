@@ -253,11 +253,13 @@ given_by (single kind) of here = by_value kind here.temp
 given_by composite of here = by_copy of (whole_path of here)
 given_by _ of here = by_reference here.temp
 
-pub record Passing : Type 0 where
+-- what is done for the arguments of a call, and what its parameters are then given
+pub record AllPassed : Type 0 where
   pub items : Items
   pub given : List Given
 
-pub record Passed : Type 0 where
+-- the same for one argument
+pub record OnePassed : Type 0 where
   pub items : Items
   pub given : Given
   -- the temporaries that it keeps until the call
@@ -314,14 +316,14 @@ abbrev mutual
   gather_one env here (range e e') = (make env (past 1 here) e).items & (make env (past 2 here) e').items & only (act (span (here.temp + 1) (here.temp + 1) (here.temp + 2)))
 
   -- arguments are evaluated from the left to the right; the paths of places are followed by the call ("Parameter lists")
-  pub pass : Env → Here → Arguments → Passing
+  pub pass : Env → Here → Arguments → AllPassed
   pass env here no_arguments = record { items = none; given = [] }
   pass env here (arguments a others) =
       let first = pass_one env here a in
       let rest = pass env (past first.used (past_whole here)) others in
       record { items = first.items & rest.items; given = first.given ∷ rest.given }
 
-  pub pass_one : Env → Here → Argument → Passed
+  pub pass_one : Env → Here → Argument → OnePassed
   pass_one env here (value e) = let f = make env here e in record { items = f.items; given = given_by (shape_of env.core (type_of e)) (type_of e) here; used = 1 }
   pass_one env here (place e) = let f = find env here e in record { items = f.items; given = by_place (path_of (type_of e) here f.now); used = f.used }
   pass_one env here _ = record { items = none; given = by_reference here.temp; used = 0 }

@@ -7,7 +7,7 @@ use Rattle.std.specs.List.{list_any}
 use Rattle.op_core.specs.declared.ids.ClassId.{ClassId}
 use Rattle.op_core.specs.declared.statement.Label.{Label}
 use Rattle.op_meaning.specs.Actions.{perform}
-use Rattle.op_meaning.specs.Calls.{Passed, a_value, all_passed, begun, called, gone_back}
+use Rattle.op_meaning.specs.Calls.{Handed, a_value, all_handed, begun, called, gone_back}
 use Rattle.op_meaning.specs.Ending.{framed}
 use Rattle.op_meaning.specs.Frames.{Program, State, Frame, destruction, construction, by_free, Caller, finalize, with_work, with_world, with_frames, fails, pushed}
 use Rattle.op_meaning.specs.Holding.{is_held}
@@ -70,7 +70,7 @@ handled_in (task ∷ work) = handled_in work
 -- ---- instances ("Class instantiation" and "Class destruction")
 
 -- the next name is an instance whose fields are zero; its constructor is entered
-abbrev constructs_with : Program → ClassId → ℕ → ℕ → List Task → Option (List Passed) → State → State
+abbrev constructs_with : Program → ClassId → ℕ → ℕ → List Task → Option (List Handed) → State → State
 constructs_with p c r to work None s = with_work work (fails p 201 s)
 constructs_with p c r to work (Some given) s =
     let n = s.world.next in
@@ -78,7 +78,7 @@ constructs_with p c r to work (Some given) s =
     begun p r nowhere work (a_value (instance false (Some n)) ∷ given) (with_frames (construction n ∷ s.frames) (with_world (with_temp to (instance false (Some n)) made) s))
 
 abbrev pub constructs : Program → ClassId → ℕ → List Given → ℕ → List Task → State → State
-constructs p c r given to work s = constructs_with p c r to work (all_passed s.world given) s
+constructs p c r given to work s = constructs_with p c r to work (all_handed s.world given) s
 
 -- what an interface holds, or what is under construction or destruction, is not freed
 abbrev frees_under : Program → ℕ → Object → State → State

@@ -7,4 +7,4 @@
 
 mod laws;
 
-pub use laws::ended_programs_stay;
+pub use laws::{ended_programs_stay, sets_are_their_elements};

@@ -1,0 +1,192 @@
+-- What is held, lost, asked for and shown, by computation: states that are written down as they stand, with strings, arrays and instances
+-- under names, since no program makes such so far; and what the steps of programs ask, let go, show and cost.
+use Rattle.std.specs.Prelude.{◌≡◌, ℕ, zero, suc, pos, negsuc, Bool, true, false, List, [], ◌∷◌, length, map, Some, None, codes, nat_eq, if◌then◌else◌}
+use Rattle.std.specs.Int.{int_wrap}
+use Rattle.std.proofs.Common.{refl}
+use Rattle.op_core.specs.Statement.{assign}
+use Rattle.op_core.specs.Types.{id}
+use Rattle.op_meaning.proofs.Programs.{said, var, num, quoted, calc, line, shown, do_call, own, procedure, core_of, runs}
+use Rattle.op_meaning.proofs.RunsWhole.{raising, error_program}
+use Rattle.op_meaning.specs.Actions.{perform}
+use Rattle.op_meaning.specs.Costs.{cost}
+use Rattle.op_meaning.specs.Demands.{block, standing}
+use Rattle.op_meaning.specs.Frames.{Program, State}
+use Rattle.op_meaning.specs.Holding.{each, any_below, holders}
+use Rattle.op_meaning.specs.Items.{item, Item, free, finish}
+use Rattle.op_meaning.specs.Losing.{ends_place}
+use Rattle.op_meaning.specs.Machine.{run_for, step, step_by, stepped, acted, done, do_item, do_task}
+use Rattle.op_meaning.specs.Sets.{bits_below}
+use Rattle.op_meaning.specs.Source.{source, Asked, LetGo, Written, Reported}
+use Rattle.op_meaning.specs.Start.{start, after}
+use Rattle.op_meaning.specs.Texts.{decimal_by}
+use Rattle.op_meaning.specs.Values.{Value, number, parts, text as chars_of, array, instance, named, literal, empty, Holder, global, temporary, object, Place, all_of}
+use Rattle.op_meaning.specs.World.{Object, gone, chars, elements, fields, Live, one}
+use Rattle.op_simulation.specs.System.{trace}
+use Rattle.op_tree.specs.declared.operator.Operator.TheVariants.{Add, Div}
+use Rattle.op_tree.specs.declared.position.Name.{Name}
+
+-- a place of a holder, and a part of it
+abbrev at : Holder → List ℕ → Place
+at h path = record { holder = h; path = path }
+
+abbrev string : ℕ → Value
+string n = chars_of (named n)
+
+-- parts that are listed
+abbrev nth_value : List Value → ℕ → Value
+nth_value [] k = number (pos 0)
+nth_value (v ∷ vs) zero = v
+nth_value (v ∷ vs) (suc k) = nth_value vs k
+
+abbrev of_parts : List Value → Value
+of_parts vs = parts (length vs) (nth_value vs)
+
+-- the names that stand, what was written, and how it ended
+pub record Left : Type 0 where
+  pub names : List ℕ
+  pub output : List ℕ
+  pub errors : List ℕ
+
+unfoldable pub left_after : ℕ → Program → State → Left
+unfolding run_for step step_by stepped acted done do_item do_task perform bits_below decimal_by int_wrap each any_below
+left_after n p s = left_of (run_for n p s)
+  where
+    left_of : State → Left
+    left_of t = record { names = standing t; output = t.world.output; errors = t.world.errors }
+
+module _ (name : Name) where
+  -- ---- who holds
+
+  -- Global 0 is a record of the string 1, a number and the string 2; global 1 is the array 3 of two strings, 2 and a literal; a temporary
+  -- has the string 1 too. The program has no code.
+  abbrev held_program : Program
+  held_program = runs name (core_of name [] [] 2 (own name 4 ∷ own name 4 ∷ []) []) ([] ∷ [])
+
+  abbrev held_memory : Holder → Value
+  held_memory (global zero) = of_parts (string 1 ∷ number (pos 5) ∷ string 2 ∷ [])
+  held_memory (global (suc v)) = array (Some 3)
+  held_memory (object n) = of_parts (string 2 ∷ chars_of (literal (codes "x")) ∷ [])
+  held_memory h = number (pos 0)
+
+  abbrev held_objects : ℕ → Object
+  held_objects (suc zero) = chars (codes "a")
+  held_objects (suc (suc zero)) = chars (codes "b")
+  held_objects (suc (suc (suc zero))) = elements (id 7) 2
+  held_objects _ = gone
+
+  abbrev held_state : State
+  held_state = let s = start held_program [] in record s {
+    world = record s.world { temps = λ t. string 1; made = one 6 ∷ []; memory = held_memory; objects = held_objects; next = 4 };
+    work = [];
+  }
+
+  holders_of_one : holders held_program held_state 1 ≡ at (global 0) (0 ∷ []) ∷ at (temporary 0 (id 0) 6) [] ∷ []
+  unfolding each
+  holders_of_one = refl
+
+  holders_of_two : holders held_program held_state 2 ≡ at (global 0) (2 ∷ []) ∷ at (object 3) (0 ∷ []) ∷ []
+  unfolding each
+  holders_of_two = refl
+
+  holders_of_three : holders held_program held_state 3 ≡ at (global 1) [] ∷ []
+  unfolding each
+  holders_of_three = refl
+
+  -- ---- what a loss starts
+
+  -- The record ends by a walk over its strings: both are held elsewhere and stand. Then the temporary ends, and the string 1 is gone. Then
+  -- the array loses its holder: its elements end in order, so that the string 2 is gone, and then the array itself.
+  record_ends : left_after 3 held_program (ends_place held_program (all_of (global 0)) held_state) ≡ record { names = 1 ∷ 2 ∷ 3 ∷ []; output = []; errors = [] }
+  unfolding left_after
+  record_ends = refl
+
+  temporary_ends : left_after 4 held_program (record (ends_place held_program (all_of (global 0)) held_state) { work = item (finish 0) ∷ [] }) ≡ record { names = 2 ∷ 3 ∷ []; output = []; errors = [] }
+  unfolding left_after
+  temporary_ends = refl
+
+  array_ends : left_after 3 held_program (ends_place held_program (all_of (global 1)) held_state) ≡ record { names = 1 ∷ 2 ∷ []; output = []; errors = [] }
+  unfolding left_after
+  array_ends = refl
+
+  abbrev second_ends : State → State
+  second_ends s = ends_place held_program (all_of (global 1)) s
+
+  all_end : left_after 4 held_program (second_ends (run_for 4 held_program (record (ends_place held_program (all_of (global 0)) held_state) { work = item (finish 0) ∷ [] })))
+      ≡ record { names = []; output = []; errors = [] }
+  unfolding left_after run_for step step_by stepped acted done do_item do_task each any_below
+  all_end = refl
+
+  -- ---- instances
+
+  -- The instance 1 of EA, whose destructor writes d, is in the interface that global 0 is, and in a class reference, which does not hold
+  -- it.
+  abbrev class_program : Program
+  class_program = raising name [] []
+
+  abbrev instance_memory : Bool → Holder → Value
+  instance_memory is_held (global v) = if is_held then instance true (Some 1) else instance true None
+  instance_memory is_held (object n) = of_parts (chars_of empty ∷ [])
+  instance_memory is_held h = number (pos 0)
+
+  abbrev instance_state : Bool → List Item → State
+  instance_state is_held items = let s = start class_program [] in record s {
+    world = record s.world { temps = λ t. instance false (Some 1); memory = instance_memory is_held; objects = λ n. if nat_eq n 1 then fields (record { 0 = 2 }) Live else gone; next = 2 };
+    work = map (λ i. item i) items;
+  }
+
+  -- the last interface that holds it ends, and so it is destroyed
+  last_holder_ends : left_after 6 class_program (ends_place class_program (all_of (global 0)) (instance_state true [])) ≡ record { names = []; output = codes "d"; errors = [] }
+  unfolding left_after
+  last_holder_ends = refl
+
+  -- Free destroys what nothing holds, what is held is error 204, and what is dead error 216
+  freed_once : left_after 8 class_program (instance_state false (free true 0 ∷ [])) ≡ record { names = []; output = codes "d"; errors = [] }
+  unfolding left_after
+  freed_once = refl
+
+  freed_while_held : left_after 8 class_program (instance_state true (free true 0 ∷ [])) ≡ record { names = 1 ∷ []; output = []; errors = said (codes "Runtime error 204") }
+  unfolding left_after
+  freed_while_held = refl
+
+  freed_twice : left_after 12 class_program (instance_state false (free true 0 ∷ free true 0 ∷ [])) ≡ record { names = []; output = codes "d"; errors = said (codes "Runtime error 216") }
+  unfolding left_after
+  freed_twice = refl
+
+  -- ---- what steps show
+
+  -- each item of a Write is one event; calls and sums show nothing
+  abbrev line_program : Program
+  line_program = runs name (core_of name [] [] 1 (own name 4 ∷ []) (procedure name 0 0 0 ∷ []))
+      ((assign (var 0 4) (num (negsuc 2)) ∷ []) ∷ (do_call 0 [] ∷ shown (quoted (codes "ab") ∷ var 0 4 ∷ []) ∷ []) ∷ [])
+
+  shows_items : trace (source line_program) 40 (start line_program []) ≡ Written (codes "ab") ∷ Written (codes "-3") ∷ []
+  unfolding trace run_for step step_by stepped acted done do_item do_task perform bits_below decimal_by int_wrap each any_below
+  shows_items = refl
+
+  -- an error that is raised asks for the block of its instance, with a slot, and lets it go at the handler's end
+  shows_block : trace (source (error_program name)) 60 (start (error_program name) [])
+      ≡ Written (codes "t") ∷ Asked (block 32 true) ∷ Written (codes "z") ∷ LetGo 1 ∷ Written (10 ∷ []) ∷ []
+  unfolding trace run_for step step_by stepped acted done do_item do_task perform bits_below decimal_by int_wrap each any_below
+  shows_block = refl
+
+  -- a run-time error goes to the error stream
+  shows_error : trace (source (runs name (core_of name [] [] 0 [] []) ((line (calc (num (pos 1)) Div (num (pos 0)) ∷ []) ∷ []) ∷ []))) 20
+      (start (runs name (core_of name [] [] 0 [] []) ((line (calc (num (pos 1)) Div (num (pos 0)) ∷ []) ∷ []) ∷ [])) [])
+      ≡ Reported (said (codes "Runtime error 200")) ∷ []
+  unfolding trace run_for step step_by stepped acted done do_item do_task perform bits_below decimal_by int_wrap each any_below
+  shows_error = refl
+
+  -- ---- what steps cost
+
+  -- The fourth step of this program is the sum of a global: 1, three numbers of 4 bytes, and the charge of the main part, which is 304.
+  abbrev sum_program : Program
+  sum_program = runs name (core_of name [] [] 1 (own name 4 ∷ []) []) ((assign (var 0 4) (calc (var 0 4) Add (num (pos 1))) ∷ []) ∷ [])
+
+  cost_of_sum : cost sum_program (after sum_program [] 3) ≡ 317
+  unfolding after run_for step step_by stepped acted done do_item do_task perform bits_below decimal_by int_wrap each any_below
+  cost_of_sum = refl
+
+  -- the call of the main part: 1, and the charge of what is entered
+  cost_of_call : cost sum_program (start sum_program []) ≡ 305
+  unfolding after run_for step step_by stepped acted done do_item do_task perform bits_below decimal_by int_wrap each any_below
+  cost_of_call = refl
