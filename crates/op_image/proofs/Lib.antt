@@ -1,5 +1,6 @@
 pub mod Counting
 pub mod Expanding
+pub mod GlobalsPlaced
 pub mod Linkable
 pub mod Mapped
 pub mod Meant

@@ -1,19 +1,20 @@
--- What a loaded image has in memory, and what may be done with it: its code and its constants stand at their addresses, and the
--- stack may be used.
+-- What a loaded image has in memory, and what may be done with it: its code, its constants and its globals stand at their addresses,
+-- and the stack may be used.
 use Rattle.std.proofs.Common.{◌≡◌, ℕ, zero, suc, ◌+◌, ◌-◌, ◌*◌, ◌/◌, ◌%◌, ◌^◌, ◌<◌, ◌≤◌, Bool, true, false, ◌&&◌, cond, nat_eq, nat_le, min, Some, None, List, [], ◌∷◌, ◌++◌, length, get_or, take, drop, map, replicate, slice_get, refl, ap, sym, subst, ◌∙◌, arith, length-append}
 use Rattle.std.proofs.lemmas.Bool.Decides.{nat_tests}
 use Rattle.std.proofs.lemmas.Bool.{and_parts, leb-true, eqb-true}
-use Rattle.std.proofs.lemmas.List.{get_or_append_left, length-replicate, length-take}
+use Rattle.std.proofs.lemmas.List.{length-replicate, length-take}
 use Rattle.std.proofs.lemmas.Option.{slice_get_within}
 use Rattle.std.specs.List.{list_all}
 use Rattle.std.specs.Option.{option_map_or}
+use Rattle.op_link.proofs.GlobalPlaces.{get_or-zeros}
 use Rattle.op_link.proofs.Lengths.{length-words_of, some_same}
-use Rattle.op_link.proofs.Mapped.{constants_from, in_range}
+use Rattle.op_link.proofs.Mapped.{constants_from, globals_from, in_range}
 use Rattle.op_link.specs.Code.{words_of}
 use Rattle.op_link.specs.Image.{region_in, regions_in}
 use Rattle.op_link.specs.Linking.{linked_size_of}
 use Rattle.op_link.specs.Loaded.{Decodes, IsLoaded}
-use Rattle.op_link.specs.Memory.{are_in_range, code_address, constants_address, empty, filled, globals_address, segments_of, stack_address, stack_size}
+use Rattle.op_link.specs.Memory.{are_in_range, code_address, constants_address, control_address, empty, filled, globals_address, segments_of, stack_address, stack_size}
 use Rattle.op_link.specs.Region.{Region, byte_in, covers, executable_in, range_of, readable_in, region_at, writable_in}
 use Rattle.op_link.specs.declared.memory_map.Settings.{Settings}
 use Rattle.op_link.specs.declared.memory_map.Sizes.{Sizes}
@@ -57,23 +58,23 @@ in_empty image address size a rs lower upper =
     let long : length (region_in image (empty address size)).bytes ≡ size - 0 = length-replicate {A = ℕ} (size - 0) 0 in
     here_at (region_in image (empty address size)) rs a lower (omega arith)
 
--- a segment whose bytes stand in the file
-in_filled : (image : List ℕ) (address size flags : ℕ) (bytes : List ℕ) (rs : List Region) (a : ℕ) → take size (drop (address - 0xF000) image) ≡ bytes → address ≤ a → a < address + length bytes → region_at (region_in image (filled address size size flags) ∷ rs) a ≡ Some (region_in image (filled address size size flags))
-in_filled image address size flags bytes rs a is lower upper =
-    let zeros : List ℕ = replicate (size - size) 0 in
+-- a segment whose first bytes stand in the file
+in_filled : (image : List ℕ) (address file_size memory_size flags : ℕ) (bytes : List ℕ) (rs : List Region) (a : ℕ) → take file_size (drop (address - 0xF000) image) ≡ bytes → address ≤ a → a < address + (length bytes + (memory_size - file_size)) → region_at (region_in image (filled address file_size memory_size flags) ∷ rs) a ≡ Some (region_in image (filled address file_size memory_size flags))
+in_filled image address file_size memory_size flags bytes rs a is lower upper =
+    let zeros : List ℕ = replicate (memory_size - file_size) 0 in
     let long = ap (λ bytes. length (bytes ++ zeros)) is ∙ length-append bytes zeros in
-    here_at (region_in image (filled address size size flags)) rs a lower (omega arith)
+    let count : length zeros ≡ memory_size - file_size = length-replicate {A = ℕ} (memory_size - file_size) 0 in
+    here_at (region_in image (filled address file_size memory_size flags)) rs a lower (omega arith)
 
-byte_filled : (image : List ℕ) (address size flags : ℕ) (bytes : List ℕ) (rs : List Region) (k : ℕ) → take size (drop (address - 0xF000) image) ≡ bytes → k < length bytes → region_at rs (address + k) ≡ Some (region_in image (filled address size size flags)) → byte_in rs (address + k) ≡ get_or bytes k 0
+byte_filled : (image : List ℕ) (address file_size memory_size flags : ℕ) (bytes : List ℕ) (rs : List Region) (k : ℕ) → take file_size (drop (address - 0xF000) image) ≡ bytes → region_at rs (address + k) ≡ Some (region_in image (filled address file_size memory_size flags)) → byte_in rs (address + k) ≡ get_or bytes k 0
 unfolding byte_in
-byte_filled image address size flags bytes rs k is before found =
-    let a = address + k in
-    let zeros : List ℕ = replicate (size - size) 0 in
+byte_filled image address file_size memory_size flags bytes rs k is found =
+    let zeros : List ℕ = replicate (memory_size - file_size) 0 in
     let offset : address + k - address ≡ k = omega arith in
-    ap (λ found. option_map_or (λ (region : Region). get_or region.bytes (a - region.base) 0) found 0) found
+    ap (λ found. option_map_or (λ (region : Region). get_or region.bytes (address + k - region.base) 0) found 0) found
     ∙ ap (λ bytes. get_or (bytes ++ zeros) (address + k - address) 0) is
     ∙ ap (λ n. get_or (bytes ++ zeros) n 0) offset
-    ∙ get_or_append_left bytes zeros 0 k before
+    ∙ get_or-zeros bytes (memory_size - file_size) k
 
 -- these bytes stand in memory
 pub bytes_there : (memory : ℕ → ℕ) (at : ℕ) (bytes : List ℕ) → ((k : ℕ) → k < length bytes → memory (at + k) ≡ get_or bytes k 0) → bytes_from memory at (length bytes) ≡ bytes
@@ -167,7 +168,7 @@ module _ (image : List ℕ) (sizes : Sizes) (settings : Settings) (code : List I
   unfolding segments_of code_region
   in_code a lower upper =
       let four = length-words_of code in
-      ap (λ rs. region_at rs a) regions_are ∙ in_filled image code_address sizes.code 5 (words_of code) (map (region_in image) (drop 1 (segments_of sizes settings))) a words lower (omega arith)
+      ap (λ rs. region_at rs a) regions_are ∙ in_filled image code_address sizes.code sizes.code 5 (words_of code) (map (region_in image) (drop 1 (segments_of sizes settings))) a words lower (omega arith)
 
   stack_region : Region
   stack_region = region_in image (empty (stack_address settings) (stack_size settings))
@@ -208,7 +209,7 @@ module _ (image : List ℕ) (sizes : Sizes) (settings : Settings) (code : List I
   unfolding code_region
   byte_of_code k before =
       let four = length-words_of code in
-      byte_filled image code_address sizes.code 5 (words_of code) (regions_in image) k words (omega arith) (in_code (code_address + k) (omega arith) (omega arith))
+      byte_filled image code_address sizes.code sizes.code 5 (words_of code) (regions_in image) k words (in_code (code_address + k) (omega arith) (omega arith))
 
   pub code_decodes : list_all fits code ≡ true → Decodes code → (at : ℕ) (i : Instr) → instruction_at code at ≡ Some i → instr_at (word_at (byte_in (regions_in image)) at) ≡ Some i
   code_decodes fit decodes at i is =
@@ -242,13 +243,49 @@ module _ (image : List ℕ) (sizes : Sizes) (settings : Settings) (code : List I
         let from = constants_from sizes in
         ap (λ rs. region_at rs a) regions_are
         ∙ past_segment image (filled code_address sizes.code sizes.code 5) (map (region_in image) (drop 1 (segments_of sizes settings))) a (omega arith) (omega arith)
-        ∙ in_filled image (constants_address sizes) sizes.constants 4 constants (map (region_in image) (drop 2 (segments_of sizes settings))) a stand lower upper
+        ∙ in_filled image (constants_address sizes) sizes.constants sizes.constants 4 constants (map (region_in image) (drop 2 (segments_of sizes settings))) a stand lower (omega arith)
 
     pub constants_readable : (a : ℕ) → constants_address sizes ≤ a → a < constants_address sizes + length constants → readable_in (regions_in image) a ≡ true
     unfolding readable_in constants_region
     constants_readable a lower upper = ap (λ found. option_map_or (λ (region : Region). region.readable) found false) (in_constants a lower upper)
 
+    pub constants_fixed : (a : ℕ) → constants_address sizes ≤ a → a < constants_address sizes + length constants → writable_in (regions_in image) a ≡ false
+    unfolding writable_in constants_region
+    constants_fixed a lower upper = ap (λ found. option_map_or (λ (region : Region). region.writable) found false) (in_constants a lower upper)
+
     pub byte_of_constants : (k : ℕ) → k < length constants → byte_in (regions_in image) (constants_address sizes + k) ≡ get_or constants k 0
     unfolding constants_region
     byte_of_constants k before =
-        byte_filled image (constants_address sizes) sizes.constants 4 constants (regions_in image) k stand before (in_constants (constants_address sizes + k) (omega arith) (omega arith))
+        byte_filled image (constants_address sizes) sizes.constants sizes.constants 4 constants (regions_in image) k stand (in_constants (constants_address sizes + k) (omega arith) (omega arith))
+
+  -- the globals end below the control region
+  pub globals_end : globals_address sizes + (sizes.initial + sizes.zeros) ≤ control_address
+  unfolding constants_address globals_address
+  globals_end = omega arith
+
+  module _ (initial : List ℕ) (stand : take sizes.initial (drop (globals_address sizes - 0xF000) image) ≡ initial) (long : length initial ≡ sizes.initial) where
+    globals_region : Region
+    globals_region = region_in image (filled (globals_address sizes) sizes.initial (sizes.initial + sizes.zeros) 6)
+
+    in_globals : (a : ℕ) → globals_address sizes ≤ a → a < globals_address sizes + (sizes.initial + sizes.zeros) → region_at (regions_in image) a ≡ Some globals_region
+    unfolding segments_of globals_region
+    in_globals a lower upper =
+        let first = constants_from sizes in
+        let second = globals_from sizes in
+        ap (λ rs. region_at rs a) regions_are
+        ∙ past_segment image (filled code_address sizes.code sizes.code 5) (map (region_in image) (drop 1 (segments_of sizes settings))) a (omega arith) (omega arith)
+        ∙ past_segment image (filled (constants_address sizes) sizes.constants sizes.constants 4) (map (region_in image) (drop 2 (segments_of sizes settings))) a (omega arith) (omega arith)
+        ∙ in_filled image (globals_address sizes) sizes.initial (sizes.initial + sizes.zeros) 6 initial (map (region_in image) (drop 3 (segments_of sizes settings))) a stand lower (omega arith)
+
+    pub globals_readable : (a : ℕ) → globals_address sizes ≤ a → a < globals_address sizes + (sizes.initial + sizes.zeros) → readable_in (regions_in image) a ≡ true
+    unfolding readable_in globals_region
+    globals_readable a lower upper = ap (λ found. option_map_or (λ (region : Region). region.readable) found false) (in_globals a lower upper)
+
+    pub globals_writable : (a : ℕ) → globals_address sizes ≤ a → a < globals_address sizes + (sizes.initial + sizes.zeros) → writable_in (regions_in image) a ≡ true
+    unfolding writable_in globals_region
+    globals_writable a lower upper = ap (λ found. option_map_or (λ (region : Region). region.writable) found false) (in_globals a lower upper)
+
+    pub byte_of_globals : (k : ℕ) → k < sizes.initial + sizes.zeros → byte_in (regions_in image) (globals_address sizes + k) ≡ get_or initial k 0
+    unfolding globals_region
+    byte_of_globals k before =
+        byte_filled image (globals_address sizes) sizes.initial (sizes.initial + sizes.zeros) 6 initial (regions_in image) k stand (in_globals (globals_address sizes + k) (omega arith) (omega arith))

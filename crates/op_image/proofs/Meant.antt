@@ -47,6 +47,7 @@ use Rattle.op_simulation.specs.Path.{Path}
 use Rattle.op_simulation.specs.System.{run, spent}
 use Rattle.op_image.proofs.Counting.{HasItems}
 use Rattle.op_image.proofs.Expanding.{Reachable}
+use Rattle.op_image.proofs.GlobalsPlaced.{globals_stand}
 use Rattle.op_image.proofs.Linkable.{all_fields, same_length}
 use Rattle.op_image.proofs.Mapped.{code_decodes, stack_lies}
 use Rattle.op_image.proofs.Placed.{Known, few_zeros, is_setting, knows, literal_stands, size_within, targets, with_items}
@@ -276,6 +277,7 @@ module _ (low : Low) (layout : Layout) (settings : Settings) (image : List ℕ) 
       record {
         loads = loaded.meets;
         literals = literal_stands low layout settings image buildable ranged within loaded has;
+        globals = globals_stand low layout settings image buildable ranged within loaded has;
         setting = law_here;
         placement = is_placement;
         runs = λ room input input_bytes good. runs_here bytes input room input_bytes good;

@@ -36,7 +36,7 @@ use Rattle.op_select.specs.Selection.{select_of}
 use Rattle.op_image.proofs.Counting.{HasItems, have_items, routines_counted}
 use Rattle.op_image.proofs.Expanding.{Targets}
 use Rattle.op_image.proofs.Linkable.{globals_fit, literal_offset, routines_valid, valid_code}
-use Rattle.op_image.proofs.Mapped.{byte_of_constants, bytes_there, code_executable, code_fixed, constants_readable, located, stack_lies, stack_readable, stack_writable}
+use Rattle.op_image.proofs.Mapped.{byte_of_constants, bytes_there, code_executable, code_fixed, constants_fixed, constants_readable, located, stack_lies, stack_readable, stack_writable}
 use Rattle.op_image.proofs.Places.{targets_reached}
 use Rattle.op_image.proofs.Standing.{routine_stands}
 use Rattle.op_image.specs.Building.{is_buildable}
@@ -216,6 +216,7 @@ module _ (low : Low) (layout : Layout) (settings : Settings) (image : List ℕ) 
       let at = constants_address sizes + place.offset in
       subst (λ at. StandsText (setting_of low layout settings image) image at (literal_bytes layout place)) (sym (literal_address id place is inside)) record {
         readable = λ x from before. constants_readable image sizes settings (linked_code (select_of low) layout settings) loaded knows.words ranged size_within few_zeros constants has.constants x (omega arith) (omega arith);
+        fixed = λ x from before. constants_fixed image sizes settings (linked_code (select_of low) layout settings) loaded knows.words ranged size_within few_zeros constants has.constants x (omega arith) (omega arith);
         below = omega arith;
         stands = bytes_there (byte_in (regions_in image)) at (literal_bytes layout place) (λ k before. let place_of : at + k ≡ constants_address sizes + (place.offset + k) = omega arith in ap (byte_in (regions_in image)) place_of ∙ literal_byte place k before);
       }

@@ -1,16 +1,19 @@
 -- What the image of low code does.
-use Rattle.std.specs.Prelude.{◌≡◌, ◌<◌, ◌≤◌, ℕ, ◌+◌, ◌*◌, ◌^◌, true, Some, None, List, [], length, take, drop, slice_get, slice_index}
+use Rattle.std.specs.Prelude.{◌≡◌, ◌≢◌, ◌<◌, ◌≤◌, ℕ, ◌+◌, ◌*◌, ◌%◌, ◌^◌, true, false, Some, None, List, [], length, take, drop, slice_get, slice_index}
 use Rattle.op_layout.specs.declared.layout.Layout.{Layout}
 use Rattle.op_layout.specs.declared.layout.LiteralPlace.{LiteralPlace}
 use Rattle.op_link.specs.Image.{first_failing, regions_in, start}
+use Rattle.op_link.specs.Memory.{LieApart, control_address, variable_size}
 use Rattle.op_link.specs.Region.{byte_in}
 use Rattle.op_link.specs.declared.memory_map.Settings.{Settings}
 use Rattle.op_low.specs.Machine.{IsPlacement, NeverBad, low_machine}
 use Rattle.op_low.specs.State.{Ended, State as LowState, space}
 use Rattle.op_low.specs.declared.code.Low.{Low}
 use Rattle.op_rv.specs.State.{State, bytes_from}
+use Rattle.op_rv.specs.declared.objects.GlobalVariable.{GlobalVariable}
+use Rattle.op_rv.specs.declared.symbol.GlobalId.{GlobalId}
 use Rattle.op_rv.specs.declared.symbol.LiteralId.{LiteralId}
-use Rattle.op_rv.specs.declared.symbol.Symbol.TheVariants.{Literal}
+use Rattle.op_rv.specs.declared.symbol.Symbol.TheVariants.{Global, Literal}
 use Rattle.op_select.specs.Going.{IsSafe, IsSetting, Setting, locals_in, placement_of, routine_in}
 use Rattle.op_select.specs.RiscvMachine.{riscv_machine}
 use Rattle.op_select.specs.Selected.{Finished, selected}
@@ -74,9 +77,10 @@ HasRoom w = w.bottom + space w.low (placement_of w) w.low.entry.0 ≤ w.top
 abbrev pub AreBytes : List ℕ → Type 0
 AreBytes bytes = (k : ℕ) → slice_index bytes k < 2 ^ 8
 
--- these bytes stand at an address of the loaded image, below the stack, and may be read
+-- these bytes stand at an address of the loaded image, below the stack, and may be read and not written
 pub record StandsText (w : Setting) (image : List ℕ) (at : ℕ) (bytes : List ℕ) : Type 0 where
   pub readable : (x : ℕ) → at ≤ x → x < at + length bytes → w.rights.readable x ≡ true
+  pub fixed : (x : ℕ) → at ≤ x → x < at + length bytes → w.rights.writable x ≡ false
   pub below : at + length bytes ≤ w.bottom
   pub stands : bytes_from (byte_in (regions_in image)) at (length bytes) ≡ bytes
 
@@ -84,11 +88,28 @@ pub record StandsText (w : Setting) (image : List ℕ) (at : ℕ) (bytes : List 
 abbrev pub literal_bytes : Layout → LiteralPlace → List ℕ
 literal_bytes layout place = take place.length (drop place.offset layout.bytes)
 
--- The image meets all conditions, the code and the literals stand in it, routines are found where they begin, and over every input
--- the image does what low code does, if that never does what it must not do.
+-- a global variable lies at an address of the loaded image: a multiple of 4, below the control region, the heap and the stack. Its
+-- bytes may be read and written, which code and literals may not. Those that it begins with stand there, and zeros behind them.
+pub record StandsGlobal (w : Setting) (image : List ℕ) (at : ℕ) (global : GlobalVariable) : Type 0 where
+  pub aligned : at % 4 ≡ 0
+  pub readable : (x : ℕ) → at ≤ x → x < at + variable_size global → w.rights.readable x ≡ true
+  pub writable : (x : ℕ) → at ≤ x → x < at + variable_size global → w.rights.writable x ≡ true
+  pub before_control : at + variable_size global ≤ control_address
+  pub below : at + variable_size global ≤ w.bottom
+  pub stands : bytes_from (byte_in (regions_in image)) at (length global.initial) ≡ global.initial
+  pub zeros : (x : ℕ) → at + length global.initial ≤ x → x < at + variable_size global → byte_in (regions_in image) x ≡ 0
+
+-- each global variable lies at its address, and two of them lie apart
+pub record GlobalsStand (w : Setting) (image : List ℕ) : Type 0 where
+  pub each : (id : GlobalId) (global : GlobalVariable) → slice_get w.low.globals id.0 ≡ Some global → StandsGlobal w image (w.placing.address (Global id)) global
+  pub apart : (one other : GlobalId) (a b : GlobalVariable) → one.0 ≢ other.0 → slice_get w.low.globals one.0 ≡ Some a → slice_get w.low.globals other.0 ≡ Some b → LieApart (w.placing.address (Global one)) (variable_size a) (w.placing.address (Global other)) (variable_size b)
+
+-- The image meets all conditions, the code, the literals and the global variables stand in it, routines are found where they begin,
+-- and over every input the image does what low code does, if that never does what it must not do.
 pub record Means (low : Low) (layout : Layout) (settings : Settings) (image : List ℕ) : Type 0 where
   pub loads : first_failing image ≡ None
   pub literals : (id : LiteralId) (place : LiteralPlace) → slice_get layout.literals id.0 ≡ Some place → StandsText (setting_of low layout settings image) image ((setting_of low layout settings image).placing.address (Literal id)) (literal_bytes layout place)
+  pub globals : GlobalsStand (setting_of low layout settings image) image
   pub setting : IsSetting (setting_of low layout settings image)
   pub placement : IsPlacement low (placement_of (setting_of low layout settings image))
   pub runs : HasRoom (setting_of low layout settings image) → (input : List ℕ) → AreBytes input → NeverBad low (placement_of (setting_of low layout settings image)) (low_start (setting_of low layout settings image) image input) → Runs (setting_of low layout settings image) image input

@@ -1,5 +1,6 @@
 pub mod Decoded
 pub mod Distances
+pub mod GlobalPlaces
 pub mod Growth
 pub mod Headers
 pub mod Lengths

@@ -1,7 +1,7 @@
 -- A linked image is loaded as it was meant.
 use Rattle.std.proofs.Common.{◌≡◌, ℕ, ◌+◌, ◌-◌, ◌*◌, ◌≤◌, inl, inr, true, IsTrue, nat_lt, nat_le, Option, Some, None, List, [], ◌∷◌, ◌++◌, length, take, drop, replicate, refl, ap, sym, ◌∙◌, subst, arith, append_assoc, length-append}
 use Rattle.std.proofs.lemmas.Bool.{and_parts, cases_Bool, leb-true}
-use Rattle.std.proofs.lemmas.List.{drop_at, length-replicate, take_at}
+use Rattle.std.proofs.lemmas.List.{drop_at, length-replicate, take_all, take_at}
 use Rattle.std.proofs.lemmas.List.Sums.{sum_by-cons}
 use Rattle.std.specs.List.{list_all}
 use Rattle.std.specs.Option.{option_map}
@@ -21,7 +21,7 @@ use Rattle.op_link.proofs.Decoded.{program_decodes}
 use Rattle.op_link.proofs.Growth.{code_end}
 use Rattle.op_link.proofs.Lengths.{code_end_is, length-words_of, some_same}
 use Rattle.op_link.proofs.Loads.{fitting_loads}
-use Rattle.op_link.proofs.Mapped.{constants_from, fits, globals_from, length-constants, length-data, length-front}
+use Rattle.op_link.proofs.Mapped.{constants_from, fits, globals_from, length-constants, length-data, length-front, length-initial}
 use Rattle.op_link.proofs.Standing.{all_stand}
 use Rattle.op_link.proofs.Settled.{settled_first, settled_second}
 
@@ -134,6 +134,20 @@ constants_stand layout objects settings sizes routines code is_code is_constants
     ∙ ap (take sizes.constants) (drop_at ((front ++ words_of code) ++ padding) (constants ++ (behind ++ own)) (constants_address sizes - 0xF000) before)
     ∙ take_at constants (behind ++ own) sizes.constants (length-constants layout routines ∙ sym is_constants)
 
+globals_stand : (layout : Layout) (objects : Objects) (settings : Settings) (sizes : Sizes) (routines : List RoutinePlace) (code : List Instr) → 4 * length code ≡ sizes.code → sizes.constants ≡ constants_size layout → sizes.initial ≡ initial_size objects.globals → take sizes.initial (drop (globals_address sizes - 0xF000) (image_bytes layout objects settings sizes routines code)) ≡ initial_bytes objects.globals
+unfolding image_bytes data_bytes code_padding constants_padding
+globals_stand layout objects settings sizes routines code is_code is_constants is_initial =
+    let front = front_bytes sizes settings in
+    let padding : List ℕ = replicate (constants_address sizes - (0x00010000 + sizes.code)) 0 in
+    let constants = constants_bytes layout routines in
+    let behind : List ℕ = replicate (globals_address sizes - (constants_address sizes + sizes.constants)) 0 in
+    let own = initial_bytes objects.globals in
+    let before : length ((front ++ words_of code) ++ ((padding ++ constants) ++ behind)) ≡ globals_address sizes - 0xF000 =
+    omega (arith, is_code, is_constants, length-append (front ++ words_of code) ((padding ++ constants) ++ behind), length-append front (words_of code), length-append (padding ++ constants) behind, length-append padding constants, length-front sizes settings, length-words_of code, length-constants layout routines, length-replicate {A = ℕ} (constants_address sizes - (0x00010000 + sizes.code)) 0, length-replicate {A = ℕ} (globals_address sizes - (constants_address sizes + sizes.constants)) 0, constants_from sizes, globals_from sizes) in
+    ap (λ (image : List ℕ). take sizes.initial (drop (globals_address sizes - 0xF000) image)) (sym (append_assoc (front ++ words_of code) ((padding ++ constants) ++ behind) own))
+    ∙ ap (take sizes.initial) (drop_at ((front ++ words_of code) ++ ((padding ++ constants) ++ behind)) own (globals_address sizes - 0xF000) before)
+    ∙ take_all sizes.initial own (omega (arith, is_initial, length-initial objects.globals))
+
 places_by : (known : List RoutinePlace) (layout : Layout) (objects : Objects) → (addresses_by known layout objects).routines ≡ routine_places (addresses_by known layout objects).known 0 first_spot objects.routines
 unfolding addresses_by addresses_of placement_by
 places_by known layout objects = refl
@@ -149,6 +163,7 @@ code_by known layout objects settings image is_linkable_too is =
       stands = ap (λ (image : List ℕ). take sizes.code (drop 4096 image)) found.gives ∙ code_stands layout objects settings sizes (placement_by known objects.routines).routines found.code (code_size known layout objects settings found.code found.is);
       decodes = program_decodes layout (addresses_by known layout objects) settings objects found.code (linkable objects layout is_linkable_too).fields found.is;
       constants = ap (λ (image : List ℕ). take sizes.constants (drop (constants_address sizes - 0xF000) image)) found.gives ∙ constants_stand layout objects settings sizes (placement_by known objects.routines).routines found.code (code_size known layout objects settings found.code found.is) refl;
+      globals = ap (λ (image : List ℕ). take sizes.initial (drop (globals_address sizes - 0xF000) image)) found.gives ∙ globals_stand layout objects settings sizes (placement_by known objects.routines).routines found.code (code_size known layout objects settings found.code found.is) refl refl;
       items = all_stand found.code layout (addresses_by known layout objects) settings objects (places_by known layout objects) found.is;
     }
 

@@ -119,12 +119,12 @@ unfolding constants_bytes
 length-constants layout routines =
     omega (arith, length-append layout.bytes (words (map (entry_word routines) layout.entries)), length-words (map (entry_word routines) layout.entries), length-map layout.entries (entry_word routines))
 
-length-global_bytes : (global : GlobalVariable) → length (global_bytes global) ≡ initial_part global
+pub length-global_bytes : (global : GlobalVariable) → length (global_bytes global) ≡ initial_part global
 unfolding global_bytes initial_part global_size
 length-global_bytes global =
     elim (cases_Bool (begins_as_zero global)) [ inl zero ↦ simp zero refl | inr own ↦ simp own (omega (arith, length-append global.initial (replicate ((length global.initial + global.zeros + 3) / 4 * 4 - length global.initial) 0), length-replicate {A = ℕ} ((length global.initial + global.zeros + 3) / 4 * 4 - length global.initial) 0)) ]
 
-length-initial : (globals : List GlobalVariable) → length (initial_bytes globals) ≡ initial_size globals
+pub length-initial : (globals : List GlobalVariable) → length (initial_bytes globals) ≡ initial_size globals
 length-initial [] = refl
 length-initial (global ∷ globals) =
     omega (arith, length-append (global_bytes global) (initial_bytes globals), length-global_bytes global, length-initial globals, sum_by-cons initial_part global globals)

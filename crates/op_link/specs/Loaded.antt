@@ -11,7 +11,7 @@ use Rattle.op_link.specs.declared.memory_map.Sizes.{Sizes}
 use Rattle.op_link.specs.declared.place.RoutinePlace.{RoutinePlace}
 use Rattle.op_link.specs.declared.table.Segment.{Segment}
 use Rattle.op_link.specs.Image.{entry_in, first_failing, segments}
-use Rattle.op_link.specs.Memory.{code_address, constants_address}
+use Rattle.op_link.specs.Memory.{code_address, constants_address, globals_address, initial_bytes}
 use Rattle.op_link.specs.Code.{words_of}
 use Rattle.op_link.specs.Placing.{placement_by}
 use Rattle.op_link.specs.Linking.{addresses_of, constants_bytes, program_code, settled, sizes_of}
@@ -41,7 +41,8 @@ Decodes [] = ⊤
 Decodes (i ∷ code) = (instr_at (word_of i) ≡ Some i) × Decodes code
 
 -- an image with the code of a program: its words are the code segment, each decodes to its instruction, each routine, block
--- and item stands where its address says, and the constants are their segment
+-- and item stands where its address says, the constants are their segment, and the globals that have bytes of their own are
+-- what the file has of theirs
 pub record HasCodeBy (known : List RoutinePlace) (image : List ℕ) (objects : Objects) (layout : Layout) (settings : Settings) : Type 0 where
   pub code : List Instr
   pub is : program_code layout (addresses_by known layout objects) settings objects ≡ Some code
@@ -49,6 +50,7 @@ pub record HasCodeBy (known : List RoutinePlace) (image : List ℕ) (objects : O
   pub decodes : Decodes code
   pub items : AllStand code layout (addresses_by known layout objects) objects.routines
   pub constants : take (sizes_by known layout objects).constants (drop (constants_address (sizes_by known layout objects) - 0xF000) image) ≡ constants_bytes layout (addresses_by known layout objects).routines
+  pub globals : take (sizes_by known layout objects).initial (drop (globals_address (sizes_by known layout objects) - 0xF000) image) ≡ initial_bytes objects.globals
 
 abbrev pub HasCode : List ℕ → Objects → Layout → Settings → Type 0
 HasCode image objects layout settings = HasCodeBy (settled layout objects settings) image objects layout settings

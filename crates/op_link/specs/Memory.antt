@@ -1,5 +1,5 @@
 -- Where the parts of a program lie in memory.
-use Rattle.std.specs.Prelude.{ℕ, ◌+◌, ◌-◌, ◌*◌, ◌/◌, ◌%◌, Bool, ◌&&◌, List, [], ◌∷◌, ◌++◌, length, replicate, nat_eq, nat_le, if◌then◌else◌}
+use Rattle.std.specs.Prelude.{ℕ, ◌+◌, ◌-◌, ◌*◌, ◌/◌, ◌%◌, ◌≤◌, ◌⊎◌, Bool, ◌&&◌, List, [], ◌∷◌, ◌++◌, length, replicate, nat_eq, nat_le, if◌then◌else◌}
 use Rattle.std.specs.List.{flat_map, sum_by}
 use Rattle.op_layout.specs.declared.layout.Layout.{Layout}
 use Rattle.op_rv.specs.declared.objects.GlobalVariable.{GlobalVariable}
@@ -9,8 +9,13 @@ use Rattle.op_link.specs.declared.table.Segment.{Segment}
 
 -- ---- global variables: each begins at a multiple of 4; those that begin as zero stand behind the others
 
+-- the bytes of a variable
+abbrev pub variable_size : GlobalVariable → ℕ
+variable_size global = length global.initial + global.zeros
+
+-- the same up to a multiple of 4
 unfoldable pub global_size : GlobalVariable → ℕ
-global_size global = (length global.initial + global.zeros + 3) / 4 * 4
+global_size global = (variable_size global + 3) / 4 * 4
 
 unfoldable pub begins_as_zero : GlobalVariable → Bool
 begins_as_zero global = nat_eq (length global.initial) 0
@@ -37,6 +42,10 @@ global_addresses own other (global ∷ globals) =
     (if begins_as_zero global then other else own)
     ∷ global_addresses (own + initial_part global) (other + zero_part global) globals
 
+-- of two stretches of memory one ends before the other one begins
+abbrev pub LieApart : (at size other_at other_size : ℕ) → Type 0
+LieApart at size other_at other_size = (at + size ≤ other_at) ⊎ (other_at + other_size ≤ at)
+
 -- what the file has of them
 unfoldable pub global_bytes : GlobalVariable → List ℕ
 global_bytes global =
@@ -58,6 +67,12 @@ constants_address sizes = page_up (code_address + sizes.code)
 
 unfoldable pub globals_address : Sizes → ℕ
 globals_address sizes = page_up (constants_address sizes + sizes.constants)
+
+abbrev pub control_address : ℕ
+control_address = 0x08000000
+
+abbrev pub heap_address : ℕ
+heap_address = 0x10000000
 
 -- the stack of the settings, and 2,048 bytes for what runs below all routines
 abbrev pub stack_size : Settings → ℕ
@@ -91,8 +106,8 @@ segments_of sizes settings =
     filled code_address sizes.code sizes.code 5
     ∷ filled (constants_address sizes) sizes.constants sizes.constants 4
     ∷ filled (globals_address sizes) sizes.initial (sizes.initial + sizes.zeros) 6
-    ∷ empty 0x08000000 524312
-    ∷ empty 0x10000000 (1024 * settings.heap)
+    ∷ empty control_address 524312
+    ∷ empty heap_address (1024 * settings.heap)
     ∷ empty (stack_address settings) (stack_size settings)
     ∷ []
 

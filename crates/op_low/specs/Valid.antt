@@ -119,12 +119,19 @@ unfoldable pub is_valid_block : Low → Routine → Block → Bool
 is_valid_block low routine block =
     leaves_if (slice_get block.code (length block.code - 1)) && list_all (is_valid_instruction low routine) block.code
 
--- its sizes are in range: up to 2 ^ 20 registers and 2 ^ 24 bytes of locals
+-- registers, and bytes of locals: either alone fills the largest stack
+abbrev pub most_registers : ℕ
+most_registers = 2 ^ 24
+
+abbrev pub most_locals : ℕ
+most_locals = 2 ^ 26
+
+-- its sizes are in range
 unfoldable pub is_sized : Routine → Bool
 is_sized routine =
     nat_le routine.parameters routine.registers
-    && nat_le routine.registers (2 ^ 20)
-    && nat_le routine.locals (2 ^ 24)
+    && nat_le routine.registers most_registers
+    && nat_le routine.locals most_locals
     && nat_eq (routine.locals % 4) 0
     && nat_lt 0 (length routine.blocks)
 

@@ -41,8 +41,8 @@ fn has_sizes(routine: &Routine) -> bool
     ensures { result ≡ is_sized routine.now }
 {
     routine.parameters <= routine.registers
-        && routine.registers <= 1 << 20
-        && routine.locals <= 1 << 24
+        && routine.registers <= 1 << 24
+        && routine.locals <= 1 << 26
         && routine.locals % 4 == 0
         && 0 < routine.blocks.as_slice().len()
 }

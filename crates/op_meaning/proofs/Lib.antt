@@ -1,3 +1,5 @@
+mod ChargeRows
+pub mod Charged
 pub mod Endings
 pub mod Programs
 pub mod SetBits

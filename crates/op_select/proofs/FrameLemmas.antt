@@ -5,7 +5,7 @@ use Rattle.std.proofs.lemmas.Bool.Decides.{nat_tests}
 use Rattle.std.specs.Int.{bytes_low_first}
 use Rattle.std.specs.List.{list_all}
 use Rattle.op_low.specs.State.{Caller, State as LowState, routine_of, routine_or, keep as with_kept, value}
-use Rattle.op_low.specs.Valid.{is_valid, is_valid_routine, is_sized}
+use Rattle.op_low.specs.Valid.{is_sized, is_valid, is_valid_routine, most_locals, most_registers}
 use Rattle.op_low.specs.declared.code.Low.{Low}
 use Rattle.op_low.specs.declared.code.Routine.{Routine}
 use Rattle.op_low.specs.declared.ids.VirtualRegister.{VirtualRegister}
@@ -23,8 +23,8 @@ use Rattle.op_select.proofs.WordLemmas.{cond_true, cond_false, with_bytes-below,
 
 pub record Sizes (routine : Routine) : Type 0 where
   pub parameters : routine.parameters ≤ routine.registers
-  pub registers : routine.registers ≤ 2 ^ 20
-  pub locals : routine.locals ≤ 2 ^ 24
+  pub registers : routine.registers ≤ most_registers
+  pub locals : routine.locals ≤ most_locals
   pub locals_aligned : routine.locals % 4 ≡ 0
 
 and_left : (a b : Bool) → (a && b) ≡ true → a ≡ true
@@ -42,8 +42,8 @@ sizes_of routine is =
     let three = and_left _ _ four in
     let two = and_left _ _ three in
     let a : nat_le routine.parameters routine.registers ≡ true = and_left _ _ two in
-    let b : nat_le routine.registers (2 ^ 20) ≡ true = and_right _ _ two in
-    let c : nat_le routine.locals (2 ^ 24) ≡ true = and_right _ _ three in
+    let b : nat_le routine.registers most_registers ≡ true = and_right _ _ two in
+    let c : nat_le routine.locals most_locals ≡ true = and_right _ _ three in
     let d : nat_eq (routine.locals % 4) 0 ≡ true = and_right _ _ four in
     record {
       parameters = grind (arith, nat_tests);

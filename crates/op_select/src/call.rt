@@ -1,5 +1,6 @@
 //! Calls: how arguments are passed, and what stands behind a call.
 ghost use Rattle.std.specs.Prelude.{◌≡◌, ◌≤◌, ◌+◌, ◌*◌, ◌%◌, ◌<◌, ◌^◌, ◌∷◌, ◌++◌, [], OnOk, length, min};
+ghost use Rattle.op_low.specs.Valid.{most_registers};
 ghost use Rattle.op_select.specs.Frames.{fetch, passed, passed_in_memory, passed_one};
 ghost use Rattle.op_select.specs.Selection.{answered, landing_of, raise_block};
 ghost use Rattle.op_select.specs.Sequences.{below};
@@ -26,7 +27,7 @@ fn push_passed_in_memory(
     k: usize,
     register: VirtualRegister,
 ) -> Result<(), AllocError>
-    requires { routine.now.registers ≤ 2 ^ 20 }
+    requires { routine.now.registers ≤ most_registers }
     ensures { OnOk result (items.new.items ≡ items.old.items ++ passed_in_memory routine.now k register) }
 {
     push_fetch(items, routine, A0, register)?;
@@ -40,7 +41,7 @@ fn push_passed_one(
     k: usize,
     register: VirtualRegister,
 ) -> Result<(), AllocError>
-    requires { routine.now.registers ≤ 2 ^ 20 }
+    requires { routine.now.registers ≤ most_registers }
     ensures { OnOk result (items.new.items ≡ items.old.items ++ passed_one routine.now k register) }
 {
     if k < 8 {
@@ -55,7 +56,7 @@ pub fn push_passed(
     routine: &Routine,
     arguments: &[VirtualRegister],
 ) -> Result<(), AllocError>
-    requires { routine.now.registers ≤ 2 ^ 20 }
+    requires { routine.now.registers ≤ most_registers }
     ensures { OnOk result (items.new.items ≡ items.old.items ++ passed routine.now 0 arguments.now) }
 {
     let mut k = arguments.len();
@@ -96,7 +97,7 @@ pub fn push_answered(
     routine: &Routine,
     call: &Call,
 ) -> Result<(), AllocError>
-    requires { routine.now.registers ≤ 2 ^ 20 }
+    requires { routine.now.registers ≤ most_registers }
     ensures { OnOk result (items.new.items ≡ items.old.items ++ answered routine.now call.now.to call.now.landing) }
 {
     let raised = Item::Branch {

@@ -1,5 +1,6 @@
 //! The frame of a routine: the homes of its virtual registers, its beginning and its end.
-ghost use Rattle.std.specs.Prelude.{◌≡◌, ◌≤◌, ◌+◌, ◌-◌, ◌*◌, ◌<◌, ◌^◌, ◌∷◌, ◌++◌, [], IfOk, OnOk, min, pos, ◌-ℤ◌};
+ghost use Rattle.std.specs.Prelude.{◌≡◌, ◌≤◌, ◌+◌, ◌-◌, ◌*◌, ◌<◌, ◌∷◌, ◌++◌, [], IfOk, OnOk, min, pos, ◌-ℤ◌};
+ghost use Rattle.op_low.specs.Valid.{most_registers};
 ghost use Rattle.op_select.specs.Frames.{cleared, cleared_locals, cleared_registers, epilogue, fetch, frame_of, head_of, home, keep, load_home, lowered, received, store_home};
 
 use crate::registers::{A0, A1, RA, S0, SP, X0};
@@ -18,7 +19,7 @@ pub enum Home {
 /// The bytes of a routine's frame: a word for the return address and one for each register.
 #[tactic(auto, unfolding(crate::specs::Frames::frame_of))]
 fn frame_size(routine: &Routine) -> u32
-    requires { routine.now.registers ≤ 2 ^ 20 }
+    requires { routine.now.registers ≤ most_registers }
     ensures { result ≡ frame_of routine.now }
 {
     4 * (routine.registers + 1)
@@ -26,7 +27,7 @@ fn frame_size(routine: &Routine) -> u32
 
 #[tactic(auto, unfolding(crate::specs::Frames::home))]
 fn home_of(routine: &Routine, register: VirtualRegister) -> Home
-    requires { routine.now.registers ≤ 2 ^ 20 }
+    requires { routine.now.registers ≤ most_registers }
     ensures { result ≡ home routine.now register }
 {
     let above = routine
@@ -62,7 +63,7 @@ pub fn push_fetch(
     to: u8,
     register: VirtualRegister,
 ) -> Result<(), AllocError>
-    requires { routine.now.registers ≤ 2 ^ 20 }
+    requires { routine.now.registers ≤ most_registers }
     ensures { OnOk result (items.new.items ≡ items.old.items ++ fetch routine.now to register) }
 {
     push_load_home(items, to, home_of(routine, register))
@@ -76,7 +77,7 @@ pub fn push_keep(
     register: VirtualRegister,
     value: u8,
 ) -> Result<(), AllocError>
-    requires { routine.now.registers ≤ 2 ^ 20 }
+    requires { routine.now.registers ≤ most_registers }
     ensures { OnOk result (items.new.items ≡ items.old.items ++ keep routine.now register value) }
 {
     push_store_home(items, value, home_of(routine, register))
@@ -85,7 +86,7 @@ pub fn push_keep(
 /// Stores the parameters that come in registers, of which there are up to eight.
 #[tactic(auto, unfolding(crate::specs::Frames::received))]
 fn push_received(items: &mut Vec<Item>, routine: &Routine, count: u8) -> Result<(), AllocError>
-    requires sized { routine.now.registers ≤ 2 ^ 20 }
+    requires sized { routine.now.registers ≤ most_registers }
     requires few { count ≤ 8 }
     ensures { OnOk result (items.new.items ≡ items.old.items ++ received routine.now count) }
 {
@@ -119,7 +120,7 @@ fn push_cleared(items: &mut Vec<Item>, from: u8, until: u8) -> Result<(), AllocE
 /// Puts zeros in the registers that are no parameters.
 #[tactic(auto, unfolding(crate::specs::Frames::cleared_registers))]
 fn push_cleared_registers(items: &mut Vec<Item>, routine: &Routine) -> Result<(), AllocError>
-    requires { routine.now.registers ≤ 2 ^ 20 }
+    requires { routine.now.registers ≤ most_registers }
     ensures { OnOk result (items.new.items ≡ items.old.items ++ cleared_registers routine.now) }
 {
     let others = routine.registers.saturating_sub(routine.parameters);
@@ -147,7 +148,7 @@ fn push_cleared_locals(items: &mut Vec<Item>, routine: &Routine) -> Result<(), A
 /// The beginning of a routine.
 #[tactic(auto, unfolding(crate::specs::Frames::head_of))]
 pub fn push_head(items: &mut Vec<Item>, routine: &Routine) -> Result<(), AllocError>
-    requires { routine.now.registers ≤ 2 ^ 20 }
+    requires { routine.now.registers ≤ most_registers }
     ensures { OnOk result (items.new.items ≡ items.old.items ++ head_of routine.now) }
 {
     let save = Instr::Store {
@@ -188,7 +189,7 @@ fn push_lowered(items: &mut Vec<Item>, routine: &Routine) -> Result<(), AllocErr
 /// The end of a routine, with its value in a0 and in a1 whether it raised.
 #[tactic(auto, unfolding(crate::specs::Frames::epilogue))]
 pub fn push_epilogue(items: &mut Vec<Item>, routine: &Routine) -> Result<(), AllocError>
-    requires { routine.now.registers ≤ 2 ^ 20 }
+    requires { routine.now.registers ≤ most_registers }
     ensures { OnOk result (items.new.items ≡ items.old.items ++ epilogue routine.now) }
 {
     let restore = Instr::Load {

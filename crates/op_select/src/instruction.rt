@@ -1,5 +1,6 @@
 //! The items of each instruction of low code.
-ghost use Rattle.std.specs.Prelude.{◌≡◌, ◌≤◌, ◌-◌, ◌^◌, ◌∷◌, ◌++◌, [], OnOk};
+ghost use Rattle.std.specs.Prelude.{◌≡◌, ◌≤◌, ◌-◌, ◌∷◌, ◌++◌, [], OnOk};
+ghost use Rattle.op_low.specs.Valid.{most_registers};
 ghost use Rattle.op_select.specs.Frames.{epilogue, fetch, keep, passed};
 ghost use Rattle.op_select.specs.Selection.{answered, code_items, computed, descriptor_of, items_of, transfer};
 ghost use Rattle.op_select.specs.Sequences.{below, constant, small, sum};
@@ -28,7 +29,7 @@ pub fn push_code(
     routine: &Routine,
     code: &[Instruction],
 ) -> Result<(), AllocError>
-    requires { routine.now.registers ≤ 2 ^ 20 }
+    requires { routine.now.registers ≤ most_registers }
     ensures { OnOk result (items.new.items ≡ items.old.items ++ code_items routine.now code.now) }
 {
     for instruction in code {
@@ -43,7 +44,7 @@ fn push_instruction(
     routine: &Routine,
     instruction: &Instruction,
 ) -> Result<(), AllocError>
-    requires { routine.now.registers ≤ 2 ^ 20 }
+    requires { routine.now.registers ≤ most_registers }
     ensures { OnOk result (items.new.items ≡ items.old.items ++ items_of routine.now instruction.now) }
 {
     match instruction {
@@ -142,7 +143,7 @@ fn push_computed(
     instr: Instr,
     to: VirtualRegister,
 ) -> Result<(), AllocError>
-    requires { routine.now.registers ≤ 2 ^ 20 }
+    requires { routine.now.registers ≤ most_registers }
     ensures { OnOk result (items.new.items ≡ items.old.items ++ computed routine.now from instr to) }
 {
     push_fetch(items, routine, A0, from)?;
@@ -157,7 +158,7 @@ fn push_const(
     to: VirtualRegister,
     value: u32,
 ) -> Result<(), AllocError>
-    requires { routine.now.registers ≤ 2 ^ 20 }
+    requires { routine.now.registers ≤ most_registers }
     ensures { OnOk result (items.new.items ≡ items.old.items ++ items_of routine.now (Instruction.Const to value)) }
 {
     push_constant(items, A0, value)?;
@@ -171,7 +172,7 @@ fn push_address(
     to: VirtualRegister,
     symbol: Symbol,
 ) -> Result<(), AllocError>
-    requires { routine.now.registers ≤ 2 ^ 20 }
+    requires { routine.now.registers ≤ most_registers }
     ensures { OnOk result (items.new.items ≡ items.old.items ++ items_of routine.now (Instruction.Address to symbol)) }
 {
     items.push(Item::Address { rd: A0, symbol })?;
@@ -185,7 +186,7 @@ fn push_local(
     to: VirtualRegister,
     offset: u32,
 ) -> Result<(), AllocError>
-    requires { routine.now.registers ≤ 2 ^ 20 }
+    requires { routine.now.registers ≤ most_registers }
     ensures { OnOk result (items.new.items ≡ items.old.items ++ items_of routine.now (Instruction.Local to offset)) }
 {
     push_sum(
@@ -205,7 +206,7 @@ fn push_move(
     to: VirtualRegister,
     from: VirtualRegister,
 ) -> Result<(), AllocError>
-    requires { routine.now.registers ≤ 2 ^ 20 }
+    requires { routine.now.registers ≤ most_registers }
     ensures { OnOk result (items.new.items ≡ items.old.items ++ items_of routine.now (Instruction.Move to from)) }
 {
     push_fetch(items, routine, A0, from)?;
@@ -221,7 +222,7 @@ fn push_alu(
     left: VirtualRegister,
     right: VirtualRegister,
 ) -> Result<(), AllocError>
-    requires { routine.now.registers ≤ 2 ^ 20 }
+    requires { routine.now.registers ≤ most_registers }
     ensures { OnOk result (items.new.items ≡ items.old.items ++ items_of routine.now (Instruction.Alu op to left right)) }
 {
     push_fetch(items, routine, A0, left)?;
@@ -245,7 +246,7 @@ fn push_store_to(
     base: VirtualRegister,
     offset: i32,
 ) -> Result<(), AllocError>
-    requires { routine.now.registers ≤ 2 ^ 20 }
+    requires { routine.now.registers ≤ most_registers }
     ensures { OnOk result (items.new.items ≡ items.old.items ++ items_of routine.now (Instruction.Store op value base offset)) }
 {
     push_fetch(items, routine, A0, base)?;
@@ -266,7 +267,7 @@ fn push_call(
     id: RoutineId,
     call: &Call,
 ) -> Result<(), AllocError>
-    requires { routine.now.registers ≤ 2 ^ 20 }
+    requires { routine.now.registers ≤ most_registers }
     ensures { OnOk result (items.new.items ≡ items.old.items ++ items_of routine.now (Instruction.Call id call.now)) }
 {
     push_passed(items, routine, call.arguments.as_slice())?;
@@ -284,7 +285,7 @@ fn push_call_at(
     address: VirtualRegister,
     call: &Call,
 ) -> Result<(), AllocError>
-    requires { routine.now.registers ≤ 2 ^ 20 }
+    requires { routine.now.registers ≤ most_registers }
     ensures { OnOk result (items.new.items ≡ items.old.items ++ items_of routine.now (Instruction.CallAt address call.now)) }
 {
     push_passed(items, routine, call.arguments.as_slice())?;
@@ -304,7 +305,7 @@ fn push_branch(
     right: VirtualRegister,
     block: BlockId,
 ) -> Result<(), AllocError>
-    requires { routine.now.registers ≤ 2 ^ 20 }
+    requires { routine.now.registers ≤ most_registers }
     ensures { OnOk result (items.new.items ≡ items.old.items ++ items_of routine.now (Instruction.Branch op left right block)) }
 {
     push_fetch(items, routine, A0, left)?;
@@ -324,7 +325,7 @@ fn push_return(
     routine: &Routine,
     value: VirtualRegister,
 ) -> Result<(), AllocError>
-    requires { routine.now.registers ≤ 2 ^ 20 }
+    requires { routine.now.registers ≤ most_registers }
     ensures { OnOk result (items.new.items ≡ items.old.items ++ items_of routine.now (Instruction.Return value)) }
 {
     push_fetch(items, routine, A0, value)?;
@@ -334,7 +335,7 @@ fn push_return(
 
 #[tactic(auto, unfolding(crate::specs::Selection::items_of))]
 pub fn push_raise(items: &mut Vec<Item>, routine: &Routine) -> Result<(), AllocError>
-    requires { routine.now.registers ≤ 2 ^ 20 }
+    requires { routine.now.registers ≤ most_registers }
     ensures { OnOk result (items.new.items ≡ items.old.items ++ items_of routine.now Instruction.Raise) }
 {
     push_small(items, A1, 1)?;
@@ -350,7 +351,7 @@ fn push_transfer(
     descriptor: u8,
     number: u8,
 ) -> Result<(), AllocError>
-    requires { routine.now.registers ≤ 2 ^ 20 }
+    requires { routine.now.registers ≤ most_registers }
     ensures { OnOk result (items.new.items ≡ items.old.items ++ transfer routine.now buffer length descriptor number) }
 {
     push_fetch(items, routine, A1, buffer)?;
@@ -368,7 +369,7 @@ fn push_read(
     buffer: VirtualRegister,
     length: VirtualRegister,
 ) -> Result<(), AllocError>
-    requires { routine.now.registers ≤ 2 ^ 20 }
+    requires { routine.now.registers ≤ most_registers }
     ensures { OnOk result (items.new.items ≡ items.old.items ++ items_of routine.now (Instruction.Read to buffer length)) }
 {
     push_transfer(items, routine, buffer, length, 0, READ)?;
@@ -383,7 +384,7 @@ fn push_write(
     buffer: VirtualRegister,
     length: VirtualRegister,
 ) -> Result<(), AllocError>
-    requires { routine.now.registers ≤ 2 ^ 20 }
+    requires { routine.now.registers ≤ most_registers }
     ensures { OnOk result (items.new.items ≡ items.old.items ++ items_of routine.now (Instruction.Write output buffer length)) }
 {
     push_transfer(items, routine, buffer, length, descriptor(output), WRITE)
@@ -404,7 +405,7 @@ fn push_exit(
     routine: &Routine,
     status: VirtualRegister,
 ) -> Result<(), AllocError>
-    requires { routine.now.registers ≤ 2 ^ 20 }
+    requires { routine.now.registers ≤ most_registers }
     ensures { OnOk result (items.new.items ≡ items.old.items ++ items_of routine.now (Instruction.Exit status)) }
 {
     push_fetch(items, routine, A0, status)?;

@@ -1,7 +1,7 @@
 //! Programs, routines and blocks.
-ghost use Rattle.std.specs.Prelude.{◌≡◌, ◌≤◌, ◌^◌, ◌∷◌, ◌++◌, [], IfOk, IsTrue, map, true};
+ghost use Rattle.std.specs.Prelude.{◌≡◌, ◌≤◌, ◌∷◌, ◌++◌, [], IfOk, IsTrue, map, true};
 ghost use Rattle.std.specs.List.{list_all};
-ghost use Rattle.op_low.specs.Valid.{is_valid, is_valid_routine};
+ghost use Rattle.op_low.specs.Valid.{is_valid, is_valid_routine, most_registers};
 ghost use Rattle.op_select.specs.Selection.{code_items, items_of, object_block_of, object_routine_of, select_of};
 ghost use Rattle.op_low.specs.declared.instruction.Instruction.{Instruction};
 
@@ -41,7 +41,7 @@ fn object_routines(alloc: Global, low: &Low) -> Result<Vec<ObjectRoutine>, NoMem
 
 #[tactic(auto, unfolding(crate::specs::Selection::object_routine_of))]
 fn object_routine(alloc: Global, routine: &Routine) -> Result<ObjectRoutine, NoMemory>
-    requires { routine.now.registers ≤ 2 ^ 20 }
+    requires { routine.now.registers ≤ most_registers }
     ensures { IfOk result (λ o. o ≡ object_routine_of routine.now) }
 {
     let mut head = Vec::new(alloc);
@@ -55,7 +55,7 @@ fn object_routine(alloc: Global, routine: &Routine) -> Result<ObjectRoutine, NoM
 }
 
 fn object_blocks(alloc: Global, routine: &Routine) -> Result<Vec<ObjectBlock>, NoMemory>
-    requires { routine.now.registers ≤ 2 ^ 20 }
+    requires { routine.now.registers ≤ most_registers }
     ensures { IfOk result (λ blocks. blocks.items ≡ map (object_block_of routine.now) routine.now.blocks) }
 {
     let mut blocks = Vec::new(alloc);
@@ -67,7 +67,7 @@ fn object_blocks(alloc: Global, routine: &Routine) -> Result<Vec<ObjectBlock>, N
 
 #[tactic(auto, unfolding(crate::specs::Selection::object_block_of))]
 fn object_block(alloc: Global, routine: &Routine, block: &Block) -> Result<ObjectBlock, NoMemory>
-    requires { routine.now.registers ≤ 2 ^ 20 }
+    requires { routine.now.registers ≤ most_registers }
     ensures { IfOk result (λ o. o ≡ object_block_of routine.now block.now) }
 {
     let mut items = Vec::new(alloc);
@@ -79,7 +79,7 @@ fn object_block(alloc: Global, routine: &Routine, block: &Block) -> Result<Objec
 
 /// The block that raises, for the calls with no landing.
 fn raise_stub(alloc: Global, routine: &Routine) -> Result<ObjectBlock, NoMemory>
-    requires { routine.now.registers ≤ 2 ^ 20 }
+    requires { routine.now.registers ≤ most_registers }
     ensures { IfOk result (λ o. o ≡ record { items = items_of routine.now Instruction.Raise }) }
 {
     let mut items = Vec::new(alloc);
