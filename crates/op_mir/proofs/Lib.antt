@@ -4,5 +4,6 @@ pub mod CodeRuns
 pub mod Following
 pub mod ItemLemmas
 pub mod PlainLemmas
+pub mod PlainRuns
 pub mod ShownLemmas
 pub mod StepLemmas
