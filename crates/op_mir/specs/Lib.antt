@@ -1,0 +1,7 @@
+pub mod Code
+pub mod Going
+pub mod Machine
+pub mod Managed
+pub mod Plain
+pub mod Valid
+pub mod View

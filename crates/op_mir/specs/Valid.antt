@@ -1,0 +1,206 @@
+-- Managed code that names only what exists.
+use Rattle.std.specs.Prelude.{◌+◌, ◌-◌, Bool, true, false, ◌&&◌, Option, Some, None, List, length, slice_get, nat_lt}
+use Rattle.std.specs.List.{list_all}
+use Rattle.op_core.specs.declared.ids.RoutineId.{RoutineId}
+use Rattle.op_core.specs.declared.ids.TypeId.{TypeId}
+use Rattle.op_core.specs.declared.ids.VariableId.{VariableId}
+use Rattle.op_mir.specs.declared.action.Action.{Action}
+use Rattle.op_mir.specs.declared.action.Action.TheVariants.{Constant, Load, Store, Copy, Look, BeginWith, Pick, Compute, Write}
+use Rattle.op_mir.specs.declared.action.Computation.{Computation}
+use Rattle.op_mir.specs.declared.action.Computation.TheVariants.{Arithmetic, Compare, Negate, Complement, Invert, Absolute, Odd, Upper, LowBits, Check, Neighbour, Single, Span, Combine, Contains, CheckSet}
+use Rattle.op_mir.specs.declared.action.Writing.{Writing}
+use Rattle.op_mir.specs.declared.action.Writing.TheVariants.{Number, Truth, Char, Text}
+use Rattle.op_mir.specs.declared.code.Block.{Block}
+use Rattle.op_mir.specs.declared.code.Mir.{Mir}
+use Rattle.op_mir.specs.declared.code.Routine.{Routine}
+use Rattle.op_mir.specs.declared.ids.BlockId.{BlockId}
+use Rattle.op_mir.specs.declared.ids.LiteralId.{LiteralId}
+use Rattle.op_mir.specs.declared.ids.LocalId.{LocalId}
+use Rattle.op_mir.specs.declared.ids.TemporaryId.{TemporaryId}
+use Rattle.op_mir.specs.declared.instruction.Arm.{Arm}
+use Rattle.op_mir.specs.declared.instruction.Call.{Call as Operands}
+use Rattle.op_mir.specs.declared.instruction.Given.{Given}
+use Rattle.op_mir.specs.declared.instruction.Given.TheVariants.{ByValue, ByReference, ByPlace, ByCopy}
+use Rattle.op_mir.specs.declared.instruction.Instruction.{Instruction}
+use Rattle.op_mir.specs.declared.instruction.Instruction.TheVariants.{Act, Call, Jump, When, Unless, Switch, Dispatch, MakeDue, Stop, Return}
+use Rattle.op_mir.specs.declared.instruction.Receiver.{Receiver}
+use Rattle.op_mir.specs.declared.instruction.Receiver.TheVariants.{Nowhere, Temporary as ToTemporary, Place}
+use Rattle.op_mir.specs.declared.path.Path.{Path}
+use Rattle.op_mir.specs.declared.path.Root.{Root}
+use Rattle.op_mir.specs.declared.path.Root.TheVariants.{Global, Local, Through, Temporary}
+use Rattle.op_mir.specs.declared.path.Step.{Step}
+use Rattle.op_mir.specs.declared.path.Step.TheVariants.{Field, Element}
+
+-- ---- what is named exists
+
+abbrev pub has : Routine → TemporaryId → Bool
+has routine t = nat_lt t.0 routine.temporaries
+
+abbrev pub has_two : Routine → TemporaryId → TemporaryId → Bool
+has_two routine a b = has routine a && has routine b
+
+abbrev pub has_three : Routine → TemporaryId → TemporaryId → TemporaryId → Bool
+has_three routine a b c = has routine a && has routine b && has routine c
+
+abbrev pub has_local : Routine → LocalId → Bool
+has_local routine v = nat_lt v.0 routine.locals
+
+abbrev pub has_type : Mir → TypeId → Bool
+has_type mir of = nat_lt of.0 mir.counts.types
+
+abbrev pub has_variable : Mir → VariableId → Bool
+has_variable mir v = nat_lt v.0 mir.counts.variables
+
+abbrev pub has_literal : Mir → LiteralId → Bool
+has_literal mir l = nat_lt l.0 (length mir.literals)
+
+abbrev pub has_routine : Mir → RoutineId → Bool
+has_routine mir r = nat_lt r.0 (length mir.routines)
+
+abbrev pub has_block : Routine → BlockId → Bool
+has_block routine block = nat_lt block.0 (length routine.blocks)
+
+-- the three blocks behind it
+abbrev pub has_ways : Routine → BlockId → Bool
+has_ways routine block = nat_lt (block.0 + 3) (length routine.blocks)
+
+-- with no landing no block is named
+abbrev pub has_landing : Routine → Option BlockId → Bool
+has_landing routine None = true
+has_landing routine (Some block) = has_block routine block
+
+-- ---- places
+
+unfoldable pub root_fits : Mir → Routine → Root → Bool
+root_fits mir routine (Global v) = has_variable mir v
+root_fits mir routine (Local v) = has_local routine v
+root_fits mir routine (Through v) = has_local routine v
+root_fits mir routine (Temporary of n) = has_type mir of
+
+unfoldable pub step_fits : Mir → Routine → Step → Bool
+step_fits mir routine (Field of n) = has_type mir of
+step_fits mir routine (Element of low high index) = has_type mir of && has routine index
+
+unfoldable pub path_fits : Mir → Routine → Path → Bool
+path_fits mir routine path = root_fits mir routine path.root && list_all (step_fits mir routine) path.steps
+
+-- ---- actions
+
+unfoldable pub load_fits : Mir → Routine → TemporaryId → Path → Bool
+load_fits mir routine t path = has routine t && path_fits mir routine path
+
+unfoldable pub copy_fits : Mir → Routine → TypeId → Path → Path → Bool
+copy_fits mir routine of to from = has_type mir of && path_fits mir routine to && path_fits mir routine from
+
+unfoldable pub pick_fits : Mir → Routine → TemporaryId → LiteralId → TemporaryId → Bool
+pick_fits mir routine to literal index = has_two routine to index && has_literal mir literal
+
+unfoldable pub computation_fits : Routine → Computation → Bool
+computation_fits routine (Arithmetic operator checked to left right) = has_three routine to left right
+computation_fits routine (Compare operator to left right) = has_three routine to left right
+computation_fits routine (Negate checked to from) = has_two routine to from
+computation_fits routine (Complement to from) = has_two routine to from
+computation_fits routine (Invert to from) = has_two routine to from
+computation_fits routine (Absolute checked to from) = has_two routine to from
+computation_fits routine (Odd to from) = has_two routine to from
+computation_fits routine (Upper to from) = has_two routine to from
+computation_fits routine (LowBits kind to from) = has_two routine to from
+computation_fits routine (Check low high to from) = has_two routine to from
+computation_fits routine (Neighbour distance low high to from) = has_two routine to from
+computation_fits routine (Single to from) = has_two routine to from
+computation_fits routine (Span to first last) = has_three routine to first last
+computation_fits routine (Combine operator to left right) = has_three routine to left right
+computation_fits routine (Contains to element set) = has_three routine to element set
+computation_fits routine (CheckSet all to from) = has_two routine to from
+
+unfoldable pub text_fits : Mir → Routine → LiteralId → TemporaryId → Bool
+text_fits mir routine literal width = has_literal mir literal && has routine width
+
+unfoldable pub writing_fits : Mir → Routine → Writing → Bool
+writing_fits mir routine (Number from width) = has_two routine from width
+writing_fits mir routine (Truth from width) = has_two routine from width
+writing_fits mir routine (Char from width) = has_two routine from width
+writing_fits mir routine (Text literal width) = text_fits mir routine literal width
+
+unfoldable pub action_fits : Mir → Routine → Action → Bool
+action_fits mir routine (Constant to n) = has routine to
+action_fits mir routine (Load to kind from) = load_fits mir routine to from
+action_fits mir routine (Store to kind from) = load_fits mir routine from to
+action_fits mir routine (Copy of to from) = copy_fits mir routine of to from
+action_fits mir routine (Look at) = path_fits mir routine at
+action_fits mir routine (BeginWith v) = has_local routine v
+action_fits mir routine (Pick to literal index) = pick_fits mir routine to literal index
+action_fits mir routine (Compute computation) = computation_fits routine computation
+action_fits mir routine (Write writing) = writing_fits mir routine writing
+
+-- ---- instructions
+
+unfoldable pub copied_fits : Mir → Routine → TypeId → Path → Bool
+copied_fits mir routine of path = has_type mir of && path_fits mir routine path
+
+unfoldable pub given_fits : Mir → Routine → Given → Bool
+given_fits mir routine (ByValue kind t) = has routine t
+given_fits mir routine (ByReference t) = has routine t
+given_fits mir routine (ByPlace path) = path_fits mir routine path
+given_fits mir routine (ByCopy of path) = copied_fits mir routine of path
+
+unfoldable pub receiver_fits : Mir → Routine → Receiver → Bool
+receiver_fits mir routine Nowhere = true
+receiver_fits mir routine (ToTemporary t) = has routine t
+receiver_fits mir routine (Place of to) = copied_fits mir routine of to
+
+unfoldable pub all_given_fit : Mir → Routine → List Given → Bool
+all_given_fit mir routine given = list_all (given_fits mir routine) given
+
+unfoldable pub call_fits : Mir → Routine → RoutineId → Operands → Bool
+call_fits mir routine r call =
+    has_routine mir r && all_given_fit mir routine call.given && receiver_fits mir routine call.receiver && has_landing routine call.landing
+
+unfoldable pub act_fits : Mir → Routine → Action → Option BlockId → Bool
+act_fits mir routine action landing = action_fits mir routine action && has_landing routine landing
+
+abbrev pub branch_fits : Routine → TemporaryId → BlockId → Bool
+branch_fits routine t block = has routine t && has_block routine block
+
+abbrev pub arm_fits : Routine → Arm → Bool
+arm_fits routine arm = has_block routine arm.block
+
+unfoldable pub switch_fits : Routine → TemporaryId → List Arm → Bool
+switch_fits routine t arms = has routine t && list_all (arm_fits routine) arms
+
+abbrev pub dispatch_fits : Routine → TemporaryId → BlockId → Bool
+dispatch_fits routine t block = has routine t && has_ways routine block
+
+unfoldable pub is_valid_instruction : Mir → Routine → Instruction → Bool
+is_valid_instruction mir routine (Act action landing) = act_fits mir routine action landing
+is_valid_instruction mir routine (Call r call) = call_fits mir routine r call
+is_valid_instruction mir routine (Jump block) = has_block routine block
+is_valid_instruction mir routine (When t block) = branch_fits routine t block
+is_valid_instruction mir routine (Unless t block) = branch_fits routine t block
+is_valid_instruction mir routine (Switch t arms) = switch_fits routine t arms
+is_valid_instruction mir routine (Dispatch t block) = dispatch_fits routine t block
+is_valid_instruction mir routine (MakeDue r) = has_routine mir r
+is_valid_instruction mir routine (Stop t) = has routine t
+is_valid_instruction mir routine Return = true
+
+-- ---- blocks, routines and programs
+
+-- the code never goes on behind it
+unfoldable pub leaves : Instruction → Bool
+leaves (Jump block) = true
+leaves Return = true
+leaves _ = false
+
+abbrev pub leaves_if : Option Instruction → Bool
+leaves_if None = false
+leaves_if (Some i) = leaves i
+
+unfoldable pub is_valid_block : Mir → Routine → Block → Bool
+is_valid_block mir routine block =
+    leaves_if (slice_get block.code (length block.code - 1)) && list_all (is_valid_instruction mir routine) block.code
+
+unfoldable pub is_valid_routine : Mir → Routine → Bool
+is_valid_routine mir routine = nat_lt 0 (length routine.blocks) && list_all (is_valid_block mir routine) routine.blocks
+
+unfoldable pub is_valid : Mir → Bool
+is_valid mir = is_valid_routine mir mir.program && list_all (is_valid_routine mir) mir.routines

@@ -1,0 +1,17 @@
+//! The numbers by which the parts of a routine are named. Each counts from 0.
+
+/// A block of a routine.
+#[derive(Clone, Copy)]
+pub struct BlockId(pub u32);
+
+/// A temporary of an activation that is one value.
+#[derive(Clone, Copy)]
+pub struct TemporaryId(pub u32);
+
+/// A variable of a routine, in the order of the routine's rows: its object, its parameters, its result, and then its locals.
+#[derive(Clone, Copy)]
+pub struct LocalId(pub u32);
+
+/// A literal that the code writes or takes a Char of.
+#[derive(Clone, Copy)]
+pub struct LiteralId(pub u32);

@@ -1,0 +1,22 @@
+//! Managed code: routines of blocks, in which the statements of a program stand as actions, branches, calls and returns.
+//!
+//! The types are the language. What managed code does is a definition, a machine in `specs/Machine.antt`, over the worlds and the actions
+//! of the source machine; how statements become blocks is one too, `specs/Code.antt`. `valid` says whether code names only what
+//! exists, and `code_goes_along` that the code of a plain program goes along with the source machine.
+#![tactic(auto)]
+
+mod action;
+mod code;
+mod ids;
+mod instruction;
+mod path;
+mod theorems;
+mod validity;
+
+pub use action::{Action, Computation, Writing};
+pub use code::{Block, Counts, Mir, Routine};
+pub use ids::{BlockId, LiteralId, LocalId, TemporaryId};
+pub use instruction::{Arm, Call, Given, Instruction, Receiver};
+pub use path::{Path, Root, Step};
+pub use theorems::code_goes_along;
+pub use validity::valid;

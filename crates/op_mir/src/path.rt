@@ -1,0 +1,40 @@
+//! Paths: how code comes to a place. A path is followed in the step that uses it, and each index is tested in its turn.
+
+use crate::{LocalId, TemporaryId};
+use op_base::Sequence;
+use op_core::{TypeId, VariableId};
+
+/// Where a path begins.
+#[derive(Clone, Copy)]
+pub enum Root {
+    /// A global variable, by its row.
+    Global { variable: VariableId },
+    Local { variable: LocalId },
+    /// What a variable parameter stands for.
+    Through { variable: LocalId },
+    /// A temporary of a record or array type, by the type and a number.
+    Temporary { of: TypeId, number: u32 },
+}
+
+/// From a record or an array of the type to a part of it.
+#[derive(Clone, Copy)]
+pub enum Step {
+    Field {
+        of: TypeId,
+        number: u32,
+    },
+    /// The index is in a temporary, and from `low` to `high`.
+    Element {
+        of: TypeId,
+        low: i32,
+        high: i32,
+        index: TemporaryId,
+    },
+}
+
+/// A place, by the way to it.
+#[derive(Drop)]
+pub struct Path {
+    pub root: Root,
+    pub steps: Sequence<Step>,
+}

@@ -1,0 +1,9 @@
+//! What is proved of managed code, each as the contract of a function without code.
+ghost use Rattle.op_mir.specs.Managed.{CodeAgrees, CodeFollows};
+
+/// The code of a plain program goes along with the source machine: a step of that is one instruction or more, which show the same at no
+/// more than four times its cost; they begin together, and go along for ever.
+pub fn code_goes_along()
+    ensures follows { CodeFollows }
+    ensures agrees { CodeAgrees }
+{}
