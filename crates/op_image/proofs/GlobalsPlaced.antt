@@ -12,11 +12,12 @@ use Rattle.op_link.specs.Memory.{LieApart, are_in_range, global_addresses, globa
 use Rattle.op_link.specs.Region.{byte_in}
 use Rattle.op_link.specs.declared.memory_map.Settings.{Settings}
 use Rattle.op_low.specs.declared.code.Low.{Low}
+use Rattle.op_rv.proofs.Memory.{bytes_there}
 use Rattle.op_rv.specs.declared.objects.GlobalVariable.{GlobalVariable}
 use Rattle.op_rv.specs.declared.symbol.GlobalId.{GlobalId}
 use Rattle.op_rv.specs.declared.symbol.Symbol.TheVariants.{Global}
 use Rattle.op_select.specs.Selection.{select_of}
-use Rattle.op_image.proofs.Mapped.{byte_of_globals, bytes_there, globals_end, globals_readable, globals_writable, stack_lies}
+use Rattle.op_image.proofs.Mapped.{byte_of_globals, globals_end, globals_readable, globals_writable, stack_lies}
 use Rattle.op_image.proofs.Placed.{few_zeros, knows, size_within}
 use Rattle.op_image.specs.Building.{is_buildable}
 use Rattle.op_image.specs.Meaning.{linked_code, or_zero, setting_of}

@@ -7,7 +7,6 @@ use Rattle.std.proofs.lemmas.List.{length-replicate, length-take}
 use Rattle.std.proofs.lemmas.Option.{slice_get_within}
 use Rattle.std.specs.List.{list_all}
 use Rattle.std.specs.Option.{option_map_or}
-use Rattle.op_link.proofs.GlobalPlaces.{get_or-zeros}
 use Rattle.op_link.proofs.Lengths.{length-words_of, some_same}
 use Rattle.op_link.proofs.Mapped.{constants_from, globals_from, in_range}
 use Rattle.op_link.specs.Code.{words_of}
@@ -19,12 +18,13 @@ use Rattle.op_link.specs.Region.{Region, byte_in, covers, executable_in, range_o
 use Rattle.op_link.specs.declared.memory_map.Settings.{Settings}
 use Rattle.op_link.specs.declared.memory_map.Sizes.{Sizes}
 use Rattle.op_link.specs.declared.table.Segment.{Segment}
+use Rattle.op_rv.proofs.Memory.{bytes_of-word, get_or-zeros}
 use Rattle.op_rv.proofs.Table.{word_of-lt}
 use Rattle.op_rv.specs.Decoding.{instr_at}
 use Rattle.op_rv.specs.Encoding.{fits, word_of}
-use Rattle.op_rv.specs.State.{bytes_from, word_at}
+use Rattle.op_rv.specs.State.{word_at}
 use Rattle.op_rv.specs.declared.instruction.Instr.{Instr}
-use Rattle.op_select.proofs.WordLemmas.{bytes_of-word, cond_false, cond_true}
+use Rattle.op_select.proofs.WordLemmas.{cond_false, cond_true}
 use Rattle.op_image.specs.Meaning.{instruction_at}
 
 -- ---- regions
@@ -75,15 +75,6 @@ byte_filled image address file_size memory_size flags bytes rs k is found =
     ∙ ap (λ bytes. get_or (bytes ++ zeros) (address + k - address) 0) is
     ∙ ap (λ n. get_or (bytes ++ zeros) n 0) offset
     ∙ get_or-zeros bytes (memory_size - file_size) k
-
--- these bytes stand in memory
-pub bytes_there : (memory : ℕ → ℕ) (at : ℕ) (bytes : List ℕ) → ((k : ℕ) → k < length bytes → memory (at + k) ≡ get_or bytes k 0) → bytes_from memory at (length bytes) ≡ bytes
-unfolding bytes_from
-bytes_there memory at [] each = refl
-bytes_there memory at (byte ∷ bytes) each =
-    let here : at ≡ at + 0 = omega arith in
-    let rest = bytes_there memory (at + 1) bytes (λ k before. let next : at + 1 + k ≡ at + suc k = omega arith in ap memory next ∙ each (suc k) (omega arith)) in
-    ap (λ byte. byte ∷ bytes_from memory (at + 1) (length bytes)) (ap memory here ∙ each 0 (omega arith)) ∙ ap (λ bytes. byte ∷ bytes) rest
 
 -- ---- words of code
 

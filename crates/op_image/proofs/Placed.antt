@@ -24,6 +24,7 @@ use Rattle.op_link.specs.declared.place.RoutinePlace.{RoutinePlace}
 use Rattle.op_low.specs.State.{routine_or}
 use Rattle.op_low.specs.declared.code.Low.{Low}
 use Rattle.op_low.specs.declared.code.Routine.{Routine}
+use Rattle.op_rv.proofs.Memory.{bytes_there}
 use Rattle.op_rv.specs.declared.instruction.Instr.{Instr}
 use Rattle.op_rv.specs.declared.objects.ObjectRoutine.{ObjectRoutine}
 use Rattle.op_rv.specs.declared.objects.Objects.{Objects}
@@ -36,7 +37,7 @@ use Rattle.op_select.specs.Selection.{select_of}
 use Rattle.op_image.proofs.Counting.{HasItems, have_items, routines_counted}
 use Rattle.op_image.proofs.Expanding.{Targets}
 use Rattle.op_image.proofs.Linkable.{globals_fit, literal_offset, routines_valid, valid_code}
-use Rattle.op_image.proofs.Mapped.{byte_of_constants, bytes_there, code_executable, code_fixed, constants_fixed, constants_readable, located, stack_lies, stack_readable, stack_writable}
+use Rattle.op_image.proofs.Mapped.{byte_of_constants, code_executable, code_fixed, constants_fixed, constants_readable, located, stack_lies, stack_readable, stack_writable}
 use Rattle.op_image.proofs.Places.{targets_reached}
 use Rattle.op_image.proofs.Standing.{routine_stands}
 use Rattle.op_image.specs.Building.{is_buildable}

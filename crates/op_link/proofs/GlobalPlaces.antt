@@ -4,6 +4,7 @@ use Rattle.std.proofs.Common.{◌≡◌, ◌≢◌, ℕ, zero, suc, ◌+◌, ◌
 use Rattle.std.proofs.lemmas.Bool.{eqb-true}
 use Rattle.std.proofs.lemmas.List.{get_or-append-add, get_or_append_left, get_or_past}
 use Rattle.std.proofs.lemmas.List.Sums.{sum_by-cons}
+use Rattle.op_rv.proofs.Memory.{get_or-zeros}
 use Rattle.op_rv.specs.declared.objects.GlobalVariable.{GlobalVariable}
 use Rattle.op_link.specs.Memory.{LieApart, begins_as_zero, global_addresses, global_bytes, global_size, initial_bytes, initial_part, initial_size, variable_size, zero_part, zero_size}
 use Rattle.op_link.proofs.Lengths.{some_same}
@@ -158,17 +159,6 @@ globals_apart own other (first ∷ rest) (suc i) (suc j) a b room differ is_a is
     globals_apart (own + initial_part first) (other + zero_part first) rest i j a b (omega arith) (λ same. differ (ap suc same)) is_a is_b
 
 -- ---- what stands there
-
-zeros_at : (n j : ℕ) → get_or (replicate {A = ℕ} n 0) j 0 ≡ 0
-zeros_at zero j = refl
-zeros_at (suc n) zero = refl
-zeros_at (suc n) (suc j) = zeros_at n j
-
--- zeros behind a list are what is read past its end
-pub get_or-zeros : (bytes : List ℕ) (n j : ℕ) → get_or (bytes ++ replicate {A = ℕ} n 0) j 0 ≡ get_or bytes j 0
-get_or-zeros [] n j = zeros_at n j
-get_or-zeros (byte ∷ bytes) n zero = refl
-get_or-zeros (byte ∷ bytes) n (suc j) = get_or-zeros bytes n j
 
 -- the two stretches in memory
 pub record Filled (memory : ℕ → ℕ) (own other : ℕ) (globals : List GlobalVariable) : Type 0 where

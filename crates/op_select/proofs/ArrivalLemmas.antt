@@ -5,6 +5,7 @@ use Rattle.std.proofs.lemmas.List.{length-replicate}
 use Rattle.op_low.specs.Machine.{entered}
 use Rattle.op_low.specs.State.{State as LowState, space}
 use Rattle.op_low.specs.declared.ids.VirtualRegister.{VirtualRegister}
+use Rattle.op_rv.proofs.Memory.{with_bytes-below, with_bytes-within, word_at-same, zeros_get}
 use Rattle.op_rv.specs.State.{State, with_bytes, word_at}
 use Rattle.op_rv.specs.declared.symbol.BlockId.{BlockId}
 use Rattle.op_select.specs.Frames.{frame_of}
@@ -17,12 +18,6 @@ use Rattle.op_select.proofs.FrameLemmas.{sizes, below_top, below_bottom, below_s
 use Rattle.op_select.proofs.ReturnSteps.{answered_aligned}
 use Rattle.op_select.proofs.TransferLemmas.{block_stands}
 use Rattle.op_select.proofs.ValueSteps.{Steps}
-use Rattle.op_select.proofs.WordLemmas.{with_bytes-within, with_bytes-below, word_at-same}
-
-pub zeros_get : (n k : ℕ) → get_or (replicate {A = ℕ} n 0) k 0 ≡ 0
-zeros_get zero k = refl
-zeros_get (suc n) zero = refl
-zeros_get (suc n) (suc k) = zeros_get n k
 
 past_end : (xs : List ℕ) (k : ℕ) → length xs ≤ k → get_or xs k 0 ≡ 0
 past_end [] k over = refl

@@ -12,20 +12,19 @@ use Rattle.op_low.specs.State.{State as LowState, Ended, routine_or}
 use Rattle.op_low.specs.Valid.{is_valid, takes}
 use Rattle.op_low.specs.declared.code.Routine.{Routine}
 use Rattle.op_low.proofs.ValidRuns.{start_runs}
+use Rattle.op_rv.proofs.Memory.{with_bytes-below, with_bytes-within, zeros_get}
 use Rattle.op_rv.specs.State.{State, word_at}
 use Rattle.op_select.specs.Frames.{frame_of}
 use Rattle.op_select.specs.Going.{Setting, IsSetting, routine_in, frame_in, placement_of, place_of, Below, Stays}
 use Rattle.op_select.specs.RiscvMachine.{riscv_machine}
 use Rattle.op_select.specs.Selected.{Finished, MatchesBy, Matches, selected}
 use Rattle.op_select.specs.Starting.{start_in, Starts, Begins, EndsAlike}
-use Rattle.op_select.proofs.ArrivalLemmas.{zeros_get}
 use Rattle.op_select.proofs.ClearLemmas.{stored}
 use Rattle.op_select.proofs.EnterLemmas.{Heads, heads}
 use Rattle.op_select.proofs.Following.{selected_follows}
 use Rattle.op_select.proofs.FrameLemmas.{sizes}
 use Rattle.op_select.proofs.TransferLemmas.{block_stands}
 use Rattle.op_select.proofs.ValueSteps.{both_left}
-use Rattle.op_select.proofs.WordLemmas.{with_bytes-within, with_bytes-below}
 
 record Entry (routines : List Routine) (r : ℕ) : Type 0 where
   exists : r < length routines

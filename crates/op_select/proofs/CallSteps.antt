@@ -13,6 +13,7 @@ use Rattle.op_low.specs.declared.code.Routine.{Routine}
 use Rattle.op_low.specs.declared.ids.VirtualRegister.{VirtualRegister}
 use Rattle.op_low.specs.declared.instruction.Call.{Call as Operands}
 use Rattle.op_low.specs.declared.instruction.Instruction.TheVariants.{Call, CallAt}
+use Rattle.op_rv.proofs.Memory.{four-bounded, with_bytes-above, with_bytes-below, with_bytes-outside, word_at-same, word_at-stored}
 use Rattle.op_rv.specs.Operation.{word_from}
 use Rattle.op_rv.specs.State.{State, register, with_bytes, word_at}
 use Rattle.op_rv.specs.Step.{act, offset_from}
@@ -30,13 +31,13 @@ use Rattle.op_select.specs.Selection.{items_of, code_items, answered}
 use Rattle.op_select.specs.Sequences.{below}
 use Rattle.op_select.proofs.ClearLemmas.{stored}
 use Rattle.op_select.proofs.ControlSteps.{steps_join}
-use Rattle.op_select.proofs.FrameLemmas.{sizes, below_top, below_bottom, below_same, with_bytes-outside, sound_stored, four-bounded, stays_placed, fetches}
+use Rattle.op_select.proofs.FrameLemmas.{sizes, below_top, below_bottom, below_same, sound_stored, stays_placed, fetches}
 use Rattle.op_select.proofs.ReturnSteps.{down-bounded}
 use Rattle.op_select.proofs.SequenceLemmas.{stores}
 use Rattle.op_select.proofs.TransferLemmas.{Linked, links, head_stands}
 use Rattle.op_select.proofs.ValueSteps.{Steps, both_left, both_right, inside, value-bounded}
 use Rattle.op_select.proofs.Walks.{Walk, walk_none, walk_join, walk_weaken, walk_step, advanced_pc, placed, sound_placed, plain_first, split, nothing_more}
-use Rattle.op_select.proofs.WordLemmas.{cond_true, with_bytes-below, with_bytes-above, word_at-stored, word_at-same}
+use Rattle.op_select.proofs.WordLemmas.{cond_true}
 use Rattle.op_select.proofs.ArrivalLemmas.{began, Arrives, arrives}
 
 -- the arguments from number k on are where the routine looks for them

@@ -4,6 +4,7 @@ use Rattle.std.proofs.lemmas.Int.{ints}
 use Rattle.std.proofs.lemmas.Bool.{cases_lt}
 use Rattle.std.proofs.lemmas.Bool.Decides.{nat_tests}
 use Rattle.std.specs.Int.{bytes_low_first}
+use Rattle.op_rv.proofs.Memory.{can_access_word, four-bounded, with_bytes-outside, with_bytes-within, zero_bytes}
 use Rattle.op_rv.specs.Operation.{word_from, branch_taken}
 use Rattle.op_rv.specs.State.{State, register, advanced, faulted, with_bytes}
 use Rattle.op_rv.specs.Step.{act, store, can_access, offset_from}
@@ -16,10 +17,10 @@ use Rattle.op_select.specs.Frames.{cleared}
 use Rattle.op_select.specs.Going.{Setting, IsSetting, Sound}
 use Rattle.op_select.specs.Placing.{Stands}
 use Rattle.op_select.specs.RiscvMachine.{instr_shows}
-use Rattle.op_select.proofs.FrameLemmas.{sound_stored, four-bounded, with_bytes-outside}
+use Rattle.op_select.proofs.FrameLemmas.{sound_stored}
 use Rattle.op_select.proofs.TransferLemmas.{branches}
 use Rattle.op_select.proofs.Walks.{Walk, walk_join, walk_weaken, walk_step, advanced_pc, placed, sound_placed, becomes, register_is, plain_first, nothing_more}
-use Rattle.op_select.proofs.WordLemmas.{cond_true, can_access_word, with_bytes-within}
+use Rattle.op_select.proofs.WordLemmas.{cond_true}
 
 -- a state with other memory
 abbrev pub stored : State → List ℕ → ℕ → (ℕ → ℕ) → State
@@ -34,13 +35,6 @@ pub record Clears (w : Setting) (b : State) (a words from at : ℕ) : Type 0 whe
   pub same : (x : ℕ) → (x < a) ⊎ (a + 4 * words ≤ x) → memory x ≡ b.memory x
   pub sound : Sound w (stored b registers at memory)
   pub walk : Walk b (stored b registers at memory) 1 (3 * words) []
-
-zero_bytes : (i : ℕ) → get_or (bytes_low_first 0 4 0) i 0 ≡ 0
-zero_bytes zero = refl
-zero_bytes (suc zero) = refl
-zero_bytes (suc (suc zero)) = refl
-zero_bytes (suc (suc (suc zero))) = refl
-zero_bytes (suc (suc (suc (suc i)))) = refl
 
 -- the place itself, four more, and eight back
 pub no_distance : (a : ℕ) → a < 2 ^ 32 → (a + word_from (pos 0)) % 2 ^ 32 ≡ a

@@ -6,6 +6,7 @@ use Rattle.op_low.specs.State.{State as LowState, value, usable, jump}
 use Rattle.op_low.specs.Valid.{is_valid_instruction, has, imm_fits, branch_fits}
 use Rattle.op_low.specs.declared.ids.VirtualRegister.{VirtualRegister}
 use Rattle.op_low.specs.declared.instruction.Instruction.TheVariants.{Branch, Jump, Store, Exit}
+use Rattle.op_rv.proofs.Memory.{with_bytes-outside, word_at-same}
 use Rattle.op_rv.specs.Environment.{environment_call, read_call, write_call, exit_call}
 use Rattle.op_rv.specs.Operation.{branch_taken}
 use Rattle.op_rv.specs.State.{State, Ended, register, faulted, with_bytes}
@@ -24,12 +25,12 @@ use Rattle.op_select.specs.Placing.{Stands, First, Expands, past}
 use Rattle.op_select.specs.RiscvMachine.{instr_shows, call_event, read_event, write_event}
 use Rattle.op_select.specs.Selection.{items_of, code_items}
 use Rattle.op_select.specs.Sequences.{small}
-use Rattle.op_select.proofs.FrameLemmas.{stays_placed, sound_stored, below_same, with_bytes-outside, fetches}
+use Rattle.op_select.proofs.FrameLemmas.{stays_placed, sound_stored, below_same, fetches}
 use Rattle.op_select.proofs.SequenceLemmas.{smalls}
 use Rattle.op_select.proofs.TransferLemmas.{jumps, chooses, block_stands}
 use Rattle.op_select.proofs.ValueSteps.{Steps, both_left, both_right, inside, two_fetched, usable_all, access_of}
 use Rattle.op_select.proofs.Walks.{Walk, walk_join, walk_weaken, walk_step, advanced_pc, placed, sound_placed, plain_first, split, nothing_more}
-use Rattle.op_select.proofs.WordLemmas.{cond_true, word_at-same}
+use Rattle.op_select.proofs.WordLemmas.{cond_true}
 
 -- the machine has ended
 pub record ExitSteps (m : LowState) (b : State) (most : ℕ) (status : ℕ) : Type 0 where

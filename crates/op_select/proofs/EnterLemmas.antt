@@ -2,6 +2,7 @@
 use Rattle.std.proofs.Common.{◌≡◌, ℕ, pos, ◌+◌, ◌-◌, ◌*◌, ◌%◌, ◌^◌, ◌-ℤ◌, ◌<◌, ◌≤◌, ◌⊎◌, inl, inr, min, List, [], ◌∷◌, ◌++◌, length, get_or, sym, subst, ◌∙◌, arith}
 use Rattle.std.specs.Int.{bytes_low_first}
 use Rattle.op_low.specs.declared.code.Routine.{Routine}
+use Rattle.op_rv.proofs.Memory.{with_bytes-outside, word_at-same, word_at-stored, word_at-zero}
 use Rattle.op_rv.specs.State.{State, with_bytes, word_at}
 use Rattle.op_rv.specs.declared.instruction.StoreOp.TheVariants.{Sw}
 use Rattle.op_rv.specs.declared.instruction.Instr.TheVariants.{Store}
@@ -11,11 +12,10 @@ use Rattle.op_select.specs.Going.{Setting, IsSetting, routine_in, locals_in, fra
 use Rattle.op_select.specs.Placing.{Stands}
 use Rattle.op_select.specs.Sequences.{below, sum}
 use Rattle.op_select.proofs.ClearLemmas.{stored}
-use Rattle.op_select.proofs.FrameLemmas.{sizes, with_bytes-outside}
+use Rattle.op_select.proofs.FrameLemmas.{sizes}
 use Rattle.op_select.proofs.HeadLemmas.{saves, receives, zeroes_registers, zeroes_locals}
 use Rattle.op_select.proofs.TransferLemmas.{head_stands}
 use Rattle.op_select.proofs.Walks.{Walk, walk_join, walk_weaken, split}
-use Rattle.op_select.proofs.WordLemmas.{word_at-stored, word_at-same}
 
 -- what a head leaves, from the state before it: the frame below sp, the locals above the limit
 pub record Heads (w : Setting) (b : State) (r sp limit back : ℕ) : Type 0 where
@@ -46,14 +46,6 @@ record Memories (routine : Routine) (sp limit back count : ℕ) (argument : ℕ 
   room : limit + routine.locals + frame_of routine ≤ sp
   few : count ≤ routine.parameters
   fits : routine.parameters ≤ routine.registers
-
-word_at-zero : (memory : ℕ → ℕ) (a : ℕ) → ((x : ℕ) → a ≤ x → x < a + 4 → memory x ≡ 0) → word_at memory a ≡ 0
-word_at-zero memory a zeros =
-    let z0 = zeros a (omega arith) (omega arith) in
-    let z1 = zeros (a + 1) (omega arith) (omega arith) in
-    let z2 = zeros (a + 2) (omega arith) (omega arith) in
-    let z3 = zeros (a + 3) (omega arith) (omega arith) in
-    omega arith
 
 module _ (routine : Routine) (sp limit back count : ℕ) (argument : ℕ → ℕ) (m0 m1 m2 m3 m4 : ℕ → ℕ) (h : Memories routine sp limit back count argument m0 m1 m2 m3 m4) where
   low_same : (x : ℕ) → x < limit → m4 x ≡ m0 x

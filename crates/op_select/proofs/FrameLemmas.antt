@@ -1,5 +1,5 @@
 -- Virtual registers in their homes: what fetching and keeping them does, and what stays.
-use Rattle.std.proofs.Common.{◌≡◌, ◌≢◌, ℕ, zero, suc, ◌+◌, ◌-◌, ◌*◌, ◌%◌, ◌^◌, ◌<◌, ◌≤◌, ◌⊎◌, inl, inr, Bool, true, false, cond, ◌&&◌, nat_eq, nat_lt, nat_le, List, [], ◌∷◌, ◌++◌, length, get_or, slice_get, refl, ap, sym, subst, ◌∙◌, arith}
+use Rattle.std.proofs.Common.{◌≡◌, ◌≢◌, ℕ, zero, suc, ◌+◌, ◌-◌, ◌*◌, ◌%◌, ◌^◌, ◌<◌, ◌≤◌, ◌⊎◌, inl, inr, Bool, true, false, cond, ◌&&◌, nat_eq, nat_le, List, [], ◌∷◌, ◌++◌, length, get_or, slice_get, refl, ap, sym, subst, ◌∙◌, arith}
 use Rattle.std.proofs.lemmas.Bool.{cases_lt}
 use Rattle.std.proofs.lemmas.Bool.Decides.{nat_tests}
 use Rattle.std.specs.Int.{bytes_low_first}
@@ -9,6 +9,7 @@ use Rattle.op_low.specs.Valid.{is_sized, is_valid, is_valid_routine, most_locals
 use Rattle.op_low.specs.declared.code.Low.{Low}
 use Rattle.op_low.specs.declared.code.Routine.{Routine}
 use Rattle.op_low.specs.declared.ids.VirtualRegister.{VirtualRegister}
+use Rattle.op_rv.proofs.Memory.{four-bounded, with_bytes-above, with_bytes-below, with_bytes-bounded, with_bytes-outside, word_at-same, word_at-stored}
 use Rattle.op_rv.specs.Decoding.{instr_at}
 use Rattle.op_rv.specs.State.{State, with_bytes, word_at}
 use Rattle.op_select.specs.Frames.{frame_of, home, load_home, store_home, fetch, keep}
@@ -17,7 +18,7 @@ use Rattle.op_select.specs.Placing.{Stands, StandsFrom}
 use Rattle.op_select.specs.Selection.{answered, code_items}
 use Rattle.op_select.proofs.SequenceLemmas.{loads, stores}
 use Rattle.op_select.proofs.Walks.{Walk, placed, sound_placed, Becomes}
-use Rattle.op_select.proofs.WordLemmas.{cond_true, cond_false, with_bytes-below, with_bytes-above, word_at-stored, word_at-same}
+use Rattle.op_select.proofs.WordLemmas.{cond_true, cond_false}
 
 -- ---- sizes
 
@@ -63,28 +64,6 @@ unfolding is_valid
 sizes low r valid = sizes_in low low.routines r (and_right _ _ valid)
 
 -- ---- memory
-
-pub with_bytes-outside : (memory : ℕ → ℕ) (a : ℕ) (bytes : List ℕ) (x : ℕ) → (a ≤ x → x < a + length bytes → ⊥) → with_bytes memory a bytes x ≡ memory x
-with_bytes-outside memory a bytes x outside =
-    elim (cases_lt x a) [
-      | inl lower ↦ with_bytes-below memory a bytes x lower
-      | inr upper ↦
-          elim (cases_lt x (a + length bytes)) [
-            | inl within ↦ absurd (outside (omega arith) within)
-            | inr above ↦ with_bytes-above memory a bytes x (omega arith)
-          ]
-    ]
-
-pub with_bytes-bounded : (memory : ℕ → ℕ) (a : ℕ) (bytes : List ℕ) → ((x : ℕ) → memory x < 2 ^ 8) → ((k : ℕ) → get_or bytes k 0 < 2 ^ 8) → (x : ℕ) → with_bytes memory a bytes x < 2 ^ 8
-with_bytes-bounded memory a bytes old new x =
-    elim (nat_le a x && nat_lt x (a + length bytes)) as (λ b. cond b (get_or bytes (x - a) 0) (memory x) < 2 ^ 8) [ true ↦ new (x - a) | false ↦ old x ]
-
-pub four-bounded : (v k : ℕ) → get_or (bytes_low_first 0 4 v) k 0 < 2 ^ 8
-four-bounded v zero = omega arith
-four-bounded v (suc zero) = omega arith
-four-bounded v (suc (suc zero)) = omega arith
-four-bounded v (suc (suc (suc zero))) = omega arith
-four-bounded v (suc (suc (suc (suc k)))) = omega arith
 
 true≢false : {b : Bool} → b ≡ true → b ≡ false → ⊥
 true≢false yes_ no_ = absurd (let e : true ≡ false = sym yes_ ∙ no_ in cc)

@@ -4,6 +4,7 @@ use Rattle.std.proofs.lemmas.Bool.{cases_lt}
 use Rattle.std.proofs.lemmas.Bool.Decides.{nat_tests}
 use Rattle.std.specs.Int.{bytes_low_first}
 use Rattle.op_low.specs.declared.code.Routine.{Routine}
+use Rattle.op_rv.proofs.Memory.{can_access_word, four-bounded, with_bytes-outside, word_at-same, word_at-stored}
 use Rattle.op_rv.specs.Operation.{word_from}
 use Rattle.op_rv.specs.State.{State, register, advanced, faulted, with_bytes, word_at}
 use Rattle.op_rv.specs.Step.{act, store, can_access, offset_from}
@@ -18,11 +19,11 @@ use Rattle.op_select.specs.Placing.{Stands}
 use Rattle.op_select.specs.RiscvMachine.{instr_shows}
 use Rattle.op_select.specs.Sequences.{below, sum}
 use Rattle.op_select.proofs.ClearLemmas.{stored, Clears, clears, no_distance}
-use Rattle.op_select.proofs.FrameLemmas.{sizes, sound_stored, four-bounded, with_bytes-outside}
+use Rattle.op_select.proofs.FrameLemmas.{sizes, sound_stored}
 use Rattle.op_select.proofs.ReturnSteps.{four_below, down_by, down-bounded}
 use Rattle.op_select.proofs.SequenceLemmas.{sums, stores}
 use Rattle.op_select.proofs.Walks.{Walk, walk_none, walk_join, walk_weaken, walk_step, advanced_pc, placed, sound_placed, becomes, plain_first, split, nothing_more}
-use Rattle.op_select.proofs.WordLemmas.{cond_true, can_access_word, word_at-stored, word_at-same}
+use Rattle.op_select.proofs.WordLemmas.{cond_true}
 
 -- the return address is saved, and sp is that of the routine
 pub record Saves (w : Setting) (b : State) (sp frame at : ℕ) : Type 0 where

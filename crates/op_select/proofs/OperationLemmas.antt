@@ -5,6 +5,7 @@ use Rattle.std.proofs.lemmas.Int.{ints, unsigned_abs-mul}
 use Rattle.std.proofs.lemmas.Nat.{xor_of_32, or_of_32, and_le_l}
 use Rattle.std.specs.Int.{w8, w16, cast_signed, from_bool, int_shr}
 use Rattle.std.specs.Int.RustNames.{int_div, int_rem, unsigned_abs}
+use Rattle.op_rv.proofs.Memory.{word_at-bounded}
 use Rattle.op_rv.specs.Operation.{signed, word_from, upper_word, shift_value, alu_value, imm_value}
 use Rattle.op_rv.specs.State.{half_at}
 use Rattle.op_rv.specs.Step.{load_value}
@@ -16,7 +17,6 @@ use Rattle.op_rv.specs.declared.instruction.LoadOp.{LoadOp}
 use Rattle.op_rv.specs.declared.instruction.LoadOp.TheVariants.{Lb, Lh, Lw, Lbu, Lhu}
 use Rattle.op_rv.specs.declared.instruction.ShiftOp.{ShiftOp}
 use Rattle.op_rv.specs.declared.instruction.ShiftOp.TheVariants.{Slli, Srli, Srai}
-use Rattle.op_select.proofs.WordLemmas.{word_at-bounded}
 
 from_bool-bounded : (b : Bool) → from_bool b < 2 ^ 32
 from_bool-bounded true = omega arith

@@ -8,6 +8,7 @@ use Rattle.op_low.specs.declared.ids.VirtualRegister.{VirtualRegister}
 use Rattle.op_low.specs.declared.instruction.Instruction.TheVariants.{Read, Write}
 use Rattle.op_low.specs.declared.instruction.Output.{Output}
 use Rattle.op_low.specs.declared.instruction.Output.TheVariants.{Console, Errors}
+use Rattle.op_rv.proofs.Memory.{all_of, bytes_from-same}
 use Rattle.op_rv.specs.Environment.{environment_call, read_call, write_call, exit_call, returned, filled, is_readable, is_writable}
 use Rattle.op_rv.specs.State.{State, register, faulted, with_bytes, all_from, bytes_from}
 use Rattle.op_rv.specs.Step.{act}
@@ -22,7 +23,7 @@ use Rattle.op_select.specs.Sequences.{small}
 use Rattle.op_select.proofs.ControlSteps.{stays_written}
 use Rattle.op_select.proofs.FrameLemmas.{stays_placed, keeps}
 use Rattle.op_select.proofs.SequenceLemmas.{smalls}
-use Rattle.op_select.proofs.ValueSteps.{Steps, both_left, both_right, inside, value-bounded, usable_all, all_of}
+use Rattle.op_select.proofs.ValueSteps.{Steps, both_left, both_right, inside, value-bounded, usable_all}
 use Rattle.op_select.proofs.Walks.{Walk, walk_join, walk_weaken, walk_step, advanced_pc, placed, sound_placed, plain_first, split, nothing_more}
 use Rattle.op_select.proofs.FrameLemmas.{fetches}
 use Rattle.op_select.proofs.WordLemmas.{cond_true}
@@ -98,12 +99,6 @@ read_shows s number is can =
     called ∙ chosen ∙ cond_true (is_writable s) (Taken bytes ∷ []) [] can
 
 -- ---- bytes
-
-bytes_same : (memory other : ℕ → ℕ) (a n : ℕ) → ((x : ℕ) → a ≤ x → x < a + n → other x ≡ memory x) → bytes_from other a n ≡ bytes_from memory a n
-unfolding bytes_from
-bytes_same memory other a zero same = refl
-bytes_same memory other a (suc n) same =
-    ap₂ (λ x xs. x ∷ xs) (same a (omega arith) (omega arith)) (bytes_same memory other (a + 1) n (λ x from before. same x (omega arith) (omega arith)))
 
 take-bounded : (n : ℕ) (xs : List ℕ) (k : ℕ) → ((i : ℕ) → get_or xs i 0 < 2 ^ 8) → get_or (take n xs) k 0 < 2 ^ 8
 take-bounded zero xs k small = omega arith
@@ -217,7 +212,7 @@ module _ (w : Setting) (law : IsSetting w) where
       let usable_ = usable_all w.rights.readable m a n can in
       let can_c : all_from c.rights.readable a n ≡ true = subst (λ rights. all_from rights.readable a n ≡ true) (sym stays_c.sound.rights) (all_of w.rights.readable a n (λ x from before. (usable_ x from before).0)) in
       let readable : is_readable c ≡ true = ap₂ (all_from c.rights.readable) args.buffer_is args.length_is ∙ can_c in
-      let bytes_is : bytes_from c.memory (register c 11) (register c 12) ≡ bytes = ap₂ (bytes_from c.memory) args.buffer_is args.length_is ∙ bytes_same m.memory c.memory a n (λ x from before. stays_c.memory x (usable_ x from before).1) in
+      let bytes_is : bytes_from c.memory (register c 11) (register c 12) ≡ bytes = ap₂ (bytes_from c.memory) args.buffer_is args.length_is ∙ bytes_from-same m.memory c.memory a n (λ x from before. stays_c.memory x (usable_ x from before).1) in
       let at = advanced_pc w law c Ecall first.0 ∙ there in
       let d = placed c (set c.registers 10 (register c 12)) whole.middle in
       let does = environment_write c args.number_is ∙ write_does output c args.descriptor_is readable ∙ ap (λ bs. wrote output bs (returned (register c 12) c)) bytes_is ∙ wrote_placed output bytes c (register c 12) whole.middle at in

@@ -8,6 +8,7 @@ use Rattle.op_low.specs.Valid.{is_valid_instruction}
 use Rattle.op_low.specs.declared.ids.VirtualRegister.{VirtualRegister}
 use Rattle.op_low.specs.declared.instruction.Instruction.{Instruction}
 use Rattle.op_low.specs.declared.instruction.Instruction.TheVariants.{Return, Raise}
+use Rattle.op_rv.proofs.Memory.{can_access_word}
 use Rattle.op_rv.specs.Operation.{word_from, branch_taken}
 use Rattle.op_rv.specs.State.{State, register, with_register, advanced, faulted, word_at}
 use Rattle.op_rv.specs.Step.{act, load, can_access, offset_from}
@@ -31,7 +32,7 @@ use Rattle.op_select.proofs.SequenceLemmas.{sums, smalls}
 use Rattle.op_select.proofs.TransferLemmas.{block_stands, stub_stands}
 use Rattle.op_select.proofs.ValueSteps.{Steps, inside, value-bounded}
 use Rattle.op_select.proofs.Walks.{Walk, walk_none, walk_join, walk_weaken, walk_step, placed, sound_placed, becomes, plain_first, split, nothing_more}
-use Rattle.op_select.proofs.WordLemmas.{cond_true, can_access_word}
+use Rattle.op_select.proofs.WordLemmas.{cond_true}
 
 -- the limit has been lowered
 pub record Lowers (b : State) (limit at : ℕ) : Type 0 where

@@ -2,6 +2,7 @@
 use Rattle.std.proofs.Common.{◌≡◌, ◌≢◌, ℕ, pos, ◌+◌, ◌*◌, ◌%◌, ◌^◌, ◌<◌, ◌≤◌, Bool, true, false, cond, List, [], ◌∷◌, length, get_or, refl, ap, sym, subst, ◌∙◌, arith}
 use Rattle.std.proofs.lemmas.Int.{ints}
 use Rattle.std.specs.Int.{bytes_low_first}
+use Rattle.op_rv.proofs.Memory.{can_access_word}
 use Rattle.op_rv.specs.Operation.{word_from}
 use Rattle.op_rv.specs.State.{State, register, with_register, advanced, faulted, with_bytes, word_at}
 use Rattle.op_rv.specs.Step.{act, load, store, can_access}
@@ -17,7 +18,7 @@ use Rattle.op_select.specs.Placing.{Stands}
 use Rattle.op_select.specs.RiscvMachine.{instr_shows}
 use Rattle.op_select.specs.Sequences.{upper_of, lower_of, is_near, small, constant, reach, reached, sum, word_load, word_store}
 use Rattle.op_select.proofs.Walks.{Walk, walk_none, walk_join, walk_weaken, walk_step, advanced_pc, placed, sound_placed, Becomes, becomes, register_is, plain_first, split, nothing_more}
-use Rattle.op_select.proofs.WordLemmas.{cond_true, near_sum, far_sum, far_constant, near_constant, can_access_word}
+use Rattle.op_select.proofs.WordLemmas.{cond_true, near_sum, far_sum, far_constant, near_constant}
 
 -- the place at a distance is reached
 pub record Reaches (b : State) (base via from word at : ℕ) : Type 0 where

@@ -8,6 +8,7 @@ use Rattle.op_low.specs.State.{State as LowState, keep as with_kept, value, usab
 use Rattle.op_low.specs.Valid.{is_valid_instruction, has, const_fits, address_fits, local_fits, imm_fits, shift_fits}
 use Rattle.op_low.specs.declared.ids.VirtualRegister.{VirtualRegister}
 use Rattle.op_low.specs.declared.instruction.Instruction.TheVariants.{Const, Address, Local, Move, Alu, AluImm, Shift, Load}
+use Rattle.op_rv.proofs.Memory.{all_of, word_at-bounded, word_at-same}
 use Rattle.op_rv.specs.Encoding.{is_imm}
 use Rattle.op_rv.specs.Operation.{word_from, alu_value, imm_value, shift_value}
 use Rattle.op_rv.specs.State.{State, register, with_register, advanced, faulted, all_from}
@@ -34,7 +35,7 @@ use Rattle.op_select.proofs.FrameLemmas.{below_top, below_bottom, stays_placed, 
 use Rattle.op_select.proofs.OperationLemmas.{alu-bounded, imm-bounded, shift-bounded, load-bounded}
 use Rattle.op_select.proofs.SequenceLemmas.{constants, sums}
 use Rattle.op_select.proofs.Walks.{Walk, walk_join, walk_weaken, placed, sound_placed, Becomes, becomes, plain_first, split}
-use Rattle.op_select.proofs.WordLemmas.{cond_true, and_true, word_at-bounded, word_at-same}
+use Rattle.op_select.proofs.WordLemmas.{cond_true, and_true}
 
 -- a value in a0, and sp and the limit as they were
 pub record Result (b : State) (v at least most : ℕ) : Type 0 where
@@ -120,15 +121,6 @@ usable_all right m a (suc n) all x from before =
           let one : (right a && nat_lt a m.limit) ≡ true = both_left (usable right m a) _ all in
           subst (λ y. (right y ≡ true) × (y < m.limit)) same (both_left _ _ one, ltb-true a m.limit (both_right (right a) _ one))
     ]
-
-pub all_of : (right : ℕ → Bool) (a n : ℕ) → ((x : ℕ) → a ≤ x → x < a + n → right x ≡ true) → all_from right a n ≡ true
-unfolding all_from
-all_of right a zero each = refl
-all_of right a (suc n) each = both (right a) _ (each a (omega arith) (omega arith)) (all_of right (a + 1) n (λ x from before. each x (omega arith) (omega arith)))
-  where
-    both : (p q : Bool) → p ≡ true → q ≡ true → (p && q) ≡ true
-    both true q first second = second
-    both false q first second = absurd cc
 
 pub access_of : (right : ℕ → Bool) (m : LowState) (a n : ℕ) → can_access (usable right m) a n ≡ true → can_access right a n ≡ true
 access_of right m a n can = and_true (nat_eq (a % n) 0) (all_from right a n) (both_left (nat_eq (a % n) 0) _ can) (all_of right a n (λ x from before. (usable_all right m a n (both_right (nat_eq (a % n) 0) _ can) x from before).0))

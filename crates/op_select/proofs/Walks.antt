@@ -5,6 +5,7 @@ use Rattle.std.proofs.lemmas.List.{get_or-set_same, get_or-set_other, length-set
 use Rattle.op_simulation.specs.Path.{Path}
 use Rattle.op_simulation.proofs.Paths.{path_none, path_step, path_join}
 use Rattle.op_low.specs.Machine.{Event}
+use Rattle.op_rv.proofs.Memory.{can_access_word}
 use Rattle.op_rv.specs.Decoding.{instr_at}
 use Rattle.op_rv.specs.State.{State, Ending, Running, register, with_register, advanced, word_at}
 use Rattle.op_rv.specs.Step.{act, step, step_by_ending, running_step, performed, can_fetch}
@@ -14,7 +15,7 @@ use Rattle.op_rv.specs.declared.objects.Item.TheVariants.{Plain}
 use Rattle.op_select.specs.Going.{Setting, IsSetting, Sound, IsSafe}
 use Rattle.op_select.specs.Placing.{Placing, Stands, Nothing, First, StandsHere, Expands, past}
 use Rattle.op_select.specs.RiscvMachine.{riscv_machine, riscv_shows, instr_shows}
-use Rattle.op_select.proofs.WordLemmas.{cond_true, cond_false, can_access_word}
+use Rattle.op_select.proofs.WordLemmas.{cond_true, cond_false}
 
 -- ---- walks: paths of at least and at most so many steps
 

@@ -7,9 +7,10 @@ use Rattle.op_low.specs.State.{Placement, State, Ended, Bad, goes_on, usable}
 use Rattle.op_low.specs.declared.code.Low.{Low}
 use Rattle.op_low.specs.declared.instruction.Output.{Output}
 use Rattle.op_low.specs.declared.instruction.Output.TheVariants.{Console}
+use Rattle.op_rv.proofs.Memory.{bytes_from-same, with_bytes-below}
 use Rattle.op_rv.specs.State.{all_from, bytes_from, with_bytes}
 use Rattle.op_rv.specs.declared.symbol.Symbol.TheVariants.{Literal}
-use Rattle.op_select.proofs.WordLemmas.{cond_true, with_bytes-below}
+use Rattle.op_select.proofs.WordLemmas.{cond_true}
 use Rattle.op_simulation.proofs.Runs.{one_end}
 use Rattle.op_simulation.specs.System.{run, spent}
 use Rattle.op_tool.specs.TextProgram.{text_code, text_program}
@@ -43,13 +44,6 @@ all_usable right m at (suc n) each below =
     both_hold (right at && nat_lt at m.limit) (all_from (usable right m) (at + 1) n)
     (both_hold (right at) (nat_lt at m.limit) (each at (omega arith) (omega arith)) (grind (arith, nat_tests)))
     (all_usable right m (at + 1) n (λ x from under. each x (omega arith) (omega arith)) (omega arith))
-
-bytes_same : (memory other : ℕ → ℕ) (at n : ℕ) → ((x : ℕ) → at ≤ x → x < at + n → other x ≡ memory x) → bytes_from other at n ≡ bytes_from memory at n
-unfolding bytes_from
-bytes_same memory other at zero same = refl
-bytes_same memory other at (suc n) same =
-    ap (λ byte. byte ∷ bytes_from other (at + 1) n) (same at (omega arith) (omega arith))
-    ∙ ap (λ bytes. memory at ∷ bytes) (bytes_same memory other (at + 1) n (λ x from under. same x (omega arith) (omega arith)))
 
 -- ---- the run
 
@@ -87,7 +81,7 @@ module _ (text input : List ℕ) (p : Placement) (bottom room : ℕ) (memory : �
   writes_text =
       writes p Console at (length text) under_way text
       (all_usable p.rights.readable under_way at (length text) readable (omega arith))
-      (bytes_same memory (with_bytes memory bottom []) at (length text) (λ x from under. with_bytes-below memory bottom [] x (omega arith)) ∙ stands)
+      (bytes_from-same memory (with_bytes memory bottom []) at (length text) (λ x from under. with_bytes-below memory bottom [] x (omega arith)) ∙ stands)
 
   pub text_runs : WritesText low p first text input
   unfolding start step step_by_ending done act run spent cost cost_by
