@@ -5,16 +5,15 @@ use Rattle.op_core.specs.declared.ids.RoutineId.{RoutineId}
 use Rattle.op_core.specs.declared.ids.TypeId.{TypeId}
 use Rattle.op_core.specs.declared.ids.VariableId.{VariableId}
 use Rattle.op_mir.specs.declared.action.Action.{Action}
-use Rattle.op_mir.specs.declared.action.Action.TheVariants.{Constant, Load, Store, Copy, Look, BeginWith, Pick, Compute, Write}
+use Rattle.op_mir.specs.declared.action.Action.TheVariants.{Constant, Load, Store, Copy, Look, BeginWith, Pick, Compute, Write, WriteText}
 use Rattle.op_mir.specs.declared.action.Computation.{Computation}
 use Rattle.op_mir.specs.declared.action.Computation.TheVariants.{Arithmetic, Compare, Negate, Complement, Invert, Absolute, Odd, Upper, LowBits, Check, Neighbour, Single, Span, Combine, Contains, CheckSet}
 use Rattle.op_mir.specs.declared.action.Writing.{Writing}
-use Rattle.op_mir.specs.declared.action.Writing.TheVariants.{Number, Truth, Char, Text}
+use Rattle.op_mir.specs.declared.action.Writing.TheVariants.{Number, Truth, Char}
 use Rattle.op_mir.specs.declared.code.Block.{Block}
 use Rattle.op_mir.specs.declared.code.Mir.{Mir}
 use Rattle.op_mir.specs.declared.code.Routine.{Routine}
 use Rattle.op_mir.specs.declared.ids.BlockId.{BlockId}
-use Rattle.op_mir.specs.declared.ids.LiteralId.{LiteralId}
 use Rattle.op_mir.specs.declared.ids.LocalId.{LocalId}
 use Rattle.op_mir.specs.declared.ids.TemporaryId.{TemporaryId}
 use Rattle.op_mir.specs.declared.instruction.Arm.{Arm}
@@ -50,9 +49,6 @@ has_type mir of = nat_lt of.0 mir.counts.types
 
 abbrev pub has_variable : Mir → VariableId → Bool
 has_variable mir v = nat_lt v.0 mir.counts.variables
-
-abbrev pub has_literal : Mir → LiteralId → Bool
-has_literal mir l = nat_lt l.0 (length mir.literals)
 
 abbrev pub has_routine : Mir → RoutineId → Bool
 has_routine mir r = nat_lt r.0 (length mir.routines)
@@ -92,9 +88,6 @@ load_fits mir routine t path = has routine t && path_fits mir routine path
 unfoldable pub copy_fits : Mir → Routine → TypeId → Path → Path → Bool
 copy_fits mir routine of to from = has_type mir of && path_fits mir routine to && path_fits mir routine from
 
-unfoldable pub pick_fits : Mir → Routine → TemporaryId → LiteralId → TemporaryId → Bool
-pick_fits mir routine to literal index = has_two routine to index && has_literal mir literal
-
 unfoldable pub computation_fits : Routine → Computation → Bool
 computation_fits routine (Arithmetic operator checked to left right) = has_three routine to left right
 computation_fits routine (Compare operator to left right) = has_three routine to left right
@@ -113,14 +106,10 @@ computation_fits routine (Combine operator to left right) = has_three routine to
 computation_fits routine (Contains to element set) = has_three routine to element set
 computation_fits routine (CheckSet all to from) = has_two routine to from
 
-unfoldable pub text_fits : Mir → Routine → LiteralId → TemporaryId → Bool
-text_fits mir routine literal width = has_literal mir literal && has routine width
-
-unfoldable pub writing_fits : Mir → Routine → Writing → Bool
-writing_fits mir routine (Number from width) = has_two routine from width
-writing_fits mir routine (Truth from width) = has_two routine from width
-writing_fits mir routine (Char from width) = has_two routine from width
-writing_fits mir routine (Text literal width) = text_fits mir routine literal width
+unfoldable pub writing_fits : Routine → Writing → Bool
+writing_fits routine (Number from width) = has_two routine from width
+writing_fits routine (Truth from width) = has_two routine from width
+writing_fits routine (Char from width) = has_two routine from width
 
 unfoldable pub action_fits : Mir → Routine → Action → Bool
 action_fits mir routine (Constant to n) = has routine to
@@ -129,9 +118,10 @@ action_fits mir routine (Store to kind from) = load_fits mir routine from to
 action_fits mir routine (Copy of to from) = copy_fits mir routine of to from
 action_fits mir routine (Look at) = path_fits mir routine at
 action_fits mir routine (BeginWith v) = has_local routine v
-action_fits mir routine (Pick to literal index) = pick_fits mir routine to literal index
+action_fits mir routine (Pick to text index) = has_two routine to index
 action_fits mir routine (Compute computation) = computation_fits routine computation
-action_fits mir routine (Write writing) = writing_fits mir routine writing
+action_fits mir routine (Write writing) = writing_fits routine writing
+action_fits mir routine (WriteText text width) = has routine width
 
 -- ---- instructions
 

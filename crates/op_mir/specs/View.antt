@@ -11,16 +11,15 @@ use Rattle.op_meaning.specs.Shapes.{type_of_local, variables_of}
 use Rattle.op_mir.specs.Code.{Instr, do_act, do_call, jump, when, unless, switch, dispatch, make_due, stop, ret, Arm as MeantArm, blocks_of}
 use Rattle.op_mir.specs.Machine.{Code}
 use Rattle.op_mir.specs.declared.action.Action.{Action}
-use Rattle.op_mir.specs.declared.action.Action.TheVariants.{Constant, Load, Store, Copy, Look, BeginWith, Pick, Compute, Write}
+use Rattle.op_mir.specs.declared.action.Action.TheVariants.{Constant, Load, Store, Copy, Look, BeginWith, Pick, Compute, Write, WriteText}
 use Rattle.op_mir.specs.declared.action.Computation.{Computation}
 use Rattle.op_mir.specs.declared.action.Computation.TheVariants.{Arithmetic, Compare, Negate, Complement, Invert, Absolute, Odd, Upper, LowBits, Check, Neighbour, Single, Span, Combine, Contains, CheckSet}
 use Rattle.op_mir.specs.declared.action.Writing.{Writing}
-use Rattle.op_mir.specs.declared.action.Writing.TheVariants.{Number, Truth, Char, Text}
+use Rattle.op_mir.specs.declared.action.Writing.TheVariants.{Number, Truth, Char}
 use Rattle.op_mir.specs.declared.code.Block.{Block}
 use Rattle.op_mir.specs.declared.code.Mir.{Mir}
 use Rattle.op_mir.specs.declared.code.Routine.{Routine}
 use Rattle.op_mir.specs.declared.ids.BlockId.{BlockId}
-use Rattle.op_mir.specs.declared.ids.LiteralId.{LiteralId}
 use Rattle.op_mir.specs.declared.instruction.Arm.{Arm}
 use Rattle.op_mir.specs.declared.instruction.Given.{Given}
 use Rattle.op_mir.specs.declared.instruction.Given.TheVariants.{ByValue, ByReference, ByPlace, ByCopy}
@@ -51,13 +50,6 @@ view_path path = record { root = view_root path.root; steps = map view_step path
 
 -- ---- actions
 
-abbrev bytes_or : Option (List ℕ) → List ℕ
-bytes_or None = []
-bytes_or (Some bytes) = bytes
-
-abbrev pub bytes_at : Mir → LiteralId → List ℕ
-bytes_at mir l = bytes_or (slice_get mir.literals l.0)
-
 abbrev first_or : Option FirstValue → FirstValue
 first_or None = first_parts no_values
 first_or (Some value) = value
@@ -84,23 +76,23 @@ view_computation (Combine o to a b) = combine o to.0 a.0 b.0
 view_computation (Contains to a b) = contains to.0 a.0 b.0
 view_computation (CheckSet all to a) = check_set all to.0 a.0
 
-abbrev pub view_writing : Mir → Writing → MeantAction
-view_writing mir (Number a width) = write_number a.0 width.0
-view_writing mir (Truth a width) = write_truth a.0 width.0
-view_writing mir (Char a width) = write_char a.0 width.0
-view_writing mir (Text l width) = write_text (bytes_at mir l) width.0
+abbrev pub view_writing : Writing → MeantAction
+view_writing (Number a width) = write_number a.0 width.0
+view_writing (Truth a width) = write_truth a.0 width.0
+view_writing (Char a width) = write_char a.0 width.0
 
 -- in a routine of the number
-abbrev pub view_action : Core → Mir → ℕ → Action → MeantAction
-view_action core mir r (Constant to n) = constant to.0 n
-view_action core mir r (Load to kind from) = load to.0 kind (view_path from)
-view_action core mir r (Store to kind from) = store (view_path to) kind from.0
-view_action core mir r (Copy of to from) = copy of (view_path to) (view_path from)
-view_action core mir r (Look at) = look (view_path at)
-view_action core mir r (BeginWith v) = begin_with v.0 (type_of_local core r v.0) (first_at core r v.0)
-view_action core mir r (Pick to l index) = pick to.0 (bytes_at mir l) index.0
-view_action core mir r (Compute computation) = view_computation computation
-view_action core mir r (Write writing) = view_writing mir writing
+abbrev pub view_action : Core → ℕ → Action → MeantAction
+view_action core r (Constant to n) = constant to.0 n
+view_action core r (Load to kind from) = load to.0 kind (view_path from)
+view_action core r (Store to kind from) = store (view_path to) kind from.0
+view_action core r (Copy of to from) = copy of (view_path to) (view_path from)
+view_action core r (Look at) = look (view_path at)
+view_action core r (BeginWith v) = begin_with v.0 (type_of_local core r v.0) (first_at core r v.0)
+view_action core r (Pick to text index) = pick to.0 text index.0
+view_action core r (Compute computation) = view_computation computation
+view_action core r (Write writing) = view_writing writing
+view_action core r (WriteText text width) = write_text text width.0
 
 -- ---- instructions
 
@@ -122,27 +114,27 @@ view_receiver (Place of to) = to_place of (view_path to)
 abbrev pub view_arm : Arm → MeantArm
 view_arm arm = record { labels = arm.labels; block = arm.block.0 }
 
-abbrev pub view_instruction : Core → Mir → ℕ → Instruction → Instr
-view_instruction core mir r (Act action landing) = do_act (view_action core mir r action) (view_landing landing)
-view_instruction core mir r (Call id call) = do_call id.0 (map view_given call.given) (view_receiver call.receiver) (view_landing call.landing)
-view_instruction core mir r (Jump block) = jump block.0
-view_instruction core mir r (When t block) = when t.0 block.0
-view_instruction core mir r (Unless t block) = unless t.0 block.0
-view_instruction core mir r (Switch t arms) = switch t.0 (map view_arm arms)
-view_instruction core mir r (Dispatch t block) = dispatch t.0 block.0
-view_instruction core mir r (MakeDue f) = make_due f
-view_instruction core mir r (Stop t) = stop t.0
-view_instruction core mir r Return = ret
+abbrev pub view_instruction : Core → ℕ → Instruction → Instr
+view_instruction core r (Act action landing) = do_act (view_action core r action) (view_landing landing)
+view_instruction core r (Call id call) = do_call id.0 (map view_given call.given) (view_receiver call.receiver) (view_landing call.landing)
+view_instruction core r (Jump block) = jump block.0
+view_instruction core r (When t block) = when t.0 block.0
+view_instruction core r (Unless t block) = unless t.0 block.0
+view_instruction core r (Switch t arms) = switch t.0 (map view_arm arms)
+view_instruction core r (Dispatch t block) = dispatch t.0 block.0
+view_instruction core r (MakeDue f) = make_due f
+view_instruction core r (Stop t) = stop t.0
+view_instruction core r Return = ret
 
-abbrev pub view_block : Core → Mir → ℕ → Block → List Instr
-view_block core mir r block = map (view_instruction core mir r) block.code
+abbrev pub view_block : Core → ℕ → Block → List Instr
+view_block core r block = map (view_instruction core r) block.code
 
 -- ---- programs
 
 -- a routine that does not exist does nothing
-abbrev view_routine : Core → Mir → ℕ → Option Routine → List (List Instr)
-view_routine core mir r None = blocks_of none
-view_routine core mir r (Some routine) = map (view_block core mir r) routine.blocks
+abbrev pub view_routine : Core → ℕ → Option Routine → List (List Instr)
+view_routine core r None = blocks_of none
+view_routine core r (Some routine) = map (view_block core r) routine.blocks
 
 abbrev charge_or : Option Routine → ℕ
 charge_or None = 0
@@ -158,5 +150,5 @@ view_of core stack mir = record {
   core = core;
   charge = λ r. charge_or (routine_at mir r);
   stack = stack;
-  blocks = λ r. view_routine core mir r (routine_at mir r);
+  blocks = λ r. view_routine core r (routine_at mir r);
 }

@@ -1,6 +1,7 @@
 //! Actions: what an activation does in one step between two branches. Operands and what they give are in temporaries.
 
-use crate::{LiteralId, LocalId, Path, TemporaryId};
+use crate::{LocalId, Path, TemporaryId};
+use op_base::Text;
 use op_core::{IntegerKind, TypeId};
 use op_tree::Operator;
 
@@ -102,7 +103,7 @@ pub enum Computation {
     },
 }
 
-/// To the console, with blanks in front up to a width.
+/// Of a value, to the console, with blanks in front up to a width.
 #[derive(Clone, Copy)]
 pub enum Writing {
     Number {
@@ -115,10 +116,6 @@ pub enum Writing {
     },
     Char {
         from: TemporaryId,
-        width: TemporaryId,
-    },
-    Text {
-        literal: LiteralId,
         width: TemporaryId,
     },
 }
@@ -157,9 +154,14 @@ pub enum Action {
     /// A Char of a literal, by its index from 1.
     Pick {
         to: TemporaryId,
-        literal: LiteralId,
+        text: Text,
         index: TemporaryId,
     },
     Compute(Computation),
     Write(Writing),
+    /// Writes a literal, as `Writing` says.
+    WriteText {
+        text: Text,
+        width: TemporaryId,
+    },
 }

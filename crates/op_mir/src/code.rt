@@ -1,7 +1,7 @@
 //! Routines and programs of managed code.
 
 use crate::Instruction;
-use op_base::{Sequence, Text};
+use op_base::Sequence;
 
 /// Instructions that are entered at the first one alone. The last one leaves the block.
 #[derive(Drop)]
@@ -34,6 +34,5 @@ pub struct Mir {
     pub routines: Sequence<Routine>,
     /// What stands below all activations: it enters the parts of the units.
     pub program: Routine,
-    pub literals: Sequence<Text>,
     pub counts: Counts,
 }

@@ -11,7 +11,3 @@ pub struct TemporaryId(pub u32);
 /// A variable of a routine, in the order of the routine's rows: its object, its parameters, its result, and then its locals.
 #[derive(Clone, Copy)]
 pub struct LocalId(pub u32);
-
-/// A literal that the code writes or takes a Char of.
-#[derive(Clone, Copy)]
-pub struct LiteralId(pub u32);

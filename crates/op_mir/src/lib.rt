@@ -15,7 +15,7 @@ mod validity;
 
 pub use action::{Action, Computation, Writing};
 pub use code::{Block, Counts, Mir, Routine};
-pub use ids::{BlockId, LiteralId, LocalId, TemporaryId};
+pub use ids::{BlockId, LocalId, TemporaryId};
 pub use instruction::{Arm, Call, Given, Instruction, Receiver};
 pub use path::{Path, Root, Step};
 pub use theorems::code_goes_along;

@@ -1,15 +1,15 @@
 //! Whether managed code names only what exists.
-ghost use Rattle.op_mir.specs.Valid.{act_fits, action_fits, all_given_fit, arm_fits, branch_fits, call_fits, computation_fits, copied_fits, copy_fits, dispatch_fits, given_fits, has, has_block, has_landing, has_literal, has_local, has_routine, has_three, has_two, has_type, has_variable, has_ways, is_valid, is_valid_block, is_valid_instruction, is_valid_routine, leaves, leaves_if, load_fits, path_fits, pick_fits, receiver_fits, root_fits, step_fits, switch_fits, text_fits, writing_fits};
+ghost use Rattle.op_mir.specs.Valid.{act_fits, action_fits, all_given_fit, arm_fits, branch_fits, call_fits, computation_fits, copied_fits, copy_fits, dispatch_fits, given_fits, has, has_block, has_landing, has_local, has_routine, has_three, has_two, has_type, has_variable, has_ways, is_valid, is_valid_block, is_valid_instruction, is_valid_routine, leaves, leaves_if, load_fits, path_fits, receiver_fits, root_fits, step_fits, switch_fits, writing_fits};
 ghost use Rattle.std.specs.List.{list_all};
 ghost use Rattle.std.specs.Prelude.{◌≡◌, ◌-◌, length, slice_get};
 
 use crate::{
-    Action, Arm, Block, BlockId, Call, Computation, Given, Instruction, LiteralId, LocalId, Mir,
-    Path, Receiver, Root, Routine, Step, TemporaryId, Writing,
+    Action, Arm, Block, BlockId, Call, Computation, Given, Instruction, LocalId, Mir, Path,
+    Receiver, Root, Routine, Step, TemporaryId, Writing,
 };
 use op_core::{RoutineId, TypeId, VariableId};
 
-/// Whether the code may be compiled further: every routine, block, variable, temporary, type and literal that it names exists, each routine has
+/// Whether the code may be compiled further: every routine, block, variable, temporary and type that it names exists, each routine has
 /// a block to begin with, and each block is left by its last instruction.
 #[tactic(auto, unfolding(crate::specs::Valid::is_valid))]
 pub fn valid(mir: &Mir) -> bool
@@ -187,9 +187,10 @@ fn valid_action(mir: &Mir, routine: &Routine, action: &Action) -> bool
         Action::Copy { of, to, from } => valid_copy(mir, routine, *of, to, from),
         Action::Look { at } => valid_path(mir, routine, at),
         Action::BeginWith { variable } => names_local(routine, *variable),
-        Action::Pick { to, literal, index } => valid_pick(mir, routine, *to, *literal, *index),
+        Action::Pick { to, text: _, index } => has_both(routine, *to, *index),
         Action::Compute(computation) => valid_computation(routine, *computation),
-        Action::Write(writing) => valid_writing(mir, routine, *writing),
+        Action::Write(writing) => valid_writing(routine, *writing),
+        Action::WriteText { text: _, width } => has_one(routine, *width),
     }
 }
 
@@ -212,19 +213,6 @@ fn valid_copied(mir: &Mir, routine: &Routine, of: TypeId, path: &Path) -> bool
     ensures { result ≡ copied_fits mir.now routine.now of path.now }
 {
     names_type(mir, of) && valid_path(mir, routine, path)
-}
-
-#[tactic(auto, unfolding(crate::specs::Valid::pick_fits))]
-fn valid_pick(
-    mir: &Mir,
-    routine: &Routine,
-    to: TemporaryId,
-    literal: LiteralId,
-    index: TemporaryId,
-) -> bool
-    ensures { result ≡ pick_fits mir.now routine.now to literal index }
-{
-    has_both(routine, to, index) && names_literal(mir, literal)
 }
 
 #[tactic(auto, unfolding(crate::specs::Valid::computation_fits))]
@@ -287,22 +275,14 @@ fn valid_computation(routine: &Routine, computation: Computation) -> bool
 }
 
 #[tactic(auto, unfolding(crate::specs::Valid::writing_fits))]
-fn valid_writing(mir: &Mir, routine: &Routine, writing: Writing) -> bool
-    ensures { result ≡ writing_fits mir.now routine.now writing }
+fn valid_writing(routine: &Routine, writing: Writing) -> bool
+    ensures { result ≡ writing_fits routine.now writing }
 {
     match writing {
         Writing::Number { from, width } => has_both(routine, from, width),
         Writing::Truth { from, width } => has_both(routine, from, width),
         Writing::Char { from, width } => has_both(routine, from, width),
-        Writing::Text { literal, width } => valid_text(mir, routine, literal, width),
     }
-}
-
-#[tactic(auto, unfolding(crate::specs::Valid::text_fits))]
-fn valid_text(mir: &Mir, routine: &Routine, literal: LiteralId, width: TemporaryId) -> bool
-    ensures { result ≡ text_fits mir.now routine.now literal width }
-{
-    names_literal(mir, literal) && has_one(routine, width)
 }
 
 // ---- places
@@ -383,12 +363,6 @@ fn names_variable(mir: &Mir, variable: VariableId) -> bool
     ensures { result ≡ has_variable mir.now variable }
 {
     variable.0 < mir.counts.variables
-}
-
-fn names_literal(mir: &Mir, literal: LiteralId) -> bool
-    ensures { result ≡ has_literal mir.now literal }
-{
-    (literal.0 as usize) < mir.literals.as_slice().len()
 }
 
 fn names_routine(mir: &Mir, id: RoutineId) -> bool

@@ -1,0 +1,110 @@
+//! The items of a statement.
+use op_base::Sequence;
+use op_core::{ClassId, Label, RoutineId};
+use op_mir::{Action, Given, Receiver, Root, TemporaryId};
+
+/// How a statement leaves what stands round it.
+#[derive(Clone, Copy)]
+pub enum Way {
+    Exit,
+    Break,
+    Continue,
+}
+
+/// What is done in order, by one construct of the source machine each. Of a construct that has to end temporaries, `keep` says how many
+/// stand round it and stay.
+#[cycle(items)]
+#[derive(Drop)]
+pub enum Item {
+    Act(Action),
+    /// The second operand of `and` and `or`, done where the first one is this truth value.
+    Also {
+        truth: bool,
+        temporary: TemporaryId,
+        items: Vec<Item>,
+    },
+    Choose {
+        temporary: TemporaryId,
+        first: Vec<Item>,
+        otherwise: Vec<Item>,
+    },
+    Select {
+        temporary: TemporaryId,
+        cases: Vec<Case>,
+        otherwise: Vec<Item>,
+    },
+    /// A loop, from its test on.
+    Loop(Turns),
+    /// A loop, from its body on.
+    BodyFirst(Turns),
+    /// A part with a finally part. Why it is left stands in the temporary, and an exception that waits in the next one.
+    Protect {
+        temporary: TemporaryId,
+        keep: u32,
+        items: Vec<Item>,
+        finalization: Vec<Item>,
+    },
+    Leave(Way),
+    Enter {
+        routine: RoutineId,
+        given: Sequence<Given>,
+        receiver: Receiver,
+    },
+    /// A part with handlers; `others` is for exceptions that no clause takes.
+    Attempt {
+        keep: u32,
+        items: Vec<Item>,
+        clauses: Vec<Clause>,
+        others: Option<Vec<Item>>,
+    },
+    /// Raises the instance in a temporary.
+    Throw {
+        instance: TemporaryId,
+    },
+    /// Raises the handler's instance again.
+    Rethrow,
+    Halt {
+        status: TemporaryId,
+    },
+    /// A constructor is called on a class, and the instance goes to a temporary.
+    Construct {
+        class: ClassId,
+        routine: RoutineId,
+        given: Sequence<Given>,
+        to: TemporaryId,
+    },
+    /// Free of the instance in a temporary; `takes_nil` says that nil is left alone.
+    Free {
+        takes_nil: bool,
+        instance: TemporaryId,
+    },
+}
+
+/// The turns of a loop. The head is done; where the temporary is then false, or with `ends` where it is true, the loop is over. Else
+/// `between` is done and then the body.
+#[cycle(items)]
+#[derive(Drop)]
+pub struct Turns {
+    pub head: Vec<Item>,
+    pub temporary: TemporaryId,
+    pub ends: bool,
+    pub between: Vec<Item>,
+    pub body: Vec<Item>,
+}
+
+/// A branch of a selection.
+#[cycle(items)]
+#[derive(Drop)]
+pub struct Case {
+    pub labels: Sequence<Label>,
+    pub items: Vec<Item>,
+}
+
+/// `on variable: class do`
+#[cycle(items)]
+#[derive(Drop)]
+pub struct Clause {
+    pub class: ClassId,
+    pub variable: Option<Root>,
+    pub items: Vec<Item>,
+}

@@ -1,0 +1,9 @@
+//! Items: a statement as a list of actions, choices, loops, protected parts and calls over numbered temporaries.
+//!
+//! From the typed statements of a routine come its items, exactly those of the source machine (op_meaning): what is evaluated when,
+//! which temporary has what, and which place a path leads to. Blocks are made of them in op_lower.
+#![tactic(auto)]
+
+mod item;
+
+pub use item::{Case, Clause, Item, Turns, Way};
