@@ -1,5 +1,5 @@
 -- A test of whether a program is of the plain class.
-use Rattle.std.specs.Prelude.{Bool, true, false, ◌&&◌, ℕ, length, List, Option, Some, None, nat_lt, not}
+use Rattle.std.specs.Prelude.{◌≡◌, ◌<◌, Bool, true, false, ◌&&◌, ℕ, length, List, Option, Some, None, nat_lt, not}
 use Rattle.std.specs.List.{list_all}
 use Rattle.op_core.specs.declared.ids.RoutineId.{RoutineId}
 use Rattle.op_core.specs.declared.ids.TypeId.{TypeId}
@@ -8,8 +8,11 @@ use Rattle.op_core.specs.declared.program.ExceptionClasses.{ExceptionClasses}
 use Rattle.op_core.specs.declared.program.Unit.{Unit as UnitRow}
 use Rattle.op_core.specs.declared.routine.Routine.{Routine}
 use Rattle.op_core.specs.declared.routine.Variable.{Variable}
+use Rattle.op_meaning.specs.Frames.{program_of}
 use Rattle.op_meaning.specs.Items.{Item, act, also, choose, select, loop, body_first, protect, leave, enter, finish, attempt, throw, rethrow, halt, construct, free, Items, none, then_do, Turns, turns, Cases, no_cases, cases}
 use Rattle.op_meaning.specs.Shapes.{is_managed, no_type}
+use Rattle.op_mir.specs.Code.{items_of}
+use Rattle.op_mir.specs.Plain.{IsPlain}
 
 -- ---- items, of a program with so many routines
 
@@ -51,7 +54,7 @@ is_plain_type core of = not (is_managed core of)
 abbrev pub is_plain_variable : Core → Variable → Bool
 is_plain_variable core v = is_plain_type core v.of
 
-abbrev is_plain_result : Core → Option TypeId → Bool
+abbrev pub is_plain_result : Core → Option TypeId → Bool
 is_plain_result core None = true
 is_plain_result core (Some of) = is_plain_type core of
 
@@ -76,3 +79,11 @@ has_plain_tables core =
     && list_all (is_plain_variable core) core.variables
     && list_all (is_plain_routine core) core.routines
     && list_all (is_plain_unit core) core.units
+
+-- a program that passes the tests is plain
+abbrev pub PlainByTest : Type 0
+PlainByTest =
+    (core : Core) (stack : ℕ) →
+    has_plain_tables core ≡ true →
+    ((r : ℕ) → r < length core.routines → are_plain (length core.routines) (items_of (program_of core stack) r) ≡ true) →
+    IsPlain (program_of core stack)
