@@ -1,18 +1,16 @@
 -- What a row of items says is what the items of its list say.
 use Rattle.std.proofs.Common.{◌≡◌, ℕ, List, [], ◌∷◌, ◌++◌, refl, ap, sym, ◌∙◌}
-use Rattle.std.specs.Prelude.{Bool, Vec}
+use Rattle.std.specs.Prelude.{Vec}
 use mathlib.Core.Former.{Count}
 use Rattle.std.specs.declared.alloc.Global.{Global}
 use Rattle.op_core.specs.declared.program.Core.{Core}
 use Rattle.op_items.specs.Nodes.{ItemNodes}
 use Rattle.op_items.specs.View.{item_view, item_row, case_row, clause_row, items_view, cases_view, clauses_view, turns_view, variable_view}
-use Rattle.op_items.specs.declared.item.Case.{Case}
 use Rattle.op_items.specs.declared.item.Clause.{Clause}
 use Rattle.op_items.specs.declared.item.Item.{Item, Row_of-Item, end_of-Item, more_of-Item, items-the_row-Item, items_hidden-the_row-Item-0, items_shown-the_row-Item-0, Row_of-Case, end_of-Case, more_of-Case, items-the_row-Case, items_hidden-the_row-Case-1, Row_of-Clause, end_of-Clause, more_of-Clause, items-the_row-Clause, items_hidden-the_row-Clause-2}
 use Rattle.op_items.specs.declared.item.Item.TheVariants.{Also, Choose, Select, Loop, BodyFirst, Protect, Attempt, AttemptAll, Also', Choose', Select', Loop', BodyFirst', Protect', Attempt', AttemptAll'}
 use Rattle.op_items.specs.declared.item.Turns.{Turns}
-use Rattle.op_meaning.specs.Items.{also, choose, select, loop, body_first, protect, attempt, Items, none, then_do, turns, cases, clauses, Clauses, no_clauses, for_others, ◌&◌}
-use Rattle.op_mir.specs.declared.ids.TemporaryId.{TemporaryId}
+use Rattle.op_meaning.specs.Items.{also, choose, select, loop, body_first, protect, attempt, then_do, turns, cases, clauses, Clauses, no_clauses, for_others, ◌&◌}
 
 both : {A B C : Type 0} (f : A → B → C) {a a' : A} {b b' : B} → a ≡ a' → b ≡ b' → f a b ≡ f a' b'
 both f {a} {a'} {b} {b'} p q = ap (λ x. f x b) p ∙ ap (f a') q

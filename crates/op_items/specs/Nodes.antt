@@ -1,5 +1,5 @@
 -- An item with a list says just what the list says.
-use Rattle.std.specs.Prelude.{◌≡◌, ℕ, List, ◌++◌, Bool, Vec}
+use Rattle.std.specs.Prelude.{◌≡◌, ℕ, Bool, Vec}
 use Rattle.std.specs.declared.alloc.Global.{Global}
 use Rattle.op_core.specs.declared.program.Core.{Core}
 use Rattle.op_items.specs.View.{item_view, items_view, cases_view, clauses_view, turns_view}
@@ -8,7 +8,7 @@ use Rattle.op_items.specs.declared.item.Clause.{Clause}
 use Rattle.op_items.specs.declared.item.Item.{Item}
 use Rattle.op_items.specs.declared.item.Item.TheVariants.{Also, Choose, Select, Loop, BodyFirst, Protect, Attempt, AttemptAll}
 use Rattle.op_items.specs.declared.item.Turns.{Turns}
-use Rattle.op_meaning.specs.Items.{also, choose, select, loop, body_first, protect, attempt, no_clauses, for_others, ◌&◌}
+use Rattle.op_meaning.specs.Items.{also, choose, select, loop, body_first, protect, attempt, no_clauses, for_others}
 use Rattle.op_mir.specs.declared.ids.TemporaryId.{TemporaryId}
 
 -- in a routine of the number
