@@ -1,6 +1,7 @@
 -- Where the registers of temporaries and the blocks of run-time errors stand.
 use Rattle.std.specs.Prelude.{ℕ, ◌+◌}
 use Rattle.op_compute.specs.declared.bank.Bank.{Bank}
+use Rattle.op_compute.specs.declared.bank.Operands.{Operands}
 use Rattle.op_compute.specs.declared.bank.RuntimeError.{RuntimeError}
 use Rattle.op_compute.specs.declared.bank.RuntimeError.TheVariants.{DivisionByZero, RangeCheck, StackOverflow, IntegerOverflow}
 use Rattle.op_compute.specs.declared.bank.Work.{Work}
@@ -34,3 +35,7 @@ work_of bank = record {
   range = error_block_of bank RangeCheck;
   overflow = error_block_of bank IntegerOverflow;
 }
+
+-- the registers of three temporaries
+abbrev pub operands_of : Bank → (to left right : TemporaryId) → Operands
+operands_of bank to a b = record { to = register_of bank to; left = register_of bank a; right = register_of bank b }

@@ -1,5 +1,5 @@
 //! Where the registers of temporaries and the blocks of run-time errors stand.
-ghost use Rattle.op_compute.specs.Bank.{error_block_of, place_of_error, register_of, scratch_of, work_of};
+ghost use Rattle.op_compute.specs.Bank.{error_block_of, operands_of, place_of_error, register_of, scratch_of, work_of};
 ghost use Rattle.std.specs.Prelude.{◌≡◌, ◌+◌, IfOk};
 
 use op_base::NoMemory;
@@ -42,6 +42,14 @@ pub struct Work {
     pub overflow: BlockId,
 }
 
+/// The registers of a computation's operands and of its result. The two operands are one where there is only one.
+#[derive(Clone, Copy)]
+pub struct Operands {
+    pub to: VirtualRegister,
+    pub left: VirtualRegister,
+    pub right: VirtualRegister,
+}
+
 /// A number so far behind another one.
 fn numbered(first: u32, n: u32) -> Result<u32, NoMemory>
     ensures { IfOk result (λ number. number ≡ first + n) }
@@ -71,6 +79,7 @@ impl Bank {
         Ok(BlockId(numbered(self.errors, error.place())?))
     }
 
+    /// The scratch registers and the blocks of errors.
     pub fn work(self) -> Result<Work, NoMemory>
         ensures { IfOk result (λ work. work ≡ work_of self) }
     {
@@ -81,6 +90,22 @@ impl Bank {
             division: self.error_block(RuntimeError::DivisionByZero)?,
             range: self.error_block(RuntimeError::RangeCheck)?,
             overflow: self.error_block(RuntimeError::IntegerOverflow)?,
+        })
+    }
+
+    /// The registers of three temporaries.
+    pub fn operands(
+        self,
+        to: TemporaryId,
+        left: TemporaryId,
+        right: TemporaryId,
+    ) -> Result<Operands, NoMemory>
+        ensures { IfOk result (λ operands. operands ≡ operands_of self to left right) }
+    {
+        Ok(Operands {
+            to: self.temporary(to)?,
+            left: self.temporary(left)?,
+            right: self.temporary(right)?,
         })
     }
 }
