@@ -1,0 +1,9 @@
+pub mod Arithmetic
+pub mod Bank
+pub mod Branches
+pub mod Comparisons
+pub mod Computing
+pub mod Conversions
+pub mod Moves
+pub mod Ranges
+pub mod SetCode
