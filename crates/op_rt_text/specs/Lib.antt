@@ -4,6 +4,7 @@ pub mod Char
 pub mod Copying
 pub mod Names
 pub mod Number
+pub mod Running
 pub mod Runtime
 pub mod Take
 pub mod Truth

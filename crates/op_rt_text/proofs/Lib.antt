@@ -1,0 +1,6 @@
+pub mod BlanksRun
+pub mod BytesLemmas
+pub mod Calls
+pub mod Programs
+pub mod Signs
+pub mod Walks
