@@ -21,7 +21,7 @@ use Rattle.op_rt_text.specs.Names.{blanks, block_id, register, routine_id, write
 use Rattle.op_rt_text.specs.Running.{StandsAt, behind}
 use Rattle.op_rt_text.proofs.BytesLemmas.{all_usable, each_byte, same_bytes}
 use Rattle.op_rt_text.proofs.Calls.{cleared, inside, walk_enter, walk_leave}
-use Rattle.op_rt_text.proofs.Programs.{Written, may_enter, program}
+use Rattle.op_rt_text.proofs.Programs.{Written, call_written, program}
 use Rattle.op_rt_text.proofs.Signs.{at_least_low, at_least_negative, less_low, width_high, width_low}
 use Rattle.op_rt_text.proofs.Walks.{Walk, standing, walk_act, walk_branch, walk_join, walk_past, walk_weaken, walk_write}
 use Rattle.op_rv.specs.Operation.{branch_taken, imm_value, signed, word_from}
@@ -44,7 +44,7 @@ module _ (others : List Routine) (entry : RoutineId) (named : Counts) (globals :
   low = program others entry named globals
 
   -- the 64 blanks stand at their address, and memory is that of the call below the limit
-  module _ (m : State) (operands : Operands) (rest : List Instruction) (memory : ℕ → ℕ) (text : StandsAt p m blanks (replicate {A = ℕ} 64 32)) (kept : (x : ℕ) → x < m.limit → memory x ≡ m.memory x) (has : space low p write_blanks_number ≤ m.room) where
+  module _ (m : State) (operands : Operands) (rest : List Instruction) (memory : ℕ → ℕ) (text : StandsAt p m (p.address blanks) (replicate {A = ℕ} 64 32)) (kept : (x : ℕ) → x < m.limit → memory x ≡ m.memory x) (has : space low p write_blanks_number ≤ m.room) where
     abbrev at : ℕ
     at = p.address blanks
 
@@ -229,25 +229,12 @@ module _ (others : List Routine) (entry : RoutineId) (named : Counts) (globals :
             }
 
   -- a call of the routine
-  pub blanks_called : (m : State) (operands : Operands) (rest : List Instruction) (count : ℕ) → values m operands.arguments ≡ count ∷ [] → count < 2 ^ 32 → StandsAt p m blanks (replicate {A = ℕ} 64 32) → p.frame write_blanks_number ≤ 64 → 64 ≤ m.room → Written low p m write_blanks_number operands rest (replicate {A = ℕ} (width_of (signed count)) 32) (width_of (signed count) + 82)
+  pub blanks_called : (m : State) (operands : Operands) (rest : List Instruction) (count : ℕ) → values m operands.arguments ≡ count ∷ [] → count < 2 ^ 32 → StandsAt p m (p.address blanks) (replicate {A = ℕ} 64 32) → p.frame write_blanks_number ≤ 64 → 64 ≤ m.room → Written low p m write_blanks_number operands rest (replicate {A = ℕ} (width_of (signed count)) 32) (width_of (signed count) + 82)
   blanks_called m operands rest count passed word text small has =
       let room : space low p write_blanks_number ≤ m.room = omega arith in
-      let number : length operands.arguments ≡ 1 = sym (length-map operands.arguments (value m)) ∙ ap (λ vs. length vs) passed in
       let memory = cleared low m write_blanks_number in
       let kept = λ (x : ℕ) (below : x < m.limit). with_bytes-below m.memory m.limit (replicate {A = ℕ} 0 0) x below in
       let inner = written m operands rest memory text kept room count m.output word in
-      let registers = λ (vs : List ℕ). inside low p m write_blanks_number operands rest (slice_index vs) begins memory m.output in
-      let end = standing (behind m operands rest inner.value memory (m.output ++ replicate {A = ℕ} (width_of (signed count)) 32)) rest in
-      let enters = walk_enter low p m write_blanks_number operands rest (may_enter others entry named globals p write_blanks_number m operands.arguments (count ∷ []) (omega arith) passed refl room) in
-      record {
-        value = inner.value;
-        memory = memory;
-        kept = kept;
-        pieces = inner.pieces;
-        joined = inner.joined;
-        walk =
-            walk_weaken low p (standing m (Call (routine_id write_blanks_number) operands ∷ rest)) end inner.pieces (1 + space low p write_blanks_number + length operands.arguments + (width_of (signed count) + 16)) (width_of (signed count) + 82) (omega arith)
-            (walk_join low p (standing m (Call (routine_id write_blanks_number) operands ∷ rest)) (registers (count ∷ [])) end [] inner.pieces (1 + space low p write_blanks_number + length operands.arguments) (width_of (signed count) + 16)
-             (subst (λ vs. Walk low p (standing m (Call (routine_id write_blanks_number) operands ∷ rest)) (registers vs) [] (1 + space low p write_blanks_number + length operands.arguments)) passed enters)
-             inner.walk);
-      }
+      call_written others entry named globals p m write_blanks_number operands rest (count ∷ []) (omega arith) passed refl room (replicate {A = ℕ} (width_of (signed count)) 32) (width_of (signed count) + 16) (width_of (signed count) + 82)
+      (omega arith)
+      (record { value = inner.value; memory = memory; kept = kept; pieces = inner.pieces; joined = inner.joined; walk = inner.walk })

@@ -1,5 +1,6 @@
 pub mod BlanksRun
 pub mod BytesLemmas
+pub mod BytesRun
 pub mod Calls
 pub mod Programs
 pub mod Signs

@@ -12,7 +12,6 @@ use Rattle.op_low.specs.declared.instruction.Output.TheVariants.{Console}
 use Rattle.op_rt_text.specs.Names.{blanks, false_text, routine_id, true_text}
 use Rattle.op_rt_text.specs.Runtime.{runtime_routines}
 use Rattle.op_rv.specs.State.{bytes_from, with_bytes}
-use Rattle.op_rv.specs.declared.symbol.Symbol.{Symbol}
 use Rattle.op_simulation.specs.Path.{Path}
 
 -- ---- what a program with run-time routines has
@@ -23,17 +22,17 @@ pub record HasRuntime (low : Low) (p : Placement) : Type 0 where
   pub routines : low.routines ≡ runtime_routines ++ others
   pub frames : (r : ℕ) → r < length runtime_routines → p.frame r ≤ 64
 
--- these bytes stand in memory where a symbol is, below the limit, and may be read
-pub record StandsAt (p : Placement) (m : State) (symbol : Symbol) (bytes : List ℕ) : Type 0 where
-  pub readable : (x : ℕ) → p.address symbol ≤ x → x < p.address symbol + length bytes → p.rights.readable x ≡ true
-  pub below : p.address symbol + length bytes ≤ m.limit
-  pub stands : bytes_from m.memory (p.address symbol) (length bytes) ≡ bytes
+-- these bytes stand in memory at an address, below the limit, and may be read
+pub record StandsAt (p : Placement) (m : State) (at : ℕ) (bytes : List ℕ) : Type 0 where
+  pub readable : (x : ℕ) → at ≤ x → x < at + length bytes → p.rights.readable x ≡ true
+  pub below : at + length bytes ≤ m.limit
+  pub stands : bytes_from m.memory at (length bytes) ≡ bytes
 
 -- the literals that the routines write
 pub record HasTexts (p : Placement) (m : State) : Type 0 where
-  pub blanks : StandsAt p m blanks (replicate {A = ℕ} 64 32)
-  pub truth : StandsAt p m true_text (codes "TRUE")
-  pub falsehood : StandsAt p m false_text (codes "FALSE")
+  pub blanks : StandsAt p m (p.address blanks) (replicate {A = ℕ} 64 32)
+  pub truth : StandsAt p m (p.address true_text) (codes "TRUE")
+  pub falsehood : StandsAt p m (p.address false_text) (codes "FALSE")
 
 -- the room is at least so many bytes of the stack, which may be read and written
 pub record HasRoom (p : Placement) (m : State) (least : ℕ) : Type 0 where
