@@ -5,5 +5,7 @@
 #![tactic(auto)]
 
 mod item;
+mod law;
 
 pub use item::{Case, Clause, Item, Turns, Way};
+pub use law::item_nodes;
