@@ -4,8 +4,13 @@
 //! which temporary has what, and which place a path leads to. Blocks are made of them in op_lower.
 #![tactic(auto)]
 
+mod adding;
+mod found;
 mod item;
 mod law;
+mod path;
+mod setting;
+mod shape;
 
 pub use item::{Case, Clause, Item, Turns, Way};
 pub use law::item_nodes;
