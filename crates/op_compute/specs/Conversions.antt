@@ -34,6 +34,8 @@ unfoldable pub check_code : Work → Operands → (low high : ℤ) → List Inst
 check_code w o low high = range_code w o.left low high ++ move_code o.to o.left
 
 -- the value that stands so far behind a number is in a range, if the number is in the range that stands so far in front
+unfoldable pub neighbour_test : Work → (from : VirtualRegister) → (distance low high : ℤ) → List Instruction
+neighbour_test w from distance low high = range_code w from (low -ℤ distance) (high -ℤ distance)
+
 unfoldable pub neighbour_code : Work → Operands → (distance low high : ℤ) → List Instruction
-neighbour_code w o distance low high =
-    range_code w o.left (low -ℤ distance) (high -ℤ distance) ++ sum_with w.first o.to o.left distance
+neighbour_code w o distance low high = neighbour_test w o.left distance low high ++ sum_with w.first o.to o.left distance

@@ -1,6 +1,6 @@
 //! Conversions of numbers (Free Pascal Reference Guide, "Value typecasts"; reference of the unit System, "Succ", "Pred" and "UpCase").
-ghost use Rattle.op_compute.specs.Conversions.{check_code, low_bits_code, neighbour_code, upper_code};
-ghost use Rattle.std.specs.Prelude.{◌≡◌, ◌∷◌, ◌++◌, [], OnOk};
+ghost use Rattle.op_compute.specs.Conversions.{check_code, low_bits_code, neighbour_code, neighbour_test, upper_code};
+ghost use Rattle.std.specs.Prelude.{◌≡◌, ◌-ℤ◌, ◌∷◌, ◌++◌, [], OnOk};
 
 use crate::instruction::{push_alu, push_immediate, push_move, push_shift};
 use crate::range::{push_sum_with, test_range};
@@ -67,6 +67,34 @@ pub fn check(
     push_move(code, operands.to, operands.left)
 }
 
+/// The number that stands so far in front of another one.
+fn in_front(n: i32, distance: i32) -> i64
+    ensures { result ≡ n -ℤ distance }
+{
+    n as i64 - distance as i64
+}
+
+/// Error 201 where the number that stands so far behind another one is not in a range.
+#[tactic(auto, unfolding(crate::specs::Conversions::neighbour_test))]
+fn test_neighbour(
+    code: &mut Vec<Instruction>,
+    work: Work,
+    from: VirtualRegister,
+    distance: i32,
+    low: i32,
+    high: i32,
+) -> Result<(), NoMemory>
+    ensures { OnOk result (code.new.items ≡ code.old.items ++ neighbour_test work from distance low high) }
+{
+    test_range(
+        code,
+        work,
+        from,
+        in_front(low, distance),
+        in_front(high, distance),
+    )
+}
+
 #[tactic(auto, unfolding(crate::specs::Conversions::neighbour_code))]
 pub fn neighbour(
     code: &mut Vec<Instruction>,
@@ -78,8 +106,6 @@ pub fn neighbour(
 ) -> Result<(), NoMemory>
     ensures { OnOk result (code.new.items ≡ code.old.items ++ neighbour_code work operands distance low high) }
 {
-    let first = low as i64 - distance as i64;
-    let last = high as i64 - distance as i64;
-    test_range(code, work, operands.left, first, last)?;
+    test_neighbour(code, work, operands.left, distance, low, high)?;
     push_sum_with(code, work.first, operands.to, operands.left, distance)
 }

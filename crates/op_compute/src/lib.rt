@@ -2,7 +2,7 @@
 //! branch to a block of its own.
 //!
 //! `Bank` says where the registers and those blocks stand, and `compute` appends the code of a computation. Beside it stand what
-//! shares its code: constants, conversions to the low bits, and branches by a number.
+//! shares its code: constants, conversions to the low bits, branches by a number, and single instructions.
 #![tactic(auto)]
 
 mod arithmetic;
@@ -19,3 +19,7 @@ pub use bank::{Bank, Operands, RuntimeError, Work};
 pub use branch::{branch_if_false, branch_if_true, dispatch, switch};
 pub use computation::{compute, constant};
 pub use conversion::low_bits;
+pub use instruction::{
+    push, push_alu, push_branch, push_const, push_immediate, push_move, push_shift,
+};
+pub use range::{push_distance, push_sum_with};
