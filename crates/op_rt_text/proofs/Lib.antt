@@ -6,4 +6,5 @@ pub mod CharRun
 pub mod Programs
 pub mod Signs
 pub mod ThenBytes
+pub mod TruthRun
 pub mod Walks
