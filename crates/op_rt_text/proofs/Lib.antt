@@ -2,6 +2,9 @@ pub mod BlanksRun
 pub mod BytesLemmas
 pub mod BytesRun
 pub mod Calls
+pub mod CharRun
 pub mod Programs
 pub mod Signs
+pub mod ThenBytes
+pub mod TruthRun
 pub mod Walks
