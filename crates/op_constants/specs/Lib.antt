@@ -1,0 +1,5 @@
+pub mod FirstBytes
+pub mod Fixed
+pub mod Literals
+pub mod Offsets
+pub mod Shapes
