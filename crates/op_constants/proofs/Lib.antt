@@ -1,0 +1,4 @@
+pub mod FirstParts
+pub mod Fitting
+pub mod Lying
+pub mod Sets

@@ -1,5 +1,6 @@
 pub mod FirstBytes
 pub mod Fixed
+pub mod Lies
 pub mod Literals
 pub mod Offsets
 pub mod Shapes
