@@ -47,8 +47,12 @@ labels_code w from block labels = flat_map (label_code w from block) labels
 unfoldable pub arm_code : Work → (from : VirtualRegister) → Arm → List Instruction
 arm_code w from arm = labels_code w from (block_of arm.block) arm.labels
 
+unfoldable pub arms_code : Work → (from : VirtualRegister) → List Arm → List Instruction
+arms_code w from arms = flat_map (arm_code w from) arms
+
+-- behind the labels stands one instruction to no effect: even without labels there is a step
 unfoldable pub switch_code : Work → (from : VirtualRegister) → List Arm → List Instruction
-switch_code w from arms = flat_map (arm_code w from) arms
+switch_code w from arms = arms_code w from arms ++ Const w.first 0 ∷ []
 
 -- ---- reasons
 

@@ -1,14 +1,14 @@
 -- The low code of conversions. (Free Pascal Reference Guide, "Value typecasts"; reference of the unit System, "Succ", "Pred" and "UpCase".)
-use Rattle.std.specs.Prelude.{ℤ, pos, negsuc, ◌-ℤ◌, List, [], ◌∷◌, ◌++◌}
+use Rattle.std.specs.Prelude.{ℤ, pos, negsuc, ◌-ℤ◌, List, [], ◌∷◌, ◌++◌, if◌then◌else◌}
 use Rattle.op_compute.specs.Moves.{move_code}
-use Rattle.op_compute.specs.Ranges.{range_code, sum_with}
+use Rattle.op_compute.specs.Ranges.{has_every_number, range_code, sum_with}
 use Rattle.op_compute.specs.declared.bank.Operands.{Operands}
 use Rattle.op_compute.specs.declared.bank.Work.{Work}
 use Rattle.op_core.specs.declared.types.IntegerKind.{IntegerKind}
 use Rattle.op_core.specs.declared.types.IntegerKind.TheVariants.{Signed8, Unsigned8, Signed16, Unsigned16, Signed32}
 use Rattle.op_low.specs.declared.ids.VirtualRegister.{VirtualRegister}
 use Rattle.op_low.specs.declared.instruction.Instruction.{Instruction}
-use Rattle.op_low.specs.declared.instruction.Instruction.TheVariants.{Alu, AluImm, Shift}
+use Rattle.op_low.specs.declared.instruction.Instruction.TheVariants.{Move, Alu, AluImm, Shift}
 use Rattle.op_rv.specs.declared.instruction.AluOp.TheVariants.{Sub}
 use Rattle.op_rv.specs.declared.instruction.ImmOp.TheVariants.{Addi, Sltiu, Andi}
 use Rattle.op_rv.specs.declared.instruction.ShiftOp.TheVariants.{Slli, Srli, Srai}
@@ -19,7 +19,7 @@ low_bits_code to Signed8 from = Shift Slli to from 24 ∷ Shift Srai to to 24 �
 low_bits_code to Unsigned8 from = AluImm Andi to from (pos 255) ∷ []
 low_bits_code to Signed16 from = Shift Slli to from 16 ∷ Shift Srai to to 16 ∷ []
 low_bits_code to Unsigned16 from = Shift Slli to from 16 ∷ Shift Srli to to 16 ∷ []
-low_bits_code to Signed32 from = move_code to from
+low_bits_code to Signed32 from = Move to from ∷ []
 
 -- 32 less, if the number is one of the 26 from 97 on
 unfoldable pub upper_code : Work → Operands → List Instruction
@@ -30,8 +30,10 @@ upper_code w o =
     ∷ Alu Sub o.to o.left w.first
     ∷ []
 
+-- nothing is tested where each number is in the range
 unfoldable pub check_code : Work → Operands → (low high : ℤ) → List Instruction
-check_code w o low high = range_code w o.left low high ++ move_code o.to o.left
+check_code w o low high =
+    if has_every_number low high then Move o.to o.left ∷ [] else range_code w o.left low high ++ move_code o.to o.left
 
 -- the value that stands so far behind a number is in a range, if the number is in the range that stands so far in front
 unfoldable pub neighbour_test : Work → (from : VirtualRegister) → (distance low high : ℤ) → List Instruction

@@ -1,5 +1,5 @@
 //! Branches by a number (Free Pascal Reference Guide, "The Case statement", "The If..then..else statement" and "Exceptions").
-ghost use Rattle.op_compute.specs.Branches.{arm_code, block_of, dispatch_code, false_code, label_code, labels_code, switch_code, true_code, way_code};
+ghost use Rattle.op_compute.specs.Branches.{arm_code, arms_code, block_of, dispatch_code, false_code, label_code, labels_code, switch_code, true_code, way_code};
 ghost use Rattle.op_compute.specs.Bank.{register_of, work_of};
 ghost use Rattle.std.specs.Prelude.{◌≡◌, ◌++◌, OnOk};
 
@@ -63,17 +63,18 @@ pub fn switch(
 {
     let work = bank.work()?;
     let from = bank.temporary(temporary)?;
-    push_arms(code, work, from, arms)
+    push_arms(code, work, from, arms)?;
+    push_const(code, work.first, 0)
 }
 
-#[tactic(auto, unfolding(crate::specs::Branches::switch_code, crate::specs::Branches::arm_code))]
+#[tactic(auto, unfolding(crate::specs::Branches::arms_code, crate::specs::Branches::arm_code))]
 fn push_arms(
     code: &mut Vec<Instruction>,
     work: Work,
     from: VirtualRegister,
     arms: &[Arm],
 ) -> Result<(), NoMemory>
-    ensures { OnOk result (code.new.items ≡ code.old.items ++ switch_code work from arms.now) }
+    ensures { OnOk result (code.new.items ≡ code.old.items ++ arms_code work from arms.now) }
 {
     for arm in arms {
         push_labels(

@@ -2,8 +2,8 @@
 ghost use Rattle.op_compute.specs.Conversions.{check_code, low_bits_code, neighbour_code, neighbour_test, upper_code};
 ghost use Rattle.std.specs.Prelude.{◌≡◌, ◌-ℤ◌, ◌∷◌, ◌++◌, [], OnOk};
 
-use crate::instruction::{push_alu, push_immediate, push_move, push_shift};
-use crate::range::{push_sum_with, test_range};
+use crate::instruction::{push, push_alu, push_immediate, push_move, push_shift};
+use crate::range::{has_every, push_sum_with, test_range};
 use crate::{Operands, Work};
 use op_base::NoMemory;
 use op_core::IntegerKind;
@@ -25,7 +25,7 @@ pub fn low_bits(
         IntegerKind::Unsigned8 => push_immediate(code, ImmOp::Andi, to, from, 255),
         IntegerKind::Signed16 => push_shifts(code, to, from, ShiftOp::Srai, 16),
         IntegerKind::Unsigned16 => push_shifts(code, to, from, ShiftOp::Srli, 16),
-        IntegerKind::Signed32 => push_move(code, to, from),
+        IntegerKind::Signed32 => push(code, Instruction::Move { to, from }),
     }
 }
 
@@ -63,6 +63,15 @@ pub fn check(
 ) -> Result<(), NoMemory>
     ensures { OnOk result (code.new.items ≡ code.old.items ++ check_code work operands low high) }
 {
+    if has_every(low, high) {
+        return push(
+            code,
+            Instruction::Move {
+                to: operands.to,
+                from: operands.left,
+            },
+        );
+    }
     test_range(code, work, operands.left, low as i64, high as i64)?;
     push_move(code, operands.to, operands.left)
 }

@@ -72,8 +72,9 @@ fn higher(high: i64) -> i64
     if GREATEST < high { GREATEST } else { high }
 }
 
+/// Whether each number of 32 bits is in a range.
 #[tactic(auto, unfolding(crate::specs::Ranges::has_every_number))]
-fn has_every(low: i32, high: i32) -> bool
+pub fn has_every(low: i32, high: i32) -> bool
     ensures { result ≡ has_every_number low high }
 {
     low == i32::MIN && high == i32::MAX
