@@ -47,7 +47,7 @@ module _ (others : List Routine) (entry : RoutineId) (named : Counts) (globals :
   abbrev low : Low
   low = program others entry named globals
 
-  may_enter : (r : ℕ) (m : State) (arguments : List VirtualRegister) (passed : List ℕ) → r < 8 → values m arguments ≡ passed → length passed ≡ (routine_of low r).parameters → space low p r ≤ m.room → can_enter low p r (length arguments) m ≡ true
+  pub may_enter : (r : ℕ) (m : State) (arguments : List VirtualRegister) (passed : List ℕ) → r < 8 → values m arguments ≡ passed → length passed ≡ (routine_of low r).parameters → space low p r ≤ m.room → can_enter low p r (length arguments) m ≡ true
   may_enter r m arguments passed there are same has =
       let number : length arguments ≡ (routine_of low r).parameters = sym (length-map arguments (value m)) ∙ ap (λ vs. length vs) are ∙ same in
       let all = length-append runtime_routines others in

@@ -9,7 +9,7 @@ use Rattle.op_low.specs.State.{Bad, Placement, Running, State, Ending, bad, goes
 use Rattle.op_low.specs.declared.code.Low.{Low}
 use Rattle.op_low.specs.declared.ids.VirtualRegister.{VirtualRegister}
 use Rattle.op_low.specs.declared.instruction.Instruction.{Instruction}
-use Rattle.op_low.specs.declared.instruction.Instruction.TheVariants.{Branch, Load, Store, Write}
+use Rattle.op_low.specs.declared.instruction.Instruction.TheVariants.{Branch, Jump, Load, Store, Write}
 use Rattle.op_low.specs.declared.instruction.Output.TheVariants.{Console}
 use Rattle.op_rt_text.specs.Running.{all_written}
 use Rattle.op_rv.specs.Operation.{branch_taken}
@@ -80,6 +80,10 @@ module _ (low : Low) (p : Placement) where
       walk_act m (standing m is) (Branch op l r block) is []
       (cond-false (branch_taken op (value m l) (value m r)) (jump low block (standing m is)) (standing m is) passed)
       refl 1 (omega arith) (omega arith)
+
+  pub walk_jump : (m : State) (block : BlockId) (is : List Instruction) → Walk low p (standing m (Jump block ∷ is)) (jump low block (standing m is)) [] 1
+  unfolding act shown_by cost_by
+  walk_jump m block is = walk_act m (jump low block (standing m is)) (Jump block) is [] refl refl 1 (omega arith) (omega arith)
 
   -- bytes that may be read
   pub walk_write : (m : State) (buffer length : VirtualRegister) (is : List Instruction) (bytes : List ℕ) → all_from (usable p.rights.readable m) (value m buffer) (value m length) ≡ true → bytes_from m.memory (value m buffer) (value m length) ≡ bytes → Walk low p (standing m (Write Console buffer length ∷ is)) (standing (record m { output = m.output ++ bytes }) is) (bytes ∷ []) 1
