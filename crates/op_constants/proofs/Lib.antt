@@ -1,0 +1,3 @@
+pub mod FirstParts
+pub mod Fitting
+pub mod Sets

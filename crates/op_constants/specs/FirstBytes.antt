@@ -1,6 +1,6 @@
 -- Which bytes a first value is in memory. (Free Pascal Reference Guide, "Initialized variables" and "Typed constants"; RISC-V
 -- Unprivileged ISA manual, "Load and Store Instructions": the lowest byte stands first.)
-use Rattle.std.specs.Prelude.{ℕ, ◌-◌, ℤ, pos, List, [], ◌∷◌, ◌++◌, length, take, replicate, Option, Some, None}
+use Rattle.std.specs.Prelude.{ℕ, ◌-◌, ℤ, pos, List, [], ◌∷◌, ◌++◌, length, take, replicate, Option, Some}
 use Rattle.std.specs.Int.{w32, bytes_low_first, cast_unsigned}
 use Rattle.op_core.specs.Initial.{FirstValue, constant, parts, FirstValues, no_values, values}
 use Rattle.op_core.specs.Sizes.{type_at, extent_of, integer_size}
@@ -14,7 +14,7 @@ use Rattle.op_core.specs.declared.types.Field.{Field}
 use Rattle.op_core.specs.declared.types.IntegerKind.{IntegerKind}
 use Rattle.op_core.specs.Rows.{rows}
 use Rattle.op_meaning.specs.Sets.{set_of_elements}
-use Rattle.op_meaning.specs.Shapes.{Shape, single, composite, shape_of}
+use Rattle.op_meaning.specs.Shapes.{Shape, single, shape_of}
 use Rattle.op_constants.specs.Offsets.{size_in, begin_behind, end_behind}
 
 -- so many bytes: what is more is cut, and zeros are behind what is less
@@ -71,3 +71,8 @@ abbrev mutual
 -- those of a value that has parts, of a type of this form
 abbrev pub parts_bytes : Core → Option CoreType → FirstValues → List ℕ
 parts_bytes core t vs = parts_by core t (λ fs. fields_bytes core 0 fs vs) (λ element. elements_bytes core element vs)
+
+-- what a value has, before it is cut or zeros come behind it
+abbrev pub content : Core → TypeId → FirstValue → List ℕ
+content core of (constant c) = number_by (shape_of core of) (number_of_constant c)
+content core of (parts vs) = parts_bytes core (type_at core of) vs

@@ -1,6 +1,6 @@
 -- How much room values take in memory, and where their parts begin. (Free Pascal Reference Guide, "Types", "Record types" and
 -- "Arrays".)
-use Rattle.std.specs.Prelude.{ℕ, zero, suc, ◌+◌, ◌*◌, List, [], ◌∷◌, Option, Some, None}
+use Rattle.std.specs.Prelude.{ℕ, zero, suc, ◌+◌, List, [], ◌∷◌, Option, Some}
 use Rattle.op_core.specs.Rows.{rows}
 use Rattle.op_core.specs.Sizes.{type_at, extent_of, aligned, capped}
 use Rattle.op_core.specs.declared.ids.TypeId.{TypeId}

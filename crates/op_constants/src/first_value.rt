@@ -1,11 +1,12 @@
 //! First values as bytes of memory (Free Pascal Reference Guide, "Initialized variables" and "Typed constants").
-ghost use Rattle.std.specs.Prelude.{◌≡◌, ◌++◌, ◌+◌, ◌≤◌, IfOk, OnOk, length, replicate, take};
+ghost use Rattle.std.specs.Prelude.{◌≡◌, ◌++◌, ◌+◌, ◌≤◌, IfOk, OnOk, drop, length, nat_eq, replicate, take};
+ghost use Rattle.std.specs.List.{list_any};
 ghost use Rattle.op_core.specs.Initial.{first_value_of, no_values, parts};
 ghost use Rattle.op_core.specs.Nodes.{first_values_of};
 ghost use Rattle.op_core.specs.Sizes.{type_at};
 ghost use Rattle.op_meaning.specs.Sets.{bits_below, set_of_elements};
 ghost use Rattle.op_meaning.specs.Shapes.{shape_of};
-ghost use Rattle.op_constants.specs.FirstBytes.{elements_bytes, fields_bytes, first_bytes, first_number, fitted, number_by, number_bytes, number_of_constant, parts_bytes};
+ghost use Rattle.op_constants.specs.FirstBytes.{content, elements_bytes, fields_bytes, first_bytes, first_number, fitted, number_by, number_bytes, number_of_constant, parts_bytes};
 
 use crate::shape::single_kind;
 use crate::size::{begin_behind, end_behind, extent_of, size_of, type_at};
@@ -56,11 +57,25 @@ fn push_first(
     ensures { OnOk result (bytes.new.items ≡ bytes.old.items ++ first_bytes core.now of (first_value_of initial.now)) }
 {
     let begin = bytes.len();
+    push_content(core, of, initial, bytes)?;
+    fit(bytes, begin, size_of(core, of) as usize)?;
+    Ok(())
+}
+
+/// What a value of the type has, before it is cut or zeros come behind it.
+#[cycle(first)]
+fn push_content(
+    core: &Core,
+    of: TypeId,
+    initial: &Initial,
+    bytes: &mut Vec<u8>,
+) -> Result<(), NoMemory>
+    ensures { OnOk result (bytes.new.items ≡ bytes.old.items ++ content core.now of (first_value_of initial.now)) }
+{
     match initial {
-        Initial::Value(value) => push_number(core, of, number_of_constant(value), bytes)?,
-        Initial::Parts(parts) => push_parts(core, of, parts, bytes)?,
+        Initial::Value(value) => push_number(core, of, number_of_constant(value), bytes),
+        Initial::Parts(parts) => push_parts(core, of, parts, bytes),
     }
-    fit(bytes, begin, size_of(core, of) as usize)
 }
 
 #[cycle(first)]
@@ -91,9 +106,9 @@ fn push_fields(
     ensures { OnOk result (bytes.new.items ≡ bytes.old.items ++ fields_bytes core.now 0 fields.now (first_values_of parts.now)) }
 {
     let mut end = 0;
-    let mut rest = parts;
-    for field in fields {
-        let Some((part, others)) = rest.split_first() else {
+    let mut rest = fields;
+    for part in parts {
+        let Some((field, others)) = rest.split_first() else {
             return Ok(());
         };
         let extent = extent_of(core, field.of);
@@ -144,6 +159,7 @@ fn push_low_bytes(kind: IntegerKind, number: i32, bytes: &mut Vec<u8>) -> Result
 }
 
 /// What stands behind so many bytes becomes `size` bytes.
+#[tactic(auto, using(crate::proofs::Fitting::longer, crate::proofs::Fitting::shorter))]
 fn fit(bytes: &mut Vec<u8>, begin: usize, size: usize) -> Result<(), NoMemory>
     requires { begin ≤ length bytes.old.items }
     ensures { OnOk result (bytes.new.items ≡ take begin bytes.old.items ++ fitted size (drop begin bytes.old.items)) }
@@ -178,9 +194,16 @@ fn number_of_constant(value: &Const) -> i32
     }
 }
 
-/// The set of these elements, with bit k for the element k.
 fn set_of_elements(elements: &[u8]) -> i32
     ensures { result ≡ set_of_elements elements.now }
+{
+    bits_of_elements(elements).cast_signed()
+}
+
+/// The bit k for each element k.
+#[tactic(auto, using(crate::proofs::Sets::room, crate::proofs::Sets::all_bits), unfolding(op_meaning::specs::Sets::bits_below))]
+fn bits_of_elements(elements: &[u8]) -> u32
+    ensures { result ≡ bits_below 32 (λ n. list_any (λ e. nat_eq e n) elements.now) }
 {
     let mut bits = 0u32;
     for element in 0..32u8 {
@@ -188,5 +211,5 @@ fn set_of_elements(elements: &[u8]) -> i32
             bits += 1 << element;
         }
     }
-    bits.cast_signed()
+    bits
 }

@@ -5,7 +5,7 @@ ghost use Rattle.op_layout.specs.Places.{layout_of};
 ghost use Rattle.op_meaning.specs.Shapes.{type_of_local, variables_of};
 ghost use Rattle.op_mir.specs.declared.action.Action.TheVariants.{BeginWith};
 ghost use Rattle.op_constants.specs.FirstBytes.{first_bytes};
-ghost use Rattle.op_constants.specs.Literals.{action_literals, block_literals, first_of_row, literals_in, literals_of, routine_literals};
+ghost use Rattle.op_constants.specs.Literals.{action_literals, block_literals, first_of_row, instruction_literals, literals_in, literals_of, routine_literals};
 
 use crate::first_value::{first_bytes, zeros};
 use crate::fixed::fixed_literals;
@@ -83,11 +83,24 @@ fn push_block(
     ensures { OnOk result (literals.new.items ≡ literals.old.items ++ block_literals core.now routine.0 block.now) }
 {
     for instruction in block.code.as_slice() {
-        if let Instruction::Act { action, .. } = instruction {
-            push_action(alloc, core, routine, action, literals)?;
-        }
+        push_instruction(alloc, core, routine, instruction, literals)?;
     }
     Ok(())
+}
+
+fn push_instruction(
+    alloc: Global,
+    core: &Core,
+    routine: RoutineId,
+    instruction: &Instruction,
+    literals: &mut Vec<Text>,
+) -> Result<(), NoMemory>
+    ensures { OnOk result (literals.new.items ≡ literals.old.items ++ instruction_literals core.now routine.0 instruction.now) }
+{
+    match instruction {
+        Instruction::Act { action, .. } => push_action(alloc, core, routine, action, literals),
+        _ => Ok(()),
+    }
 }
 
 fn push_action(
@@ -130,7 +143,7 @@ fn push_first_value(
     if !is_composite(core, of) {
         return Ok(());
     }
-    let bytes = bytes_of_row(alloc, core, of, row(core, routine, variable))?;
+    let bytes = bytes_of_row(alloc, core, of, row_of_local(core, routine, variable))?;
     literals.push(Text::from(bytes))?;
     Ok(())
 }
@@ -142,7 +155,7 @@ fn bytes_of_row(
     of: TypeId,
     row: Option<&Variable>,
 ) -> Result<Vec<u8>, NoMemory>
-    ensures { IfOk result (λ bytes. bytes.items ≡ first_bytes core.now of (first_of_row (option_copied row))) }
+    ensures { IfOk result (λ bytes. bytes.items ≡ first_bytes core.now of (first_of_row (option_copied row.entry))) }
 {
     let Some(row) = row else {
         return zeros(alloc, core, of);
@@ -156,14 +169,14 @@ fn bytes_of_row(
 fn type_of_local(core: &Core, routine: RoutineId, variable: LocalId) -> TypeId
     ensures { result ≡ type_of_local core.now routine.0 variable.0 }
 {
-    match row(core, routine, variable) {
+    match row_of_local(core, routine, variable) {
         None => TypeId(0),
         Some(row) => row.of,
     }
 }
 
 /// The row of a variable of a routine. What is no routine begins with the first row.
-fn row(core: &Core, routine: RoutineId, variable: LocalId) -> Option<&Variable>
+fn row_of_local(core: &Core, routine: RoutineId, variable: LocalId) -> Option<&Variable>
     ensures { option_copied result ≡ slice_get core.now.variables ((variables_of core.now routine.0).first + variable.0) }
 {
     let first = match core.routines.as_slice().get(routine.0 as usize) {
