@@ -1,5 +1,5 @@
 -- Calls and returns. (Free Pascal Reference Guide, "Using functions and procedures", "Function results" and "Parameter lists".)
-use Rattle.std.specs.Prelude.{ℕ, ◌+◌, pos, List, [], ◌∷◌, ◌++◌, Option, Some, None, slice_get, if◌then◌else◌}
+use Rattle.std.specs.Prelude.{min, ◌^◌, ◌-◌, ℕ, ◌+◌, pos, List, [], ◌∷◌, ◌++◌, Option, Some, None, slice_get, if◌then◌else◌}
 use Rattle.op_compute.specs.Bank.{error_block_of, register_of, scratch_of}
 use Rattle.op_compute.specs.Conversions.{low_bits_code}
 use Rattle.op_compute.specs.declared.bank.RuntimeError.TheVariants.{StackOverflow}
@@ -92,9 +92,10 @@ receiver_of frame _ free = free
 
 -- ---- calls
 
+-- as far as a word has it: no stack has more
 abbrev charge_by : Option Routine → ℕ
 charge_by None = 0
-charge_by (Some routine) = routine.charge
+charge_by (Some routine) = min routine.charge (2 ^ 32 - 1)
 
 abbrev pub charge_of : Mir → ℕ → ℕ
 charge_of mir r = charge_by (slice_get mir.routines r)

@@ -135,12 +135,13 @@ fn receiver_of(
     }
 }
 
+/// What a routine is charged, as far as a word has it: no stack has more.
 fn charge_of(mir: &Mir, routine: RoutineId) -> u32
     ensures { result ≡ charge_of mir.now routine.0 }
 {
     match mir.routines.as_slice().get(routine.0 as usize) {
         None => 0,
-        Some(routine) => routine.charge,
+        Some(routine) => routine.charge.min(u32::MAX as u64) as u32,
     }
 }
 

@@ -14,7 +14,7 @@ use op_mir::{Mir, Routine};
 use std::alloc::Global;
 
 /// No stack has room for an activation that is charged more.
-const MOST_CHARGE: u32 = 1 << 26;
+const MOST_CHARGE: u64 = 1 << 26;
 
 /// The routine with this number, whose literals have the numbers from `first` on. What is charged more than any stack has ends with
 /// error 202 at once.
