@@ -282,7 +282,7 @@ class Program:
         cuts = sorted(self.random.sample(range(-16, 17), 8))
         labels = [self.one([f"{a}..{b - 1}", f"{a}", f"{a}, {b - 1}" if b - 1 > a else f"{a}"]) for a, b in zip(cuts[::2], cuts[1::2])]
         is_number = self.often(0.6)
-        self.line(f"case {self.number(2, scope)} mod 16 of" if is_number else f"case {self.within(self.colour, 1, scope)} of")
+        self.line(f"case Integer({self.number(2, scope)}) mod 16 of" if is_number else f"case {self.within(self.colour, 1, scope)} of")
         for label in labels if is_number else ["Colour1", "Colour0"]:
             self.line(f"  {label}:")
             self.block(2, scope, loop, leaves)
