@@ -3,10 +3,11 @@ import os
 import re
 import shutil
 import subprocess
+import tempfile
 
 TOP = os.path.dirname(os.path.dirname(os.path.abspath(__file__)))
-COMPILER = os.path.join(TOP, "crates", "opc", "out", "opc")
-FREE_PASCAL = shutil.which(os.environ.get("FPC32", "fpc32"))
+COMPILER = os.environ.get("OPC") or os.path.join(TOP, "crates", "opc", "out", "opc")
+FREE_PASCAL = shutil.which(os.environ.get("OPC_FPC32", "fpc32"))
 LINE = re.compile(r"opc: [^\n]*:(\d+:\d+): (V\d+) (.*)\n")
 
 
@@ -19,6 +20,15 @@ def texts():
 
 
 RULES, NUMBERS = texts()
+
+
+def free_pascal():
+    """Free Pascal for 32 bits, by the name in OPC_FPC32, as `fpc32`, or among the tools beside the repository; None where none of these compiles."""
+    beside = os.path.join(os.path.dirname(TOP), "shared", "tools", "fpc32")
+    found = FREE_PASCAL or shutil.which(beside)
+    with tempfile.TemporaryDirectory() as folder:
+        written(folder, "p.pas", "begin end.")
+        return found if found and subprocess.run([found, "p.pas", "program"], cwd=folder, capture_output=True).returncode == 0 else None
 
 
 def expanded(text):

@@ -1,4 +1,5 @@
-/* A plain interpreter of RV32IM images, to measure against: one switch, each word decoded at each step. */
+/* A plain interpreter of RV32IM images, to measure against: one switch, each word decoded at each step. With -DCOUNT_STEPS it tells at the end of the
+   image, in a line on the error stream, how many steps that took. */
 #include <stdint.h>
 #include <stdio.h>
 #include <stdlib.h>
@@ -8,6 +9,7 @@ struct segment { uint32_t base, size, flags; uint8_t *bytes; };
 
 static struct segment segments[16];
 static int count;
+static uint64_t steps;
 
 static uint8_t *at(uint32_t address, uint32_t size, uint32_t right) {
     for (int k = 0; k < count; k++) {
@@ -64,6 +66,9 @@ static int taken(uint32_t f3, uint32_t a, uint32_t b, uint32_t pc) {
 static void run(uint32_t pc) {
     uint32_t x[32] = {0};
     for (;;) {
+#ifdef COUNT_STEPS
+        steps++;
+#endif
         uint8_t *from = pc % 4 ? 0 : at(pc, 4, 1);
         if (!from) fault("Fetch", pc);
         uint32_t w, rd, f3, a, b, next = pc + 4, value = 0;
@@ -107,7 +112,10 @@ static void run(uint32_t pc) {
         case 0x73:
             if (w != 0x73) fault("Break", pc);
             rd = 10;
-            if (x[17] == 93) exit(x[10] & 255);
+            if (x[17] == 93) {
+                if (steps) fprintf(stderr, "%llu steps\n", (unsigned long long)steps);
+                exit(x[10] & 255);
+            }
             else if (x[17] == 64 && x[12] && at(x[11], x[12], 4))
                 fwrite(at(x[11], x[12], 4), 1, value = x[12], x[10] == 2 ? stderr : stdout);
             else if (x[17] == 63 && x[12] && at(x[11], x[12], 2))
