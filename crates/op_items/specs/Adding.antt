@@ -44,5 +44,4 @@ Adds setting old new more = view_in setting new ≡ view_in setting old & more
 -- and the value is where it is found
 pub record Gives (setting : Setting) (old new : List Item) (f : Found) (g : MeantFound) : Type 0 where
   pub adds : Adds setting old new g.items
-  pub now : now_view f.now ≡ g.now
-  pub used : f.used ≡ g.used
+  pub is : found_view f ≡ record g { items = none }
