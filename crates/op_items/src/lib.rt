@@ -5,6 +5,8 @@
 #![tactic(auto)]
 
 mod adding;
+mod call;
+mod expression;
 mod found;
 mod item;
 mod law;
