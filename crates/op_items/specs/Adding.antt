@@ -1,6 +1,10 @@
 -- What a function adds to the items so far, and where the value is that it has found.
-use Rattle.std.specs.Prelude.{◌≡◌, List}
+use Rattle.std.specs.Prelude.{◌≡◌, Bool, List, Option, Vec, map}
+use Rattle.std.specs.declared.alloc.Global.{Global}
+use Rattle.op_core.specs.Expression.{Expression}
+use Rattle.op_core.specs.declared.types.CoreType.{CoreType}
 use Rattle.op_items.specs.View.{items_view, cases_view, clauses_view, turns_view}
+use Rattle.op_items.specs.declared.expression.Passed.{Passed}
 use Rattle.op_items.specs.declared.found.Found.{Found}
 use Rattle.op_items.specs.declared.found.Now.{Now}
 use Rattle.op_items.specs.declared.found.Now.TheVariants.{Ready, At, Literal}
@@ -9,9 +13,11 @@ use Rattle.op_items.specs.declared.item.Clause.{Clause}
 use Rattle.op_items.specs.declared.item.Item.{Item}
 use Rattle.op_items.specs.declared.item.Turns.{Turns}
 use Rattle.op_items.specs.declared.setting.Setting.{Setting}
-use Rattle.op_meaning.specs.Expressions.{Env, Found as MeantFound, Now as MeantNow, ready, at_path, a_text}
+use Rattle.op_meaning.specs.Expressions.{AllPassed, Env, Here, Found as MeantFound, Now as MeantNow, OnePassed, found, ready, at_path, a_text, goes_on_at, make, second_here, two_by}
 use Rattle.op_meaning.specs.Items.{Items, none, ◌&◌, Cases, Clauses, Turns as MeantTurns}
-use Rattle.op_mir.specs.View.{view_path}
+use Rattle.op_mir.specs.View.{view_given, view_path}
+use Rattle.op_mir.specs.declared.instruction.Given.{Given}
+use Rattle.op_tree.specs.declared.operator.Operator.{Operator}
 
 abbrev pub env_view : Setting → Env
 env_view setting = record { core = setting.core.now; routine = setting.routine.0 }
@@ -44,5 +50,18 @@ Adds setting old new more = view_in setting new ≡ view_in setting old & more
 -- and the value is where it is found
 pub record Gives (setting : Setting) (old new : List Item) (f : Found) (g : MeantFound) : Type 0 where
   pub adds : Adds setting old new g.items
-  pub now : now_view f.now ≡ g.now
-  pub used : f.used ≡ g.used
+  pub is : found_view f ≡ record g { items = none }
+
+-- the rest of an operator on two operands, behind the left one
+abbrev pub two_on : Env → Here → Operator → Bool → Option CoreType → Expression → MeantFound
+two_on env here o checked of e = let goes_on = goes_on_at o of in two_by goes_on o checked of here (found none ready) (make env (second_here goes_on here) e).items
+
+-- and an argument is given so to its parameter
+pub record Passes (setting : Setting) (old new : List Item) (p : Passed) (q : OnePassed) : Type 0 where
+  pub adds : Adds setting old new q.items
+  pub given : view_given p.given ≡ q.given
+  pub used : p.used ≡ q.used
+
+pub record PassesAll (setting : Setting) (old new : List Item) (all : Vec Given Global) (q : AllPassed) : Type 0 where
+  pub adds : Adds setting old new q.items
+  pub given : map view_given all.items ≡ q.given

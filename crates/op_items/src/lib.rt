@@ -5,12 +5,17 @@
 #![tactic(auto)]
 
 mod adding;
+mod call;
+mod expression;
 mod found;
 mod item;
 mod law;
+mod operation;
 mod path;
+mod set;
 mod setting;
 mod shape;
+mod value;
 
 pub use item::{Case, Clause, Item, Turns, Way};
 pub use law::item_nodes;
