@@ -3,6 +3,7 @@ pub mod BytesLemmas
 pub mod BytesRun
 pub mod Calls
 pub mod CharRun
+pub mod CopyCalls
 pub mod CopyRun
 pub mod Programs
 pub mod Signs
