@@ -29,6 +29,17 @@ pub record Copied (low : Low) (p : Placement) (m : State) (r : ℕ) (operands : 
   pub copied : (x : ℕ) → x < m.limit → memory x ≡ with_bytes m.memory to (bytes_from m.memory from count) x
   pub walk : Walk low p (standing m (Call (routine_id r) operands ∷ rest)) (standing (behind m operands rest value memory m.output) rest) [] most
 
+-- The same for the code within the routine.
+pub record CopiedBelow (low : Low) (p : Placement) (m : State) (r : ℕ) (operands : Operands) (rest : List Instruction) (registers : ℕ → ℕ) (now : List Instruction) (memory : ℕ → ℕ) (to from count most : ℕ) : Type 0 where
+  pub value : ℕ
+  pub after : ℕ → ℕ
+  pub copied : (x : ℕ) → x < m.limit → after x ≡ with_bytes memory to (bytes_from memory from count) x
+  pub walk : Walk low p (inside low p m r operands rest registers now memory m.output) (standing (behind m operands rest value after m.output) rest) [] most
+
+below_of : (low : Low) (p : Placement) (m : State) (r : ℕ) (operands : Operands) (rest : List Instruction) (registers : ℕ → ℕ) (now : List Instruction) (memory : ℕ → ℕ) (to from count most : ℕ) → CopiedInside low p m r operands rest registers now memory to from count most → CopiedBelow low p m r operands rest registers now memory to from count most
+below_of low p m r operands rest registers now memory to from count most it =
+    record { value = it.value; after = it.after; copied = λ x lower. moved_is memory it.after to from count it.moved x; walk = it.walk }
+
 -- what may be copied: the bytes lie below the limit, with their rights, those that are copied are bytes, and none of them is changed
 -- before it is copied
 pub record Copyable (p : Placement) (m : State) (to from count : ℕ) : Type 0 where
@@ -41,7 +52,7 @@ module _ (others : List Routine) (entry : RoutineId) (named : Counts) (globals :
   abbrev low : Low
   low = program others entry named globals
 
-  pub call_copied : (m : State) (r : ℕ) (operands : Operands) (rest : List Instruction) (passed : List ℕ) → r < 8 → values m operands.arguments ≡ passed → length passed ≡ (routine_of low r).parameters → space low p r ≤ m.room → (to from count inner most : ℕ) → from + count ≤ m.limit → 1 + space low p r + length passed + inner ≤ most → CopiedInside low p m r operands rest (slice_index passed) (block_of low r 0) (cleared low m r) to from count inner → Copied low p m r operands rest to from count most
+  pub call_copied : (m : State) (r : ℕ) (operands : Operands) (rest : List Instruction) (passed : List ℕ) → r < 8 → values m operands.arguments ≡ passed → length passed ≡ (routine_of low r).parameters → space low p r ≤ m.room → (to from count inner most : ℕ) → from + count ≤ m.limit → 1 + space low p r + length passed + inner ≤ most → CopiedBelow low p m r operands rest (slice_index passed) (block_of low r 0) (cleared low m r) to from count inner → Copied low p m r operands rest to from count most
   call_copied m r operands rest passed there are same has to from count inner most below enough body =
       let number : length operands.arguments ≡ length passed = sym (length-map operands.arguments (value m)) ∙ ap (λ vs. length vs) are in
       let before = standing m (Call (routine_id r) operands ∷ rest) in
@@ -57,7 +68,7 @@ module _ (others : List Routine) (entry : RoutineId) (named : Counts) (globals :
         value = body.value;
         memory = body.after;
         copied = λ x lower.
-            moved_is start body.after to from count body.moved x
+            body.copied x lower
             ∙ ap (λ text. with_bytes start to text x) source
             ∙ ap (λ y. cond (nat_le to x && nat_lt x (to + length bytes)) (slice_index bytes (x - to)) y) (kept x lower);
         walk =
@@ -66,7 +77,7 @@ module _ (others : List Routine) (entry : RoutineId) (named : Counts) (globals :
       }
 
   -- bytes below the limit are bytes where the routine begins
-  begun_bytes : (m : State) (r to from count : ℕ) → Copyable p m to from count → (x : ℕ) → from ≤ x → x < from + count → cleared low m r x < 2 ^ 8
+  pub begun_bytes : (m : State) (r to from count : ℕ) → Copyable p m to from count → (x : ℕ) → from ≤ x → x < from + count → cleared low m r x < 2 ^ 8
   begun_bytes m r to from count can x at before =
       let below = can.source.below in
       subst (λ b. b < 2 ^ 8) (sym (with_bytes-below m.memory m.limit (replicate {A = ℕ} (routine_of low r).locals 0) x (omega arith))) (can.bytes x at before)
@@ -78,7 +89,7 @@ module _ (others : List Routine) (entry : RoutineId) (named : Counts) (globals :
       let target_below = can.target.below in
       let source_below = can.source.below in
       let memory = cleared low m copy_words_number in
-      let calls = λ (inner : ℕ) (enough : inner ≤ 10 + 2 * count). call_copied m copy_words_number operands rest (to ∷ from ∷ count ∷ []) (omega arith) passed refl has to from count inner (78 + 2 * count) source_below (omega arith) in
+      let calls = λ (inner : ℕ) (enough : inner ≤ 10 + 2 * count) (body : CopiedInside low p m copy_words_number operands rest (slice_index (to ∷ from ∷ count ∷ [])) (block_of low copy_words_number 0) memory to from count inner). call_copied m copy_words_number operands rest (to ∷ from ∷ count ∷ []) (omega arith) passed refl has to from count inner (78 + 2 * count) source_below (omega arith) (below_of low p m copy_words_number operands rest (slice_index (to ∷ from ∷ count ∷ [])) (block_of low copy_words_number 0) memory to from count inner body) in
       elim (cases_lt 0 count) [
         | inl some ↦
             let split : count ≡ 4 + 4 * (count / 4 - 1) = omega arith in
@@ -98,7 +109,7 @@ module _ (others : List Routine) (entry : RoutineId) (named : Counts) (globals :
       let target_below = can.target.below in
       let source_below = can.source.below in
       let memory = cleared low m copy_bytes_number in
-      let calls = λ (inner : ℕ) (enough : inner ≤ 10 + 5 * count). call_copied m copy_bytes_number operands rest (to ∷ from ∷ count ∷ []) (omega arith) passed refl has to from count inner (78 + 5 * count) source_below (omega arith) in
+      let calls = λ (inner : ℕ) (enough : inner ≤ 10 + 5 * count) (body : CopiedInside low p m copy_bytes_number operands rest (slice_index (to ∷ from ∷ count ∷ [])) (block_of low copy_bytes_number 0) memory to from count inner). call_copied m copy_bytes_number operands rest (to ∷ from ∷ count ∷ []) (omega arith) passed refl has to from count inner (78 + 5 * count) source_below (omega arith) (below_of low p m copy_bytes_number operands rest (slice_index (to ∷ from ∷ count ∷ [])) (block_of low copy_bytes_number 0) memory to from count inner body) in
       elim (cases_lt 0 count) [
         | inl some ↦
             let split : count ≡ 1 + 1 * (count - 1) = omega arith in

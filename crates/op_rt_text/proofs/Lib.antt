@@ -7,6 +7,7 @@ pub mod CopyCalls
 pub mod CopyRun
 pub mod Programs
 pub mod Signs
+pub mod TakeRun
 pub mod ThenBytes
 pub mod TruthRun
 pub mod Walks
