@@ -5,6 +5,7 @@ pub mod Calls
 pub mod CharRun
 pub mod CopyCalls
 pub mod CopyRun
+pub mod NumberRun
 pub mod Programs
 pub mod Signs
 pub mod TakeRun

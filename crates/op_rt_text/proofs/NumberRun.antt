@@ -1,0 +1,266 @@
+-- The routine that writes a number writes it.
+use Rattle.std.proofs.Common.{◌≡◌, ℕ, ℤ, pos, negsuc, zero, suc, ◌+◌, ◌-◌, ◌*◌, ◌/◌, ◌%◌, ◌^◌, ◌<◌, ◌≤◌, ◌⊎◌, inl, inr, Bool, true, false, cond, not, nat_eq, nat_lt, List, [], ◌∷◌, ◌++◌, drop, get_or, length, replicate, slice_index, refl, ap, ap₂, sym, subst, ◌∙◌, arith}
+use Rattle.std.proofs.lemmas.Bool.{cases_lt, cond-false, cond-true}
+use Rattle.std.proofs.lemmas.Bool.Decides.{nat_tests}
+use Rattle.std.proofs.lemmas.List.{length-append}
+use Rattle.std.proofs.Math.ListN.{get_or-append}
+use Rattle.std.proofs.Math.Nat.{pow-succ'}
+use Rattle.std.proofs.Math.Seq.{get_or-append_seam}
+use Rattle.std.specs.Int.{bytes_low_first}
+use Rattle.std.specs.Int.RustNames.{unsigned_abs}
+use Rattle.op_low.specs.Machine.{act, cost, cost_by, done, low_machine, shown_by, shows, step, step_by_ending}
+use Rattle.op_low.specs.State.{Placement, State, space, usable, values}
+use Rattle.op_low.specs.declared.code.Counts.{Counts}
+use Rattle.op_low.specs.declared.code.Low.{Low}
+use Rattle.op_low.specs.declared.code.Routine.{Routine}
+use Rattle.op_low.specs.declared.instruction.Call.{Call as Operands}
+use Rattle.op_low.specs.declared.instruction.Instruction.{Instruction}
+use Rattle.op_low.specs.declared.instruction.Instruction.TheVariants.{Store}
+use Rattle.op_meaning.specs.Texts.{decimal_by, padded, text_of_number, width_of}
+use Rattle.op_rt_text.specs.Names.{blanks, block_id, register, write_blanks_number, write_bytes_number, write_number_number}
+use Rattle.op_rt_text.specs.Number.{begins, puts_digit, puts_sign, writes_text}
+use Rattle.op_rt_text.specs.Running.{HasRoom, StandsAt, behind}
+use Rattle.op_rt_text.proofs.Calls.{cleared, inside}
+use Rattle.op_rt_text.proofs.CharRun.{byte_storable}
+use Rattle.op_rt_text.proofs.Programs.{Written, WrittenInside, call_written, program}
+use Rattle.op_rt_text.proofs.Signs.{at_least_low, less_negative, signed_high, signed_low}
+use Rattle.op_rt_text.proofs.ThenBytes.{bytes_last}
+use Rattle.op_rt_text.proofs.Walks.{Walk, standing, walk_branch, walk_join, walk_past, walk_store, walk_weaken}
+use Rattle.op_rv.proofs.Memory.{bytes_there, with_bytes-above, with_bytes-below, with_bytes-within}
+use Rattle.op_rv.specs.Operation.{alu_value, branch_taken, imm_value, signed, word_from}
+use Rattle.op_rv.specs.State.{with_bytes}
+use Rattle.op_rv.specs.Step.{can_access, offset_from}
+use Rattle.op_rv.specs.declared.instruction.AluOp.TheVariants.{Divu, Remu, Sub}
+use Rattle.op_rv.specs.declared.instruction.BranchOp.TheVariants.{Bge, Bne}
+use Rattle.op_rv.specs.declared.instruction.ImmOp.TheVariants.{Addi}
+use Rattle.op_rv.specs.declared.instruction.StoreOp.TheVariants.{Sb}
+use Rattle.op_rv.specs.declared.objects.GlobalVariable.{GlobalVariable}
+use Rattle.op_rv.specs.declared.symbol.RoutineId.{RoutineId}
+use Rattle.op_simulation.specs.System.{run, spent, trace}
+
+module _ (others : List Routine) (entry : RoutineId) (named : Counts) (globals : List GlobalVariable) (p : Placement) (small_blanks : p.frame write_blanks_number ≤ 64) (small_bytes : p.frame write_bytes_number ≤ 64) (small : p.frame write_number_number ≤ 64) where
+  abbrev low : Low
+  low = program others entry named globals
+
+  module _ (m : State) (operands : Operands) (rest : List Instruction) (value width : ℕ) (spaces : StandsAt p m (p.address blanks) (replicate {A = ℕ} 64 32)) (room : HasRoom p m 256) (word : value < 2 ^ 32) (wide : width < 2 ^ 32) where
+    abbrev here : (ℕ → ℕ) → List Instruction → (ℕ → ℕ) → State
+    here registers now memory = inside low p m write_number_number operands rest registers now memory m.output
+
+    abbrev given : ℕ → ℕ
+    given = slice_index (value ∷ width ∷ [])
+
+    -- registers with a value in one of them
+    abbrev with_one : ℕ → ℕ → (ℕ → ℕ) → ℕ → ℕ
+    with_one r v registers x = cond (nat_eq x r) v (registers x)
+
+    -- where the text ends
+    abbrev end_at : ℕ
+    end_at = m.limit + 12 - 12 + 11
+
+    abbrev begun : ℕ → ℕ
+    begun = with_one 4 value (with_one 6 10 (with_one 3 end_at (with_one 2 end_at given)))
+
+    begin_step : (memory : ℕ → ℕ) → Walk low p (here given begins memory) (here begun (drop 4 begins) memory) [] 4
+    unfolding step step_by_ending done act run trace spent shows shown_by cost cost_by
+    begin_step memory = record { steps = 4; few = omega arith; ends = refl; shown = refl; within = omega arith }
+
+    abbrev negated : ℕ → ℕ
+    negated = with_one 4 (alu_value Sub 0 value) begun
+
+    negate_step : (memory : ℕ → ℕ) → Walk low p (here begun (drop 5 begins) memory) (here negated puts_digit memory) [] 2
+    unfolding step step_by_ending done act run trace spent shows shown_by cost cost_by
+    negate_step memory = record { steps = 2; few = omega arith; ends = refl; shown = refl; within = omega arith }
+
+    -- ---- a digit
+
+    abbrev one_less : ℕ → ℕ
+    one_less a = imm_value Addi a (word_from (negsuc 0))
+
+    abbrev scratch : (ℕ → ℕ) → ℕ → ℕ
+    scratch registers = with_one 3 (one_less (registers 3)) (with_one 5 (imm_value Addi (alu_value Remu (registers 4) (registers 6)) (word_from (pos 48))) (with_one 5 (alu_value Remu (registers 4) (registers 6)) registers))
+
+    abbrev divided : (ℕ → ℕ) → ℕ → ℕ
+    divided registers = with_one 4 (alu_value Divu (registers 4) (registers 6)) (scratch registers)
+
+    scratch_step : (registers memory : ℕ → ℕ) → Walk low p (here registers puts_digit memory) (here (scratch registers) (drop 3 puts_digit) memory) [] 3
+    unfolding step step_by_ending done act run trace spent shows shown_by cost cost_by
+    scratch_step registers memory = record { steps = 3; few = omega arith; ends = refl; shown = refl; within = omega arith }
+
+    divide_step : (registers memory : ℕ → ℕ) → Walk low p (here (scratch registers) (drop 4 puts_digit) memory) (here (divided registers) (drop 5 puts_digit) memory) [] 1
+    unfolding step step_by_ending done act run trace spent shows shown_by cost cost_by
+    divide_step registers memory = record { steps = 1; few = omega arith; ends = refl; shown = refl; within = omega arith }
+
+    to_sign_step : (registers memory : ℕ → ℕ) → Walk low p (here registers (drop 6 puts_digit) memory) (here registers puts_sign memory) [] 1
+    unfolding step step_by_ending done act run trace spent shows shown_by cost cost_by
+    to_sign_step registers memory = record { steps = 1; few = omega arith; ends = refl; shown = refl; within = omega arith }
+
+    one_less_is : (registers : ℕ → ℕ) (a : ℕ) → registers 3 ≡ a → m.limit < a → a ≤ m.limit + 12 → one_less (registers 3) ≡ a - 1
+    one_less_is registers a is some few =
+        let words = room.words in
+        let least = room.room in
+        omega arith
+
+    digit_is : (n : ℕ) → n < 2 ^ 32 → imm_value Addi (alu_value Remu n 10) (word_from (pos 48)) % 256 ≡ 48 + n % 10
+    digit_is n small = omega arith
+
+    -- a character put in front of the text so far
+    char_step : (registers memory : ℕ → ℕ) (is : List Instruction) (a c : ℕ) → registers 3 ≡ a → registers 5 % 256 ≡ c → m.limit ≤ a → a < m.limit + 12 → Walk low p (here registers (Store Sb (register 5) (register 3) (pos 0) ∷ is) memory) (here registers is (with_bytes memory a (c ∷ []))) [] 1
+    char_step registers memory is a c there digit from before =
+        let words = room.words in
+        let least = room.room in
+        let address : offset_from (registers 3) (pos 0) ≡ a = ap (λ x. offset_from x (pos 0)) there ∙ omega arith in
+        let may = room.writable a (omega arith) (omega arith) in
+        let state = here registers is memory in
+        let first = here registers (Store Sb (register 5) (register 3) (pos 0) ∷ is) memory in
+        subst (λ x. Walk low p first (here registers is (with_bytes memory a (x ∷ []))) [] 1) digit
+        (subst (λ x. Walk low p first (here registers is (with_bytes memory x (bytes_low_first 0 1 (registers 5)))) [] 1) address
+         (walk_store low p state Sb (register 5) (register 3) (pos 0) is
+          (ap (λ x. can_access (usable p.rights.writable state) x 1) address ∙ byte_storable p.rights.writable state a may (omega arith))))
+
+    abbrev with_digit : (ℕ → ℕ) → ℕ → ℕ → ℕ → ℕ
+    with_digit memory a n = with_bytes memory (a - 1) ((48 + n % 10) ∷ [])
+
+    digit_step : (registers memory : ℕ → ℕ) (a n : ℕ) → registers 3 ≡ a → registers 4 ≡ n → registers 6 ≡ 10 → m.limit < a → a ≤ m.limit + 12 → n < 2 ^ 32 → Walk low p (here registers puts_digit memory) (here (divided registers) (drop 5 puts_digit) (with_digit memory a n)) [] 5
+    digit_step registers memory a n there rest_is ten some few small_n =
+        let stored = with_digit memory a n in
+        let last = one_less_is registers a there some few in
+        let digit : scratch registers 5 % 256 ≡ 48 + n % 10 = ap₂ (λ x y. imm_value Addi (alu_value Remu x y) (word_from (pos 48)) % 256) rest_is ten ∙ digit_is n small_n in
+        walk_join low p (here registers puts_digit memory) (here (scratch registers) (drop 3 puts_digit) memory) (here (divided registers) (drop 5 puts_digit) stored) [] [] 3 2
+        (scratch_step registers memory)
+        (walk_join low p (here (scratch registers) (drop 3 puts_digit) memory) (here (scratch registers) (drop 4 puts_digit) stored) (here (divided registers) (drop 5 puts_digit) stored) [] [] 1 1
+         (char_step (scratch registers) memory (drop 4 puts_digit) (a - 1) (48 + n % 10) last digit (omega arith) (omega arith))
+         (divide_step registers stored))
+
+    -- the digits that stand in front of an address
+    record Digits (registers memory : ℕ → ℕ) (a : ℕ) (text : List ℕ) (most : ℕ) : Type 0 where
+      registers_after : ℕ → ℕ
+      after : ℕ → ℕ
+      first : ℕ
+      address : registers_after 3 ≡ first
+      length_is : first + length text ≡ a
+      value_kept : registers_after 0 ≡ registers 0
+      width_kept : registers_after 1 ≡ registers 1
+      end_kept : registers_after 2 ≡ registers 2
+      nothing_kept : registers_after 7 ≡ registers 7
+      stands : (j : ℕ) → j < length text → after (first + j) ≡ get_or text j 0
+      below : (x : ℕ) → x < first → after x ≡ memory x
+      above : (x : ℕ) → a ≤ x → after x ≡ memory x
+      walk : Walk low p (here registers puts_digit memory) (here registers_after puts_sign after) [] most
+
+    -- the first digit of a number, which is its last one to be put
+    first_digit : (registers memory : ℕ → ℕ) (a n : ℕ) → registers 3 ≡ a → registers 4 ≡ n → registers 6 ≡ 10 → registers 7 ≡ 0 → m.limit < a → a ≤ m.limit + 12 → n < 10 → Digits registers memory a ((48 + n) ∷ []) 7
+    first_digit registers memory a n there rest_is ten nothing some few digit =
+        let stored = with_digit memory a n in
+        let none : divided registers 4 ≡ 0 = ap₂ (alu_value Divu) rest_is ten ∙ omega arith in
+        let same : nat_eq 0 0 ≡ true = refl in
+        let passed : branch_taken Bne (divided registers 4) (divided registers 7) ≡ false = ap₂ (branch_taken Bne) none nothing in
+        let byte : 48 + n % 10 ≡ 48 + n = omega arith in
+        record {
+          registers_after = divided registers;
+          after = stored;
+          first = a - 1;
+          address = one_less_is registers a there some few;
+          length_is = omega arith;
+          value_kept = refl;
+          width_kept = refl;
+          end_kept = refl;
+          nothing_kept = refl;
+          stands = λ j one.
+              let zero_is : j ≡ 0 = omega arith in
+              let place : a - 1 + j - (a - 1) ≡ j = omega arith in
+              with_bytes-within memory (a - 1) ((48 + n % 10) ∷ []) (a - 1 + j) (omega arith) (omega arith)
+              ∙ ap (λ i. get_or ((48 + n % 10) ∷ []) i 0) place
+              ∙ ap (λ c. get_or (c ∷ []) j 0) byte;
+          below = λ x lower. with_bytes-below memory (a - 1) ((48 + n % 10) ∷ []) x lower;
+          above = λ x upper. with_bytes-above memory (a - 1) ((48 + n % 10) ∷ []) x (omega arith);
+          walk =
+              walk_join low p (here registers puts_digit memory) (here (divided registers) (drop 5 puts_digit) stored) (here (divided registers) puts_sign stored) [] [] 5 2
+              (digit_step registers memory a n there rest_is ten some few (omega arith))
+              (walk_join low p (here (divided registers) (drop 5 puts_digit) stored) (here (divided registers) (drop 6 puts_digit) stored) (here (divided registers) puts_sign stored) [] [] 1 1
+               (walk_past low p (here (divided registers) (drop 6 puts_digit) stored) Bne (register 4) (register 7) (block_id 1) (drop 6 puts_digit) passed)
+               (to_sign_step (divided registers) stored));
+        }
+
+    -- one more digit behind others
+    next_digit : (registers memory : ℕ → ℕ) (a n : ℕ) (text : List ℕ) (most : ℕ) → registers 3 ≡ a → registers 4 ≡ n → registers 6 ≡ 10 → registers 7 ≡ 0 → m.limit < a → a ≤ m.limit + 12 → 10 ≤ n → n < 2 ^ 32 → Digits (divided registers) (with_digit memory a n) (a - 1) text most → Digits registers memory a (text ++ (48 + n % 10) ∷ []) (5 + (1 + most))
+    next_digit registers memory a n text most there rest_is ten nothing some few great small_n more =
+        let stored = with_digit memory a n in
+        let digit = 48 + n % 10 in
+        let quotient : divided registers 4 ≡ n / 10 = ap₂ (alu_value Divu) rest_is ten in
+        let differ : nat_eq (n / 10) 0 ≡ false = grind (arith, nat_tests) in
+        let taken : branch_taken Bne (divided registers 4) (divided registers 7) ≡ true = ap₂ (branch_taken Bne) quotient nothing ∙ ap not differ in
+        let size = length-append text (digit ∷ []) in
+        let before = more.length_is in
+        record {
+          registers_after = more.registers_after;
+          after = more.after;
+          first = more.first;
+          address = more.address;
+          length_is = omega arith;
+          value_kept = more.value_kept;
+          width_kept = more.width_kept;
+          end_kept = more.end_kept;
+          nothing_kept = more.nothing_kept;
+          stands = λ j within.
+              elim (cases_lt j (length text)) [
+                | inl early ↦ more.stands j early ∙ sym (get_or-append text (digit ∷ []) 0 j early)
+                | inr late ↦
+                    let last : j ≡ length text = omega arith in
+                    let place : more.first + j ≡ a - 1 = omega arith in
+                    let zero_is : a - 1 - (a - 1) ≡ 0 = omega arith in
+                    ap more.after place
+                    ∙ more.above (a - 1) (omega arith)
+                    ∙ with_bytes-within memory (a - 1) (digit ∷ []) (a - 1) (omega arith) (omega arith)
+                    ∙ ap (λ i. get_or (digit ∷ []) i 0) zero_is
+                    ∙ sym (ap (λ i. get_or (text ++ digit ∷ []) i 0) last ∙ get_or-append_seam text digit [] 0)
+              ];
+          below = λ x lower. more.below x lower ∙ with_bytes-below memory (a - 1) (digit ∷ []) x (omega arith);
+          above = λ x upper. more.above x (omega arith) ∙ with_bytes-above memory (a - 1) (digit ∷ []) x (omega arith);
+          walk =
+              walk_join low p (here registers puts_digit memory) (here (divided registers) (drop 5 puts_digit) stored) (here more.registers_after puts_sign more.after) [] [] 5 (1 + most)
+              (digit_step registers memory a n there rest_is ten some few small_n)
+              (walk_join low p (here (divided registers) (drop 5 puts_digit) stored) (here (divided registers) puts_digit stored) (here more.registers_after puts_sign more.after) [] [] 1 most
+               (walk_branch low p (here (divided registers) (drop 6 puts_digit) stored) Bne (register 4) (register 7) (block_id 1) (drop 6 puts_digit) taken)
+               more.walk);
+        }
+
+    -- the digits of a number, if there is room for so many
+    digits_put : (k : ℕ) (registers memory : ℕ → ℕ) (a n : ℕ) → registers 3 ≡ a → registers 4 ≡ n → registers 6 ≡ 10 → registers 7 ≡ 0 → m.limit + k < a → a ≤ m.limit + 12 → n < 10 ^ suc k → n < 2 ^ 32 → Digits registers memory a (decimal_by (suc k) n) (6 * k + 7)
+    unfolding decimal_by
+    digits_put zero registers memory a n there rest_is ten nothing some few small_n fits =
+        let digit : n < 10 = small_n in
+        let test : nat_lt n 10 ≡ true = grind (arith, nat_tests) in
+        rw test (first_digit registers memory a n there rest_is ten nothing (omega arith) few digit)
+    digits_put (suc k) registers memory a n there rest_is ten nothing some few small_n fits =
+        elim (cases_lt n 10) [
+          | inl digit ↦
+              let test : nat_lt n 10 ≡ true = grind (arith, nat_tests) in
+              rw test (longer (first_digit registers memory a n there rest_is ten nothing (omega arith) few digit))
+          | inr great ↦
+              let test : nat_lt n 10 ≡ false = grind (arith, nat_tests) in
+              let power = pow-succ' 10 (suc k) in
+              let quotient : divided registers 4 ≡ n / 10 = ap₂ (alu_value Divu) rest_is ten in
+              let cost : 5 + (1 + (6 * k + 7)) ≡ 6 * suc k + 7 = omega arith in
+              rw test
+              (subst (Digits registers memory a (decimal_by (suc k) (n / 10) ++ (48 + n % 10) ∷ [])) cost
+               (next_digit registers memory a n (decimal_by (suc k) (n / 10)) (6 * k + 7) there rest_is ten nothing (omega arith) few great fits
+                (digits_put k (divided registers) (with_digit memory a n) (a - 1) (n / 10) (one_less_is registers a there (omega arith) few) quotient ten nothing (omega arith) (omega arith) (omega arith) (omega arith))))
+        ]
+      where
+        longer : Digits registers memory a ((48 + n) ∷ []) 7 → Digits registers memory a ((48 + n) ∷ []) (6 * suc k + 7)
+        longer it =
+            record {
+              registers_after = it.registers_after;
+              after = it.after;
+              first = it.first;
+              address = it.address;
+              length_is = it.length_is;
+              value_kept = it.value_kept;
+              width_kept = it.width_kept;
+              end_kept = it.end_kept;
+              nothing_kept = it.nothing_kept;
+              stands = it.stands;
+              below = it.below;
+              above = it.above;
+              walk = walk_weaken low p _ _ [] 7 (6 * suc k + 7) (omega arith) it.walk;
+            }
