@@ -1,5 +1,5 @@
 -- The routine that writes a number writes it.
-use Rattle.std.proofs.Common.{◌≡◌, ℕ, ℤ, pos, negsuc, zero, suc, ◌+◌, ◌-◌, ◌*◌, ◌/◌, ◌%◌, ◌^◌, ◌<◌, ◌≤◌, ◌⊎◌, inl, inr, Bool, true, false, cond, not, nat_eq, nat_lt, List, [], ◌∷◌, ◌++◌, drop, get_or, length, replicate, slice_index, refl, ap, ap₂, sym, subst, ◌∙◌, arith}
+use Rattle.std.proofs.Common.{◌≡◌, ℕ, ℤ, pos, negsuc, zero, suc, ◌+◌, ◌-◌, ◌*◌, ◌/◌, ◌%◌, ◌^◌, ◌<◌, ◌≤◌, ◌⊎◌, inl, inr, Bool, true, false, cond, not, nat_eq, nat_lt, int_lt, List, [], ◌∷◌, ◌++◌, drop, get_or, length, replicate, slice_index, refl, ap, ap₂, sym, subst, ◌∙◌, arith}
 use Rattle.std.proofs.lemmas.Bool.{cases_lt, cond-false, cond-true}
 use Rattle.std.proofs.lemmas.Bool.Decides.{nat_tests}
 use Rattle.std.proofs.lemmas.List.{length-append}
@@ -23,7 +23,7 @@ use Rattle.op_rt_text.specs.Running.{HasRoom, StandsAt, behind}
 use Rattle.op_rt_text.proofs.Calls.{cleared, inside}
 use Rattle.op_rt_text.proofs.CharRun.{byte_storable}
 use Rattle.op_rt_text.proofs.Programs.{Written, WrittenInside, call_written, program}
-use Rattle.op_rt_text.proofs.Signs.{at_least_low, less_negative, signed_high, signed_low}
+use Rattle.op_rt_text.proofs.Signs.{at_least_low, less_negative, not_below_zero, signed_high, signed_low}
 use Rattle.op_rt_text.proofs.ThenBytes.{bytes_last}
 use Rattle.op_rt_text.proofs.Walks.{Walk, standing, walk_branch, walk_join, walk_past, walk_store, walk_weaken}
 use Rattle.op_rv.proofs.Memory.{bytes_there, with_bytes-above, with_bytes-below, with_bytes-within}
@@ -37,6 +37,30 @@ use Rattle.op_rv.specs.declared.instruction.StoreOp.TheVariants.{Sb}
 use Rattle.op_rv.specs.declared.objects.GlobalVariable.{GlobalVariable}
 use Rattle.op_rv.specs.declared.symbol.RoutineId.{RoutineId}
 use Rattle.op_simulation.specs.System.{run, spent, trace}
+
+decimal_length : (k n : ℕ) → length (decimal_by k n) ≤ k
+unfolding decimal_by
+decimal_length zero n = omega arith
+decimal_length (suc k) n =
+    elim (cases_lt n 10) [
+      | inl digit ↦
+          let test : nat_lt n 10 ≡ true = grind (arith, nat_tests) in
+          rw test (omega arith)
+      | inr great ↦
+          let test : nat_lt n 10 ≡ false = grind (arith, nat_tests) in
+          let less = decimal_length k (n / 10) in
+          let size = length-append (decimal_by k (n / 10)) ((48 + n % 10) ∷ []) in
+          rw test (omega arith)
+    ]
+
+number_of_low : (value : ℕ) → value < 2 ^ 31 → text_of_number (signed value) ≡ decimal_by 10 value
+number_of_low value small =
+    ap text_of_number (signed_low value small)
+    ∙ cond-false (int_lt (pos value) (pos 0)) (45 ∷ decimal_by 10 value) (decimal_by 10 value) (not_below_zero value)
+
+number_of_high : (value : ℕ) → 2 ^ 31 ≤ value → value < 2 ^ 32 → text_of_number (signed value) ≡ 45 ∷ decimal_by 10 (2 ^ 32 - value)
+number_of_high value great word =
+    ap text_of_number (signed_high value great word) ∙ ap (λ n. 45 ∷ decimal_by 10 n) (omega arith)
 
 module _ (others : List Routine) (entry : RoutineId) (named : Counts) (globals : List GlobalVariable) (p : Placement) (small_blanks : p.frame write_blanks_number ≤ 64) (small_bytes : p.frame write_bytes_number ≤ 64) (small : p.frame write_number_number ≤ 64) where
   abbrev low : Low
@@ -264,3 +288,118 @@ module _ (others : List Routine) (entry : RoutineId) (named : Counts) (globals :
               above = it.above;
               walk = walk_weaken low p _ _ [] 7 (6 * suc k + 7) (omega arith) it.walk;
             }
+
+    -- ---- the sign
+
+    abbrev signed_with : (ℕ → ℕ) → ℕ → ℕ
+    signed_with registers = with_one 3 (one_less (registers 3)) (with_one 5 45 registers)
+
+    minus_step : (registers memory : ℕ → ℕ) → Walk low p (here registers (drop 1 puts_sign) memory) (here (signed_with registers) (drop 3 puts_sign) memory) [] 2
+    unfolding step step_by_ending done act run trace spent shows shown_by cost cost_by
+    minus_step registers memory = record { steps = 2; few = omega arith; ends = refl; shown = refl; within = omega arith }
+
+    to_text_step : (registers memory : ℕ → ℕ) → Walk low p (here registers (drop 4 puts_sign) memory) (here registers writes_text memory) [] 1
+    unfolding step step_by_ending done act run trace spent shows shown_by cost cost_by
+    to_text_step registers memory = record { steps = 1; few = omega arith; ends = refl; shown = refl; within = omega arith }
+
+    -- the whole text is made
+    record Made (memory : ℕ → ℕ) (text : List ℕ) : Type 0 where
+      registers_after : ℕ → ℕ
+      after : ℕ → ℕ
+      first : ℕ
+      address : registers_after 3 ≡ first
+      width_is : registers_after 1 ≡ width
+      end_is : registers_after 2 ≡ end_at
+      from : m.limit ≤ first
+      length_is : first + length text ≡ m.limit + 11
+      stands : (j : ℕ) → j < length text → after (first + j) ≡ get_or text j 0
+      below : (x : ℕ) → x < m.limit → after x ≡ memory x
+      walk : Walk low p (here given begins memory) (here registers_after writes_text after) [] 73
+
+    made_positive : (memory : ℕ → ℕ) → value < 2 ^ 31 → Made memory (decimal_by 10 value)
+    made_positive memory positive =
+        let there : end_at ≡ m.limit + 11 = omega arith in
+        let words = room.words in
+        let least = room.room in
+        let digits = digits_put 9 begun memory (m.limit + 11) value there refl refl refl (omega arith) (omega arith) (omega arith) word in
+        let whole = digits.length_is in
+        let size = decimal_length 10 value in
+        let test = at_least_low value 0 positive (omega arith) in
+        let sign_test : branch_taken Bge (digits.registers_after 0) (digits.registers_after 7) ≡ true = ap₂ (branch_taken Bge) digits.value_kept digits.nothing_kept ∙ test in
+        let end = here digits.registers_after writes_text digits.after in
+        record {
+          registers_after = digits.registers_after;
+          after = digits.after;
+          first = digits.first;
+          address = digits.address;
+          width_is = digits.width_kept;
+          end_is = digits.end_kept;
+          from = omega arith;
+          length_is = digits.length_is;
+          stands = digits.stands;
+          below = λ x lower. digits.below x (omega arith);
+          walk =
+              walk_weaken low p (here given begins memory) end [] (4 + (1 + (61 + 1))) 73 (omega arith)
+              (walk_join low p (here given begins memory) (here begun (drop 4 begins) memory) end [] [] 4 (1 + (61 + 1))
+               (begin_step memory)
+               (walk_join low p (here begun (drop 4 begins) memory) (here begun puts_digit memory) end [] [] 1 (61 + 1)
+                (walk_branch low p (here begun (drop 5 begins) memory) Bge (register 0) (register 7) (block_id 1) (drop 5 begins) test)
+                (walk_join low p (here begun puts_digit memory) (here digits.registers_after puts_sign digits.after) end [] [] 61 1
+                 digits.walk
+                 (walk_branch low p (here digits.registers_after (drop 1 puts_sign) digits.after) Bge (register 0) (register 7) (block_id 3) (drop 1 puts_sign) sign_test))));
+        }
+
+    made_negative : (memory : ℕ → ℕ) → 2 ^ 31 ≤ value → Made memory (45 ∷ decimal_by 10 (2 ^ 32 - value))
+    made_negative memory negative =
+        let there : end_at ≡ m.limit + 11 = omega arith in
+        let words = room.words in
+        let least = room.room in
+        let magnitude : alu_value Sub 0 value ≡ 2 ^ 32 - value = omega arith in
+        let digits = digits_put 9 negated memory (m.limit + 11) (2 ^ 32 - value) there magnitude refl refl (omega arith) (omega arith) (omega arith) (omega arith) in
+        let whole = digits.length_is in
+        let text = decimal_by 10 (2 ^ 32 - value) in
+        let size = decimal_length 10 (2 ^ 32 - value) in
+        let test = less_negative value negative word in
+        let sign_test : branch_taken Bge (digits.registers_after 0) (digits.registers_after 7) ≡ false = ap₂ (branch_taken Bge) digits.value_kept digits.nothing_kept ∙ test in
+        let at = digits.first - 1 in
+        let registers = signed_with digits.registers_after in
+        let stored = with_bytes digits.after at (45 ∷ []) in
+        let address = one_less_is digits.registers_after digits.first digits.address (omega arith) (omega arith) in
+        let end = here registers writes_text stored in
+        record {
+          registers_after = registers;
+          after = stored;
+          first = at;
+          address = address;
+          width_is = digits.width_kept;
+          end_is = digits.end_kept;
+          from = omega arith;
+          length_is = omega arith;
+          stands = negative_stands digits.after digits.first text (omega arith) digits.stands;
+          below = λ x lower. with_bytes-below digits.after at (45 ∷ []) x (omega arith) ∙ digits.below x (omega arith);
+          walk =
+              walk_weaken low p (here given begins memory) end [] (4 + (1 + (2 + (61 + (1 + (2 + (1 + 1))))))) 73 (omega arith)
+              (walk_join low p (here given begins memory) (here begun (drop 4 begins) memory) end [] [] 4 (1 + (2 + (61 + (1 + (2 + (1 + 1))))))
+               (begin_step memory)
+               (walk_join low p (here begun (drop 4 begins) memory) (here begun (drop 5 begins) memory) end [] [] 1 (2 + (61 + (1 + (2 + (1 + 1)))))
+                (walk_past low p (here begun (drop 5 begins) memory) Bge (register 0) (register 7) (block_id 1) (drop 5 begins) test)
+                (walk_join low p (here begun (drop 5 begins) memory) (here negated puts_digit memory) end [] [] 2 (61 + (1 + (2 + (1 + 1))))
+                 (negate_step memory)
+                 (walk_join low p (here negated puts_digit memory) (here digits.registers_after puts_sign digits.after) end [] [] 61 (1 + (2 + (1 + 1)))
+                  digits.walk
+                  (walk_join low p (here digits.registers_after puts_sign digits.after) (here digits.registers_after (drop 1 puts_sign) digits.after) end [] [] 1 (2 + (1 + 1))
+                   (walk_past low p (here digits.registers_after (drop 1 puts_sign) digits.after) Bge (register 0) (register 7) (block_id 3) (drop 1 puts_sign) sign_test)
+                   (walk_join low p (here digits.registers_after (drop 1 puts_sign) digits.after) (here registers (drop 3 puts_sign) digits.after) end [] [] 2 (1 + 1)
+                    (minus_step digits.registers_after digits.after)
+                    (walk_join low p (here registers (drop 3 puts_sign) digits.after) (here registers (drop 4 puts_sign) stored) end [] [] 1 1
+                     (char_step registers digits.after (drop 4 puts_sign) at 45 address refl (omega arith) (omega arith))
+                     (to_text_step registers stored))))))));
+        }
+      where
+        negative_stands : (memory : ℕ → ℕ) (first : ℕ) (text : List ℕ) → 0 < first → ((j : ℕ) → j < length text → memory (first + j) ≡ get_or text j 0) → (j : ℕ) → j < length (45 ∷ text) → with_bytes memory (first - 1) (45 ∷ []) (first - 1 + j) ≡ get_or (45 ∷ text) j 0
+        negative_stands memory first text some each zero within =
+            let place : first - 1 + 0 - (first - 1) ≡ 0 = omega arith in
+            with_bytes-within memory (first - 1) (45 ∷ []) (first - 1 + 0) (omega arith) (omega arith) ∙ ap (λ i. get_or (45 ∷ []) i 0) place
+        negative_stands memory first text some each (suc j) within =
+            let place : first - 1 + suc j ≡ first + j = omega arith in
+            with_bytes-above memory (first - 1) (45 ∷ []) (first - 1 + suc j) (omega arith) ∙ ap memory place ∙ each j (omega arith)
