@@ -403,3 +403,60 @@ module _ (others : List Routine) (entry : RoutineId) (named : Counts) (globals :
         negative_stands memory first text some each (suc j) within =
             let place : first - 1 + suc j ≡ first + j = omega arith in
             with_bytes-above memory (first - 1) (45 ∷ []) (first - 1 + suc j) (omega arith) ∙ ap memory place ∙ each j (omega arith)
+
+    -- ---- the write
+
+    abbrev with_length : (ℕ → ℕ) → ℕ → ℕ
+    with_length registers = with_one 5 (alu_value Sub (registers 2) (registers 3)) registers
+
+    length_step : (registers memory : ℕ → ℕ) → Walk low p (here registers writes_text memory) (here (with_length registers) (drop 1 writes_text) memory) [] 1
+    unfolding step step_by_ending done act run trace spent shows shown_by cost cost_by
+    length_step registers memory = record { steps = 1; few = omega arith; ends = refl; shown = refl; within = omega arith }
+
+    number_inside : (memory : ℕ → ℕ) (text : List ℕ) → ((x : ℕ) → x < m.limit → memory x ≡ m.memory x) → Made memory text → WrittenInside low p m write_number_number operands rest given begins memory m.output (padded (width_of (signed width)) text) (length (padded (width_of (signed width)) text) + 230)
+    number_inside memory text kept made =
+        let words = room.words in
+        let least = room.room in
+        let from = made.from in
+        let whole = made.length_is in
+        let bytes = padded (width_of (signed width)) text in
+        let registers = with_length made.registers_after in
+        let size_is : registers 5 ≡ length text = ap₂ (alu_value Sub) made.end_is made.address ∙ omega arith in
+        let stands : StandsAt p (here registers [] made.after) made.first text =
+            record {
+              readable = λ x at before. room.readable x (omega arith) (omega arith);
+              below = omega arith;
+              stands = bytes_there made.after made.first text made.stands;
+            } in
+        let last = bytes_last others entry named globals p small_blanks small_bytes m write_number_number operands rest registers made.after m.output (register 3) (register 5) (register 1) (register 5) made.first width text made.address size_is made.width_is (omega arith) (λ x lower. made.below x lower ∙ kept x lower) spaces stands (omega arith) wide in
+        let end = standing (behind m operands rest last.value last.memory (m.output ++ bytes)) rest in
+        record {
+          value = last.value;
+          memory = last.memory;
+          kept = last.kept;
+          pieces = last.pieces;
+          joined = last.joined;
+          walk =
+              walk_weaken low p (here given begins memory) end last.pieces (73 + (1 + (length bytes + 156))) (length bytes + 230) (omega arith)
+              (walk_join low p (here given begins memory) (here made.registers_after writes_text made.after) end [] last.pieces 73 (1 + (length bytes + 156))
+               made.walk
+               (walk_join low p (here made.registers_after writes_text made.after) (here registers (drop 1 writes_text) made.after) end [] last.pieces 1 (length bytes + 156)
+                (length_step made.registers_after made.after)
+                last.walk));
+        }
+
+    any_number : (memory : ℕ → ℕ) → ((x : ℕ) → x < m.limit → memory x ≡ m.memory x) → WrittenInside low p m write_number_number operands rest given begins memory m.output (padded (width_of (signed width)) (text_of_number (signed value))) (length (padded (width_of (signed width)) (text_of_number (signed value))) + 230)
+    any_number memory kept =
+        elim (cases_lt value (2 ^ 31)) [
+          | inl positive ↦ rw (number_of_low value positive) (number_inside memory (decimal_by 10 value) kept (made_positive memory positive))
+          | inr negative ↦ rw (number_of_high value (omega arith) word) (number_inside memory (45 ∷ decimal_by 10 (2 ^ 32 - value)) kept (made_negative memory (omega arith)))
+        ]
+
+  -- a call of the routine
+  pub number_called : (m : State) (operands : Operands) (rest : List Instruction) (value width : ℕ) → values m operands.arguments ≡ value ∷ width ∷ [] → value < 2 ^ 32 → width < 2 ^ 32 → StandsAt p m (p.address blanks) (replicate {A = ℕ} 64 32) → HasRoom p m 256 → Written low p m write_number_number operands rest (padded (width_of (signed width)) (text_of_number (signed value))) (length (padded (width_of (signed width)) (text_of_number (signed value))) + 309)
+  number_called m operands rest value width passed word wide spaces room =
+      let least = room.room in
+      let bytes = padded (width_of (signed width)) (text_of_number (signed value)) in
+      call_written others entry named globals p m write_number_number operands rest (value ∷ width ∷ []) (omega arith) passed refl (omega arith) bytes (length bytes + 230) (length bytes + 309)
+      (omega arith)
+      (any_number m operands rest value width spaces room word wide (cleared low m write_number_number) (λ x lower. with_bytes-below m.memory m.limit (replicate {A = ℕ} 12 0) x lower))
