@@ -10,9 +10,9 @@ use Rattle.op_low.specs.declared.instruction.Call.{Call as Operands}
 use Rattle.op_low.specs.declared.instruction.Instruction.{Instruction}
 use Rattle.op_low.specs.declared.instruction.Instruction.TheVariants.{Call}
 use Rattle.op_rt_text.specs.Names.{copy_bytes_number, copy_words_number, routine_id}
-use Rattle.op_rt_text.specs.Running.{HasRoom, behind}
+use Rattle.op_rt_text.specs.Running.{Copyable, HasRoom, behind}
 use Rattle.op_rt_text.proofs.Calls.{cleared, inside, walk_enter}
-use Rattle.op_rt_text.proofs.CopyRun.{CopiedInside, Open, moved_is, none_copied, some_copied, unit_byte, unit_word}
+use Rattle.op_rt_text.proofs.CopyRun.{CopiedInside, moved_is, none_copied, some_copied, unit_byte, unit_word}
 use Rattle.op_rt_text.proofs.Programs.{may_enter, program}
 use Rattle.op_rt_text.proofs.Walks.{Walk, standing, walk_join, walk_weaken}
 use Rattle.op_rv.proofs.Memory.{bytes_from-same, with_bytes-below}
@@ -39,14 +39,6 @@ pub record CopiedBelow (low : Low) (p : Placement) (m : State) (r : ℕ) (operan
 below_of : (low : Low) (p : Placement) (m : State) (r : ℕ) (operands : Operands) (rest : List Instruction) (registers : ℕ → ℕ) (now : List Instruction) (memory : ℕ → ℕ) (to from count most : ℕ) → CopiedInside low p m r operands rest registers now memory to from count most → CopiedBelow low p m r operands rest registers now memory to from count most
 below_of low p m r operands rest registers now memory to from count most it =
     record { value = it.value; after = it.after; copied = λ x lower. moved_is memory it.after to from count it.moved x; walk = it.walk }
-
--- what may be copied: the bytes lie below the limit, with their rights, those that are copied are bytes, and none of them is changed
--- before it is copied
-pub record Copyable (p : Placement) (m : State) (to from count : ℕ) : Type 0 where
-  pub target : Open p.rights.writable m.limit to count
-  pub source : Open p.rights.readable m.limit from count
-  pub bytes : (x : ℕ) → from ≤ x → x < from + count → m.memory x < 2 ^ 8
-  pub apart : (from + count ≤ to) ⊎ (to ≤ from)
 
 module _ (others : List Routine) (entry : RoutineId) (named : Counts) (globals : List GlobalVariable) (p : Placement) where
   abbrev low : Low

@@ -1,8 +1,10 @@
+pub mod Behind
 pub mod BlanksRun
 pub mod BytesLemmas
 pub mod BytesRun
 pub mod Calls
 pub mod CharRun
+pub mod Contracts
 pub mod CopyCalls
 pub mod CopyRun
 pub mod NumberRun

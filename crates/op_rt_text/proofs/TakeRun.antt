@@ -12,12 +12,11 @@ use Rattle.op_low.specs.declared.instruction.Call.{Call as Operands}
 use Rattle.op_low.specs.declared.instruction.Instruction.{Instruction}
 use Rattle.op_low.specs.declared.instruction.Instruction.TheVariants.{Return}
 use Rattle.op_rt_text.specs.Names.{block_id, copy_bytes_number, copy_words_number, register, take_number}
-use Rattle.op_rt_text.specs.Running.{HasRoom, behind}
+use Rattle.op_rt_text.specs.Running.{Allowed, Copyable, HasRoom, behind}
 use Rattle.op_rt_text.specs.Take.{begins, copies}
 use Rattle.op_rt_text.proofs.BytesLemmas.{all_usable}
 use Rattle.op_rt_text.proofs.Calls.{cleared, inside, walk_leave}
-use Rattle.op_rt_text.proofs.CopyCalls.{Copied, CopiedBelow, Copyable, begun_bytes, bytes_copied, call_copied, words_called}
-use Rattle.op_rt_text.proofs.CopyRun.{Open}
+use Rattle.op_rt_text.proofs.CopyCalls.{Copied, CopiedBelow, begun_bytes, bytes_copied, call_copied, words_called}
 use Rattle.op_rt_text.proofs.Programs.{program}
 use Rattle.op_rt_text.proofs.Walks.{Walk, standing, walk_branch, walk_join, walk_load, walk_past, walk_weaken}
 use Rattle.op_rv.proofs.Memory.{can_access_word, with_bytes-below, word_at-same}
@@ -38,7 +37,7 @@ module _ (others : List Routine) (entry : RoutineId) (named : Counts) (globals :
   abbrev low : Low
   low = program others entry named globals
 
-  module _ (m : State) (operands : Operands) (rest : List Instruction) (to from size : ℕ) (room : HasRoom p m 128) (can : Copyable p m to from size) (whole : to % 4 ≡ 0) (memory : ℕ → ℕ) (kept : (x : ℕ) → x < m.limit → memory x ≡ m.memory x) (word : Open p.rights.readable m.limit to 4) (is : word_at m.memory to ≡ from) where
+  module _ (m : State) (operands : Operands) (rest : List Instruction) (to from size : ℕ) (room : HasRoom p m 128) (can : Copyable p m to from size) (whole : to % 4 ≡ 0) (memory : ℕ → ℕ) (kept : (x : ℕ) → x < m.limit → memory x ≡ m.memory x) (word : Allowed p.rights.readable m.limit to 4) (is : word_at m.memory to ≡ from) where
     abbrev here : (ℕ → ℕ) → List Instruction → (ℕ → ℕ) → State
     here registers now memory = inside low p m take_number operands rest registers now memory m.output
 
@@ -199,7 +198,7 @@ module _ (others : List Routine) (entry : RoutineId) (named : Counts) (globals :
          (then_copied with_from (drop 1 begins) (drop 2 begins) from_left 1 (82 + 5 * size + 1) from_step by_from))
 
   -- a call of the routine
-  pub take_called : (m : State) (operands : Operands) (rest : List Instruction) (to from size : ℕ) → values m operands.arguments ≡ to ∷ size ∷ [] → HasRoom p m 128 → Copyable p m to from size → to % 4 ≡ 0 → Open p.rights.readable m.limit to 4 → word_at m.memory to ≡ from → Copied low p m take_number operands rest to from size (152 + 5 * size)
+  pub take_called : (m : State) (operands : Operands) (rest : List Instruction) (to from size : ℕ) → values m operands.arguments ≡ to ∷ size ∷ [] → HasRoom p m 128 → Copyable p m to from size → to % 4 ≡ 0 → Allowed p.rights.readable m.limit to 4 → word_at m.memory to ≡ from → Copied low p m take_number operands rest to from size (152 + 5 * size)
   take_called m operands rest to from size passed room can whole word is =
       let least = room.room in
       call_copied others entry named globals p m take_number operands rest (to ∷ size ∷ []) (omega arith) passed refl (omega arith) to from size (84 + 5 * size + 1) (152 + 5 * size) can.source.below (omega arith)
