@@ -14,7 +14,7 @@ use Rattle.op_low.specs.declared.instruction.Instruction.{Instruction}
 use Rattle.op_low.specs.declared.instruction.Instruction.TheVariants.{Call}
 use Rattle.op_rt_text.specs.Copying.{begins, copies_unit, ends}
 use Rattle.op_rt_text.specs.Names.{block_id, register, routine_id}
-use Rattle.op_rt_text.specs.Running.{HasRoom, behind}
+use Rattle.op_rt_text.specs.Running.{Allowed, HasRoom, behind}
 use Rattle.op_rt_text.proofs.BytesLemmas.{all_usable}
 use Rattle.op_rt_text.proofs.Calls.{cleared, inside, walk_leave}
 use Rattle.op_rt_text.proofs.Programs.{program}
@@ -139,15 +139,10 @@ module _ (low : Low) (p : Placement) (r : ℕ) (load : LoadOp) (store : StoreOp)
     abbrev code : List Instruction
     code = copies_unit load store (pos n)
 
-    -- bytes that may be read or written, below the limit
-    record Open (right : ℕ → Bool) (a k : ℕ) : Type 0 where
-      may : (x : ℕ) → a ≤ x → x < a + k → right x ≡ true
-      below : a + k ≤ m.limit
-
     no_offset : (a : ℕ) → a < 2 ^ 32 → offset_from a (pos 0) ≡ a
     no_offset a word = omega arith
 
-    accessible : (right : ℕ → Bool) (state : State) (a size : ℕ) → m.limit ≤ state.limit → size ≡ n → Open right a n → a % n ≡ 0 → can_access (usable right state) (offset_from a (pos 0)) size ≡ true
+    accessible : (right : ℕ → Bool) (state : State) (a size : ℕ) → m.limit ≤ state.limit → size ≡ n → Allowed right m.limit a n → a % n ≡ 0 → can_access (usable right state) (offset_from a (pos 0)) size ≡ true
     accessible right state a size higher is open_here aligned =
         let words = room.words in
         let least = room.room in
@@ -162,7 +157,7 @@ module _ (low : Low) (p : Placement) (r : ℕ) (load : LoadOp) (store : StoreOp)
     abbrev advanced : (ℕ → ℕ) → ℕ → ℕ
     advanced registers x = cond (nat_eq x 0) (imm_value Addi (registers 0) (word_from (pos n))) (cond (nat_eq x 1) (imm_value Addi (registers 1) (word_from (pos n))) (registers x))
 
-    load_step : (registers memory : ℕ → ℕ) (f : ℕ) → registers 1 ≡ f → Open p.rights.readable f n → f % n ≡ 0 → Walk low p (here registers code memory) (here (with_unit registers (load_value load memory f)) (drop 1 code) memory) [] 1
+    load_step : (registers memory : ℕ → ℕ) (f : ℕ) → registers 1 ≡ f → Allowed p.rights.readable m.limit f n → f % n ≡ 0 → Walk low p (here registers code memory) (here (with_unit registers (load_value load memory f)) (drop 1 code) memory) [] 1
     load_step registers memory f is can aligned =
         let words = room.words in
         let least = room.room in
@@ -173,7 +168,7 @@ module _ (low : Low) (p : Placement) (r : ℕ) (load : LoadOp) (store : StoreOp)
         (walk_load low p state load (register 4) (register 1) (pos 0) (drop 1 code)
          (ap (λ a. can_access (usable p.rights.readable state) (offset_from a (pos 0)) (load_size_of load)) is ∙ accessible p.rights.readable state f (load_size_of load) (omega arith) load_size can aligned))
 
-    store_step : (registers memory : ℕ → ℕ) (t v : ℕ) → registers 0 ≡ t → registers 4 ≡ v → Open p.rights.writable t n → t % n ≡ 0 → Walk low p (here registers (drop 1 code) memory) (here registers (drop 2 code) (with_bytes memory t (bytes_low_first 0 n v))) [] 1
+    store_step : (registers memory : ℕ → ℕ) (t v : ℕ) → registers 0 ≡ t → registers 4 ≡ v → Allowed p.rights.writable m.limit t n → t % n ≡ 0 → Walk low p (here registers (drop 1 code) memory) (here registers (drop 2 code) (with_bytes memory t (bytes_low_first 0 n v))) [] 1
     store_step registers memory t v is value_is can aligned =
         let words = room.words in
         let least = room.room in
@@ -192,7 +187,7 @@ module _ (low : Low) (p : Placement) (r : ℕ) (load : LoadOp) (store : StoreOp)
     advance_step registers memory = record { steps = 2; few = omega arith; ends = refl; shown = refl; within = omega arith }
 
     -- one unit
-    unit_step : (registers memory : ℕ → ℕ) (t f : ℕ) → registers 0 ≡ t → registers 1 ≡ f → Open p.rights.writable t n → Open p.rights.readable f n → t % n ≡ 0 → f % n ≡ 0 → ((x : ℕ) → f ≤ x → x < f + n → memory x < 2 ^ 8) → Walk low p (here registers code memory) (here (advanced (with_unit registers (load_value load memory f))) (drop 4 code) (with_bytes memory t (bytes_from memory f n))) [] 4
+    unit_step : (registers memory : ℕ → ℕ) (t f : ℕ) → registers 0 ≡ t → registers 1 ≡ f → Allowed p.rights.writable m.limit t n → Allowed p.rights.readable m.limit f n → t % n ≡ 0 → f % n ≡ 0 → ((x : ℕ) → f ≤ x → x < f + n → memory x < 2 ^ 8) → Walk low p (here registers code memory) (here (advanced (with_unit registers (load_value load memory f))) (drop 4 code) (with_bytes memory t (bytes_from memory f n))) [] 4
     unit_step registers memory t f to_is from_is to_open from_open to_aligned from_aligned bytes =
         let v = load_value load memory f in
         let loaded = with_unit registers v in
@@ -226,12 +221,12 @@ module _ (low : Low) (p : Placement) (r : ℕ) (load : LoadOp) (store : StoreOp)
         subst (λ now. Walk low p (here registers (drop 4 code) memory) (here registers now memory) [] 1) loop_block
         (walk_branch low p (here registers (drop 5 code) memory) Bne (register 0) (register 3) (block_id 1) (drop 5 code) taken)
 
-    open_front : (right : ℕ → Bool) (a k : ℕ) → Open right a (n + k) → Open right a n
+    open_front : (right : ℕ → Bool) (a k : ℕ) → Allowed right m.limit a (n + k) → Allowed right m.limit a n
     open_front right a k it =
         let below = it.below in
         record { may = λ x from before. it.may x from (omega arith); below = omega arith }
 
-    open_back : (right : ℕ → Bool) (a k : ℕ) → Open right a (n + k) → Open right (a + n) k
+    open_back : (right : ℕ → Bool) (a k : ℕ) → Allowed right m.limit a (n + k) → Allowed right m.limit (a + n) k
     open_back right a k it =
         let below = it.below in
         record { may = λ x from before. it.may x (omega arith) (omega arith); below = omega arith }
@@ -245,7 +240,7 @@ module _ (low : Low) (p : Placement) (r : ℕ) (load : LoadOp) (store : StoreOp)
     source_kept t f k (inr upper) x from before at under = omega arith
 
     -- behind one unit, with at least one more to come
-    unit_first : (registers memory : ℕ → ℕ) (t f k most : ℕ) → registers 0 ≡ t → registers 1 ≡ f → registers 3 ≡ t + (n + (n + k)) → Open p.rights.writable t (n + (n + k)) → Open p.rights.readable f (n + (n + k)) → t % n ≡ 0 → f % n ≡ 0 → (f + (n + (n + k)) ≤ t) ⊎ (t ≤ f) → ((x : ℕ) → f ≤ x → x < f + (n + (n + k)) → memory x < 2 ^ 8) → CopiedInside low p m r operands rest (advanced (with_unit registers (load_value load memory f))) code (with_bytes memory t (bytes_from memory f n)) (t + n) (f + n) (n + k) most → CopiedInside low p m r operands rest registers code memory t f (n + (n + k)) (4 + (1 + most))
+    unit_first : (registers memory : ℕ → ℕ) (t f k most : ℕ) → registers 0 ≡ t → registers 1 ≡ f → registers 3 ≡ t + (n + (n + k)) → Allowed p.rights.writable m.limit t (n + (n + k)) → Allowed p.rights.readable m.limit f (n + (n + k)) → t % n ≡ 0 → f % n ≡ 0 → (f + (n + (n + k)) ≤ t) ⊎ (t ≤ f) → ((x : ℕ) → f ≤ x → x < f + (n + (n + k)) → memory x < 2 ^ 8) → CopiedInside low p m r operands rest (advanced (with_unit registers (load_value load memory f))) code (with_bytes memory t (bytes_from memory f n)) (t + n) (f + n) (n + k) most → CopiedInside low p m r operands rest registers code memory t f (n + (n + k)) (4 + (1 + most))
     unit_first registers memory t f k most to_is from_is end_is to_open from_open to_aligned from_aligned apart bytes more =
         let words = room.words in
         let least = room.room in
@@ -267,7 +262,7 @@ module _ (low : Low) (p : Placement) (r : ℕ) (load : LoadOp) (store : StoreOp)
         }
 
     -- the last unit
-    unit_last : (registers memory : ℕ → ℕ) (t f : ℕ) → registers 0 ≡ t → registers 1 ≡ f → registers 3 ≡ t + n → Open p.rights.writable t n → Open p.rights.readable f n → t % n ≡ 0 → f % n ≡ 0 → ((x : ℕ) → f ≤ x → x < f + n → memory x < 2 ^ 8) → CopiedInside low p m r operands rest registers code memory t f n 7
+    unit_last : (registers memory : ℕ → ℕ) (t f : ℕ) → registers 0 ≡ t → registers 1 ≡ f → registers 3 ≡ t + n → Allowed p.rights.writable m.limit t n → Allowed p.rights.readable m.limit f n → t % n ≡ 0 → f % n ≡ 0 → ((x : ℕ) → f ≤ x → x < f + n → memory x < 2 ^ 8) → CopiedInside low p m r operands rest registers code memory t f n 7
     unit_last registers memory t f to_is from_is end_is to_open from_open to_aligned from_aligned bytes =
         let words = room.words in
         let least = room.room in
@@ -285,18 +280,18 @@ module _ (low : Low) (p : Placement) (r : ℕ) (load : LoadOp) (store : StoreOp)
               (last_step (advanced loaded) stored (t + n) next end_is);
         }
 
-    loop_copied : (k more : ℕ) → more ≡ n * k → (registers memory : ℕ → ℕ) (t f : ℕ) → registers 0 ≡ t → registers 1 ≡ f → registers 3 ≡ t + (n + more) → Open p.rights.writable t (n + more) → Open p.rights.readable f (n + more) → t % n ≡ 0 → f % n ≡ 0 → (f + (n + more) ≤ t) ⊎ (t ≤ f) → ((x : ℕ) → f ≤ x → x < f + (n + more) → memory x < 2 ^ 8) → CopiedInside low p m r operands rest registers code memory t f (n + more) (5 * k + 7)
+    loop_copied : (k more : ℕ) → more ≡ n * k → (registers memory : ℕ → ℕ) (t f : ℕ) → registers 0 ≡ t → registers 1 ≡ f → registers 3 ≡ t + (n + more) → Allowed p.rights.writable m.limit t (n + more) → Allowed p.rights.readable m.limit f (n + more) → t % n ≡ 0 → f % n ≡ 0 → (f + (n + more) ≤ t) ⊎ (t ≤ f) → ((x : ℕ) → f ≤ x → x < f + (n + more) → memory x < 2 ^ 8) → CopiedInside low p m r operands rest registers code memory t f (n + more) (5 * k + 7)
     loop_copied zero more is registers memory t f to_is from_is end_is to_open from_open to_aligned from_aligned apart bytes =
         let nothing : n + more ≡ n = omega (arith, mul-zero n) in
         subst (λ total. CopiedInside low p m r operands rest registers code memory t f total 7) (sym nothing)
-        (unit_last registers memory t f to_is from_is (end_is ∙ ap (λ k. t + k) nothing) (subst (Open p.rights.writable t) nothing to_open) (subst (Open p.rights.readable f) nothing from_open) to_aligned from_aligned (λ x from before. bytes x from (omega arith)))
+        (unit_last registers memory t f to_is from_is (end_is ∙ ap (λ k. t + k) nothing) (subst (Allowed p.rights.writable m.limit t) nothing to_open) (subst (Allowed p.rights.readable m.limit f) nothing from_open) to_aligned from_aligned (λ x from before. bytes x from (omega arith)))
     loop_copied (suc k) more is registers memory t f to_is from_is end_is to_open from_open to_aligned from_aligned apart bytes =
         let words = room.words in
         let least = room.room in
         let split : more ≡ n + n * k = omega (arith, mul-suc n k) in
         let cost : 4 + (1 + (5 * k + 7)) ≡ 5 * suc k + 7 = omega arith in
-        let to_all = subst (λ z. Open p.rights.writable t (n + z)) split to_open in
-        let from_all = subst (λ z. Open p.rights.readable f (n + z)) split from_open in
+        let to_all = subst (λ z. Allowed p.rights.writable m.limit t (n + z)) split to_open in
+        let from_all = subst (λ z. Allowed p.rights.readable m.limit f (n + z)) split from_open in
         let to_below = to_all.below in
         let from_below = from_all.below in
         let apart_all = subst (λ z. (f + (n + z) ≤ t) ⊎ (t ≤ f)) split apart in
@@ -323,7 +318,7 @@ module _ (low : Low) (p : Placement) (r : ℕ) (load : LoadOp) (store : StoreOp)
     end_step t f k memory = record { steps = 1; few = omega arith; ends = refl; shown = refl; within = omega arith }
 
     -- nothing at all
-    none_copied : (t f : ℕ) (memory : ℕ → ℕ) → t ≤ m.limit → CopiedInside low p m r operands rest (slice_index (t ∷ f ∷ 0 ∷ [])) begins memory t f 0 3
+    pub none_copied : (t f : ℕ) (memory : ℕ → ℕ) → t ≤ m.limit → CopiedInside low p m r operands rest (slice_index (t ∷ f ∷ 0 ∷ [])) begins memory t f 0 3
     none_copied t f memory below =
         let words = room.words in
         let least = room.room in
@@ -346,7 +341,7 @@ module _ (low : Low) (p : Placement) (r : ℕ) (load : LoadOp) (store : StoreOp)
         }
 
     -- k more units than one
-    some_copied : (k count : ℕ) → count ≡ n + n * k → (t f : ℕ) (memory : ℕ → ℕ) → Open p.rights.writable t count → Open p.rights.readable f count → t % n ≡ 0 → f % n ≡ 0 → (f + count ≤ t) ⊎ (t ≤ f) → ((x : ℕ) → f ≤ x → x < f + count → memory x < 2 ^ 8) → CopiedInside low p m r operands rest (slice_index (t ∷ f ∷ count ∷ [])) begins memory t f count (5 * k + 10)
+    pub some_copied : (k count : ℕ) → count ≡ n + n * k → (t f : ℕ) (memory : ℕ → ℕ) → Allowed p.rights.writable m.limit t count → Allowed p.rights.readable m.limit f count → t % n ≡ 0 → f % n ≡ 0 → (f + count ≤ t) ⊎ (t ≤ f) → ((x : ℕ) → f ≤ x → x < f + count → memory x < 2 ^ 8) → CopiedInside low p m r operands rest (slice_index (t ∷ f ∷ count ∷ [])) begins memory t f count (5 * k + 10)
     some_copied k count is t f memory to_open from_open to_aligned from_aligned apart bytes =
         let words = room.words in
         let least = room.room in
@@ -355,7 +350,7 @@ module _ (low : Low) (p : Placement) (r : ℕ) (load : LoadOp) (store : StoreOp)
         let differ : nat_eq t ((t + count) % 2 ^ 32) ≡ false = grind (arith, nat_tests, end_is) in
         let registers = with_end t f count in
         let first = here (slice_index (t ∷ f ∷ count ∷ [])) begins memory in
-        let inner = loop_copied k (n * k) refl registers memory t f refl refl end_is (subst (Open p.rights.writable t) is to_open) (subst (Open p.rights.readable f) is from_open) to_aligned from_aligned (subst (λ z. (f + z ≤ t) ⊎ (t ≤ f)) is apart) (λ x from before. bytes x from (omega arith)) in
+        let inner = loop_copied k (n * k) refl registers memory t f refl refl end_is (subst (Allowed p.rights.writable m.limit t) is to_open) (subst (Allowed p.rights.readable m.limit f) is from_open) to_aligned from_aligned (subst (λ z. (f + z ≤ t) ⊎ (t ≤ f)) is apart) (λ x from before. bytes x from (omega arith)) in
         let end = standing (behind m operands rest inner.value inner.after m.output) rest in
         record {
           value = inner.value;

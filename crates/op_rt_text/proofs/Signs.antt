@@ -16,7 +16,7 @@ signed_high a great small =
     let test : nat_lt a (2 ^ 31) ≡ false = grind (arith, nat_tests) in
     rw test (ap negsuc (omega arith))
 
-not_below_zero : (a : ℕ) → int_lt (pos a) (pos 0) ≡ false
+pub not_below_zero : (a : ℕ) → int_lt (pos a) (pos 0) ≡ false
 not_below_zero a =
     let test : nat_lt a 0 ≡ false = grind (arith, nat_tests) in
     test

@@ -1,5 +1,5 @@
 -- How a call of a run-time routine runs on the machine of low code.
-use Rattle.std.specs.Prelude.{◌≡◌, ◌≢◌, ◌<◌, ◌≤◌, ℕ, ◌+◌, ◌*◌, ◌^◌, true, List, [], ◌∷◌, ◌++◌, codes, length, map, replicate}
+use Rattle.std.specs.Prelude.{◌≡◌, ◌≢◌, ◌<◌, ◌≤◌, ℕ, ◌+◌, ◌*◌, ◌^◌, ◌⊎◌, Bool, true, List, [], ◌∷◌, ◌++◌, codes, length, map, replicate, slice_index}
 use Rattle.std.specs.List.{concat}
 use Rattle.op_low.specs.Machine.{Event, Written, low_machine}
 use Rattle.op_low.specs.State.{Bad, Placement, Running, State, values, with_value}
@@ -41,13 +41,29 @@ pub record HasRoom (p : Placement) (m : State) (least : ℕ) : Type 0 where
   pub readable : (x : ℕ) → m.limit ≤ x → x < m.limit + m.room → p.rights.readable x ≡ true
   pub writable : (x : ℕ) → m.limit ≤ x → x < m.limit + m.room → p.rights.writable x ≡ true
 
+-- so many bytes at an address have a right and lie below a limit
+pub record Allowed (right : ℕ → Bool) (limit at count : ℕ) : Type 0 where
+  pub may : (x : ℕ) → at ≤ x → x < at + count → right x ≡ true
+  pub below : at + count ≤ limit
+
+-- so many bytes may be copied, from the first one on: they are bytes, and none is changed before it is copied
+pub record Copyable (p : Placement) (m : State) (to from count : ℕ) : Type 0 where
+  pub target : Allowed p.rights.writable m.limit to count
+  pub source : Allowed p.rights.readable m.limit from count
+  pub bytes : (x : ℕ) → from ≤ x → x < from + count → m.memory x < 2 ^ 8
+  pub apart : (from + count ≤ to) ⊎ (to ≤ from)
+
 -- ---- a call
 
--- the next instruction is a call of the routine of this number with these words as arguments, and `rest` stands behind it
-pub record IsCall (m : State) (number : ℕ) (arguments : List ℕ) (operands : Operands) (rest : List Instruction) : Type 0 where
+-- The next instruction is a call of the run-time routine of this number, which is there, with these words as arguments, and `rest`
+-- stands behind it. The stack has room.
+pub record Called (low : Low) (p : Placement) (m : State) (number : ℕ) (arguments : List ℕ) (operands : Operands) (rest : List Instruction) : Type 0 where
+  pub runtime : HasRuntime low p
   pub running : m.ending ≡ Running
   pub next : m.top.now ≡ Call (routine_id number) operands ∷ rest
   pub passed : values m operands.arguments ≡ arguments
+  pub words : (k : ℕ) → slice_index arguments k < 2 ^ 32
+  pub room : HasRoom p m 256
 
 -- behind the call: the value that it returned is in its register, and memory and output have become these
 abbrev pub behind : State → Operands → List Instruction → (value : ℕ) → (memory : ℕ → ℕ) → (output : List ℕ) → State
