@@ -1,3 +1,4 @@
+pub mod Arranged
 pub mod FirstBytes
 pub mod Fixed
 pub mod Lies
