@@ -58,7 +58,7 @@ module _ (core : Core) (keeps : KeepsExtents core) where
   type_unit of _ low kept behind parts = plain_unit of 4 (ap (λ x. x.alignment) kept) (inr (inr refl))
 
   -- what the extent of a type is
-  abbrev extent_kept : (of : TypeId) (t : CoreType) → type_at core of ≡ Some t → extent_of core of ≡ extent_by (extent_of core) core (Some t)
+  pub extent_kept : (of : TypeId) (t : CoreType) → type_at core of ≡ Some t → extent_of core of ≡ extent_by (extent_of core) core (Some t)
   extent_kept of t e = ap (λ o. unwrap_or o (plain 4 false)) (keeps.each of.0 t e)
 
   unit_within : (n : ℕ) (of : TypeId) → of.0 < n → of.0 < length core.types → IsUnit (alignment_in core of)
@@ -96,20 +96,20 @@ module _ (core : Core) (keeps : KeepsExtents core) where
 
   -- ---- records
 
-  abbrev none : Extent
+  abbrev pub none : Extent
   none = record { size = 0; alignment = 1; managed = false }
 
   module _ (of : TypeId) (inner : TypeId → Arrangement) (run : Run) (small : IsSmall core of)
       (kept : extent_of core of ≡ extent_by (extent_of core) core (Some (Record run)))
       (behind : IsBehind core.fields core.interfaces of.0 (Record run))
       (parts : (part : TypeId) → part.0 < of.0 → IsSmall core part → Arranged core part (inner part)) where
-    abbrev fs : List Field
+    abbrev pub fs : List Field
     fs = rows core.fields run
 
-    abbrev fields : Extent
+    abbrev pub fields : Extent
     fields = all core none fs
 
-    many : length fs ≡ run.count
+    pub many : length fs ≡ run.count
     many = many_rows core.fields run behind.0
 
     ends : size_in core of ≡ aligned fields.alignment fields.size
@@ -118,18 +118,22 @@ module _ (core : Core) (keeps : KeepsExtents core) where
     whole : fields.size ≤ size_in core of
     whole = subst (λ s. fields.size ≤ s) (sym ends) (at_least fields.alignment fields.size (subst (λ s. s < 2 ^ 32 - 1) ends small.size))
 
-    few : fields.size < 2 ^ 32 - 1
+    pub few : fields.size < 2 ^ 32 - 1
     few = let w = whole in let s = small.size in omega arith
 
-    field_arranged : (k : ℕ) → k < length fs → Arranged core (field_type (slice_get fs k)) (inner (field_type (slice_get fs k)))
-    field_arranged k low =
+    -- a field's type stands in front, and its values are small enough too
+    pub field_small : (k : ℕ) → k < length fs → ((field_type (slice_get fs k)).0 < of.0) × IsSmall core (field_type (slice_get fs k))
+    field_small k low =
         let (f, is) = some_at fs k low in
         let within = (field_within core fs none k low few).1 in
         let f1 = few in
         let before = all_at (λ f. f.of.0 < of.0) fs k f low is behind.1 in
         let there = small.there in
         let size : size_in core f.of < 2 ^ 32 - 1 = let same = ap (λ o. (field_extent core o).size) is in omega arith in
-        subst (λ o. Arranged core (field_type o) (inner (field_type o))) (sym is) (parts f.of before (record { there = omega arith; size = size }))
+        subst (λ o. ((field_type o).0 < of.0) × IsSmall core (field_type o)) (sym is) (before, record { there = omega arith; size = size })
+
+    field_arranged : (k : ℕ) → k < length fs → Arranged core (field_type (slice_get fs k)) (inner (field_type (slice_get fs k)))
+    field_arranged k low = let (before, less) = field_small k low in parts (field_type (slice_get fs k)) before less
 
     units : AreUnits core fs
     units k low =
@@ -182,22 +186,25 @@ module _ (core : Core) (keeps : KeepsExtents core) where
       (kept : extent_of core of ≡ extent_by (extent_of core) core (Some (Array index element)))
       (behind : IsBehind core.fields core.interfaces of.0 (Array index element))
       (parts : (part : TypeId) → part.0 < of.0 → IsSmall core part → Arranged core part (inner part)) where
-    abbrev count : ℕ
+    abbrev pub count : ℕ
     count = values_of (range_of (type_at core index))
 
-    size_is : size_in core of ≡ count * size_in core element
+    pub size_is : size_in core of ≡ count * size_in core element
     size_is = ap (λ x. x.size) kept ∙ below_cap (count * size_in core element) (subst (λ s. s < 2 ^ 32 - 1) (ap (λ x. x.size) kept) small.size)
 
-    few_elements : count * size_in core element < 2 ^ 32 - 1
+    pub few_elements : count * size_in core element < 2 ^ 32 - 1
     few_elements = subst (λ s. s < 2 ^ 32 - 1) size_is small.size
 
-    element_arranged : 0 < count → Arranged core element (inner element)
-    element_arranged some =
+    pub element_small : 0 < count → IsSmall core element
+    element_small some =
         let within = element_within count (size_in core element) 0 some few_elements in
         let f = few_elements in
         let before = behind.1 in
         let there = small.there in
-        parts element before (record { there = omega arith; size = omega arith })
+        record { there = omega arith; size = omega arith }
+
+    element_arranged : 0 < count → Arranged core element (inner element)
+    element_arranged some = parts element behind.1 (element_small some)
 
     element_unit : IsUnit (alignment_in core element)
     element_unit = let before = behind.1 in let there = small.there in unit_of element (omega arith)
@@ -237,7 +244,7 @@ module _ (core : Core) (keeps : KeepsExtents core) where
 
   -- ---- all types
 
-  abbrev by_form : (TypeId → Arrangement) → TypeId → Option CoreType → Arrangement
+  abbrev pub by_form : (TypeId → Arrangement) → TypeId → Option CoreType → Arrangement
   by_form inner of t = arrangement_by inner core (size_in core of) t (shape_by core t)
 
   plain_at : (of : TypeId) (n : ℕ) (managed : Bool) → extent_of core of ≡ plain n managed → IsPlain of n
