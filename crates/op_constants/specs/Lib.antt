@@ -1,4 +1,6 @@
+pub mod Arranged
 pub mod FirstBytes
+pub mod FirstFits
 pub mod Fixed
 pub mod Lies
 pub mod Literals
