@@ -1,0 +1,5 @@
+pub mod MeaningLemmas
+pub mod Registers
+pub mod StraightRuns
+pub mod SumLemmas
+pub mod Words
