@@ -33,6 +33,7 @@ work_of bank = record {
   third = scratch_of bank 2;
   division = error_block_of bank DivisionByZero;
   range = error_block_of bank RangeCheck;
+  stack = error_block_of bank StackOverflow;
   overflow = error_block_of bank IntegerOverflow;
 }
 

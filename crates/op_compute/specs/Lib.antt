@@ -4,6 +4,8 @@ pub mod Branches
 pub mod Comparisons
 pub mod Computing
 pub mod Conversions
+pub mod Meaning
 pub mod Moves
 pub mod Ranges
 pub mod SetCode
+pub mod Straight

@@ -31,7 +31,7 @@ pub enum RuntimeError {
     IntegerOverflow,
 }
 
-/// What computations work with: three scratch registers, and the blocks of errors 200, 201 and 215.
+/// What computations work with: three scratch registers, and the blocks of errors 200, 201, 202 and 215.
 #[derive(Clone, Copy)]
 pub struct Work {
     pub first: VirtualRegister,
@@ -39,6 +39,7 @@ pub struct Work {
     pub third: VirtualRegister,
     pub division: BlockId,
     pub range: BlockId,
+    pub stack: BlockId,
     pub overflow: BlockId,
 }
 
@@ -89,6 +90,7 @@ impl Bank {
             third: self.scratch(2)?,
             division: self.error_block(RuntimeError::DivisionByZero)?,
             range: self.error_block(RuntimeError::RangeCheck)?,
+            stack: self.error_block(RuntimeError::StackOverflow)?,
             overflow: self.error_block(RuntimeError::IntegerOverflow)?,
         })
     }
