@@ -318,7 +318,7 @@ fn loop_blocks(
     } = turns;
     let made = blocks.begin_loop(behind)?;
     let within = Exits::Loop {
-        around: exits,
+        around: &*exits,
         behind: made.behind,
     };
     let on = body_block(alloc, blocks, &within, body, made)?;
