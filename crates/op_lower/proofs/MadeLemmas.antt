@@ -97,7 +97,7 @@ choose_makes exits t first otherwise behind on other old b1 b2 b3 now front put 
     let b = other_code (k + 2) C in
     let same : other_code (length b1 + 1) (jump on.0 ∷ []) ≡ b = both other_code n (joined core r) in
     let v2 : seen_blocks core r b2 ≡ V ++ B ∷ b.now ∷ b.blocks =
-        adds core r ∙ both (λ v x. v ++ x.now ∷ x.blocks) (seen_put core r old b1 behind e) same ∙ append_assoc V (B ∷ []) (b.now ∷ b.blocks) in
+    adds core r ∙ both (λ v x. v ++ x.now ∷ x.blocks) (seen_put core r old b1 behind e) same ∙ append_assoc V (B ∷ []) (b.now ∷ b.blocks) in
     let counted : length b2 ≡ k + suc (suc (length b.blocks)) = count_seen core r old b2 (B ∷ b.now ∷ b.blocks) v2 in
     let n2 : length b2 ≡ k + 2 + length b.blocks = omega (arith, counted) in
     let a = first_code (k + 2 + length b.blocks) C in
@@ -150,7 +150,7 @@ body_stands core r exits within body behind made_behind head at_body on old b1 b
     let same : body_code (exits_of within) (length b1) (jump head.0 ∷ []) ≡ c = three body_code (w ∙ ap (loop_exits (exits_of exits)) hk) n (ap (λ i. jump i ∷ []) s) in
     let v1 : seen_blocks core r b1 ≡ V ++ B ∷ [] ∷ [] ∷ [] = ap (seen_blocks core r) e ∙ map-append (view_block core r) old (block_of behind ∷ block_of [] ∷ block_of [] ∷ []) in
     let parts : seen_blocks core r b1 ++ c.blocks ≡ (V ++ B ∷ [] ∷ []) ++ [] ∷ c.blocks =
-        ap (λ v. v ++ c.blocks) v1 ∙ append_assoc V (B ∷ [] ∷ [] ∷ []) c.blocks ∙ sym (append_assoc V (B ∷ [] ∷ []) ([] ∷ c.blocks)) in
+    ap (λ v. v ++ c.blocks) v1 ∙ append_assoc V (B ∷ [] ∷ [] ∷ []) c.blocks ∙ sym (append_assoc V (B ∷ [] ∷ []) ([] ∷ c.blocks)) in
     let count : length (V ++ B ∷ [] ∷ []) ≡ length V + 2 = length-append V (B ∷ [] ∷ []) in
     let place : at_body.0 ≡ length (V ++ B ∷ [] ∷ []) = omega (arith, hb, count, length-map old (view_block core r)) in
     let h = is_body core r in
@@ -254,7 +254,7 @@ item_done exits whole items rest i old b1 b2 behind now e completes makes = λ c
     let b = code_item out (item_view core r i) k B in
     let R = items_view core r rest in
     let split : code out (items_view core r items) k B ≡ made_behind out R (item_view core r i) k B =
-        ap (λ xs. code out (items_view core r xs) k B) e ∙ ap (λ xs. code out xs k B) (items_behind core r rest (i ∷ [])) ∙ code_last out R (item_view core r i) k B in
+    ap (λ xs. code out (items_view core r xs) k B) e ∙ ap (λ xs. code out xs k B) (items_behind core r rest (i ∷ [])) ∙ code_last out R (item_view core r i) k B in
     let m = makes core r in
     let n : length b2 ≡ k + length b.blocks = count_seen core r b1 b2 b.blocks m.1 in
     let a = code out R (k + length b.blocks) b.now in
@@ -314,7 +314,7 @@ arm_done exits whole cs rest c on block old b1 b2 arms more e completes at adds 
     let V = seen_blocks core r b1 in
     let R = cases_view core r rest in
     let split : code_cases out (cases_view core r cs) k J ≡ arms_behind out R c.labels (items_view core r c.items.items) k J =
-        ap (λ xs. code_cases out (cases_view core r xs) k J) e ∙ cases_last core r out rest c k J in
+    ap (λ xs. code_cases out (cases_view core r xs) k J) e ∙ cases_last core r out rest c k J in
     let a = code out (items_view core r c.items.items) (k + 1) J in
     let front : Blocks = a.now ∷ a.blocks in
     let n : length b2 ≡ k + length front = count_seen core r b1 b2 front (adds core r) in
@@ -322,9 +322,10 @@ arm_done exits whole cs rest c on block old b1 b2 arms more e completes at adds 
     let same : code_cases out R (length b2) J ≡ b = ap (λ j. code_cases out R j J) n in
     let arm : MeantArm = record { labels = c.labels; block = k } in
     let first : map view_arm more ≡ arm ∷ map view_arm arms = ap (map view_arm) put ∙ ap (λ j. record { labels = c.labels; block = j } ∷ map view_arm arms) at in
-    let h = completes core r in
-    (both (λ x xs. x.0 ++ xs) same first ∙ sym (append_assoc b.0 (arm ∷ []) (map view_arm arms)) ∙ sym (ap (λ x. x.0 ++ map view_arm arms) split) ∙ h.0,
-     both (λ v x. v ++ x.1) (adds core r) same ∙ append_assoc V front b.1 ∙ sym (ap (λ x. V ++ x.1) split) ∙ h.1)
+    let h = completes core r in (
+      both (λ x xs. x.0 ++ xs) same first ∙ sym (append_assoc b.0 (arm ∷ []) (map view_arm arms)) ∙ sym (ap (λ x. x.0 ++ map view_arm arms) split) ∙ h.0,
+      both (λ v x. v ++ x.1) (adds core r) same ∙ append_assoc V front b.1 ∙ sym (ap (λ x. V ++ x.1) split) ∙ h.1,
+    )
 
 -- all are done
 pub arms_done : (exits : Exits) (whole : Core → ℕ → List MeantArm × Blocks) (cs : List Case) (on : BlockId) (old new : List Block) (arms : List Arm) → cs ≡ [] → CompletesArms whole (arms_made exits cs new on) old new arms → MakesArms whole old new arms
@@ -386,5 +387,5 @@ body_grows made block on old new is =
     let V = seen_blocks no_tables 0 old in
     let m = made no_tables 0 in
     let counted : length new ≡ length (V ++ m.blocks) =
-        sym (length-map new (view_block no_tables 0)) ∙ ap length (is no_tables 0).0 ∙ length-set (V ++ m.blocks) block.0 m.now in
+    sym (length-map new (view_block no_tables 0)) ∙ ap length (is no_tables 0).0 ∙ length-set (V ++ m.blocks) block.0 m.now in
     omega (arith, counted, length-append V m.blocks, length-map old (view_block no_tables 0))

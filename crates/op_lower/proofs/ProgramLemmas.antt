@@ -1,5 +1,5 @@
 -- A whole program in managed code, from its routines and the program itself.
-use Rattle.std.proofs.Common.{◌≡◌, ◌≢◌, ℕ, ◌+◌, ◌-◌, ◌^◌, ◌<◌, ◌≤◌, min, Bool, true, false, nat_eq, List, [], ◌∷◌, ◌++◌, length, drop, refl, sym, ap, ◌∙◌, subst, arith, append_assoc, Option, Some, None, inl, inr, get_or, eqb}
+use Rattle.std.proofs.Common.{◌≡◌, ◌≢◌, ℕ, ◌+◌, ◌-◌, ◌^◌, ◌<◌, ◌≤◌, min, Bool, true, false, nat_eq, List, [], ◌∷◌, ◌++◌, length, drop, refl, sym, ap, ◌∙◌, subst, arith, append_assoc, Option, Some, None, inl, inr, get_or, eqb, Result, Ok, Err, IfOk}
 use Rattle.std.proofs.lemmas.List.{append-nil, length_push, map-append, at_drop_more, at_drop_all}
 use Rattle.std.proofs.lemmas.Option.{slice_get_past, slice_get_within, slice_get_cases, slice_get_read, get_or_from_slice_get}
 use Rattle.std.proofs.lemmas.Bool.Decides.{eqb_tells}
@@ -19,7 +19,7 @@ use Rattle.op_lower.specs.declared.exits.Exits.TheVariants.{Routine as WholeRout
 use Rattle.op_meaning.specs.Charge.{charge_at, charge_of}
 use Rattle.op_meaning.specs.Frames.{program_of}
 use Rattle.op_meaning.specs.Items.{none}
-use Rattle.op_mir.specs.Code.{Instr, jump, ret, Made, code, routine_exits, blocks_of, items_of, blocks_in, unit_code}
+use Rattle.op_mir.specs.Code.{Instr, jump, ret, Made, code, routine_exits, blocks_of, items_of, blocks_in, unit_code, entering, becoming_due}
 use Rattle.op_mir.specs.View.{view_instruction, view_of}
 use Rattle.op_mir.specs.declared.code.Block.{Block}
 use Rattle.op_mir.specs.declared.code.Mir.{Mir}
@@ -31,11 +31,11 @@ use Rattle.op_mir.specs.declared.instruction.Instruction.TheVariants.{Jump, Retu
 -- ---- a routine
 
 -- block 0 gets its code when all is made
-pub routine_blocks : (items : List Item) (b0 b1 b2 : List Block) (at first : BlockId) (now : List Instruction) → b0 ≡ block_of [] ∷ block_of (Return ∷ []) ∷ [] → at.0 ≡ 1 → Makes (items_made WholeRoutine items b0 (Jump at ∷ [])) b0 b1 now → b2 ≡ slice_set b1 0 (block_of now) → (core : Core) (r : ℕ) → seen_blocks core r b2 ≡ blocks_of (items_view core r items)
-routine_blocks items b0 b1 b2 at first now e h makes f core r =
+pub routine_blocks : (items : List Item) (b0 b1 b2 : List Block) (behind now : List Instruction) → b0 ≡ block_of [] ∷ block_of (Return ∷ []) ∷ [] → behind ≡ Jump (record { 0 = 1 }) ∷ [] → Makes (items_made WholeRoutine items b0 behind) b0 b1 now → b2 ≡ slice_set b1 0 (block_of now) → (core : Core) (r : ℕ) → seen_blocks core r b2 ≡ blocks_of (items_view core r items)
+routine_blocks items b0 b1 b2 behind now e h makes f core r =
     let made : ℕ → List Instr → Made = code routine_exits (items_view core r items) in
     let a = made 2 (jump 1 ∷ []) in
-    let m = as_made (made (length b0) (jump at.0 ∷ [])) a (seen core r now) (seen_blocks core r b1) (seen_blocks core r b0) ([] ∷ (ret ∷ []) ∷ []) (both made (ap length e) (ap (λ k. jump k ∷ []) h)) (ap (seen_blocks core r) e) (makes core r) in
+    let m = as_made (made (length b0) (seen core r behind)) a (seen core r now) (seen_blocks core r b1) (seen_blocks core r b0) ([] ∷ (ret ∷ []) ∷ []) (both made (ap length e) (ap (seen core r) h)) (ap (seen_blocks core r) e) (makes core r) in
     let E : Blocks = [] in
     seen_filled core r b1 b2 0 now E [] ((ret ∷ []) ∷ a.blocks) m.1 refl f ∙ ap (λ x. x ∷ (ret ∷ []) ∷ a.blocks) m.0
 
@@ -119,6 +119,11 @@ lowers core mir n are program types variables = record {
 }
 
 -- ---- the code of the program
+
+pub unit_put : {T E : Type 0} (result : Result T E) (old mid new : List Instruction) (unit : UnitRow) → ((core : Core) (r : ℕ) → seen core r mid ≡ seen core r old ++ entering unit.initialization) → IfOk result (λ _. (core : Core) (r : ℕ) → seen core r new ≡ seen core r mid ++ becoming_due unit.finalization) → IfOk result (λ _. (core : Core) (r : ℕ) → seen core r new ≡ seen core r old ++ unit_code unit)
+unit_put (Ok done) old mid new unit first last = λ core r.
+    last core r ∙ ap (λ xs. xs ++ becoming_due unit.finalization) (first core r) ∙ append_assoc (seen core r old) (entering unit.initialization) (becoming_due unit.finalization)
+unit_put (Err error) old mid new unit first last = last
 
 -- the next unit is begun
 pub unit_begun : (core : Core) (r : ℕ) (units : List UnitRow) (k : ℕ) (unit : UnitRow) (old new : List Instruction) → k < length units → unit ≡ get_or units k unit → seen core r new ≡ seen core r old ++ unit_code unit → seen core r old ++ flat_map unit_code (drop k units) ≡ flat_map unit_code units → seen core r new ++ flat_map unit_code (drop (k + 1) units) ≡ flat_map unit_code units

@@ -14,7 +14,7 @@ use crate::instructions::Instructions;
 use crate::{items, temporaries};
 use op_base::{NoMemory, Sequence};
 use op_core::{Core, RoutineId, Unit};
-use op_items::{Item, items_of};
+use op_items::{Item, routine_items};
 use op_meaning::charge;
 use op_mir::{Block, BlockId, Call, Counts, Instruction, Mir, Receiver, Routine};
 use std::alloc::Global;
@@ -51,7 +51,7 @@ fn routines(alloc: Global, core: &Core) -> Result<Sequence<Routine>, NoMemory>
 fn routine(alloc: Global, core: &Core, id: RoutineId) -> Result<Routine, NoMemory>
     ensures { IfOk result (IsRoutine core.now id.0) }
 {
-    let items = items_of(alloc, core, id)?;
+    let items = routine_items(alloc, core, id)?;
     let blocks = blocks_of(alloc, items)?;
     let temporaries = temporaries(blocks.as_slice())?;
     Ok(Routine {

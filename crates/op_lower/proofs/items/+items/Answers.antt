@@ -65,7 +65,7 @@ pub loop_blocks-code-requires : goal.loop_blocks-code-requires
 loop_blocks-code-requires t c = (omega (arith, size_of_turns c.args.turns), tt)
 
 pub loop_blocks-fill-requires : goal.loop_blocks-fill-requires
-loop_blocks-fill-requires t c = 
+loop_blocks-fill-requires t c =
     let within = Loop c.args.exits c.in_ok-made.made.behind in
     let first = begun c.args.blocks.now c.begin_loop.new.self _ _ _ c.in_ok-made.ensures.blocks in
     let body = body_grows (items_made within c.args.turns.body.items c.begin_loop.new.self (Jump c.in_ok-made.made.head ∷ [])) c.in_ok-made.made.body c.in_ok-on.on c.begin_loop.new.self c.body_block.new.blocks c.in_ok-on.ensures in
@@ -79,7 +79,7 @@ loop_blocks-returns-clause-blocks t c = loop_adds c.args.exits.now (Loop c.args.
 -- ---- finally parts
 
 pub finally_block-fill-requires : goal.finally_block-fill-requires
-finally_block-fill-requires t c = 
+finally_block-fill-requires t c =
     let ways = added (λ core r. [] ∷ exits_of c.args.exits.now 1 ∷ exits_of c.args.exits.now 2 ∷ exits_of c.args.exits.now 3 ∷ []) c.args.blocks.now c.ways_out.new.blocks c.in_ok-block.ensures.blocks in
     let more = grows (items_made c.args.exits.now c.args.items.items c.ways_out.new.blocks c.put.new.self) c.ways_out.new.blocks c.code.new.blocks c.in_ok-now.now c.in_ok-now.ensures in
     omega (arith, c.in_ok-block.ensures.number, ways, more)

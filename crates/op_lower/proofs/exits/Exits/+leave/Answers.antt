@@ -7,9 +7,9 @@ pub returns-in-Exit : goal.returns-in-Exit
 returns-in-Exit t c =
     let around = exits_of c.in-Loop.around.now in
     let e : exits_of c.args.self.now (reason_of c.args.way) ≡ around (reason_of c.args.way) =
-        ap (λ x. exits_of x (reason_of c.args.way)) c.in-Loop.is
-        ∙ ap (λ w. loop_exits around c.in-Loop.behind.0 (reason_of w)) c.in-Exit.is
-        ∙ sym (ap (λ w. around (reason_of w)) c.in-Exit.is) in
+    ap (λ x. exits_of x (reason_of c.args.way)) c.in-Loop.is
+    ∙ ap (λ w. loop_exits around c.in-Loop.behind.0 (reason_of w)) c.in-Exit.is
+    ∙ sym (ap (λ w. around (reason_of w)) c.in-Exit.is) in
     rw e c.leave.ensures
 
 pub returns-in-Finally : goal.returns-in-Finally
