@@ -1,9 +1,10 @@
 //! A whole program in managed code.
-ghost use Rattle.std.specs.Prelude.{◌≡◌, ◌++◌, ◌∷◌, [], ◌+◌, ℕ, IfOk, length, map};
+ghost use Rattle.std.specs.Prelude.{◌≡◌, ◌++◌, ◌∷◌, [], ℕ, IfOk, length};
 ghost use Rattle.op_core.specs.declared.program.Core.{Core};
 ghost use Rattle.op_items.specs.View.{items_view};
-ghost use Rattle.op_mir.specs.Code.{blocks_of, unit_code};
-ghost use Rattle.op_lower.specs.Lowers.{IsProgram, IsRoutine, Lowers};
+ghost use Rattle.op_meaning.specs.Shapes.{variables_of};
+ghost use Rattle.op_mir.specs.Code.{becoming_due, blocks_of, entering, unit_code};
+ghost use Rattle.op_lower.specs.Lowers.{AreRoutines, IsProgram, IsRoutine, Lowers};
 ghost use Rattle.op_lower.specs.Seen.{seen, seen_blocks};
 ghost use Rattle.op_lower.specs.Temporaries.{in_blocks};
 
@@ -13,7 +14,7 @@ use crate::instructions::Instructions;
 use crate::{items, temporaries};
 use op_base::{NoMemory, Sequence};
 use op_core::{Core, RoutineId, Unit};
-use op_items::{Item, items_of};
+use op_items::{Item, routine_items};
 use op_meaning::charge;
 use op_mir::{Block, BlockId, Call, Counts, Instruction, Mir, Receiver, Routine};
 use std::alloc::Global;
@@ -37,7 +38,7 @@ pub fn lower(alloc: Global, core: &Core) -> Result<Mir, NoMemory>
 
 fn routines(alloc: Global, core: &Core) -> Result<Sequence<Routine>, NoMemory>
     ensures number { IfOk result (λ routines. length routines ≡ length core.now.routines) }
-    ensures each { IfOk result (AreRoutines core.now 0) }
+    ensures each { IfOk result (AreRoutines core.now) }
 {
     let mut routines = Vec::new(alloc);
     for number in 0..core.routines.as_slice().len() {
@@ -50,7 +51,7 @@ fn routines(alloc: Global, core: &Core) -> Result<Sequence<Routine>, NoMemory>
 fn routine(alloc: Global, core: &Core, id: RoutineId) -> Result<Routine, NoMemory>
     ensures { IfOk result (IsRoutine core.now id.0) }
 {
-    let items = items_of(alloc, core, id)?;
+    let items = routine_items(alloc, core, id)?;
     let blocks = blocks_of(alloc, items)?;
     let temporaries = temporaries(blocks.as_slice())?;
     Ok(Routine {
@@ -87,7 +88,10 @@ fn begin(alloc: Global) -> Result<Blocks, NoMemory>
 fn temporaries(blocks: &[Block]) -> Result<u32, NoMemory>
     ensures { IfOk result (λ count. count ≡ in_blocks blocks.now) }
 {
-    u32::try_from(temporaries::in_blocks(blocks)).map_err(|_| NoMemory)
+    match u32::try_from(temporaries::in_blocks(blocks)) {
+        Ok(count) => Ok(count),
+        Err(_) => Err(NoMemory),
+    }
 }
 
 /// How many variables the routine has. None where there is no such routine.
@@ -111,25 +115,88 @@ fn program(alloc: Global, units: &[Unit]) -> Result<Routine, NoMemory>
         begin_unit(alloc, &mut code, unit)?;
     }
     code.push(Instruction::Return)?;
-    let first = Block {
-        code: Sequence::from(code),
-    };
     Ok(Routine {
         locals: 0,
         temporaries: 0,
         charge: 0,
-        blocks: with_end(alloc, first)?,
+        blocks: with_end(alloc, code)?,
     })
 }
 
+/// The code for a unit is put behind that of the others.
 fn begin_unit(alloc: Global, code: &mut Vec<Instruction>, unit: &Unit) -> Result<(), NoMemory>
     ensures { IfOk result (λ _. (core : Core) (r : ℕ) → seen core r code.new.items ≡ seen core r code.old.items ++ unit_code unit.now) }
 {
-    if let Some(routine) = unit.initialization {
-        code.push(entered(alloc, routine))?;
+    enter(alloc, code, unit.initialization)?;
+    make_due(code, unit.finalization)
+}
+
+fn enter(
+    alloc: Global,
+    code: &mut Vec<Instruction>,
+    part: Option<RoutineId>,
+) -> Result<(), NoMemory>
+    ensures { IfOk result (λ _. (core : Core) (r : ℕ) → seen core r code.new.items ≡ seen core r code.old.items ++ entering part) }
+{
+    match part {
+        None => Ok(()),
+        Some(routine) => {
+            let call = Call {
+                given: Sequence::from(Vec::new(alloc)),
+                receiver: Receiver::Nowhere,
+                landing: None,
+            };
+            code.push(Instruction::Call { routine, call })?;
+            Ok(())
+        }
     }
-    if let Some(finalization) = unit.finalization {
-        code.push(Instruction::MakeDue { finalization })?;
+}
+
+fn make_due(code: &mut Vec<Instruction>, part: Option<RoutineId>) -> Result<(), NoMemory>
+    ensures { IfOk result (λ _. (core : Core) (r : ℕ) → seen core r code.new.items ≡ seen core r code.old.items ++ becoming_due part) }
+{
+    match part {
+        None => Ok(()),
+        Some(finalization) => {
+            code.push(Instruction::MakeDue { finalization })?;
+            Ok(())
+        }
     }
-    Ok(())
+}
+
+/// The block with this code, and the one that returns.
+fn with_end(alloc: Global, code: Vec<Instruction>) -> Result<Sequence<Block>, NoMemory>
+    ensures { IfOk result (λ blocks. blocks ≡ record { code = code.items } ∷ record { code = Instruction.Return ∷ [] } ∷ []) }
+{
+    let mut blocks = Vec::new(alloc);
+    blocks.push(Block {
+        code: Sequence::from(code),
+    })?;
+    let mut end = Vec::new(alloc);
+    end.push(Instruction::Return)?;
+    blocks.push(Block {
+        code: Sequence::from(end),
+    })?;
+    Ok(Sequence::from(blocks))
+}
+
+// ---- numbers
+
+fn counts(core: &Core) -> Result<Counts, NoMemory>
+    ensures types { IfOk result (λ counts. counts.types ≡ length core.now.types) }
+    ensures variables { IfOk result (λ counts. counts.variables ≡ length core.now.variables) }
+{
+    let types = number_of(core.types.as_slice().len())?;
+    let variables = number_of(core.variables.as_slice().len())?;
+    Ok(Counts { types, variables })
+}
+
+/// A number of 32 bits.
+fn number_of(n: usize) -> Result<u32, NoMemory>
+    ensures { IfOk result (λ number. number ≡ n) }
+{
+    match u32::try_from(n) {
+        Ok(number) => Ok(number),
+        Err(_) => Err(NoMemory),
+    }
 }
