@@ -4,5 +4,7 @@ pub mod MeaningLemmas
 pub mod Registers
 pub mod StraightRuns
 pub mod WordBits
+pub mod WordParts
 pub mod WordProducts
+pub mod WordSets
 pub mod Words
