@@ -10,6 +10,7 @@ use Rattle.op_constants.specs.Offsets.{alignment_in, size_in}
 use Rattle.op_constants.specs.Shapes.{is_composite}
 use Rattle.op_core.specs.declared.ids.TypeId.{TypeId}
 use Rattle.op_core.specs.declared.program.Core.{Core}
+use Rattle.op_core.specs.declared.routine.Variable.{Variable}
 use Rattle.op_core.specs.declared.types.IntegerKind.{IntegerKind}
 use Rattle.op_core.specs.declared.types.IntegerKind.TheVariants.{Signed8, Unsigned8, Signed16, Unsigned16, Signed32}
 use Rattle.op_expand.specs.Places.{after, at_scratch, home_of, place_code, place_of}
@@ -149,12 +150,12 @@ copy_code core frame of to from =
 
 -- ---- first values of variables
 
-abbrev pub number_begun : Core → Frame → IntegerKind → ℤ → LocalId → List Instruction
+unfoldable pub number_begun : Core → Frame → IntegerKind → ℤ → LocalId → List Instruction
 number_begun core frame kind n v =
     Const (scratch_of frame.bank 0) (word_from n) ∷ store_code core frame kind (scratch_of frame.bank 0) (Local v) [] (scratch_of frame.bank 1)
 
 -- a literal may lie at any address
-abbrev pub parts_begun : Core → Frame → (size id : ℕ) → LocalId → List Instruction
+unfoldable pub parts_begun : Core → Frame → (size id : ℕ) → LocalId → List Instruction
 parts_begun core frame size id v =
     let limit = limit_of false size in
     let source = at_scratch (scratch_of frame.bank 0) in
@@ -162,12 +163,17 @@ parts_begun core frame size id v =
     ∷ place_code core frame limit (Local v) [] source.free
     ++ bytes_code false size source (place_of core frame limit (Local v) [] source.free)
 
-abbrev pub begun_code : Core → Frame → (id : ℕ) → LocalId → List Instruction
-begun_code core frame id v =
-    let row = slice_get core.variables (frame.first + v.0) in
-    let of = type_of_row row in
+-- a variable of the type, whose row tells what it begins with
+unfoldable pub begun_by : Core → Frame → (id : ℕ) → LocalId → TypeId → Option Variable → List Instruction
+begun_by core frame id v of row =
     if is_composite (shape_of core of) then parts_begun core frame (size_in core of) id v
     else number_begun core frame (kind_of core of) (first_number (first_of_row row)) v
+
+abbrev pub row_of : Core → Frame → LocalId → Option Variable
+row_of core frame v = slice_get core.variables (frame.first + v.0)
+
+abbrev pub begun_code : Core → Frame → (id : ℕ) → LocalId → List Instruction
+begun_code core frame id v = begun_by core frame id v (type_of_row (row_of core frame v)) (row_of core frame v)
 
 -- ---- literals
 

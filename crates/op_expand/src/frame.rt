@@ -55,14 +55,10 @@ pub fn parameters_of(core: &Core, routine: RoutineId) -> Result<u32, NoMemory>
 {
     match core.routines.as_slice().get(routine.0 as usize) {
         None => Ok(0),
-        Some(row) => sum(objects_in(row.owner), row.parameters.count),
-    }
-}
-
-fn objects_in(owner: Owner) -> u32 {
-    match owner {
-        Owner::Unit => 0,
-        _ => 1,
+        Some(row) => match row.owner {
+            Owner::Unit => Ok(row.parameters.count),
+            _ => sum(1, row.parameters.count),
+        },
     }
 }
 

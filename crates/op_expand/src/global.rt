@@ -1,7 +1,7 @@
 //! Global variables.
 ghost use Rattle.op_expand.specs.Programs.{global_of, globals_in, no_bytes, stack_global};
 ghost use Rattle.std.specs.Option.{option_copied};
-ghost use Rattle.std.specs.Prelude.{◌≡◌, ◌∷◌, ◌++◌, [], IfOk, length, replicate};
+ghost use Rattle.std.specs.Prelude.{◌≡◌, ◌∷◌, ◌++◌, [], IfOk, length, replicate, slice_set};
 
 use op_base::{NoMemory, Sequence};
 use op_constants::{first_bytes, size_of};
@@ -34,7 +34,7 @@ fn global(
     core: &Core,
     variable: Option<&Variable>,
 ) -> Result<GlobalVariable, NoMemory>
-    ensures { IfOk result (λ global. global ≡ global_of core.now (option_copied variable)) }
+    ensures { IfOk result (λ global. global ≡ global_of core.now (option_copied variable.entry)) }
 {
     let Some(row) = variable else {
         return Ok(zeros(alloc, 0));
@@ -55,6 +55,16 @@ fn empty_globals(alloc: Global, count: usize) -> Result<Vec<GlobalVariable>, NoM
     Ok(globals)
 }
 
+/// Takes the place of another one, if that is there.
+#[tactic(auto, using(std::proofs::lemmas::List::set_past))]
+fn put(globals: &mut Vec<GlobalVariable>, place: usize, made: GlobalVariable)
+    ensures { globals.new.items ≡ slice_set globals.old.items place made }
+{
+    if place < globals.len() {
+        globals[place] = made;
+    }
+}
+
 /// One for each row of the table of variables, with its number; rows that are no global variables have no bytes.
 fn globals_in(alloc: Global, core: &Core) -> Result<Vec<GlobalVariable>, NoMemory>
     ensures { IfOk result (λ globals. globals.items ≡ globals_in core.now) }
@@ -64,9 +74,7 @@ fn globals_in(alloc: Global, core: &Core) -> Result<Vec<GlobalVariable>, NoMemor
     for id in core.globals.as_slice() {
         let place = id.0 as usize;
         let made = global(alloc, core, rows.get(place))?;
-        if place < globals.len() {
-            globals[place] = made;
-        }
+        put(&mut globals, place, made);
     }
     Ok(globals)
 }
