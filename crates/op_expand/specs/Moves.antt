@@ -13,7 +13,7 @@ use Rattle.op_core.specs.declared.program.Core.{Core}
 use Rattle.op_core.specs.declared.routine.Variable.{Variable}
 use Rattle.op_core.specs.declared.types.IntegerKind.{IntegerKind}
 use Rattle.op_core.specs.declared.types.IntegerKind.TheVariants.{Signed8, Unsigned8, Signed16, Unsigned16, Signed32}
-use Rattle.op_expand.specs.Places.{after, at_scratch, home_of, place_code, place_of}
+use Rattle.op_expand.specs.Places.{home_of, place_code, place_of}
 use Rattle.op_expand.specs.declared.frame.Frame.{Frame}
 use Rattle.op_expand.specs.declared.homes.Home.{Home}
 use Rattle.op_expand.specs.declared.homes.Home.TheVariants.{Held}
@@ -32,7 +32,7 @@ use Rattle.op_mir.specs.declared.path.Path.{Path}
 use Rattle.op_mir.specs.declared.path.Root.{Root}
 use Rattle.op_mir.specs.declared.path.Root.TheVariants.{Local}
 use Rattle.op_mir.specs.declared.path.Step.{Step}
-use Rattle.op_rt_text.specs.Names.{call, copy_bytes_number, copy_words_number, literal, write_bytes_number, write_char_number, write_number_number, write_truth_number}
+use Rattle.op_rt_text.specs.Names.{call, copy_bytes_number, copy_words_number, literal, take_number, write_bytes_number, write_char_number, write_number_number, write_truth_number}
 use Rattle.op_rv.specs.Operation.{word_from}
 use Rattle.op_rv.specs.declared.instruction.AluOp.TheVariants.{Add}
 use Rattle.op_rv.specs.declared.instruction.BranchOp.TheVariants.{Bgeu}
@@ -154,14 +154,21 @@ unfoldable pub number_begun : Core → Frame → IntegerKind → ℤ → LocalId
 number_begun core frame kind n v =
     Const (scratch_of frame.bank 0) (word_from n) ∷ store_code core frame kind (scratch_of frame.bank 0) (Local v) [] (scratch_of frame.bank 1)
 
--- a literal may lie at any address
-unfoldable pub parts_begun : Core → Frame → (size id : ℕ) → LocalId → List Instruction
-parts_begun core frame size id v =
-    let limit = limit_of false size in
-    let source = at_scratch (scratch_of frame.bank 0) in
-    Address (scratch_of frame.bank 0) (literal id)
-    ∷ place_code core frame limit (Local v) [] source.free
-    ++ bytes_code false size source (place_of core frame limit (Local v) [] source.free)
+-- A variable takes so many bytes from the address that a register has, which is then free. That stands where the value is to go first, so
+-- that the run-time routine needs two registers. What has no bytes takes nothing.
+unfoldable pub taken_code : Core → Frame → (from : VirtualRegister) → (size : ℕ) → LocalId → List Instruction
+taken_code core frame from size v =
+    let place = place_of core frame 0 (Local v) [] (scratch_of frame.bank 0) in
+    if nat_eq size 0 then []
+    else
+    place_code core frame 0 (Local v) [] (scratch_of frame.bank 0)
+    ++ StoreWord Sw from place.base (pos 0)
+    ∷ Const from size
+    ∷ call take_number (place.base ∷ from ∷ []) from
+    ∷ []
+
+abbrev pub parts_begun : Core → Frame → (size id : ℕ) → LocalId → List Instruction
+parts_begun core frame size id v = Address frame.spare (literal id) ∷ taken_code core frame frame.spare size v
 
 -- a variable of the type, whose row tells what it begins with
 unfoldable pub begun_by : Core → Frame → (id : ℕ) → LocalId → TypeId → Option Variable → List Instruction

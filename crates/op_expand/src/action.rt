@@ -7,13 +7,11 @@ ghost use Rattle.op_meaning.specs.Shapes.{type_of_row};
 ghost use Rattle.std.specs.Option.{option_copied};
 ghost use Rattle.std.specs.Prelude.{◌≡◌, ◌∷◌, ◌++◌, [], IfOk, OnOk};
 
-use crate::copy::{limit_of, push_bytes, push_copy};
+use crate::copy::{push_copy, push_taken};
 use crate::frame::Frame;
-use crate::homes::sum;
 use crate::number::{NEAR, kind_of, push_load_from, push_store_to};
 use crate::place::push_place;
 use crate::push::{push_address, push_call, push_load};
-use crate::spot::at_scratch;
 use op_base::NoMemory;
 use op_compute::{
     RuntimeError, compute, constant, push_alu, push_branch, push_const, push_immediate,
@@ -182,8 +180,7 @@ fn push_number_begun(
     )
 }
 
-/// A copy of a literal, which may lie at any address.
-#[tactic(auto, unfolding(crate::specs::Moves::parts_begun))]
+/// The bytes of a literal.
 fn push_parts_begun(
     alloc: Global,
     code: &mut Vec<Instruction>,
@@ -195,20 +192,8 @@ fn push_parts_begun(
 ) -> Result<(), NoMemory>
     ensures { OnOk result (code.new.items ≡ code.old.items ++ parts_begun core.now frame.now size id variable) }
 {
-    let limit = limit_of(false, size);
-    let address = frame.bank.scratch(0)?;
-    let source = at_scratch(address)?;
-    push_address(code, address, Symbol::Literal(LiteralId(id)))?;
-    let target = push_place(
-        code,
-        core,
-        frame,
-        limit,
-        Root::Local { variable },
-        &[],
-        source.free,
-    )?;
-    push_bytes(alloc, code, false, size, source, target)
+    push_address(code, frame.spare, Symbol::Literal(LiteralId(id)))?;
+    push_taken(alloc, code, core, frame, frame.spare, size, variable)
 }
 
 /// A length of less than 2^32 bytes.

@@ -1,11 +1,11 @@
 //! Global variables.
-ghost use Rattle.op_expand.specs.Programs.{global_of, globals_in, no_bytes, stack_global};
+ghost use Rattle.op_expand.specs.Programs.{global_of, globals_in, no_bytes, stack_global, with_global};
 ghost use Rattle.std.specs.Option.{option_copied};
-ghost use Rattle.std.specs.Prelude.{◌≡◌, ◌∷◌, ◌++◌, [], IfOk, length, replicate, slice_set};
+ghost use Rattle.std.specs.Prelude.{◌≡◌, ◌∷◌, ◌++◌, [], IfOk, OnOk, length, replicate, slice_set};
 
 use op_base::{NoMemory, Sequence};
 use op_constants::{first_bytes, size_of};
-use op_core::{Core, Variable};
+use op_core::{Core, Variable, VariableId};
 use op_rv::GlobalVariable;
 use std::alloc::Global;
 
@@ -65,16 +65,28 @@ fn put(globals: &mut Vec<GlobalVariable>, place: usize, made: GlobalVariable)
     }
 }
 
+/// Puts a global variable at its number.
+fn put_global(
+    alloc: Global,
+    core: &Core,
+    globals: &mut Vec<GlobalVariable>,
+    id: VariableId,
+) -> Result<(), NoMemory>
+    ensures { OnOk result (globals.new.items ≡ with_global core.now globals.old.items id) }
+{
+    let place = id.0 as usize;
+    let made = global(alloc, core, core.variables.as_slice().get(place))?;
+    put(globals, place, made);
+    Ok(())
+}
+
 /// One for each row of the table of variables, with its number; rows that are no global variables have no bytes.
 fn globals_in(alloc: Global, core: &Core) -> Result<Vec<GlobalVariable>, NoMemory>
     ensures { IfOk result (λ globals. globals.items ≡ globals_in core.now) }
 {
-    let rows = core.variables.as_slice();
-    let mut globals = empty_globals(alloc, rows.len())?;
+    let mut globals = empty_globals(alloc, core.variables.as_slice().len())?;
     for id in core.globals.as_slice() {
-        let place = id.0 as usize;
-        let made = global(alloc, core, rows.get(place))?;
-        put(&mut globals, place, made);
+        put_global(alloc, core, &mut globals, *id)?;
     }
     Ok(globals)
 }
