@@ -13,4 +13,5 @@ pub mod Signs
 pub mod TakeRun
 pub mod ThenBytes
 pub mod TruthRun
+pub mod ValidRoutines
 pub mod Walks
