@@ -7,6 +7,7 @@ pub mod CharRun
 pub mod Contracts
 pub mod CopyCalls
 pub mod CopyRun
+pub mod ExampleRuns
 pub mod NumberRun
 pub mod Programs
 pub mod Signs

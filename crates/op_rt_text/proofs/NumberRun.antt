@@ -375,7 +375,7 @@ module _ (others : List Routine) (entry : RoutineId) (named : Counts) (globals :
           from = omega arith;
           length_is = omega arith;
           stands = negative_stands digits.after digits.first text (omega arith) digits.stands;
-          below = λ x lower. with_bytes-below digits.after at (45 ∷ []) x (omega arith) ∙ digits.below x (omega arith);
+          below = negative_below memory digits.after digits.first (omega arith) digits.below;
           walk =
               walk_weaken low p (here given begins memory) end [] (4 + (1 + (2 + (61 + (1 + (2 + (1 + 1))))))) 73 (omega arith)
               (walk_join low p (here given begins memory) (here begun (drop 4 begins) memory) end [] [] 4 (1 + (2 + (61 + (1 + (2 + (1 + 1))))))
@@ -395,6 +395,9 @@ module _ (others : List Routine) (entry : RoutineId) (named : Counts) (globals :
               (to_text_step registers stored))))))));
         }
       where
+        negative_below : (before memory : ℕ → ℕ) (first : ℕ) → m.limit < first → ((x : ℕ) → x < first → memory x ≡ before x) → (x : ℕ) → x < m.limit → with_bytes memory (first - 1) (45 ∷ []) x ≡ before x
+        negative_below before memory first some below x lower = with_bytes-below memory (first - 1) (45 ∷ []) x (omega arith) ∙ below x (omega arith)
+
         negative_stands : (memory : ℕ → ℕ) (first : ℕ) (text : List ℕ) → 0 < first → ((j : ℕ) → j < length text → memory (first + j) ≡ get_or text j 0) → (j : ℕ) → j < length (45 ∷ text) → with_bytes memory (first - 1) (45 ∷ []) (first - 1 + j) ≡ get_or (45 ∷ text) j 0
         negative_stands memory first text some each zero within =
             let place : first - 1 + 0 - (first - 1) ≡ 0 = omega arith in
