@@ -50,12 +50,18 @@ pub enum Item {
         given: Sequence<Given>,
         receiver: Receiver,
     },
-    /// A part with handlers; `others` is for exceptions that no clause takes.
+    /// A part with handlers. An exception that no clause takes goes on.
     Attempt {
         keep: u32,
         items: Vec<Item>,
         clauses: Vec<Clause>,
-        others: Option<Vec<Item>>,
+    },
+    /// A part with handlers. An exception that no clause takes is taken by `others`.
+    AttemptAll {
+        keep: u32,
+        items: Vec<Item>,
+        clauses: Vec<Clause>,
+        others: Vec<Item>,
     },
     /// Raises the instance in a temporary.
     Throw {

@@ -4,6 +4,18 @@
 //! which temporary has what, and which place a path leads to. Blocks are made of them in op_lower.
 #![tactic(auto)]
 
+mod adding;
+mod call;
+mod expression;
+mod found;
 mod item;
+mod law;
+mod operation;
+mod path;
+mod set;
+mod setting;
+mod shape;
+mod value;
 
 pub use item::{Case, Clause, Item, Turns, Way};
+pub use law::item_nodes;

@@ -1,7 +1,7 @@
 -- The state of a program that runs: the activation under way with what is still to be done in it, the activations that wait for it,
 -- and on each of them what has to be ended before it goes on. (Free Pascal Reference Guide, "Using functions and procedures",
 -- "Managed types", "Class destruction", "Exceptions" and "Programs, units, blocks".)
-use Rattle.std.specs.Prelude.{ℕ, ◌+◌, ◌-◌, Bool, List, ◌∷◌, Option, Some, None, slice_get, nat_lt, if◌then◌else◌}
+use Rattle.std.specs.Prelude.{ℕ, ◌+◌, ◌-◌, min, Bool, List, ◌∷◌, Option, Some, None, slice_get, nat_lt, if◌then◌else◌}
 use Rattle.std.specs.Option.{option_map}
 use Rattle.op_core.specs.Initial.{FirstValue, first_value_of}
 use Rattle.op_core.specs.Statement.{Statements, no_statements, stmts_of}
@@ -11,7 +11,7 @@ use Rattle.op_core.specs.declared.program.Core.{Core}
 use Rattle.op_core.specs.declared.routine.Body.{Body}
 use Rattle.op_core.specs.declared.routine.Routine.{Routine}
 use Rattle.op_core.specs.declared.routine.Variable.{Variable}
-use Rattle.op_meaning.specs.Charge.{charge_of}
+use Rattle.op_meaning.specs.Charge.{charge_of, most}
 use Rattle.op_meaning.specs.Errors.{failed}
 use Rattle.op_meaning.specs.Items.{Task, Receiver}
 use Rattle.op_meaning.specs.Values.{Value, Place}
@@ -40,13 +40,13 @@ abbrev first_in : Option Variable → Option FirstValue
 first_in None = None
 first_in (Some v) = option_map (λ i. first_value_of i.value) v.first_value
 
--- a typed program with a stack of so many bytes
+-- a typed program with a stack of so many bytes; a charge above the greatest number of 64 bits counts as that number
 abbrev pub program_of : Core → ℕ → Program
 program_of core stack = record {
   core = core;
   body = λ r. body_in (slice_get core.routines r);
   first = λ v. first_in (slice_get core.variables v);
-  charge = λ r. charge_of core (record { 0 = r });
+  charge = λ r. min (charge_of core (record { 0 = r })) most;
   stack = stack;
 }
 

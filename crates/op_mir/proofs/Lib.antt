@@ -5,5 +5,6 @@ pub mod Following
 pub mod ItemLemmas
 pub mod PlainLemmas
 pub mod PlainRuns
+pub mod PlainTestLemmas
 pub mod ShownLemmas
 pub mod StepLemmas

@@ -17,7 +17,7 @@ pub struct Routine {
     /// How many temporaries that are one value.
     pub temporaries: u32,
     /// What an activation is charged, in bytes of stack.
-    pub charge: u32,
+    pub charge: u64,
     pub blocks: Sequence<Block>,
 }
 

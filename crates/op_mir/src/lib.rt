@@ -18,5 +18,5 @@ pub use code::{Block, Counts, Mir, Routine};
 pub use ids::{BlockId, LocalId, TemporaryId};
 pub use instruction::{Arm, Call, Given, Instruction, Receiver};
 pub use path::{Path, Root, Step};
-pub use theorems::code_goes_along;
+pub use theorems::{code_goes_along, program_is_plain_by_test};
 pub use validity::valid;

@@ -1,7 +1,9 @@
 -- Errors before and in the check.
-use Rattle.std.proofs.Common.{◌≡◌, ℕ, map, inl, Option, Result, Ok, Err, IfOk, List, sym, subst}
+use Rattle.std.proofs.Common.{◌≡◌, ℕ, map, inl, inr, Option, None, Some, Result, Ok, Err, IfOk, List, sym, subst}
 use Rattle.op_base.specs.declared.files.NamedFile.{NamedFile}
 use Rattle.op_base.specs.declared.rule.Refusal.{Refusal}
+use Rattle.op_build.specs.declared.building.BuildError.{BuildError}
+use Rattle.op_build.specs.declared.building.BuildError.TheVariants as build
 use Rattle.op_check_unit.specs.Checking.{CheckIs}
 use Rattle.op_check_unit.specs.Programs.{program_means}
 use Rattle.op_check_unit.specs.Rules.{Obeys, ProgramBreaks}
@@ -10,7 +12,8 @@ use Rattle.op_core.specs.declared.program.Core.{Core}
 use Rattle.op_tree.specs.File.{file_of}
 use Rattle.op_tree.specs.declared.file.Tree.{Tree}
 use Rattle.op_units.specs.declared.forest.Forest.{Forest}
-use Rattle.op_tool.specs.Compiles.{Checks, error_of, FailsAs, FailsToCheck, IsBroken, by_files, RefusesBy}
+use Rattle.op_tool.specs.Compiles.{Checks, error_of, FailsAs, FailsToBuild, FailsToCheck, HasNoCodeImage, HasNoImage, HasOutput, IsBroken, IsCodeImage, IsNoCodeImage, IsProgram, IsTooLarge, Made, RefusesBy, by_code, by_files, by_text, by_size}
+use Rattle.op_tool.specs.ConstantLines.{output_of}
 use Rattle.op_tool.specs.declared.compiler.CompileError.{CompileError}
 use Rattle.op_tool.specs.declared.compiler.CompileError.TheVariants.{Refused, ReadFault, Limit, NoMemory}
 use Rattle.op_units.specs.Loads.{FailsAs as FailsToLoad}
@@ -45,3 +48,29 @@ not_checked stored name before after refusal NoMemory broken free = free
 pub ok_also : {A E : Type 0} {P Q : A → Type 0} (r : Result A E) → ((a : A) → P a → Q a) → IfOk r P → IfOk r Q
 ok_also (Ok a) f holds = f a holds
 ok_also (Err e) f holds = holds
+
+-- ---- the code of a program
+
+-- an image of a program's code is one of the program
+pub made_of_code : (stored : Option (List NamedFile)) (name : List ℕ) (forest : Forest) (core : Core) (image : List ℕ) → IsProgram stored name forest core → output_of forest.trees core ≡ None → IsCodeImage core image → Made stored name image
+made_of_code stored name forest core image is none is_image =
+    by_code (record { mir = is_image.mir; has_code = record { has_output = record { forest = forest; core = core; is_program = is; writes = none }; lowers = is_image.lowers }; built = is_image.built })
+
+fails_to_build : (stored : Option (List NamedFile)) (name : List ℕ) (forest : Forest) (core : Core) (error : BuildError) → IsProgram stored name forest core → output_of forest.trees core ≡ None → IsNoCodeImage core error → FailsToBuild stored name error
+fails_to_build stored name forest core error is none no_image =
+    record { mir = no_image.mir; has_code = record { has_output = record { forest = forest; core = core; is_program = is; writes = none }; lowers = no_image.lowers }; why = no_image.why }
+
+-- why a program has none
+pub fails_as_code : (stored : Option (List NamedFile)) (name : List ℕ) (before after : ℕ) (forest : Forest) (core : Core) (error : CompileError) → IsProgram stored name forest core → output_of forest.trees core ≡ None → HasNoCodeImage core name error → FailsAs stored name before after error
+fails_as_code stored name before after forest core (Refused refusal file) is none (is_file, is_refusal, no_image) =
+    (is_file, inr (is_refusal, fails_to_build stored name forest core build.Unbuildable is none no_image))
+fails_as_code stored name before after forest core ReadFault is none never = absurd never
+fails_as_code stored name before after forest core Limit is none no_image = by_size (fails_to_build stored name forest core build.Limit is none no_image)
+fails_as_code stored name before after forest core NoMemory is none free = free
+
+-- a text that has no image
+pub fails_as_text : (stored : Option (List NamedFile)) (name : List ℕ) (before after : ℕ) (output : List ℕ) (error : CompileError) → HasOutput stored name (Some output) → HasNoImage output error → FailsAs stored name before after error
+fails_as_text stored name before after output (Refused refusal file) has never = absurd never
+fails_as_text stored name before after output ReadFault has never = absurd never
+fails_as_text stored name before after output Limit has large = by_text output has large
+fails_as_text stored name before after output NoMemory has free = free

@@ -8,11 +8,11 @@ use Rattle.op_rv.specs.Step.{step, after}
 use Rattle.op_emu.specs.Filling.{AreBytes}
 use Rattle.op_emu.proofs.FillingLemmas.{bytes_append}
 use Rattle.op_link.specs.Image.{start}
-use Rattle.op_tool.specs.Compiles.{Compiles}
+use Rattle.op_tool.specs.Compiles.{Compiles, Made, by_output as made_by_output, by_code as made_by_code}
 use Rattle.op_tool.specs.Effects.{Effect}
 use Rattle.op_tool.specs.ImageRun.{FaultsReading, OwesImage}
 use Rattle.op_base.specs.declared.files.NamedFile.{NamedFile}
-use Rattle.op_tool.specs.Owes.{call, OwesExec}
+use Rattle.op_tool.specs.Owes.{call, OwesExec, by_output, by_code}
 use Rattle.op_tool.specs.Prints.{EndsAfter, Prints}
 use Rattle.op_tool.specs.declared.finish.Finish.{Finish}
 use Rattle.op_tool.specs.declared.finish.Finish.TheVariants as finish
@@ -109,15 +109,15 @@ module _ (image text : List ℕ) (prints : Prints image text) where
       let within = shrinks.input in
       reads_or_ended done.steps e.steps s t {n = length s.input} refl (omega arith) (ap length (e.unread ∙ sym (start_input image input))) e.ended (cases_lt done.steps e.steps) wants.runs
 
-  pub exec_owes : (words : List (List ℕ)) (stored : Option (List NamedFile)) (before now : ℕ) (made name : List ℕ) → Compiles stored name made text → (answer : Finish) (done : Effect) → AreBytes done.input → OwesImage image answer done → OwesExec (call words stored before now made) name answer done
+  exec_owes : (words : List (List ℕ)) (stored : Option (List NamedFile)) (before now : ℕ) (made name : List ℕ) → Compiles stored name made text → (answer : Finish) (done : Effect) → AreBytes done.input → OwesImage image answer done → OwesExec (call words stored before now made) name answer done
   exec_owes words stored before now made name compiles (finish.Ended status) done bytes (le, (meets, (ended, left, (out, err)))) =
       let e = end done.input bytes in
-      let same = same_end done.steps e.steps (start image done.input) status 0 ended e.ended in (
-        same_status status 0 (sym ended ∙ ap (λ t. t.ending) same ∙ e.ended),
-        subst (Compiles stored name made) (sym (out ∙ ap (λ t. t.output) same ∙ e.written)) compiles,
-        err ∙ append-nil _ ∙ ap (λ t. t.errors) same ∙ e.reported,
-        left ∙ ap (λ t. t.input) same ∙ e.unread,
-      )
+      let same = same_end done.steps e.steps (start image done.input) status 0 ended e.ended in
+      inr (by_output
+      (ap (λ n. finish.Ended n) (same_status status 0 (sym ended ∙ ap (λ t. t.ending) same ∙ e.ended)))
+      (subst (Compiles stored name made) (sym (out ∙ ap (λ t. t.output) same ∙ e.written)) compiles)
+      (err ∙ append-nil _ ∙ ap (λ t. t.errors) same ∙ e.reported)
+      (left ∙ ap (λ t. t.input) same ∙ e.unread))
   exec_owes words stored before now made name compiles (finish.Faulted kind pc) done bytes (le, (meets, (faulted, left, written))) =
       absurd (prints.never_faults done.input bytes done.steps kind pc faulted)
   exec_owes words stored before now made name compiles finish.Spent done bytes (limit, (meets, (running, left, written))) =
@@ -128,8 +128,14 @@ module _ (image text : List ℕ) (prints : Prints image text) where
   exec_owes words stored before now made name compiles finish.ReadFault done bytes (lt, meets, taken, parts, faults) =
       absurd (runs_never_fault_reading taken done (bytes_front taken done.left (subst AreBytes parts bytes)) faults)
   exec_owes words stored before now made name compiles (finish.BadImage condition) done bytes (fails, reports) = absurd (passes_none condition (sym prints.loads ∙ fails))
-  exec_owes words stored before now made name compiles finish.NoMemory done bytes reports = reports
+  exec_owes words stored before now made name compiles finish.NoMemory done bytes reports = inl reports
   exec_owes words stored before now made name compiles finish.Usage done bytes owes = absurd owes
   exec_owes words stored before now made name compiles (finish.Refused rule place) done bytes owes = absurd owes
   exec_owes words stored before now made name compiles finish.WriteFault done bytes owes = absurd owes
   exec_owes words stored before now made name compiles finish.Limit done bytes owes = absurd owes
+
+-- the run of an image that was made of a program
+pub exec_made : (words : List (List ℕ)) (stored : Option (List NamedFile)) (before now : ℕ) (image name : List ℕ) → Made stored name image → (answer : Finish) (done : Effect) → AreBytes done.input → OwesImage image answer done → OwesExec (call words stored before now image) name answer done
+exec_made words stored before now image name (made_by_output text compiles) answer done bytes owes =
+    exec_owes image text compiles.prints words stored before now image name compiles answer done bytes owes
+exec_made words stored before now image name (made_by_code compiles) answer done bytes owes = inr (by_code compiles owes)

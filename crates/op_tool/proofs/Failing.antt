@@ -20,37 +20,13 @@ says_error now name errors.Limit answer i o e e' r r' n c c' large empty is =
 says_error now name errors.NoMemory answer i o e e' r r' n c c' free empty is =
     says_no_memory (OwesError now name) answer i o e e' r r' n c c' (λ done only. only) is
 
-exec_error : (now : Call) (name : List ℕ) (answer : Finish) (done : Effect) → OwesError now name answer done → OwesExec now name answer done
-exec_error now name (Ended status) done owes = absurd owes
-exec_error now name Usage done owes = owes
-exec_error now name (Refused rule place) done owes = owes
-exec_error now name ReadFault done owes = owes
-exec_error now name WriteFault done owes = owes
-exec_error now name Spent done owes = owes
-exec_error now name NoMemory done owes = owes
-exec_error now name (BadImage condition) done owes = owes
-exec_error now name (Faulted kind pc) done owes = owes
-exec_error now name Limit done owes = owes
-
-build_error : (now : Call) (name : List ℕ) (answer : Finish) (done : Effect) → OwesError now name answer done → OwesBuild now name answer done
-build_error now name (Ended status) done owes = absurd owes
-build_error now name Usage done owes = owes
-build_error now name (Refused rule place) done owes = owes
-build_error now name ReadFault done owes = owes
-build_error now name WriteFault done owes = owes
-build_error now name Spent done owes = owes
-build_error now name NoMemory done owes = owes
-build_error now name (BadImage condition) done owes = owes
-build_error now name (Faulted kind pc) done owes = owes
-build_error now name Limit done owes = owes
-
 pub says_exec_error : (now : Call) (name : List ℕ) (error : CompileError) (answer : Finish) (i o e e' : Option (List ℕ)) (r r' n c c' : ℕ) → FailsAs now.stored name now.file_faults_before now.file_faults_after error → now.image ≡ [] → ReportsError error answer e e' c c' → Says (OwesExec now name) answer (streams i i o o e e') (faults r r' n n c c')
 says_exec_error now name error answer i o e e' r r' n c c' failed empty is =
-    says_also (OwesError now name) (OwesExec now name) answer (streams i i o o e e') (faults r r' n n c c') (λ answer done bytes. exec_error now name answer done) (says_error now name error answer i o e e' r r' n c c' failed empty is)
+    says_also (OwesError now name) (OwesExec now name) answer (streams i i o o e e') (faults r r' n n c c') (λ answer done bytes owes. inl owes) (says_error now name error answer i o e e' r r' n c c' failed empty is)
 
 pub says_build_error : (now : Call) (name : List ℕ) (error : CompileError) (answer : Finish) (i o e e' : Option (List ℕ)) (r r' n c c' : ℕ) → FailsAs now.stored name now.file_faults_before now.file_faults_after error → now.image ≡ [] → ReportsError error answer e e' c c' → Says (OwesBuild now name) answer (streams i i o o e e') (faults r r' n n c c')
 says_build_error now name error answer i o e e' r r' n c c' failed empty is =
-    says_also (OwesError now name) (OwesBuild now name) answer (streams i i o o e e') (faults r r' n n c c') (λ answer done bytes. build_error now name answer done) (says_error now name error answer i o e e' r r' n c c' failed empty is)
+    says_also (OwesError now name) (OwesBuild now name) answer (streams i i o o e e') (faults r r' n n c c') (λ answer done bytes owes. inl owes) (says_error now name error answer i o e e' r r' n c c' failed empty is)
 
 pub says_check_error : (now : Call) (name : List ℕ) (error : CompileError) (answer : Finish) (i o e e' : Option (List ℕ)) (r r' n c c' : ℕ) → FailsToCheck now.stored name now.file_faults_before now.file_faults_after error → now.image ≡ [] → ReportsError error answer e e' c c' → Says (OwesCheck now name) answer (streams i i o o e e') (faults r r' n n c c')
 says_check_error now name (errors.Refused refusal file) answer i o e e' r r' n c c' (is_file, broken) empty is =

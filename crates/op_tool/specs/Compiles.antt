@@ -5,15 +5,20 @@ use Rattle.op_base.specs.declared.files.NamedFile.{NamedFile}
 use Rattle.op_base.specs.declared.place.Place.{Place}
 use Rattle.op_base.specs.declared.rule.Refusal.{Refusal}
 use Rattle.op_base.specs.declared.rule.Rule.{Rule}
+use Rattle.op_build.specs.Built.{IsBuilt, IsNotBuilt}
+use Rattle.op_build.specs.declared.building.BuildError.{BuildError}
+use Rattle.op_build.specs.declared.building.BuildError.TheVariants as build
 use Rattle.op_check_unit.specs.Checking.{CheckIs}
 use Rattle.op_check_unit.specs.Programs.{program_means}
 use Rattle.op_check_unit.specs.Rules.{Obeys, ProgramBreaks}
 use Rattle.op_core.specs.declared.error.CheckError.{CheckError}
 use Rattle.op_core.specs.declared.error.CheckError.TheVariants as check
 use Rattle.op_core.specs.declared.program.Core.{Core}
+use Rattle.op_lower.specs.Lowering.{Lowers}
+use Rattle.op_mir.specs.declared.code.Mir.{Mir}
 use Rattle.op_tool.specs.ConstantLines.{output_of}
 use Rattle.op_tool.specs.Prints.{Prints}
-use Rattle.op_tool.specs.TextProgram.{IsLargeText}
+use Rattle.op_tool.specs.TextProgram.{IsLargeText, default}
 use Rattle.op_tool.specs.declared.compiler.CompileError.{CompileError}
 use Rattle.op_tool.specs.declared.compiler.CompileError.TheVariants.{Refused, ReadFault, Limit, NoMemory}
 use Rattle.op_tree.specs.File.{file_of}
@@ -50,6 +55,22 @@ pub record Compiles (stored : Option (List NamedFile)) (name image output : List
   pub has_output : HasOutput stored name (Some output)
   pub prints : Prints image output
 
+-- the program is of another form, and this is its managed code
+pub record HasCode (stored : Option (List NamedFile)) (name : List ℕ) (mir : Mir) : Type 0 where
+  pub has_output : HasOutput stored name None
+  pub lowers : Lowers has_output.core mir
+
+-- the image is that of the program's managed code
+pub record CompilesCode (stored : Option (List NamedFile)) (name image : List ℕ) : Type 0 where
+  pub mir : Mir
+  pub has_code : HasCode stored name mir
+  pub built : IsBuilt has_code.has_output.core mir default image
+
+-- an image of the program
+pub data Made (stored : Option (List NamedFile)) (name image : List ℕ) : Type 0 where
+  by_output : (output : List ℕ) → Compiles stored name image output → Made stored name image
+  by_code : CompilesCode stored name image → Made stored name image
+
 -- ---- refusals
 
 -- the first rule that the program breaks: of its files, else one that the check finds in them
@@ -67,13 +88,20 @@ main_start = record { file = 0; line = 1; col = 1 }
 abbrev pub not_compiled : Refusal
 not_compiled = record { rule = record { number = 13; feature = 38 }; place = main_start }
 
--- the program breaks this rule first, or it breaks none and is of another form than those that are compiled
+-- the program's managed code has no image, for this cause
+pub record FailsToBuild (stored : Option (List NamedFile)) (name : List ℕ) (error : BuildError) : Type 0 where
+  pub mir : Mir
+  pub has_code : HasCode stored name mir
+  pub why : IsNotBuilt has_code.has_output.core mir default error
+
+-- the program breaks this rule first, or it breaks none and its low code names what does not exist
 abbrev pub IsRefused : Option (List NamedFile) → List ℕ → Refusal → Type 0
-IsRefused stored name refusal = IsBroken stored name refusal ⊎ (refusal ≡ not_compiled) × HasOutput stored name None
+IsRefused stored name refusal = IsBroken stored name refusal ⊎ (refusal ≡ not_compiled) × FailsToBuild stored name build.Unbuildable
 
 -- code, constants and initial globals of its image have more bytes than an image may have
-abbrev pub IsTooLarge : Option (List NamedFile) → List ℕ → Type 0
-IsTooLarge stored name = (output : List ℕ) × HasOutput stored name (Some output) × IsLargeText output
+pub data IsTooLarge (stored : Option (List NamedFile)) (name : List ℕ) : Type 0 where
+  by_text : (output : List ℕ) → HasOutput stored name (Some output) → IsLargeText output → IsTooLarge stored name
+  by_size : FailsToBuild stored name build.Limit → IsTooLarge stored name
 
 -- ---- errors
 
@@ -110,3 +138,22 @@ HasNoImage output (Refused refusal file) = ⊥
 HasNoImage output ReadFault = ⊥
 HasNoImage output Limit = IsLargeText output
 HasNoImage output NoMemory = ⊤
+
+-- managed code of a typed program, and its image
+pub record IsCodeImage (core : Core) (image : List ℕ) : Type 0 where
+  pub mir : Mir
+  pub lowers : Lowers core mir
+  pub built : IsBuilt core mir default image
+
+-- managed code of a typed program that has no image, for this cause
+pub record IsNoCodeImage (core : Core) (error : BuildError) : Type 0 where
+  pub mir : Mir
+  pub lowers : Lowers core mir
+  pub why : IsNotBuilt core mir default error
+
+-- why a typed program in this file has no image
+abbrev pub HasNoCodeImage : Core → List ℕ → CompileError → Type 0
+HasNoCodeImage core name (Refused refusal file) = (file ≡ name) × (refusal ≡ not_compiled) × IsNoCodeImage core build.Unbuildable
+HasNoCodeImage core name ReadFault = ⊥
+HasNoCodeImage core name Limit = IsNoCodeImage core build.Limit
+HasNoCodeImage core name NoMemory = ⊤

@@ -8,7 +8,7 @@ use Rattle.op_base.specs.declared.place.Place.{Place}
 use Rattle.op_base.specs.declared.rule.Refusal.{Refusal}
 use Rattle.op_base.specs.declared.rule.Rule.{Rule}
 use Rattle.op_tool.specs.Command.{IsBuild, IsCheck, IsExec, IsRun, IsNoCommand}
-use Rattle.op_tool.specs.Compiles.{Compiles, IsAccepted, IsBroken, IsRefused, IsTooLarge, file_missing, main_start}
+use Rattle.op_tool.specs.Compiles.{Compiles, CompilesCode, IsAccepted, IsBroken, IsRefused, IsTooLarge, Made, file_missing, main_start}
 use Rattle.op_tool.specs.Effects.{Effect, OnlyReports, OnlyWrites, ReportIs, line}
 use Rattle.op_tool.specs.ImageRun.{OwesImage}
 use Rattle.op_tool.specs.declared.compiler.CompileError.{CompileError}
@@ -93,17 +93,22 @@ OwesError now name Limit done = IsTooLarge now.stored name × (now.image ≡ [])
 OwesError now name NoMemory done = OnlyReports (line (codes "opc: out of memory")) done
 OwesError now name _ done = ⊥
 
+-- what a program did that was compiled and run: it wrote the output that it has, or it did what its image does
+pub data Executes (now : Call) (name : List ℕ) (answer : Finish) (done : Effect) : Type 0 where
+  by_output : (answer ≡ Ended 0) → Compiles now.stored name now.image done.out → (done.err ≡ []) → (done.left ≡ done.input) → Executes now name answer done
+  by_code : CompilesCode now.stored name now.image → OwesImage now.image answer done → Executes now name answer done
+
 -- `exec` of the file of this name
 abbrev pub OwesExec : Call → List ℕ → Finish → Effect → Type 0
-OwesExec now name (Ended status) done =
-    (status ≡ 0) × Compiles now.stored name now.image done.out × (done.err ≡ []) × (done.left ≡ done.input)
-OwesExec now name answer done = OwesError now name answer done
+OwesExec now name answer done = OwesError now name answer done ⊎ Executes now name answer done
+
+-- an image of the program was written, and nothing else was done
+abbrev pub WritesImage : Call → List ℕ → Finish → Effect → Type 0
+WritesImage now name answer done = (answer ≡ Ended 0) × Made now.stored name now.image × OnlyWrites now.image done
 
 -- `build` of the file of this name
 abbrev pub OwesBuild : Call → List ℕ → Finish → Effect → Type 0
-OwesBuild now name (Ended status) done =
-    (status ≡ 0) × (text : List ℕ) × Compiles now.stored name now.image text × OnlyWrites now.image done
-OwesBuild now name answer done = OwesError now name answer done
+OwesBuild now name answer done = OwesError now name answer done ⊎ WritesImage now name answer done
 
 -- these are the bytes of the file of this name
 abbrev pub IsFile : Option (List NamedFile) → List ℕ → List ℕ → Type 0

@@ -1,14 +1,16 @@
 //! From a source file to its image.
-ghost use Rattle.std.specs.Prelude.{◌≡◌, ◌≤◌, List, ℕ, IfOk, IfErr};
-ghost use Rattle.op_tool.specs.Compiles.{Compiles, FailsAs, FailsToCheck, HasNoImage, IsProgram, RefusesBy};
+ghost use Rattle.std.specs.Prelude.{◌≡◌, ◌≤◌, IfErr, IfOk};
+ghost use Rattle.op_tool.specs.Compiles.{FailsAs, FailsToCheck, HasNoCodeImage, HasNoImage, IsCodeImage, IsProgram, Made, RefusesBy};
 ghost use Rattle.op_tool.specs.Prints.{Prints};
 
 use crate::constant_lines::output_of;
 use crate::text_program::text_image;
 use op_base::{Files, NoMemory, Place, Refusal, Rule, Text};
+use op_build::{BuildError, build};
 use op_check_unit::check;
 use op_core::{CheckError, Core};
-use op_link::LinkError;
+use op_link::{LinkError, Settings};
+use op_lower::lower;
 use op_units::{Forest, LoadError, load};
 use std::alloc::Global;
 
@@ -19,7 +21,7 @@ pub(crate) const MAIN_START: Place = Place {
     col: 1,
 };
 
-/// A program breaks no rule, and it is of no form that is compiled.
+/// A program breaks no rule, and its low code names what does not exist.
 const NOT_COMPILED: Refusal = Refusal {
     rule: Rule {
         number: 13,
@@ -76,10 +78,10 @@ pub(crate) struct Program {
 
 /// The image of the program in this file.
 ///
-/// `Refused` tells the first rule that the program breaks, as `load` and then `check` have them, or that it is of no form that
-/// is compiled yet. `Limit` comes where code, constants and initial globals would take more than 67,108,864 bytes.
+/// `Refused` tells the first rule that the program breaks, as `load` and then `check` have them, or that its low code names what does
+/// not exist. `Limit` comes where code, constants and initial globals would take more than 67,108,864 bytes.
 pub fn compile<F: Files>(alloc: Global, files: &mut F, main: &str) -> Result<Vec<u8>, CompileError>
-    ensures made { IfOk result (λ image. (output : List ℕ) × Compiles (F.stored files.old) main.now image.items output) }
+    ensures made { IfOk result (λ image. Made (F.stored files.old) main.now image.items) }
     ensures failed { IfErr result (FailsAs (F.stored files.old) main.now (F.faults files.old) (F.faults files.new)) }
     ensures counts { F.faults files.old ≤ F.faults files.new }
     ensures unchanged { F.stored files.new ≡ F.stored files.old }
@@ -87,7 +89,7 @@ pub fn compile<F: Files>(alloc: Global, files: &mut F, main: &str) -> Result<Vec
     let Program { forest, core } = checked(alloc, files, main)?;
     match output_of(alloc, forest.trees.as_slice(), &core)? {
         Some(output) => image_of(alloc, output),
-        None => Err(refused(alloc, main, NOT_COMPILED)),
+        None => code_image(alloc, main, &core),
     }
 }
 
@@ -122,6 +124,20 @@ fn image_of(alloc: Global, output: Text) -> Result<Vec<u8>, CompileError>
         Ok(image) => Ok(image),
         Err(LinkError::Limit) => Err(CompileError::Limit),
         Err(LinkError::NoMemory) => Err(CompileError::NoMemory),
+    }
+}
+
+/// The image of the managed code of a program, which is in this file.
+fn code_image(alloc: Global, main: &str, core: &Core) -> Result<Vec<u8>, CompileError>
+    ensures made { IfOk result (λ image. IsCodeImage core.now image.items) }
+    ensures failed { IfErr result (HasNoCodeImage core.now main.now) }
+{
+    let mir = lower(alloc, core)?;
+    match build(alloc, core, &mir, &Settings::DEFAULT) {
+        Ok(image) => Ok(image),
+        Err(BuildError::Limit) => Err(CompileError::Limit),
+        Err(BuildError::Unbuildable) => Err(refused(alloc, main, NOT_COMPILED)),
+        Err(BuildError::NoMemory) => Err(CompileError::NoMemory),
     }
 }
 

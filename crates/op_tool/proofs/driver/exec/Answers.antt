@@ -1,18 +1,17 @@
-use Rattle.std.proofs.Common.{subst, sym}
+use Rattle.std.proofs.Common.{subst}
+use Rattle.op_tool.specs.Effects.{Says}
 use Rattle.op_tool.specs.ImageRun.{OwesImage}
 use Rattle.op_tool.specs.Owes.{call}
-use Rattle.op_tool.specs.Prints.{Prints}
-use Rattle.op_tool.proofs.Executing.{exec_owes}
+use Rattle.op_tool.proofs.Executing.{exec_made}
 use Rattle.op_tool.proofs.Failing.{says_exec_error}
 use Rattle.op_tool.proofs.Saying.{says_also}
 use Rattle.op_tool.proofs.driver.exec.Goals as goal
 
 pub returns-in-Ok-clause-says : goal.returns-in-Ok-clause-says
 returns-in-Ok-clause-says g c words =
-    let text = c.in-Ok.ensures.made.0 in
-    let made = c.in-Ok.ensures.made.1 in
-    let prints = subst (λ image. Prints image text) (sym c.as_slice.ensures.value) made.prints in
-    says_also (OwesImage c.as_slice.result.now) _ c.run_image.result _ _ (exec_owes c.as_slice.result.now text prints words (g.F.Files.stored c.args.files.now) (g.F.Files.faults c.args.files.now) (g.F.Files.faults c.compile.new.files) _ c.args.file.now made) c.run_image.ensures.says
+    let owes = exec_made words (g.F.Files.stored c.args.files.now) (g.F.Files.faults c.args.files.now) (g.F.Files.faults c.compile.new.files) _ c.args.file.now c.in-Ok.ensures.made in
+    let runs = subst (λ image. Says (OwesImage image) c.run_image.result _ _) c.as_slice.ensures.value c.run_image.ensures.says in
+    says_also (OwesImage _) _ c.run_image.result _ _ owes runs
 
 pub returns-in-Err-clause-says : goal.returns-in-Err-clause-says
 returns-in-Err-clause-says g c words =

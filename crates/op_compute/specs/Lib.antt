@@ -1,0 +1,11 @@
+pub mod Arithmetic
+pub mod Bank
+pub mod Branches
+pub mod Comparisons
+pub mod Computing
+pub mod Conversions
+pub mod Meaning
+pub mod Moves
+pub mod Ranges
+pub mod SetCode
+pub mod Straight

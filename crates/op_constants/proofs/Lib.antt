@@ -1,0 +1,10 @@
+pub mod FieldOffsets
+pub mod FirstParts
+pub mod FirstRows
+pub mod Fitting
+pub mod Lying
+pub mod Numbers
+pub mod Sets
+pub mod TypesArranged
+pub mod Units
+pub mod Zeros

@@ -1,0 +1,214 @@
+-- Values between registers, places and literals. (RISC-V Unprivileged ISA manual, "Load and Store Instructions".)
+use Rattle.std.specs.Prelude.{ℕ, zero, suc, ◌+◌, ◌*◌, ◌/◌, ℤ, pos, negsuc, Bool, true, false, List, [], ◌∷◌, ◌++◌, length, Option, Some, None, nat_eq, nat_le, slice_get, if◌then◌else◌}
+use Rattle.op_compute.specs.Bank.{error_block_of, register_of, scratch_of}
+use Rattle.op_compute.specs.Computing.{computation_code, constant_code}
+use Rattle.op_compute.specs.Conversions.{low_bits_code}
+use Rattle.op_compute.specs.declared.bank.RuntimeError.TheVariants.{RangeCheck}
+use Rattle.op_constants.specs.FirstBytes.{first_number}
+use Rattle.op_constants.specs.Literals.{first_of_row}
+use Rattle.op_constants.specs.Offsets.{alignment_in, size_in}
+use Rattle.op_constants.specs.Shapes.{is_composite}
+use Rattle.op_core.specs.declared.ids.TypeId.{TypeId}
+use Rattle.op_core.specs.declared.program.Core.{Core}
+use Rattle.op_core.specs.declared.types.IntegerKind.{IntegerKind}
+use Rattle.op_core.specs.declared.types.IntegerKind.TheVariants.{Signed8, Unsigned8, Signed16, Unsigned16, Signed32}
+use Rattle.op_expand.specs.Places.{after, at_scratch, home_of, place_code, place_of}
+use Rattle.op_expand.specs.declared.frame.Frame.{Frame}
+use Rattle.op_expand.specs.declared.homes.Home.{Home}
+use Rattle.op_expand.specs.declared.homes.Home.TheVariants.{Held}
+use Rattle.op_expand.specs.declared.spot.Spot.{Spot}
+use Rattle.op_low.specs.declared.ids.VirtualRegister.{VirtualRegister}
+use Rattle.op_low.specs.declared.instruction.Instruction.{Instruction}
+use Rattle.op_low.specs.declared.instruction.Instruction.TheVariants.{Const, Address, Alu, AluImm, Branch, Load as LoadWord, Move, Store as StoreWord}
+use Rattle.op_meaning.specs.Shapes.{shape_of, type_of_row}
+use Rattle.op_meaning.specs.Statements.{kind_of}
+use Rattle.op_mir.specs.declared.action.Action.{Action}
+use Rattle.op_mir.specs.declared.action.Action.TheVariants.{Constant, Load, Store, Copy, Look, BeginWith, Pick, Compute, Write, WriteText}
+use Rattle.op_mir.specs.declared.action.Writing.{Writing}
+use Rattle.op_mir.specs.declared.action.Writing.TheVariants.{Number, Truth, Char}
+use Rattle.op_mir.specs.declared.ids.LocalId.{LocalId}
+use Rattle.op_mir.specs.declared.path.Path.{Path}
+use Rattle.op_mir.specs.declared.path.Root.{Root}
+use Rattle.op_mir.specs.declared.path.Root.TheVariants.{Local}
+use Rattle.op_mir.specs.declared.path.Step.{Step}
+use Rattle.op_rt_text.specs.Names.{call, copy_bytes_number, copy_words_number, literal, write_bytes_number, write_char_number, write_number_number, write_truth_number}
+use Rattle.op_rv.specs.Operation.{word_from}
+use Rattle.op_rv.specs.declared.instruction.AluOp.TheVariants.{Add}
+use Rattle.op_rv.specs.declared.instruction.BranchOp.TheVariants.{Bgeu}
+use Rattle.op_rv.specs.declared.instruction.ImmOp.TheVariants.{Addi}
+use Rattle.op_rv.specs.declared.instruction.LoadOp.{LoadOp}
+use Rattle.op_rv.specs.declared.instruction.LoadOp.TheVariants.{Lb, Lh, Lw, Lbu, Lhu}
+use Rattle.op_rv.specs.declared.instruction.StoreOp.{StoreOp}
+use Rattle.op_rv.specs.declared.instruction.StoreOp.TheVariants.{Sb, Sh, Sw}
+
+-- ---- numbers
+
+abbrev pub load_op : IntegerKind → LoadOp
+load_op Signed8 = Lb
+load_op Unsigned8 = Lbu
+load_op Signed16 = Lh
+load_op Unsigned16 = Lhu
+load_op Signed32 = Lw
+
+abbrev pub store_op : IntegerKind → StoreOp
+store_op Signed8 = Sb
+store_op Unsigned8 = Sb
+store_op Signed16 = Sh
+store_op Unsigned16 = Sh
+store_op Signed32 = Sw
+
+-- eight words behind a distance of so many bytes are still reached
+abbrev pub near : ℕ
+near = 2016
+
+-- the register that has all of the variable
+abbrev pub held_by : Root → List Step → Home → Option VirtualRegister
+held_by (Local v) [] (Held r) = Some r
+held_by _ _ _ = None
+
+abbrev pub held : Core → Frame → Root → List Step → Option VirtualRegister
+held core frame root steps = held_by root steps (home_of core frame root)
+
+abbrev load_by : Core → Frame → IntegerKind → (to : VirtualRegister) → Root → List Step → (free : VirtualRegister) → Option VirtualRegister → List Instruction
+load_by core frame kind to root steps free (Some r) = Move to r ∷ []
+load_by core frame kind to root steps free None =
+    let spot = place_of core frame near root steps free in
+    place_code core frame near root steps free ++ LoadWord (load_op kind) to spot.base (pos spot.offset) ∷ []
+
+abbrev pub load_code : Core → Frame → IntegerKind → (to : VirtualRegister) → Root → List Step → (free : VirtualRegister) → List Instruction
+load_code core frame kind to root steps free = load_by core frame kind to root steps free (held core frame root steps)
+
+abbrev store_by : Core → Frame → IntegerKind → (from : VirtualRegister) → Root → List Step → (free : VirtualRegister) → Option VirtualRegister → List Instruction
+store_by core frame kind from root steps free (Some r) = low_bits_code r kind from
+store_by core frame kind from root steps free None =
+    let spot = place_of core frame near root steps free in
+    place_code core frame near root steps free ++ StoreWord (store_op kind) from spot.base (pos spot.offset) ∷ []
+
+-- the low bits of a number
+abbrev pub store_code : Core → Frame → IntegerKind → (from : VirtualRegister) → Root → List Step → (free : VirtualRegister) → List Instruction
+store_code core frame kind from root steps free = store_by core frame kind from root steps free (held core frame root steps)
+
+-- ---- values with parts: up to eight words or bytes one by one, and more by a run-time routine
+
+-- whether all its addresses are multiples of 4
+abbrev pub by_words : Core → TypeId → Bool
+by_words core of = nat_eq (alignment_in core of) 4
+
+abbrev pub unit_of : Bool → ℕ
+unit_of true = 4
+unit_of false = 1
+
+abbrev pub units_in : Bool → ℕ → ℕ
+units_in true size = size / 4
+units_in false size = size
+
+abbrev pub is_short : Bool → ℕ → Bool
+is_short words size = nat_le (units_in words size) 8
+
+-- how far behind an address a value may begin that is copied
+abbrev pub limit_of : Bool → ℕ → ℕ
+limit_of words size = if is_short words size then near else 0
+
+abbrev pub unit_load : Bool → LoadOp
+unit_load true = Lw
+unit_load false = Lbu
+
+abbrev pub unit_store : Bool → StoreOp
+unit_store true = Sw
+unit_store false = Sb
+
+abbrev pub unit_code : Bool → (n : ℕ) → (from to : Spot) → List Instruction
+unit_code words n from to =
+    LoadWord (unit_load words) to.free from.base (pos (from.offset + n * unit_of words))
+    ∷ StoreWord (unit_store words) to.free to.base (pos (to.offset + n * unit_of words))
+    ∷ []
+
+-- the first so many units
+abbrev pub units_code : Bool → ℕ → (from to : Spot) → List Instruction
+units_code words zero from to = []
+units_code words (suc n) from to = units_code words n from to ++ unit_code words n from to
+
+abbrev pub copy_number : Bool → ℕ
+copy_number true = copy_words_number
+copy_number false = copy_bytes_number
+
+abbrev pub bytes_code : Bool → (size : ℕ) → (from to : Spot) → List Instruction
+bytes_code words size from to =
+    if is_short words size then units_code words (units_in words size) from to
+    else Const to.free size ∷ call (copy_number words) (to.base ∷ from.base ∷ to.free ∷ []) to.free ∷ []
+
+abbrev pub copy_code : Core → Frame → TypeId → (to from : Path) → List Instruction
+copy_code core frame of to from =
+    let words = by_words core of in
+    let limit = limit_of words (size_in core of) in
+    let source = place_of core frame limit from.root from.steps (scratch_of frame.bank 0) in
+    let target = place_of core frame limit to.root to.steps source.free in
+    place_code core frame limit from.root from.steps (scratch_of frame.bank 0)
+    ++ place_code core frame limit to.root to.steps source.free
+    ++ bytes_code words (size_in core of) source target
+
+-- ---- first values of variables
+
+abbrev pub number_begun : Core → Frame → IntegerKind → ℤ → LocalId → List Instruction
+number_begun core frame kind n v =
+    Const (scratch_of frame.bank 0) (word_from n) ∷ store_code core frame kind (scratch_of frame.bank 0) (Local v) [] (scratch_of frame.bank 1)
+
+-- a literal may lie at any address
+abbrev pub parts_begun : Core → Frame → (size id : ℕ) → LocalId → List Instruction
+parts_begun core frame size id v =
+    let limit = limit_of false size in
+    let source = at_scratch (scratch_of frame.bank 0) in
+    Address (scratch_of frame.bank 0) (literal id)
+    ∷ place_code core frame limit (Local v) [] source.free
+    ++ bytes_code false size source (place_of core frame limit (Local v) [] source.free)
+
+abbrev pub begun_code : Core → Frame → (id : ℕ) → LocalId → List Instruction
+begun_code core frame id v =
+    let row = slice_get core.variables (frame.first + v.0) in
+    let of = type_of_row row in
+    if is_composite (shape_of core of) then parts_begun core frame (size_in core of) id v
+    else number_begun core frame (kind_of core of) (first_number (first_of_row row)) v
+
+-- ---- literals
+
+-- error 201 where the index is not from 1 to the length
+abbrev pub pick_code : Frame → (id : ℕ) → (to : VirtualRegister) → (size : ℕ) → (index : VirtualRegister) → List Instruction
+pick_code frame id to size index =
+    let place = scratch_of frame.bank 0 in
+    let via = scratch_of frame.bank 1 in
+    AluImm Addi place index (negsuc 0)
+    ∷ Const via size
+    ∷ Branch Bgeu place via (error_block_of frame.bank RangeCheck)
+    ∷ Address via (literal id)
+    ∷ Alu Add place via place
+    ∷ LoadWord Lbu to place (pos 0)
+    ∷ []
+
+abbrev pub text_code : Frame → (id : ℕ) → (size : ℕ) → (width : VirtualRegister) → List Instruction
+text_code frame id size width =
+    let address = scratch_of frame.bank 0 in
+    let count = scratch_of frame.bank 1 in
+    Address address (literal id) ∷ Const count size ∷ call write_bytes_number (address ∷ count ∷ width ∷ []) address ∷ []
+
+-- by the run-time routine with this number
+abbrev pub written_by : Frame → (routine : ℕ) → (from width : VirtualRegister) → List Instruction
+written_by frame routine from width = call routine (from ∷ width ∷ []) (scratch_of frame.bank 0) ∷ []
+
+abbrev pub writing_code : Frame → Writing → List Instruction
+writing_code frame (Number from width) = written_by frame write_number_number (register_of frame.bank from) (register_of frame.bank width)
+writing_code frame (Truth from width) = written_by frame write_truth_number (register_of frame.bank from) (register_of frame.bank width)
+writing_code frame (Char from width) = written_by frame write_char_number (register_of frame.bank from) (register_of frame.bank width)
+
+-- ---- actions; a literal that one takes has the number `id`
+
+abbrev pub action_code : Core → Frame → (id : ℕ) → Action → List Instruction
+action_code core frame id (Constant to n) = constant_code (register_of frame.bank to) n
+action_code core frame id (Load to kind from) = load_code core frame kind (register_of frame.bank to) from.root from.steps (scratch_of frame.bank 0)
+action_code core frame id (Store to kind from) = store_code core frame kind (register_of frame.bank from) to.root to.steps (scratch_of frame.bank 0)
+action_code core frame id (Copy of to from) = copy_code core frame of to from
+action_code core frame id (Look at) = place_code core frame near at.root at.steps (scratch_of frame.bank 0)
+action_code core frame id (BeginWith v) = begun_code core frame id v
+action_code core frame id (Pick to text index) = pick_code frame id (register_of frame.bank to) (length text) (register_of frame.bank index)
+action_code core frame id (Compute c) = computation_code frame.bank c
+action_code core frame id (Write w) = writing_code frame w
+action_code core frame id (WriteText text width) = text_code frame id (length text) (register_of frame.bank width)

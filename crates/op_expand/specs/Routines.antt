@@ -1,0 +1,164 @@
+-- Routines of managed code as routines of low code.
+use Rattle.std.specs.Prelude.{ℕ, ◌+◌, ◌^◌, pos, List, [], ◌∷◌, ◌++◌, length, nat_eq, nat_lt, take, if◌then◌else◌}
+use Rattle.op_compute.specs.Bank.{register_of, scratch_of, work_of}
+use Rattle.op_compute.specs.Branches.{block_of, dispatch_code, false_code, switch_code, true_code}
+use Rattle.op_constants.specs.Literals.{literals_in}
+use Rattle.op_constants.specs.Offsets.{size_in}
+use Rattle.op_constants.specs.Shapes.{is_composite}
+use Rattle.op_core.specs.Rows.{rows}
+use Rattle.op_core.specs.declared.ids.TypeId.{TypeId}
+use Rattle.op_core.specs.declared.program.Core.{Core}
+use Rattle.op_core.specs.declared.routine.Variable.{Variable}
+use Rattle.op_expand.specs.Calls.{call_code, left, result_address, return_code}
+use Rattle.op_expand.specs.Frames.{frame_of, parameters_of}
+use Rattle.op_expand.specs.Homes.{home_at, parameter}
+use Rattle.op_expand.specs.Moves.{action_code, store_code}
+use Rattle.op_expand.specs.Places.{place_code, place_of}
+use Rattle.op_expand.specs.Registers.{registers_in}
+use Rattle.op_expand.specs.declared.frame.Frame.{Frame}
+use Rattle.op_expand.specs.declared.frame.Returning.{Returning}
+use Rattle.op_expand.specs.declared.frame.Returning.TheVariants.{Ending, Nothing, Result}
+use Rattle.op_expand.specs.declared.homes.Home.{Home}
+use Rattle.op_expand.specs.declared.homes.Home.TheVariants.{Held, Stored, Shared}
+use Rattle.op_low.specs.declared.code.Block.{Block as LowBlock}
+use Rattle.op_low.specs.declared.code.Routine.{Routine as LowRoutine}
+use Rattle.op_low.specs.declared.ids.VirtualRegister.{VirtualRegister}
+use Rattle.op_low.specs.declared.instruction.Instruction.{Instruction as LowInstruction}
+use Rattle.op_low.specs.declared.instruction.Instruction.TheVariants.{Address, Const, Exit, Jump as LowJump, Load, Store, Write}
+use Rattle.op_low.specs.declared.instruction.Output.TheVariants.{Errors}
+use Rattle.op_meaning.specs.Shapes.{shape_of, variables_of}
+use Rattle.op_meaning.specs.Statements.{kind_of}
+use Rattle.op_mir.specs.declared.code.Block.{Block}
+use Rattle.op_mir.specs.declared.code.Mir.{Mir}
+use Rattle.op_mir.specs.declared.code.Routine.{Routine}
+use Rattle.op_mir.specs.declared.ids.LocalId.{LocalId}
+use Rattle.op_mir.specs.declared.instruction.Instruction.{Instruction}
+use Rattle.op_mir.specs.declared.instruction.Instruction.TheVariants.{Act, Call, Jump, When, Unless, Switch, Dispatch, MakeDue, Stop, Return}
+use Rattle.op_mir.specs.declared.path.Root.TheVariants.{Local}
+use Rattle.op_rt_text.specs.Names.{call, literal, register, take_number}
+use Rattle.op_rv.specs.declared.instruction.LoadOp.TheVariants.{Lw}
+use Rattle.op_rv.specs.declared.instruction.StoreOp.TheVariants.{Sw}
+use Rattle.op_rv.specs.declared.symbol.Symbol.TheVariants.{Global}
+
+-- ---- instructions; a literal that one takes has the number `id`
+
+abbrev pub instruction_code : Core → Mir → Frame → (id : ℕ) → Instruction → List LowInstruction
+instruction_code core mir frame id (Act action landing) = action_code core frame id action
+instruction_code core mir frame id (Call r operands) = call_code core mir frame r.0 operands
+instruction_code core mir frame id (Jump block) = LowJump (block_of block) ∷ []
+instruction_code core mir frame id (When t block) = true_code (work_of frame.bank) (register_of frame.bank t) block
+instruction_code core mir frame id (Unless t block) = false_code (work_of frame.bank) (register_of frame.bank t) block
+instruction_code core mir frame id (Switch t arms) = switch_code (work_of frame.bank) (register_of frame.bank t) arms
+instruction_code core mir frame id (Dispatch t block) = dispatch_code (work_of frame.bank) (register_of frame.bank t) block
+instruction_code core mir frame id (MakeDue f) = []
+instruction_code core mir frame id (Stop t) = Exit (register_of frame.bank t) ∷ []
+instruction_code core mir frame id Return = return_code core frame frame.returning
+
+-- the literals of the code have the numbers from `id` on
+abbrev pub code_of : Core → Mir → Frame → (r id : ℕ) → List Instruction → List LowInstruction
+code_of core mir frame r id [] = []
+code_of core mir frame r id (i ∷ is) = instruction_code core mir frame id i ++ code_of core mir frame r (id + literals_in core r i) is
+
+-- the next number of a literal behind code
+abbrev pub behind_code : Core → (r id : ℕ) → List Instruction → ℕ
+behind_code core r id [] = id
+behind_code core r id (i ∷ is) = behind_code core r (id + literals_in core r i) is
+
+abbrev pub behind_blocks : Core → (r id : ℕ) → List Block → ℕ
+behind_blocks core r id [] = id
+behind_blocks core r id (b ∷ bs) = behind_blocks core r (behind_code core r id b.code) bs
+
+-- ---- the beginning of a routine
+
+-- a parameter by value that has an address: it came as a number, or as the address of what is copied
+abbrev pub received_number : Core → Frame → (k : ℕ) → TypeId → List LowInstruction
+received_number core frame k of =
+    store_code core frame (kind_of core of) (register (parameter k)) (Local (record { 0 = k })) [] (scratch_of frame.bank 0)
+
+abbrev pub received_parts : Core → Frame → (k size : ℕ) → List LowInstruction
+received_parts core frame k size =
+    let given = register (parameter k) in
+    let place = place_of core frame 0 (Local (record { 0 = k })) [] (scratch_of frame.bank 0) in
+    if nat_eq size 0 then []
+    else
+    place_code core frame 0 (Local (record { 0 = k })) [] (scratch_of frame.bank 0)
+    ++ Store Sw given place.base (pos 0)
+    ∷ Const given size
+    ∷ call take_number (place.base ∷ given ∷ []) given
+    ∷ []
+
+abbrev received_by : Core → Frame → (k : ℕ) → TypeId → Home → List LowInstruction
+received_by core frame k of (Stored offset) = if is_composite (shape_of core of) then received_parts core frame k (size_in core of) else received_number core frame k of
+received_by core frame k of _ = []
+
+abbrev pub received : Core → Frame → (k : ℕ) → Variable → List LowInstruction
+received core frame k v = received_by core frame k v.of (home_at frame.homes (record { 0 = k }))
+
+-- the parameters from number k on
+abbrev pub all_received : Core → Frame → (k : ℕ) → List Variable → List LowInstruction
+all_received core frame k [] = []
+all_received core frame k (v ∷ vs) = received core frame k v ++ all_received core frame (k + 1) vs
+
+-- the program itself begins with all of the stack, which a global variable behind the others tells
+abbrev pub begun_with_stack : Core → List LowInstruction
+begun_with_stack core = Address left (Global (record { 0 = length core.variables })) ∷ Load Lw left left (pos 0) ∷ []
+
+abbrev beginning_by : Core → Frame → (r : ℕ) → Returning → List LowInstruction
+beginning_by core frame r Ending = begun_with_stack core
+beginning_by core frame r _ = all_received core frame 0 (take (parameters_of core r) (rows core.variables (variables_of core r)))
+
+abbrev pub beginning : Core → Frame → (r : ℕ) → List LowInstruction
+beginning core frame r = beginning_by core frame r frame.returning
+
+-- ---- blocks
+
+-- the error with this number and a literal of 18 bytes ends the program; its code needs no registers of the routine
+abbrev pub error_code : (error id : ℕ) → List LowInstruction
+error_code error id =
+    Address left (literal id)
+    ∷ Const result_address 18
+    ∷ Write Errors left result_address
+    ∷ Const left error
+    ∷ Exit left
+    ∷ []
+
+abbrev pub error_block : (error id : ℕ) → LowBlock
+error_block error id = record { code = error_code error id }
+
+abbrev pub error_blocks : List LowBlock
+error_blocks = error_block 200 3 ∷ error_block 201 4 ∷ error_block 202 5 ∷ error_block 215 6 ∷ []
+
+-- so much stands in front of the first block
+abbrev pub blocks_of : Core → Mir → Frame → (r id : ℕ) → List LowInstruction → List Block → List LowBlock
+blocks_of core mir frame r id front [] = []
+blocks_of core mir frame r id front (b ∷ bs) =
+    record { code = front ++ code_of core mir frame r id b.code } ∷ blocks_of core mir frame r (behind_code core r id b.code) [] bs
+
+-- ---- routines
+
+-- no stack has room for more
+abbrev pub most_charge : ℕ
+most_charge = 2 ^ 26
+
+abbrev pub all_blocks : Core → Mir → (r id : ℕ) → Routine → List LowBlock
+all_blocks core mir r id routine =
+    let frame = frame_of core r routine in
+    blocks_of core mir frame r id (beginning core frame r) routine.blocks ++ error_blocks
+
+-- the program itself takes nothing
+abbrev pub low_parameters : Core → (r : ℕ) → ℕ
+low_parameters core r = if nat_eq r (length core.routines) then 0 else parameter (parameters_of core r)
+
+abbrev pub routine_with : (parameters locals : ℕ) → List LowBlock → LowRoutine
+routine_with parameters locals blocks = record {
+  parameters = parameters;
+  registers = registers_in parameters blocks;
+  locals = locals;
+  blocks = blocks;
+}
+
+-- what is charged more than any stack has ends with error 202 at once
+abbrev pub low_routine : Core → Mir → (r id : ℕ) → Routine → LowRoutine
+low_routine core mir r id routine =
+    if nat_lt most_charge routine.charge then routine_with (low_parameters core r) 0 (error_block 202 5 ∷ [])
+    else routine_with (low_parameters core r) (frame_of core r routine).locals (all_blocks core mir r id routine)

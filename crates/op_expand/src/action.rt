@@ -1,0 +1,273 @@
+//! The code of actions.
+ghost use Rattle.op_compute.specs.Bank.{register_of, scratch_of};
+ghost use Rattle.op_expand.specs.Moves.{action_code, begun_code, number_begun, parts_begun, pick_code, text_code, writing_code, written_by};
+ghost use Rattle.op_constants.specs.FirstBytes.{first_number};
+ghost use Rattle.op_constants.specs.Literals.{first_of_row};
+ghost use Rattle.op_meaning.specs.Shapes.{type_of_row};
+ghost use Rattle.std.specs.Option.{option_copied};
+ghost use Rattle.std.specs.Prelude.{◌≡◌, ◌∷◌, ◌++◌, [], IfOk, OnOk};
+
+use crate::copy::{limit_of, push_bytes, push_copy};
+use crate::frame::Frame;
+use crate::homes::sum;
+use crate::number::{NEAR, kind_of, push_load_from, push_store_to};
+use crate::place::push_place;
+use crate::push::{push_address, push_call, push_load};
+use crate::spot::at_scratch;
+use op_base::NoMemory;
+use op_compute::{
+    RuntimeError, compute, constant, push_alu, push_branch, push_const, push_immediate,
+};
+use op_constants::{first_number, is_composite, size_of};
+use op_core::{Core, IntegerKind, TypeId, Variable};
+use op_low::{Instruction, VirtualRegister};
+use op_mir::{Action, LocalId, Root, TemporaryId, Writing};
+use op_rt_text::{WRITE_BYTES, WRITE_CHAR, WRITE_NUMBER, WRITE_TRUTH};
+use op_rv::{AluOp, BranchOp, ImmOp, LiteralId, LoadOp, RoutineId, Symbol};
+use std::alloc::Global;
+
+/// What an action does. A literal that it takes has the number `id`.
+pub fn push_action(
+    alloc: Global,
+    code: &mut Vec<Instruction>,
+    core: &Core,
+    frame: &Frame,
+    id: u32,
+    action: &Action,
+) -> Result<(), NoMemory>
+    ensures { OnOk result (code.new.items ≡ code.old.items ++ action_code core.now frame.now id action.now) }
+{
+    let bank = frame.bank;
+    match action {
+        Action::Constant { to, value } => constant(code, bank, *to, *value),
+        Action::Load { to, kind, from } => {
+            let to = bank.temporary(*to)?;
+            let free = bank.scratch(0)?;
+            push_load_from(
+                code,
+                core,
+                frame,
+                *kind,
+                to,
+                from.root,
+                from.steps.as_slice(),
+                free,
+            )
+        }
+        Action::Store { to, kind, from } => {
+            let from = bank.temporary(*from)?;
+            let free = bank.scratch(0)?;
+            push_store_to(
+                code,
+                core,
+                frame,
+                *kind,
+                from,
+                to.root,
+                to.steps.as_slice(),
+                free,
+            )
+        }
+        Action::Copy { of, to, from } => push_copy(alloc, code, core, frame, *of, to, from),
+        Action::Look { at } => {
+            let free = bank.scratch(0)?;
+            push_place(code, core, frame, NEAR, at.root, at.steps.as_slice(), free)?;
+            Ok(())
+        }
+        Action::BeginWith { variable } => push_begun(alloc, code, core, frame, id, *variable),
+        Action::Pick { to, text, index } => {
+            push_pick(code, frame, id, *to, text.as_slice().len(), *index)
+        }
+        Action::Compute(computation) => compute(code, bank, *computation),
+        Action::Write(writing) => push_writing(alloc, code, frame, *writing),
+        Action::WriteText { text, width } => {
+            push_text(alloc, code, frame, id, text.as_slice().len(), *width)
+        }
+    }
+}
+
+/// A variable begins with the first value of its row.
+fn push_begun(
+    alloc: Global,
+    code: &mut Vec<Instruction>,
+    core: &Core,
+    frame: &Frame,
+    id: u32,
+    variable: LocalId,
+) -> Result<(), NoMemory>
+    ensures { OnOk result (code.new.items ≡ code.old.items ++ begun_code core.now frame.now id variable) }
+{
+    let row = core
+        .variables
+        .as_slice()
+        .get(frame.first as usize + variable.0 as usize);
+    let of = type_of(row);
+    if is_composite(core, of) {
+        return push_parts_begun(alloc, code, core, frame, size_of(core, of), id, variable);
+    }
+    push_number_begun(
+        code,
+        core,
+        frame,
+        kind_of(core, of),
+        number_of(row),
+        variable,
+    )
+}
+
+fn type_of(row: Option<&Variable>) -> TypeId
+    ensures { result ≡ type_of_row (option_copied row) }
+{
+    match row {
+        None => TypeId(0),
+        Some(variable) => variable.of,
+    }
+}
+
+/// What a variable begins with as a number; 0 where it is none.
+fn number_of(row: Option<&Variable>) -> i32
+    ensures { result ≡ first_number (first_of_row (option_copied row)) }
+{
+    let Some(variable) = row else {
+        return 0;
+    };
+    match &variable.first_value {
+        None => 0,
+        Some(initial) => first_number(initial),
+    }
+}
+
+fn push_number_begun(
+    code: &mut Vec<Instruction>,
+    core: &Core,
+    frame: &Frame,
+    kind: IntegerKind,
+    number: i32,
+    variable: LocalId,
+) -> Result<(), NoMemory>
+    ensures { OnOk result (code.new.items ≡ code.old.items ++ number_begun core.now frame.now kind number variable) }
+{
+    let from = frame.bank.scratch(0)?;
+    let free = frame.bank.scratch(1)?;
+    push_const(code, from, number.cast_unsigned())?;
+    push_store_to(
+        code,
+        core,
+        frame,
+        kind,
+        from,
+        Root::Local { variable },
+        &[],
+        free,
+    )
+}
+
+/// A copy of a literal, which may lie at any address.
+fn push_parts_begun(
+    alloc: Global,
+    code: &mut Vec<Instruction>,
+    core: &Core,
+    frame: &Frame,
+    size: u32,
+    id: u32,
+    variable: LocalId,
+) -> Result<(), NoMemory>
+    ensures { OnOk result (code.new.items ≡ code.old.items ++ parts_begun core.now frame.now size id variable) }
+{
+    let limit = limit_of(false, size);
+    let address = frame.bank.scratch(0)?;
+    let source = at_scratch(address)?;
+    push_address(code, address, Symbol::Literal(LiteralId(id)))?;
+    let target = push_place(
+        code,
+        core,
+        frame,
+        limit,
+        Root::Local { variable },
+        &[],
+        source.free,
+    )?;
+    push_bytes(alloc, code, false, size, source, target)
+}
+
+/// A length of less than 2^32 bytes.
+fn length(bytes: usize) -> Result<u32, NoMemory>
+    ensures { IfOk result (λ n. n ≡ bytes) }
+{
+    u32::try_from(bytes).ok().ok_or(NoMemory)
+}
+
+/// A Char of a literal of so many bytes, by its index from 1, or error 201.
+fn push_pick(
+    code: &mut Vec<Instruction>,
+    frame: &Frame,
+    id: u32,
+    to: TemporaryId,
+    bytes: usize,
+    index: TemporaryId,
+) -> Result<(), NoMemory>
+    ensures { OnOk result (code.new.items ≡ code.old.items ++ pick_code frame.now id (register_of frame.now.bank to) bytes (register_of frame.now.bank index)) }
+{
+    let bank = frame.bank;
+    let place = bank.scratch(0)?;
+    let via = bank.scratch(1)?;
+    let block = bank.error_block(RuntimeError::RangeCheck)?;
+    push_immediate(code, ImmOp::Addi, place, bank.temporary(index)?, -1)?;
+    push_const(code, via, length(bytes)?)?;
+    push_branch(code, BranchOp::Bgeu, place, via, block)?;
+    push_address(code, via, Symbol::Literal(LiteralId(id)))?;
+    push_alu(code, AluOp::Add, place, via, place)?;
+    push_load(code, LoadOp::Lbu, bank.temporary(to)?, place, 0)
+}
+
+fn push_text(
+    alloc: Global,
+    code: &mut Vec<Instruction>,
+    frame: &Frame,
+    id: u32,
+    bytes: usize,
+    width: TemporaryId,
+) -> Result<(), NoMemory>
+    ensures { OnOk result (code.new.items ≡ code.old.items ++ text_code frame.now id bytes (register_of frame.now.bank width)) }
+{
+    let address = frame.bank.scratch(0)?;
+    let count = frame.bank.scratch(1)?;
+    push_address(code, address, Symbol::Literal(LiteralId(id)))?;
+    push_const(code, count, length(bytes)?)?;
+    let arguments = vec![in alloc; address, count, frame.bank.temporary(width)?]?;
+    push_call(code, WRITE_BYTES, arguments, address)
+}
+
+fn push_writing(
+    alloc: Global,
+    code: &mut Vec<Instruction>,
+    frame: &Frame,
+    writing: Writing,
+) -> Result<(), NoMemory>
+    ensures { OnOk result (code.new.items ≡ code.old.items ++ writing_code frame.now writing) }
+{
+    match writing {
+        Writing::Number { from, width } => {
+            push_written(alloc, code, frame, WRITE_NUMBER, from, width)
+        }
+        Writing::Truth { from, width } => {
+            push_written(alloc, code, frame, WRITE_TRUTH, from, width)
+        }
+        Writing::Char { from, width } => push_written(alloc, code, frame, WRITE_CHAR, from, width),
+    }
+}
+
+fn push_written(
+    alloc: Global,
+    code: &mut Vec<Instruction>,
+    frame: &Frame,
+    routine: RoutineId,
+    from: TemporaryId,
+    width: TemporaryId,
+) -> Result<(), NoMemory>
+    ensures { OnOk result (code.new.items ≡ code.old.items ++ written_by frame.now routine.0 (register_of frame.now.bank from) (register_of frame.now.bank width)) }
+{
+    let bank = frame.bank;
+    let arguments = vec![in alloc; bank.temporary(from)?, bank.temporary(width)?]?;
+    push_call(code, routine, arguments, bank.scratch(0)?)
+}

@@ -1,0 +1,82 @@
+//! Global variables.
+ghost use Rattle.op_expand.specs.Programs.{global_of, globals_in, no_bytes, stack_global};
+ghost use Rattle.std.specs.Option.{option_copied};
+ghost use Rattle.std.specs.Prelude.{◌≡◌, ◌∷◌, ◌++◌, [], IfOk, length, replicate};
+
+use op_base::{NoMemory, Sequence};
+use op_constants::{first_bytes, size_of};
+use op_core::{Core, Variable};
+use op_rv::GlobalVariable;
+use std::alloc::Global;
+
+/// So many zeros.
+fn zeros(alloc: Global, count: u32) -> GlobalVariable
+    ensures { result ≡ record { initial = []; zeros = count } }
+{
+    GlobalVariable {
+        initial: Sequence::from(Vec::new(alloc)),
+        zeros: count,
+    }
+}
+
+fn with_bytes(bytes: Vec<u8>) -> GlobalVariable
+    ensures { result ≡ record { initial = bytes.items; zeros = 0 } }
+{
+    GlobalVariable {
+        initial: Sequence::from(bytes),
+        zeros: 0,
+    }
+}
+
+/// A variable with what it begins with.
+fn global(
+    alloc: Global,
+    core: &Core,
+    variable: Option<&Variable>,
+) -> Result<GlobalVariable, NoMemory>
+    ensures { IfOk result (λ global. global ≡ global_of core.now (option_copied variable)) }
+{
+    let Some(row) = variable else {
+        return Ok(zeros(alloc, 0));
+    };
+    match &row.first_value {
+        None => Ok(zeros(alloc, size_of(core, row.of))),
+        Some(initial) => Ok(with_bytes(first_bytes(alloc, core, row.of, initial)?)),
+    }
+}
+
+fn empty_globals(alloc: Global, count: usize) -> Result<Vec<GlobalVariable>, NoMemory>
+    ensures { IfOk result (λ globals. globals.items ≡ replicate count no_bytes) }
+{
+    let mut globals = Vec::new(alloc);
+    for _row in 0..count {
+        globals.push(zeros(alloc, 0))?;
+    }
+    Ok(globals)
+}
+
+/// One for each row of the table of variables, with its number; rows that are no global variables have no bytes.
+fn globals_in(alloc: Global, core: &Core) -> Result<Vec<GlobalVariable>, NoMemory>
+    ensures { IfOk result (λ globals. globals.items ≡ globals_in core.now) }
+{
+    let rows = core.variables.as_slice();
+    let mut globals = empty_globals(alloc, rows.len())?;
+    for id in core.globals.as_slice() {
+        let place = id.0 as usize;
+        let made = global(alloc, core, rows.get(place))?;
+        if place < globals.len() {
+            globals[place] = made;
+        }
+    }
+    Ok(globals)
+}
+
+/// The global variables, and behind them the bytes of stack.
+pub fn globals(alloc: Global, core: &Core, stack: u32) -> Result<Vec<GlobalVariable>, NoMemory>
+    ensures { IfOk result (λ globals. globals.items ≡ globals_in core.now ++ stack_global stack ∷ []) }
+{
+    let mut globals = globals_in(alloc, core)?;
+    let bytes = Vec::from_slice(alloc, &stack.to_le_bytes())?;
+    globals.push(with_bytes(bytes))?;
+    Ok(globals)
+}

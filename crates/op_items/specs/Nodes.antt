@@ -1,0 +1,23 @@
+-- An item with a list says just what the list says.
+use Rattle.std.specs.Prelude.{◌≡◌, ℕ, Bool, Vec}
+use Rattle.std.specs.declared.alloc.Global.{Global}
+use Rattle.op_core.specs.declared.program.Core.{Core}
+use Rattle.op_items.specs.View.{item_view, items_view, cases_view, clauses_view, turns_view}
+use Rattle.op_items.specs.declared.item.Case.{Case}
+use Rattle.op_items.specs.declared.item.Clause.{Clause}
+use Rattle.op_items.specs.declared.item.Item.{Item}
+use Rattle.op_items.specs.declared.item.Item.TheVariants.{Also, Choose, Select, Loop, BodyFirst, Protect, Attempt, AttemptAll}
+use Rattle.op_items.specs.declared.item.Turns.{Turns}
+use Rattle.op_meaning.specs.Items.{also, choose, select, loop, body_first, protect, attempt, no_clauses, for_others}
+use Rattle.op_mir.specs.declared.ids.TemporaryId.{TemporaryId}
+
+-- in a routine of the number
+pub record ItemNodes (core : Core) (r : ℕ) : Type 0 where
+  pub also_says : (truth : Bool) (t : TemporaryId) (items : Vec Item Global) → item_view core r (Also truth t items) ≡ also truth t.0 (items_view core r items.items)
+  pub choose_says : (t : TemporaryId) (first otherwise : Vec Item Global) → item_view core r (Choose t first otherwise) ≡ choose t.0 (items_view core r first.items) (items_view core r otherwise.items)
+  pub select_says : (t : TemporaryId) (cs : Vec Case Global) (otherwise : Vec Item Global) → item_view core r (Select t cs otherwise) ≡ select t.0 (cases_view core r cs.items) (items_view core r otherwise.items)
+  pub loop_says : (l : Turns) → item_view core r (Loop l) ≡ loop (turns_view core r l)
+  pub body_first_says : (l : Turns) → item_view core r (BodyFirst l) ≡ body_first (turns_view core r l)
+  pub protect_says : (t : TemporaryId) (keep : ℕ) (items finalization : Vec Item Global) → item_view core r (Protect t keep items finalization) ≡ protect t.0 keep (items_view core r items.items) (items_view core r finalization.items)
+  pub attempt_says : (keep : ℕ) (items : Vec Item Global) (cs : Vec Clause Global) → item_view core r (Attempt keep items cs) ≡ attempt keep (items_view core r items.items) (clauses_view core r cs.items no_clauses)
+  pub attempt_all_says : (keep : ℕ) (items : Vec Item Global) (cs : Vec Clause Global) (others : Vec Item Global) → item_view core r (AttemptAll keep items cs others) ≡ attempt keep (items_view core r items.items) (clauses_view core r cs.items (for_others (items_view core r others.items)))

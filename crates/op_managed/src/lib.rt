@@ -1,0 +1,10 @@
+//! From the typed program to managed code that keeps its meaning.
+//!
+//! `middle` takes programs of the plain class, without managed values, instances and exceptions, and tells others. The code that it gives
+//! goes along with the source machine.
+#![tactic(auto)]
+
+mod middle;
+mod plain;
+
+pub use middle::{MiddleError, middle};

@@ -1,0 +1,16 @@
+pub mod Behind
+pub mod BlanksRun
+pub mod BytesLemmas
+pub mod BytesRun
+pub mod Calls
+pub mod CharRun
+pub mod Contracts
+pub mod CopyCalls
+pub mod CopyRun
+pub mod NumberRun
+pub mod Programs
+pub mod Signs
+pub mod TakeRun
+pub mod ThenBytes
+pub mod TruthRun
+pub mod Walks

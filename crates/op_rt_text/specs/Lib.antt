@@ -1,0 +1,10 @@
+pub mod Blanks
+pub mod Bytes
+pub mod Char
+pub mod Copying
+pub mod Names
+pub mod Number
+pub mod Running
+pub mod Runtime
+pub mod Take
+pub mod Truth

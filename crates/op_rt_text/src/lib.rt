@@ -1,0 +1,23 @@
+//! The run-time routines in low code, which every compiled program has as its first routines.
+//!
+//! They copy bytes of memory, and write numbers, truths, characters and texts to the output, with blanks in front up to a width. `routines`
+//! gives their code, exactly that of `specs/Runtime.antt`. Where it names literals, they are the first three of the program: 64 blanks,
+//! `TRUE` and `FALSE`.
+#![tactic(auto)]
+
+mod blanks;
+mod bytes;
+mod character;
+mod copying;
+mod ids;
+mod number;
+mod parts;
+mod runtime;
+mod taking;
+mod truth;
+
+pub use ids::{
+    BLANKS, COPY_BYTES, COPY_WORDS, FALSE_TEXT, RUNTIME, TAKE, TRUE_TEXT, WRITE_BLANKS,
+    WRITE_BYTES, WRITE_CHAR, WRITE_NUMBER, WRITE_TRUTH,
+};
+pub use runtime::routines;
