@@ -1,33 +1,65 @@
-{ Arrays of a mebibyte: one of bytes, one of words, one of records. }
+{ Arrays of many kibibytes: one of bytes, one of numbers, one of records. A routine that names one is charged its size. }
 program LargeArrays;
 type
-  Page = array [0..1048575] of Byte;
+  Page = array [0..399999] of Byte;
+  Numbers = array [1..100000] of Integer;
   Pair = record
     a: Byte;
     b: Word;
   end;
 var
   Bytes, Second: Page;
-  Numbers: array [1..262144] of Integer;
-  Pairs: array [1..262144] of Pair;
-  k, Sum: Integer;
+  Large: Numbers;
+  Pairs: array [1..100000] of Pair;
+
+procedure Fill(k: Integer);
 begin
-  k := 0;
-  while k < 1048576 do
+  while k < 400000 do
   begin
-    Bytes[k] := k div 4096;
+    Bytes[k] := k div 2048;
     Inc(k, 1021);
   end;
+end;
+
+procedure CopyPage;
+begin
   Second := Bytes;
-  Second[1048575] := 7;
-  Numbers[262144] := 12;
-  Pairs[262144].b := 65535;
-  Sum := 0;
-  k := 0;
-  while k < 1048576 do
-  begin
-    Sum := Sum + Second[k];
-    Inc(k, 1021);
-  end;
-  WriteLn(Sum, ' ', Second[1048575], ' ', Bytes[1048575], ' ', Numbers[262144], ' ', Numbers[262143], ' ', Pairs[262144].b, ' ', Pairs[262144].a);
+end;
+
+procedure Store(k, n: Integer);
+begin
+  Large[k] := n;
+end;
+
+function Sum: Integer;
+var
+  k: Integer;
+begin
+  Result := 0;
+  for k := 0 to 399999 do Result := (Result + Second[k]) mod 65536;
+end;
+
+function Stored(k: Integer): Integer;
+begin
+  Stored := Large[k];
+end;
+
+procedure StorePair(k: Integer);
+begin
+  Pairs[k].b := 65535;
+end;
+
+function Paired(k: Integer): Integer;
+begin
+  Paired := Pairs[k].b;
+end;
+
+begin
+  Fill(0);
+  CopyPage;
+  Fill(1);
+  Store(1, -7);
+  Store(100000, 12);
+  StorePair(100000);
+  WriteLn(Sum, ' ', Stored(1), ' ', Stored(2), ' ', Stored(99999), ' ', Stored(100000), ' ', Paired(99999), ' ', Paired(100000));
 end.
