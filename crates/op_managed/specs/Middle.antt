@@ -1,8 +1,8 @@
 -- What the middle of the compiler gives.
 use Rattle.std.specs.Prelude.{◌≡◌, Bool, true, false, ◌&&◌, ℕ, zero, suc, List, length, ⊤}
 use Rattle.op_core.specs.declared.program.Core.{Core}
-use Rattle.op_managed.specs.declared.middle.MiddleError.{MiddleError}
-use Rattle.op_managed.specs.declared.middle.MiddleError.TheVariants.{NotPlain, NoMemory}
+use Rattle.op_managed.specs.declared.managing.MiddleError.{MiddleError}
+use Rattle.op_managed.specs.declared.managing.MiddleError.TheVariants.{NotPlain, NoMemory}
 use Rattle.op_meaning.specs.Frames.{program_of}
 use Rattle.op_meaning.specs.Start.{start}
 use Rattle.op_mir.specs.Code.{items_of}

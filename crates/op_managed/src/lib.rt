@@ -4,7 +4,7 @@
 //! goes along with the source machine.
 #![tactic(auto)]
 
-mod middle;
+mod managing;
 mod plain;
 
-pub use middle::{MiddleError, middle};
+pub use managing::{MiddleError, middle};

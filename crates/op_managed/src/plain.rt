@@ -67,10 +67,10 @@ fn plain_type(core: &Core, of: TypeId) -> bool
     }
 }
 
-fn plain_result(core: &Core, result: Option<TypeId>) -> bool
-    ensures { result ≡ is_plain_result core.now result }
+fn plain_result(core: &Core, given: Option<TypeId>) -> bool
+    ensures { result ≡ is_plain_result core.now given }
 {
-    match result {
+    match given {
         None => true,
         Some(of) => plain_type(core, of),
     }

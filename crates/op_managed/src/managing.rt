@@ -1,5 +1,5 @@
 //! The middle of the compiler.
-ghost use Rattle.std.specs.Prelude.{IfErr, IfOk, OnOk};
+ghost use Rattle.std.specs.Prelude.{◌≡◌, IfErr, IfOk, OnOk};
 ghost use Rattle.op_managed.specs.Middle.{Agrees, HasNoCode, IsCodeOf};
 
 use crate::plain::plain;
@@ -18,7 +18,7 @@ pub enum MiddleError {
 }
 
 impl From<NoMemory> for MiddleError {
-    ghost use Rattle.op_managed.specs.declared.middle.MiddleError.{MiddleError};
+    ghost use Rattle.op_managed.specs.declared.managing.MiddleError.{MiddleError};
 
     ghost from_gives = { λ _ error. error ≡ MiddleError.NoMemory };
 
