@@ -16,12 +16,8 @@ use Rattle.op_simulation.specs.Matching.{Matching, Agreement}
 abbrev pub goes_along : (p : Program) (c : Code) → Matching (source p) (mir_machine c)
 goes_along p c = record { states = Goes p; moments = λ s m. Unit {0}; traces = λ xs ys. xs ≡ ys; factor = 4 }
 
--- what activations are charged has 64 bits
-abbrev pub ChargesFit : Core → Type 0
-ChargesFit core = (r : ℕ) → charge_of core (record { 0 = r }) < 2 ^ 64
-
 -- the code of a plain program and the program go along for ever, with any stack and any input
 abbrev pub Manages : Core → Mir → Type 0
 Manages core mir =
-    ChargesFit core → (stack : ℕ) → IsPlain (program_of core stack) → (input : List ℕ)
+    (stack : ℕ) → IsPlain (program_of core stack) → (input : List ℕ)
     → Agreement (goes_along (program_of core stack) (view_of core stack mir)) (start (program_of core stack) input) (mir_start (program_of core stack) input)
