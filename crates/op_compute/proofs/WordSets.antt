@@ -277,9 +277,9 @@ span_is a b x y p q =
     let bound_v : v < 2 ^ 32 = or_bound (shift_of Slli (from_on b) 1) b (double_bound (from_on b)) q.bound in
     set_is (span_of a b) (λ n. between x y (pos n)) (and_bound u (imm_of Xori v (negsuc 0)) bound_u)
     (λ i r.
-        and_bit u (imm_of Xori v (negsuc 0)) i
-        ∙ ap₂ (λ s t. s && t) (from_bits a i p.bound r ∙ ap (λ z. int_le z (pos i)) p.number)
-        (complement_bit v i bound_v r ∙ ap not (behind_bits b i q.bound r) ∙ sym (twice (int_le (pos i) (signed b))) ∙ ap (λ z. int_le (pos i) z) q.number))
+    and_bit u (imm_of Xori v (negsuc 0)) i
+    ∙ ap₂ (λ s t. s && t) (from_bits a i p.bound r ∙ ap (λ z. int_le z (pos i)) p.number)
+    (complement_bit v i bound_v r ∙ ap not (behind_bits b i q.bound r) ∙ sym (twice (int_le (pos i) (signed b))) ∙ ap (λ z. int_le (pos i) z) q.number))
 
 -- ---- whether an element is in a set
 

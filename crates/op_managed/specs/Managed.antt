@@ -1,7 +1,6 @@
 -- In what sense the managed code that was made goes along with the source machine.
-use Rattle.std.specs.Prelude.{◌≡◌, ℕ, ◌<◌, ◌^◌, List}
+use Rattle.std.specs.Prelude.{◌≡◌, ℕ, List}
 use Rattle.op_core.specs.declared.program.Core.{Core}
-use Rattle.op_meaning.specs.Charge.{charge_of}
 use Rattle.op_meaning.specs.Frames.{Program, program_of}
 use Rattle.op_meaning.specs.Source.{source}
 use Rattle.op_meaning.specs.Start.{start}
