@@ -116,8 +116,8 @@ module _ (w : Work) (o : Operands) (f : ℕ → ℕ) (x y : ℤ) (apart : IsApar
       let kept : AreKept w o.to f g = kept_scratch w o.to w.first f f 0 (omega arith) (kept_none w o.to f) in
       divided (computed checked (int_rem x y)) (Behind (put g o.to v))
       (λ some.
-          let is : IsWordOf v (int_rem x y) = subst (λ u. IsWordOf u (int_rem x y)) (sym value) (remainder_is a b x y p q some) in
-          subst (λ m. Answers w o.to f m (Behind (put g o.to v))) (word_gives checked v (int_rem x y) is) (result_set w o.to f g v (int_rem x y) kept is))
+      let is : IsWordOf v (int_rem x y) = subst (λ u. IsWordOf u (int_rem x y)) (sym value) (remainder_is a b x y p q some) in
+      subst (λ m. Answers w o.to f m (Behind (put g o.to v))) (word_gives checked v (int_rem x y) is) (result_set w o.to f g v (int_rem x y) kept is))
 
   pub quotient : (checked : Bool) → Answers w o.to f (if int_eq y (pos 0) then fails DivisionByZero else computed checked (int_div x y)) (outcome (quotient_code w o checked) f)
   unfolding outcome quotient_code divisor_test
@@ -155,13 +155,13 @@ module _ (w : Work) (o : Operands) (f : ℕ → ℕ) (x y : ℤ) (apart : IsApar
       let last : takes Blt (f4 w.third.0) (f4 w.first.0) ≡ takes Blt t 0 = simp (put_same, put_lower) refl in
       let second : f4 w.second.0 ≡ v = simp (put_same, put_lower) refl in
       let kept : AreKept w o.to f f4 =
-          kept_scratch w o.to w.third f f3 t (omega arith) (kept_scratch w o.to w.third f f2 u (omega arith)
-          (kept_scratch w o.to w.second f f1 v (omega arith) (kept_scratch w o.to w.first f f 0 (omega arith) (kept_none w o.to f)))) in
+      kept_scratch w o.to w.third f f3 t (omega arith) (kept_scratch w o.to w.third f f2 u (omega arith)
+      (kept_scratch w o.to w.second f f1 v (omega arith) (kept_scratch w o.to w.first f f 0 (omega arith) (kept_none w o.to f)))) in
       divided (computed true n) (if takes Blt (f4 w.third.0) (f4 w.first.0) then Away w.overflow f4 else outcome (move_code o.to w.second) f4)
       (λ some.
-          tested w o.to f f4 (takes Blt (f4 w.third.0) (f4 w.first.0)) (not (fits_word n)) IntegerOverflow (gives (wrapped n)) (outcome (move_code o.to w.second) f4)
-          (last ∙ ap (λ z. takes Blt z 0) product ∙ quotient_test a b x y p q some) kept
-          (λ fits. moved w o.to w.second f f4 (wrapped n) kept (subst (λ z. IsWordOf z (wrapped n)) (sym (second ∙ value)) (quotient_is a b x y p q some))))
+      tested w o.to f f4 (takes Blt (f4 w.third.0) (f4 w.first.0)) (not (fits_word n)) IntegerOverflow (gives (wrapped n)) (outcome (move_code o.to w.second) f4)
+      (last ∙ ap (λ z. takes Blt z 0) product ∙ quotient_test a b x y p q some) kept
+      (λ fits. moved w o.to w.second f f4 (wrapped n) kept (subst (λ z. IsWordOf z (wrapped n)) (sym (second ∙ value)) (quotient_is a b x y p q some))))
 
   nothing : (checked : Bool) → Answers w o.to f (computed checked (pos 0)) (Behind (put f o.to 0))
   nothing checked = plain 0 (pos 0) checked (small_is 0 (omega arith))

@@ -30,7 +30,6 @@ module _ (w : Work) (to : VirtualRegister) (f : ℕ → ℕ) where
       (ap (λ u. imm_of Xori u (pos 1)) (put_same g to v ∙ is) ∙ not_is t)
 
 module _ (w : Work) (o : Operands) (f : ℕ → ℕ) (x y : ℤ) (p : IsWordOf (f o.left.0) x) (q : IsWordOf (f o.right.0) y) where
-
   equal_value : imm_of Sltiu (put f o.to (alu_of Xor (f o.left.0) (f o.right.0)) o.to.0) (pos 1) ≡ from_bool (int_eq x y)
   equal_value = ap (λ u. imm_of Sltiu u (pos 1)) (put_same f o.to (alu_of Xor (f o.left.0) (f o.right.0))) ∙ equal_is (f o.left.0) (f o.right.0) x y p q
 
