@@ -1,7 +1,11 @@
 pub mod ArithmeticLemmas
 pub mod ComparisonLemmas
+pub mod ComputingLemmas
+pub mod ConversionLemmas
 pub mod MeaningLemmas
+pub mod RangeLemmas
 pub mod Registers
+pub mod SetLemmas
 pub mod StraightRuns
 pub mod WordBits
 pub mod WordParts

@@ -146,7 +146,7 @@ or_none : (v : ℕ) → alu_of Or v 0 ≡ v
 unfolding alu_of
 or_none v = or_zero_r v
 
-pub all_if_negative : ℕ → ℕ → ℕ
+unfoldable pub all_if_negative : ℕ → ℕ → ℕ
 all_if_negative v a = alu_of Or v (shift_of Srai a 31)
 
 negative_all : (v a i : ℕ) → 2 ^ 31 ≤ a → a < 2 ^ 32 → i < 32 → nat_eq (bit_at (all_if_negative v a) i) 1 ≡ true
@@ -265,7 +265,7 @@ and_bound : (a b : ℕ) → a < 2 ^ 32 → alu_of And a b < 2 ^ 32
 unfolding alu_of
 and_bound a b p = omega (arith, and_le_l a b)
 
-pub span_of : ℕ → ℕ → ℕ
+unfoldable pub span_of : ℕ → ℕ → ℕ
 span_of a b = alu_of And (all_if_negative (from_on a) a) (imm_of Xori (all_if_negative (shift_of Slli (from_on b) 1) b) (negsuc 0))
 
 pub span_is : (a b : ℕ) (x y : ℤ) → IsWordOf a x → IsWordOf b y → IsWordOf (span_of a b) (set_of (λ n. between x y (pos n)))

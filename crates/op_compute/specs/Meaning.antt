@@ -1,6 +1,7 @@
 -- What a computation gives, and when its low code does that.
-use Rattle.std.specs.Prelude.{◌≡◌, ◌≢◌, ℕ, ◌<◌, ◌^◌, ℤ, pos, ◌+ℤ◌, neg_ℤ, unsigned_abs, Bool, not, ◌&&◌, if◌then◌else◌}
+use Rattle.std.specs.Prelude.{◌≡◌, ◌≢◌, ℕ, ◌<◌, ◌^◌, ℤ, pos, ◌+ℤ◌, neg_ℤ, unsigned_abs, Bool, true, not, ◌&&◌, if◌then◌else◌}
 use Rattle.std.specs.Int.{w32, int_bit_not}
+use Rattle.std.specs.Int.RustNames.{FitsSigned}
 use Rattle.std.specs.Ordering.{int_eq}
 use Rattle.op_compute.specs.Straight.{Outcome, Behind, Away}
 use Rattle.op_compute.specs.declared.bank.Operands.{Operands}
@@ -108,6 +109,11 @@ right_of (Span to a b) = b
 right_of (Combine o to a b) = b
 right_of (Contains to a b) = b
 right_of c = left_of c
+
+-- the numbers that stand in a computation have 32 bits
+abbrev pub HasWords : Computation → Type 0
+HasWords (Neighbour distance low high to a) = FitsSigned w32 distance × (fits_word low ≡ true) × (fits_word high ≡ true)
+HasWords _ = Unit {0}
 
 -- ---- low code
 

@@ -56,14 +56,21 @@ outcome (_ ∷ is) f = Crooked
 abbrev pub at : State → (ℕ → ℕ) → List Instruction → State
 at m f now = record m { top = record m.top { registers = f; now = now }; ending = Running }
 
--- so many steps lead from one state to another, show nothing, and cost one each; in each state on the way the fact holds
-pub record Leads (low : Low) (p : Placement) (holds : State → Type 0) (from to : State) (most : ℕ) : Type 0 where
+-- steps, of which there are so many at least and at most, lead from one state to another, show nothing, and cost one each; in each state
+-- on the way the fact holds
+pub record Leads (low : Low) (p : Placement) (holds : State → Type 0) (from to : State) (fewest most : ℕ) : Type 0 where
   pub steps : ℕ
+  pub enough : fewest ≤ steps
   pub within : steps ≤ most
   pub path : Path (low_machine low p) holds from to steps [] steps
 
+-- code that is not empty takes a step
+abbrev pub fewest_steps : List Instruction → ℕ
+fewest_steps [] = 0
+fewest_steps (i ∷ is) = 1
+
 -- to the rest of the code, or to a block of the routine, with the registers that it comes to
-abbrev pub LeadsTo : Low → Placement → (State → Type 0) → State → State → List Instruction → ℕ → Outcome → Type 0
-LeadsTo low p holds m from rest most (Behind g) = Leads low p holds from (at m g rest) most
-LeadsTo low p holds m from rest most (Away block g) = Leads low p holds from (at m g (block_of low m.top.routine block.0)) most
-LeadsTo low p holds m from rest most Crooked = Unit {0}
+abbrev pub LeadsTo : Low → Placement → (State → Type 0) → State → State → List Instruction → (fewest most : ℕ) → Outcome → Type 0
+LeadsTo low p holds m from rest fewest most (Behind g) = Leads low p holds from (at m g rest) fewest most
+LeadsTo low p holds m from rest fewest most (Away block g) = Leads low p holds from (at m g (block_of low m.top.routine block.0)) fewest most
+LeadsTo low p holds m from rest fewest most Crooked = Unit {0}
