@@ -7,6 +7,8 @@ pub mod Lying
 pub mod Numbers
 pub mod Reaching
 pub mod Sets
+pub mod SoundFirst
+pub mod Stores
 pub mod TypesArranged
 pub mod Units
 pub mod Zeros
