@@ -23,7 +23,7 @@ use Rattle.op_rt_text.proofs.BytesLemmas.{all_usable, each_byte, same_bytes}
 use Rattle.op_rt_text.proofs.Calls.{cleared, inside, walk_leave}
 use Rattle.op_rt_text.proofs.Programs.{Written, call_written, program}
 use Rattle.op_rt_text.proofs.Signs.{at_least_low, at_least_negative, less_low, width_high, width_low}
-use Rattle.op_rt_text.proofs.Walks.{Walk, standing, walk_branch, walk_join, walk_past, walk_weaken, walk_write}
+use Rattle.op_rt_text.proofs.Walks.{Walk, standing, walk_branch, walk_longer, walk_past, walk_then, walk_write}
 use Rattle.op_rv.specs.Operation.{branch_taken, imm_value, signed, word_from}
 use Rattle.op_rv.specs.declared.instruction.ImmOp.TheVariants.{Addi}
 use Rattle.op_rv.specs.State.{all_from, bytes_from}
@@ -77,7 +77,7 @@ module _ (others : List Routine) (entry : RoutineId) (named : Counts) (globals :
           joined = append-nil last;
           value = registers 3;
           walk =
-              walk_join low p (here registers writes_rest output) (here registers ends (output ++ last)) (standing (behind m operands rest (registers 3) memory (output ++ last)) rest) (last ∷ []) [] 1 1
+              walk_then
               (piece_written registers (register 1) (register 0) ends output count there counts few)
               (walk_leave low p m write_blanks_number operands rest registers (register 3) [] memory (output ++ last) has);
         }
@@ -93,7 +93,7 @@ module _ (others : List Routine) (entry : RoutineId) (named : Counts) (globals :
           joined = last.joined;
           value = last.value;
           walk =
-              walk_join low p (here registers writes_piece output) (here registers writes_rest output) _ [] last.pieces 1 2
+              walk_then
               (walk_branch low p (here registers writes_piece output) Bgeu (register 2) (register 0) (block_id 2) (drop 1 writes_piece) taken)
               last.walk;
         }
@@ -129,14 +129,13 @@ module _ (others : List Routine) (entry : RoutineId) (named : Counts) (globals :
           joined = ap (λ bytes. piece ++ bytes) behind_it.joined ∙ whole;
           value = behind_it.value;
           walk =
-              walk_weaken low p (here registers writes_piece output) (end (output ++ replicate {A = ℕ} count 32)) (piece ∷ behind_it.pieces) (1 + (1 + (2 + (4 * turns + 3)))) (4 * suc turns + 3) (omega arith)
-              (walk_join low p (here registers writes_piece output) (here registers (drop 1 writes_piece) output) (end (output ++ replicate {A = ℕ} count 32)) [] (piece ∷ behind_it.pieces) 1 (1 + (2 + (4 * turns + 3)))
+              walk_longer (walk_then
               (walk_past low p (here registers writes_piece output) Bgeu (register 2) (register 0) (block_id 2) (drop 1 writes_piece) passed)
-              (walk_join low p (here registers (drop 1 writes_piece) output) (here registers (drop 2 writes_piece) (output ++ piece)) (end (output ++ replicate {A = ℕ} count 32)) (piece ∷ []) behind_it.pieces 1 (2 + (4 * turns + 3))
+              (walk_then
               (piece_written registers (register 1) (register 2) (drop 2 writes_piece) output 64 there full (omega arith))
-              (walk_join low p (here registers (drop 2 writes_piece) (output ++ piece)) (here (less_by_piece registers) writes_piece (output ++ piece)) (end (output ++ replicate {A = ℕ} count 32)) [] behind_it.pieces 2 (4 * turns + 3)
+              (walk_then
               (goes_round registers (output ++ piece))
-              (subst (λ out. Walk low p (here (less_by_piece registers) writes_piece (output ++ piece)) (end out) behind_it.pieces (4 * turns + 3)) same behind_it.walk))));
+              (subst (λ out. Walk low p (here (less_by_piece registers) writes_piece (output ++ piece)) (end out) behind_it.pieces (4 * turns + 3)) same behind_it.walk)))) (omega arith);
         }
 
     -- pieces as long as more than one is left
@@ -152,7 +151,7 @@ module _ (others : List Routine) (entry : RoutineId) (named : Counts) (globals :
         ]
       where
         weaker : Blanks low p (here registers writes_piece output) m operands rest memory output count 3 → Blanks low p (here registers writes_piece output) m operands rest memory output count (4 * suc turns + 3)
-        weaker last = record { pieces = last.pieces; joined = last.joined; value = last.value; walk = walk_weaken low p _ _ last.pieces 3 (4 * suc turns + 3) (omega arith) last.walk }
+        weaker last = record { pieces = last.pieces; joined = last.joined; value = last.value; walk = walk_longer last.walk (omega arith) }
 
     -- from the first instruction on, with the count as its argument
     begins_with : ℕ → ℕ → ℕ
@@ -175,20 +174,18 @@ module _ (others : List Routine) (entry : RoutineId) (named : Counts) (globals :
         let are = begins_with-are count in
         let loop = loop_written (count / 64) (begins_with count) count output are.0 are.1 are.2 (omega arith) small in
         let test : branch_taken Bge (begins_with count 3) (begins_with count 0) ≡ false = ap₂ (branch_taken Bge) are.3 are.0 ∙ less_low 0 count some small in
-        let end = standing (behind m operands rest loop.value memory (output ++ replicate {A = ℕ} count 32)) rest in
         record {
           pieces = loop.pieces;
           joined = loop.joined;
           value = loop.value;
           walk =
-              walk_weaken low p (here (slice_index (count ∷ [])) begins output) end loop.pieces (2 + (1 + (1 + (4 * (count / 64) + 3)))) (count + 16) (omega arith)
-              (walk_join low p (here (slice_index (count ∷ [])) begins output) (here (begins_with count) (drop 2 begins) output) end [] loop.pieces 2 (1 + (1 + (4 * (count / 64) + 3)))
+              walk_longer (walk_then
               (sets count output)
-              (walk_join low p (here (begins_with count) (drop 2 begins) output) (here (begins_with count) (drop 3 begins) output) end [] loop.pieces 1 (1 + (4 * (count / 64) + 3))
+              (walk_then
               (walk_past low p (here (begins_with count) (drop 2 begins) output) Bge (register 3) (register 0) (block_id 3) (drop 3 begins) test)
-              (walk_join low p (here (begins_with count) (drop 3 begins) output) (here (begins_with count) writes_piece output) end [] loop.pieces 1 (4 * (count / 64) + 3)
+              (walk_then
               (goes_in (begins_with count) output)
-              loop.walk)));
+              loop.walk))) (omega arith);
         }
 
     none : (count : ℕ) (output : List ℕ) → branch_taken Bge 0 count ≡ true → Walk low p (here (slice_index (count ∷ [])) begins output) (standing (behind m operands rest 0 memory output) rest) [] 16
@@ -196,13 +193,12 @@ module _ (others : List Routine) (entry : RoutineId) (named : Counts) (globals :
         let are = begins_with-are count in
         let test : branch_taken Bge (begins_with count 3) (begins_with count 0) ≡ true = ap₂ (branch_taken Bge) are.3 are.0 ∙ taken in
         let end = λ (v : ℕ). standing (behind m operands rest v memory output) rest in
-        walk_weaken low p (here (slice_index (count ∷ [])) begins output) (end 0) [] (2 + (1 + 1)) 16 (omega arith)
-        (walk_join low p (here (slice_index (count ∷ [])) begins output) (here (begins_with count) (drop 2 begins) output) (end 0) [] [] 2 (1 + 1)
+        walk_longer (walk_then
         (sets count output)
-        (walk_join low p (here (begins_with count) (drop 2 begins) output) (here (begins_with count) ends output) (end 0) [] [] 1 1
+        (walk_then
         (walk_branch low p (here (begins_with count) (drop 2 begins) output) Bge (register 3) (register 0) (block_id 3) (drop 3 begins) test)
         (subst (λ v. Walk low p (here (begins_with count) ends output) (end v) [] 1) are.3
-        (walk_leave low p m write_blanks_number operands rest (begins_with count) (register 3) [] memory output has))))
+        (walk_leave low p m write_blanks_number operands rest (begins_with count) (register 3) [] memory output has)))) (omega arith)
 
     -- all that is written for a count
     pub written : (count : ℕ) (output : List ℕ) → count < 2 ^ 32 → Blanks low p (here (slice_index (count ∷ [])) begins output) m operands rest memory output (width_of (signed count)) (width_of (signed count) + 16)

@@ -19,7 +19,7 @@ use Rattle.op_rt_text.proofs.BytesLemmas.{all_usable}
 use Rattle.op_rt_text.proofs.Calls.{cleared, inside, walk_leave}
 use Rattle.op_rt_text.proofs.Programs.{Written, WrittenInside, call_written, program}
 use Rattle.op_rt_text.proofs.Signs.{at_least_low, at_least_negative, less_low, width_high, width_low}
-use Rattle.op_rt_text.proofs.Walks.{Walk, standing, walk_branch, walk_join, walk_past, walk_weaken, walk_write}
+use Rattle.op_rt_text.proofs.Walks.{Walk, standing, walk_branch, walk_longer, walk_past, walk_then, walk_write}
 use Rattle.op_rv.proofs.Memory.{bytes_from-same, with_bytes-below}
 use Rattle.op_rv.specs.Operation.{alu_value, branch_taken, signed}
 use Rattle.op_rv.specs.State.{all_from, bytes_from}
@@ -57,7 +57,7 @@ module _ (others : List Routine) (entry : RoutineId) (named : Counts) (globals :
     text_written : (registers : ℕ → ℕ) (memory : ℕ → ℕ) (output : List ℕ) → Kept memory → registers 0 ≡ at → registers 1 ≡ length text → Walk low p (here registers writes_text memory output) (standing (behind m operands rest (registers 1) memory (output ++ text)) rest) (text ∷ []) 2
     text_written registers memory output kept there counts =
         let there_also = stands_on p m (here registers writes_text memory output) at text (omega arith) kept stands in
-        walk_join low p (here registers writes_text memory output) (here registers (drop 1 writes_text) memory (output ++ text)) (standing (behind m operands rest (registers 1) memory (output ++ text)) rest) (text ∷ []) [] 1 1
+        walk_then
         (walk_write low p (here registers (drop 1 writes_text) memory output) (register 0) (register 1) (drop 1 writes_text) text
         (ap₂ (all_from (usable p.rights.readable (here registers writes_text memory output))) there counts ∙ all_usable p.rights.readable (here registers writes_text memory output) at (length text) there_also.readable there_also.below)
         (ap₂ (bytes_from memory) there counts ∙ there_also.stands))
@@ -69,7 +69,6 @@ module _ (others : List Routine) (entry : RoutineId) (named : Counts) (globals :
     -- with no blanks in front
     alone : (memory : ℕ → ℕ) → Kept memory → branch_taken Bge (length text) width ≡ true → WrittenInside low p m write_bytes_number operands rest given begins memory m.output text 87
     alone memory kept taken =
-        let end = standing (behind m operands rest (length text) memory (m.output ++ text)) rest in
         record {
           value = length text;
           memory = memory;
@@ -77,10 +76,9 @@ module _ (others : List Routine) (entry : RoutineId) (named : Counts) (globals :
           pieces = text ∷ [];
           joined = append-nil text;
           walk =
-              walk_weaken low p (here given begins memory m.output) end (text ∷ []) (1 + 2) 87 (omega arith)
-              (walk_join low p (here given begins memory m.output) (here given writes_text memory m.output) end [] (text ∷ []) 1 2
+              walk_longer (walk_then
               (walk_branch low p (here given begins memory m.output) Bge (register 1) (register 2) (block_id 1) (drop 1 begins) taken)
-              (text_written given memory m.output kept refl refl));
+              (text_written given memory m.output kept refl refl)) (omega arith);
         }
 
     -- the registers with the number of blanks
@@ -132,17 +130,16 @@ module _ (others : List Routine) (entry : RoutineId) (named : Counts) (globals :
           pieces = calls.pieces ++ (text ∷ []);
           joined = concat-append calls.pieces (text ∷ []) ∙ ap₂ (λ xs ys. xs ++ ys) calls.joined (append-nil text);
           walk =
-              walk_weaken low p first (end (m.output ++ (spaces_of ++ text))) (calls.pieces ++ (text ∷ [])) (1 + (1 + ((width - length text + 82) + (1 + 2)))) (width - length text + 87) (omega arith)
-              (subst (λ out. Walk low p first (end out) (calls.pieces ++ (text ∷ [])) (1 + (1 + ((width - length text + 82) + (1 + 2))))) (append_assoc m.output spaces_of text)
-              (walk_join low p first (here given (drop 1 begins) memory m.output) (end (output ++ text)) [] (calls.pieces ++ (text ∷ [])) 1 (1 + ((width - length text + 82) + (1 + 2)))
+              walk_longer (subst (λ out. Walk low p first (end out) (calls.pieces ++ (text ∷ [])) (1 + (1 + ((width - length text + 82) + (1 + 2))))) (append_assoc m.output spaces_of text)
+              (walk_then
               (walk_past low p first Bge (register 1) (register 2) (block_id 1) (drop 1 begins) (less_low (length text) width less positive))
-              (walk_join low p (here given (drop 1 begins) memory m.output) (here with_blanks (drop 2 begins) memory m.output) (end (output ++ text)) [] (calls.pieces ++ (text ∷ [])) 1 ((width - length text + 82) + (1 + 2))
+              (walk_then
               (subtracts memory)
-              (walk_join low p (here with_blanks (drop 2 begins) memory m.output) (here after (drop 3 begins) calls.memory output) (end (output ++ text)) calls.pieces (text ∷ []) (width - length text + 82) (1 + 2)
+              (walk_then
               calls.walk
-              (walk_join low p (here after (drop 3 begins) calls.memory output) (here after writes_text calls.memory output) (end (output ++ text)) [] (text ∷ []) 1 2
+              (walk_then
               (goes_on after calls.memory output)
-              last)))));
+              last))))) (omega arith);
         }
 
     -- all that the code does
@@ -159,7 +156,7 @@ module _ (others : List Routine) (entry : RoutineId) (named : Counts) (globals :
         ]
       where
         longer : (bytes : List ℕ) (most : ℕ) → most ≤ length bytes + 87 → WrittenInside low p m write_bytes_number operands rest given begins memory m.output bytes most → WrittenInside low p m write_bytes_number operands rest given begins memory m.output bytes (length bytes + 87)
-        longer bytes most less it = record { value = it.value; memory = it.memory; kept = it.kept; pieces = it.pieces; joined = it.joined; walk = walk_weaken low p _ _ it.pieces most (length bytes + 87) less it.walk }
+        longer bytes most less it = record { value = it.value; memory = it.memory; kept = it.kept; pieces = it.pieces; joined = it.joined; walk = walk_longer it.walk less }
 
         bare : (n : ℕ) → n ≤ length text → branch_taken Bge (length text) width ≡ true → WrittenInside low p m write_bytes_number operands rest given begins memory m.output (padded n text) (length (padded n text) + 87)
         bare n few taken =

@@ -16,10 +16,10 @@ use Rattle.op_rt_text.specs.Names.{blanks, register, write_blanks_number, write_
 use Rattle.op_rt_text.specs.Running.{HasRoom, StandsAt, behind}
 use Rattle.op_rt_text.proofs.BytesLemmas.{all_usable}
 use Rattle.op_rt_text.proofs.Calls.{cleared, inside}
-use Rattle.op_rt_text.proofs.Programs.{Written, WrittenInside, call_written, program}
+use Rattle.op_rt_text.proofs.Programs.{Written, WrittenInside, call_written, program, then_written}
 use Rattle.op_rt_text.proofs.Signs.{signed_high, signed_low}
 use Rattle.op_rt_text.proofs.ThenBytes.{bytes_last}
-use Rattle.op_rt_text.proofs.Walks.{Walk, standing, walk_join, walk_store, walk_weaken}
+use Rattle.op_rt_text.proofs.Walks.{Walk, standing, walk_longer, walk_store, walk_then}
 use Rattle.op_rv.proofs.Memory.{bytes_there, with_bytes-below, with_bytes-within}
 use Rattle.op_rv.specs.Operation.{signed}
 use Rattle.op_rv.specs.State.{all_from, with_bytes}
@@ -108,23 +108,7 @@ module _ (others : List Routine) (entry : RoutineId) (named : Counts) (globals :
         let some = room.room in
         let are = lengths in
         let last = bytes_last others entry named globals p small_blanks small_bytes m write_char_number operands rest with_length stored m.output (register 2) (register 3) (register 1) (register 3) m.limit width text are.1 are.2 are.0 (omega arith) (λ x below. with_bytes-below memory m.limit text x below ∙ kept x below) spaces (text_there memory) (omega arith) wide in
-        let end = standing (behind m operands rest last.value last.memory (m.output ++ bytes)) rest in
-        record {
-          value = last.value;
-          memory = last.memory;
-          kept = last.kept;
-          pieces = last.pieces;
-          joined = last.joined;
-          walk =
-              walk_weaken low p (here given writes_byte memory) end last.pieces (1 + (1 + (1 + (length bytes + 156)))) (length bytes + 159) (omega arith)
-              (walk_join low p (here given writes_byte memory) (here with_address (drop 1 writes_byte) memory) end [] last.pieces 1 (1 + (1 + (length bytes + 156)))
-              (first_step memory)
-              (walk_join low p (here with_address (drop 1 writes_byte) memory) (here with_address (drop 2 writes_byte) stored) end [] last.pieces 1 (1 + (length bytes + 156))
-              (store_step memory)
-              (walk_join low p (here with_address (drop 2 writes_byte) stored) (here with_length (drop 3 writes_byte) stored) end [] last.pieces 1 (length bytes + 156)
-              (third_step stored)
-              last.walk)));
-        }
+        then_written (walk_then (first_step memory) (walk_then (store_step memory) (third_step stored))) last (omega arith)
 
   -- a call of the routine
   pub char_called : (m : State) (operands : Operands) (rest : List Instruction) (value width : ℕ) → values m operands.arguments ≡ value ∷ width ∷ [] → value < 2 ^ 32 → width < 2 ^ 32 → StandsAt p m (p.address blanks) (replicate {A = ℕ} 64 32) → HasRoom p m 256 → Written low p m write_char_number operands rest (padded (width_of (signed width)) (text_of_char (signed value))) (length (padded (width_of (signed width)) (text_of_char (signed value))) + 232)

@@ -14,7 +14,7 @@ use Rattle.op_rt_text.specs.Running.{Copyable, HasRoom, behind}
 use Rattle.op_rt_text.proofs.Calls.{cleared, inside, walk_enter}
 use Rattle.op_rt_text.proofs.CopyRun.{CopiedInside, moved_is, none_copied, some_copied, unit_byte, unit_word}
 use Rattle.op_rt_text.proofs.Programs.{may_enter, program}
-use Rattle.op_rt_text.proofs.Walks.{Walk, standing, walk_join, walk_weaken}
+use Rattle.op_rt_text.proofs.Walks.{Walk, standing, walk_longer, walk_then}
 use Rattle.op_rv.proofs.Memory.{bytes_from-same, with_bytes-below}
 use Rattle.op_rv.specs.State.{bytes_from, with_bytes}
 use Rattle.op_rv.specs.declared.instruction.LoadOp.TheVariants.{Lbu, Lw}
@@ -36,6 +36,10 @@ pub record CopiedBelow (low : Low) (p : Placement) (m : State) (r : ℕ) (operan
   pub copied : (x : ℕ) → x < m.limit → after x ≡ with_bytes memory to (bytes_from memory from count) x
   pub walk : Walk low p (inside low p m r operands rest registers now memory m.output) (standing (behind m operands rest value after m.output) rest) [] most
 
+-- some silent steps that leave memory, and then the code that copies
+pub then_copied : {low : Low} {p : Placement} {m : State} {r : ℕ} {operands : Operands} {rest : List Instruction} {registers next : ℕ → ℕ} {now later : List Instruction} {memory : ℕ → ℕ} {to from count k most more : ℕ} → Walk low p (inside low p m r operands rest registers now memory m.output) (inside low p m r operands rest next later memory m.output) [] k → CopiedBelow low p m r operands rest next later memory to from count most → k + most ≤ more → CopiedBelow low p m r operands rest registers now memory to from count more
+then_copied first last enough = record { value = last.value; after = last.after; copied = last.copied; walk = walk_longer (walk_then first last.walk) enough }
+
 below_of : (low : Low) (p : Placement) (m : State) (r : ℕ) (operands : Operands) (rest : List Instruction) (registers : ℕ → ℕ) (now : List Instruction) (memory : ℕ → ℕ) (to from count most : ℕ) → CopiedInside low p m r operands rest registers now memory to from count most → CopiedBelow low p m r operands rest registers now memory to from count most
 below_of low p m r operands rest registers now memory to from count most it =
     record { value = it.value; after = it.after; copied = λ x lower. moved_is memory it.after to from count it.moved x; walk = it.walk }
@@ -50,7 +54,6 @@ module _ (others : List Routine) (entry : RoutineId) (named : Counts) (globals :
       let before = standing m (Call (routine_id r) operands ∷ rest) in
       let start = cleared low m r in
       let first = λ (vs : List ℕ). inside low p m r operands rest (slice_index vs) (block_of low r 0) start m.output in
-      let end = standing (behind m operands rest body.value body.after m.output) rest in
       let cost = 1 + space low p r + length operands.arguments in
       let enters = walk_enter low p m r operands rest (may_enter others entry named globals p r m operands.arguments passed there are same has) in
       let kept = λ (x : ℕ) (lower : x < m.limit). with_bytes-below m.memory m.limit (replicate {A = ℕ} (routine_of low r).locals 0) x lower in
@@ -64,8 +67,7 @@ module _ (others : List Routine) (entry : RoutineId) (named : Counts) (globals :
             ∙ ap (λ text. with_bytes start to text x) source
             ∙ ap (λ y. cond (nat_le to x && nat_lt x (to + length bytes)) (slice_index bytes (x - to)) y) (kept x lower);
         walk =
-            walk_weaken low p before end [] (cost + inner) most (omega arith)
-            (walk_join low p before (first passed) end [] [] cost inner (subst (λ vs. Walk low p before (first vs) [] cost) are enters) body.walk);
+            walk_longer (walk_then (subst (λ vs. Walk low p before (first vs) [] cost) are enters) body.walk) (omega arith);
       }
 
   -- bytes below the limit are bytes where the routine begins

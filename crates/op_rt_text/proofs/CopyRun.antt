@@ -14,7 +14,7 @@ use Rattle.op_rt_text.specs.Names.{block_id, register}
 use Rattle.op_rt_text.specs.Running.{Allowed, HasRoom, behind}
 use Rattle.op_rt_text.proofs.BytesLemmas.{all_usable}
 use Rattle.op_rt_text.proofs.Calls.{inside, walk_leave}
-use Rattle.op_rt_text.proofs.Walks.{Walk, standing, walk_branch, walk_join, walk_jump, walk_load, walk_past, walk_store, walk_weaken}
+use Rattle.op_rt_text.proofs.Walks.{Walk, standing, walk_branch, walk_jump, walk_load, walk_longer, walk_past, walk_store, walk_then}
 use Rattle.op_rv.proofs.Memory.{with_bytes-outside, with_bytes-within}
 use Rattle.op_rv.specs.Operation.{branch_taken, imm_value, word_from}
 use Rattle.op_rv.specs.State.{all_from, bytes_from, with_bytes, word_at}
@@ -185,9 +185,9 @@ module _ (low : Low) (p : Placement) (r : ℕ) (load : LoadOp) (store : StoreOp)
         let v = load_value load memory f in
         let loaded = with_unit registers v in
         let stored = with_bytes memory t (bytes_from memory f n) in
-        walk_join low p (here registers code memory) (here loaded (drop 1 code) memory) (here (advanced loaded) (drop 4 code) stored) [] [] 1 3
+        walk_then
         (load_step registers memory f from_is from_open from_aligned)
-        (walk_join low p (here loaded (drop 1 code) memory) (here loaded (drop 2 code) stored) (here (advanced loaded) (drop 4 code) stored) [] [] 1 2
+        (walk_then
         (subst (λ bytes. Walk low p (here loaded (drop 1 code) memory) (here loaded (drop 2 code) (with_bytes memory t bytes)) [] 1) (unit_is memory f bytes)
         (store_step loaded memory t v to_is refl to_open to_aligned))
         (advance_step loaded stored))
@@ -200,10 +200,9 @@ module _ (low : Low) (p : Placement) (r : ℕ) (load : LoadOp) (store : StoreOp)
     last_step registers memory t is end_is =
         let same : nat_eq t t ≡ true = grind (arith, nat_tests) in
         let passed : branch_taken Bne (registers 0) (registers 3) ≡ false = ap₂ (branch_taken Bne) is end_is ∙ ap not same in
-        let end = standing (behind m operands rest (registers 4) memory m.output) rest in
-        walk_join low p (here registers (drop 4 code) memory) (here registers (drop 5 code) memory) end [] [] 1 2
+        walk_then
         (walk_past low p (here registers (drop 5 code) memory) Bne (register 0) (register 3) (block_id 1) (drop 5 code) passed)
-        (walk_join low p (here registers (drop 5 code) memory) (here registers ends memory) end [] [] 1 1
+        (walk_then
         (subst (λ now. Walk low p (here registers (drop 5 code) memory) (here registers now memory) [] 1) end_block (walk_jump low p (here registers [] memory) (block_id 2) []))
         (ends_step registers memory))
 
@@ -241,15 +240,14 @@ module _ (low : Low) (p : Placement) (r : ℕ) (load : LoadOp) (store : StoreOp)
         let loaded = with_unit registers (load_value load memory f) in
         let stored = with_bytes memory t (bytes_from memory f n) in
         let next : advanced loaded 0 ≡ t + n = ap (λ a. (a + n) % 2 ^ 32) to_is ∙ omega arith in
-        let end = standing (behind m operands rest more.value more.after m.output) rest in
         record {
           value = more.value;
           after = more.after;
           moved = moved_on memory stored more.after t f n (n + k) apart (moved_unit memory t f n) more.moved;
           walk =
-              walk_join low p (here registers code memory) (here (advanced loaded) (drop 4 code) stored) end [] [] 4 (1 + most)
+              walk_then
               (unit_step registers memory t f to_is from_is (open_front p.rights.writable t (n + k) to_open) (open_front p.rights.readable f (n + k) from_open) to_aligned from_aligned (λ x from before. bytes x from (omega arith)))
-              (walk_join low p (here (advanced loaded) (drop 4 code) stored) (here (advanced loaded) code stored) end [] [] 1 most
+              (walk_then
               (again_step (advanced loaded) stored (t + n) (t + (n + (n + k))) next end_is (omega arith))
               more.walk);
         }
@@ -268,7 +266,7 @@ module _ (low : Low) (p : Placement) (r : ℕ) (load : LoadOp) (store : StoreOp)
           after = stored;
           moved = moved_unit memory t f n;
           walk =
-              walk_join low p (here registers code memory) (here (advanced loaded) (drop 4 code) stored) (standing (behind m operands rest (advanced loaded 4) stored m.output) rest) [] [] 4 3
+              walk_then
               (unit_step registers memory t f to_is from_is to_open from_open to_aligned from_aligned bytes)
               (last_step (advanced loaded) stored (t + n) next end_is);
         }
@@ -317,17 +315,15 @@ module _ (low : Low) (p : Placement) (r : ℕ) (load : LoadOp) (store : StoreOp)
         let least = room.room in
         let sum : (t + 0) % 2 ^ 32 ≡ t = omega arith in
         let same : nat_eq t ((t + 0) % 2 ^ 32) ≡ true = grind (arith, nat_tests, sum) in
-        let first = here (slice_index (t ∷ f ∷ 0 ∷ [])) begins memory in
         let registers = with_end t f 0 in
-        let end = standing (behind m operands rest 0 memory m.output) rest in
         record {
           value = 0;
           after = memory;
           moved = record { within = λ j before. absurd (omega arith); outside = λ x apart. refl };
           walk =
-              walk_join low p first (here registers (drop 1 begins) memory) end [] [] 1 2
+              walk_then
               (end_step t f 0 memory)
-              (walk_join low p (here registers (drop 1 begins) memory) (here registers ends memory) end [] [] 1 1
+              (walk_then
               (subst (λ now. Walk low p (here registers (drop 1 begins) memory) (here registers now memory) [] 1) end_block
               (walk_branch low p (here registers (drop 2 begins) memory) Beq (register 0) (register 3) (block_id 2) (drop 2 begins) same))
               (ends_step registers memory));
@@ -342,20 +338,17 @@ module _ (low : Low) (p : Placement) (r : ℕ) (load : LoadOp) (store : StoreOp)
         let end_is : with_end t f count 3 ≡ t + (n + n * k) = omega arith in
         let differ : nat_eq t ((t + count) % 2 ^ 32) ≡ false = grind (arith, nat_tests, end_is) in
         let registers = with_end t f count in
-        let first = here (slice_index (t ∷ f ∷ count ∷ [])) begins memory in
         let inner = loop_copied k (n * k) refl registers memory t f refl refl end_is (subst (Allowed p.rights.writable m.limit t) is to_open) (subst (Allowed p.rights.readable m.limit f) is from_open) to_aligned from_aligned (subst (λ z. (f + z ≤ t) ⊎ (t ≤ f)) is apart) (λ x from before. bytes x from (omega arith)) in
-        let end = standing (behind m operands rest inner.value inner.after m.output) rest in
         record {
           value = inner.value;
           after = inner.after;
           moved = subst (Moved memory inner.after t f) (sym is) inner.moved;
           walk =
-              walk_weaken low p first end [] (1 + (1 + (1 + (5 * k + 7)))) (5 * k + 10) (omega arith)
-              (walk_join low p first (here registers (drop 1 begins) memory) end [] [] 1 (1 + (1 + (5 * k + 7)))
+              walk_longer (walk_then
               (end_step t f count memory)
-              (walk_join low p (here registers (drop 1 begins) memory) (here registers (drop 2 begins) memory) end [] [] 1 (1 + (5 * k + 7))
+              (walk_then
               (walk_past low p (here registers (drop 2 begins) memory) Beq (register 0) (register 3) (block_id 2) (drop 2 begins) differ)
-              (walk_join low p (here registers (drop 2 begins) memory) (here registers code memory) end [] [] 1 (5 * k + 7)
+              (walk_then
               (subst (λ now. Walk low p (here registers (drop 2 begins) memory) (here registers now memory) [] 1) loop_block (walk_jump low p (here registers [] memory) (block_id 1) []))
-              inner.walk)));
+              inner.walk))) (omega arith);
         }

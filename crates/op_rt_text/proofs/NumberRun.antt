@@ -21,10 +21,10 @@ use Rattle.op_rt_text.specs.Number.{begins, puts_digit, puts_sign, writes_text}
 use Rattle.op_rt_text.specs.Running.{HasRoom, StandsAt, behind}
 use Rattle.op_rt_text.proofs.Calls.{cleared, inside}
 use Rattle.op_rt_text.proofs.CharRun.{byte_storable}
-use Rattle.op_rt_text.proofs.Programs.{Written, WrittenInside, call_written, program}
+use Rattle.op_rt_text.proofs.Programs.{Written, WrittenInside, call_written, program, then_written}
 use Rattle.op_rt_text.proofs.Signs.{at_least_low, less_negative, not_below_zero, signed_high, signed_low}
 use Rattle.op_rt_text.proofs.ThenBytes.{bytes_last}
-use Rattle.op_rt_text.proofs.Walks.{Walk, standing, walk_branch, walk_join, walk_past, walk_store, walk_weaken}
+use Rattle.op_rt_text.proofs.Walks.{Walk, standing, walk_branch, walk_longer, walk_past, walk_store, walk_then}
 use Rattle.op_rv.proofs.Memory.{bytes_there, with_bytes-above, with_bytes-below, with_bytes-within}
 use Rattle.op_rv.specs.Operation.{alu_value, branch_taken, imm_value, signed, word_from}
 use Rattle.op_rv.specs.State.{with_bytes}
@@ -148,9 +148,9 @@ module _ (others : List Routine) (entry : RoutineId) (named : Counts) (globals :
         let stored = with_digit memory a n in
         let last = one_less_is registers a there some few in
         let digit : scratch registers 5 % 256 ≡ 48 + n % 10 = ap₂ (λ x y. imm_value Addi (alu_value Remu x y) (word_from (pos 48)) % 256) rest_is ten ∙ digit_is n small_n in
-        walk_join low p (here registers puts_digit memory) (here (scratch registers) (drop 3 puts_digit) memory) (here (divided registers) (drop 5 puts_digit) stored) [] [] 3 2
+        walk_then
         (scratch_step registers memory)
-        (walk_join low p (here (scratch registers) (drop 3 puts_digit) memory) (here (scratch registers) (drop 4 puts_digit) stored) (here (divided registers) (drop 5 puts_digit) stored) [] [] 1 1
+        (walk_then
         (char_step (scratch registers) memory (drop 4 puts_digit) (a - 1) (48 + n % 10) last digit (omega arith) (omega arith))
         (divide_step registers stored))
 
@@ -175,7 +175,6 @@ module _ (others : List Routine) (entry : RoutineId) (named : Counts) (globals :
     first_digit registers memory a n there rest_is ten nothing some few digit =
         let stored = with_digit memory a n in
         let none : divided registers 4 ≡ 0 = ap₂ (alu_value Divu) rest_is ten ∙ omega arith in
-        let same : nat_eq 0 0 ≡ true = refl in
         let passed : branch_taken Bne (divided registers 4) (divided registers 7) ≡ false = ap₂ (branch_taken Bne) none nothing in
         let byte : 48 + n % 10 ≡ 48 + n = omega arith in
         record {
@@ -197,9 +196,9 @@ module _ (others : List Routine) (entry : RoutineId) (named : Counts) (globals :
           below = λ x lower. with_bytes-below memory (a - 1) ((48 + n % 10) ∷ []) x lower;
           above = λ x upper. with_bytes-above memory (a - 1) ((48 + n % 10) ∷ []) x (omega arith);
           walk =
-              walk_join low p (here registers puts_digit memory) (here (divided registers) (drop 5 puts_digit) stored) (here (divided registers) puts_sign stored) [] [] 5 2
+              walk_then
               (digit_step registers memory a n there rest_is ten some few (omega arith))
-              (walk_join low p (here (divided registers) (drop 5 puts_digit) stored) (here (divided registers) (drop 6 puts_digit) stored) (here (divided registers) puts_sign stored) [] [] 1 1
+              (walk_then
               (walk_past low p (here (divided registers) (drop 6 puts_digit) stored) Bne (register 4) (register 7) (block_id 1) (drop 6 puts_digit) passed)
               (to_sign_step (divided registers) stored));
         }
@@ -240,9 +239,9 @@ module _ (others : List Routine) (entry : RoutineId) (named : Counts) (globals :
           below = λ x lower. more.below x lower ∙ with_bytes-below memory (a - 1) (digit ∷ []) x (omega arith);
           above = λ x upper. more.above x (omega arith) ∙ with_bytes-above memory (a - 1) (digit ∷ []) x (omega arith);
           walk =
-              walk_join low p (here registers puts_digit memory) (here (divided registers) (drop 5 puts_digit) stored) (here more.registers_after puts_sign more.after) [] [] 5 (1 + most)
+              walk_then
               (digit_step registers memory a n there rest_is ten some few small_n)
-              (walk_join low p (here (divided registers) (drop 5 puts_digit) stored) (here (divided registers) puts_digit stored) (here more.registers_after puts_sign more.after) [] [] 1 most
+              (walk_then
               (walk_branch low p (here (divided registers) (drop 6 puts_digit) stored) Bne (register 4) (register 7) (block_id 1) (drop 6 puts_digit) taken)
               more.walk);
         }
@@ -285,7 +284,7 @@ module _ (others : List Routine) (entry : RoutineId) (named : Counts) (globals :
               stands = it.stands;
               below = it.below;
               above = it.above;
-              walk = walk_weaken low p _ _ [] 7 (6 * suc k + 7) (omega arith) it.walk;
+              walk = walk_longer it.walk (omega arith);
             }
 
     -- ---- the sign
@@ -325,7 +324,6 @@ module _ (others : List Routine) (entry : RoutineId) (named : Counts) (globals :
         let size = decimal_length 10 value in
         let test = at_least_low value 0 positive (omega arith) in
         let sign_test : branch_taken Bge (digits.registers_after 0) (digits.registers_after 7) ≡ true = ap₂ (branch_taken Bge) digits.value_kept digits.nothing_kept ∙ test in
-        let end = here digits.registers_after writes_text digits.after in
         record {
           registers_after = digits.registers_after;
           after = digits.after;
@@ -338,14 +336,13 @@ module _ (others : List Routine) (entry : RoutineId) (named : Counts) (globals :
           stands = digits.stands;
           below = λ x lower. digits.below x (omega arith);
           walk =
-              walk_weaken low p (here given begins memory) end [] (4 + (1 + (61 + 1))) 73 (omega arith)
-              (walk_join low p (here given begins memory) (here begun (drop 4 begins) memory) end [] [] 4 (1 + (61 + 1))
+              walk_longer (walk_then
               (begin_step memory)
-              (walk_join low p (here begun (drop 4 begins) memory) (here begun puts_digit memory) end [] [] 1 (61 + 1)
+              (walk_then
               (walk_branch low p (here begun (drop 5 begins) memory) Bge (register 0) (register 7) (block_id 1) (drop 5 begins) test)
-              (walk_join low p (here begun puts_digit memory) (here digits.registers_after puts_sign digits.after) end [] [] 61 1
+              (walk_then
               digits.walk
-              (walk_branch low p (here digits.registers_after (drop 1 puts_sign) digits.after) Bge (register 0) (register 7) (block_id 3) (drop 1 puts_sign) sign_test))));
+              (walk_branch low p (here digits.registers_after (drop 1 puts_sign) digits.after) Bge (register 0) (register 7) (block_id 3) (drop 1 puts_sign) sign_test)))) (omega arith);
         }
 
     made_negative : (memory : ℕ → ℕ) → 2 ^ 31 ≤ value → Made memory (45 ∷ decimal_by 10 (2 ^ 32 - value))
@@ -364,7 +361,6 @@ module _ (others : List Routine) (entry : RoutineId) (named : Counts) (globals :
         let registers = signed_with digits.registers_after in
         let stored = with_bytes digits.after at (45 ∷ []) in
         let address = one_less_is digits.registers_after digits.first digits.address (omega arith) (omega arith) in
-        let end = here registers writes_text stored in
         record {
           registers_after = registers;
           after = stored;
@@ -377,22 +373,21 @@ module _ (others : List Routine) (entry : RoutineId) (named : Counts) (globals :
           stands = negative_stands digits.after digits.first text (omega arith) digits.stands;
           below = negative_below memory digits.after digits.first (omega arith) digits.below;
           walk =
-              walk_weaken low p (here given begins memory) end [] (4 + (1 + (2 + (61 + (1 + (2 + (1 + 1))))))) 73 (omega arith)
-              (walk_join low p (here given begins memory) (here begun (drop 4 begins) memory) end [] [] 4 (1 + (2 + (61 + (1 + (2 + (1 + 1))))))
+              walk_longer (walk_then
               (begin_step memory)
-              (walk_join low p (here begun (drop 4 begins) memory) (here begun (drop 5 begins) memory) end [] [] 1 (2 + (61 + (1 + (2 + (1 + 1)))))
+              (walk_then
               (walk_past low p (here begun (drop 5 begins) memory) Bge (register 0) (register 7) (block_id 1) (drop 5 begins) test)
-              (walk_join low p (here begun (drop 5 begins) memory) (here negated puts_digit memory) end [] [] 2 (61 + (1 + (2 + (1 + 1))))
+              (walk_then
               (negate_step memory)
-              (walk_join low p (here negated puts_digit memory) (here digits.registers_after puts_sign digits.after) end [] [] 61 (1 + (2 + (1 + 1)))
+              (walk_then
               digits.walk
-              (walk_join low p (here digits.registers_after puts_sign digits.after) (here digits.registers_after (drop 1 puts_sign) digits.after) end [] [] 1 (2 + (1 + 1))
+              (walk_then
               (walk_past low p (here digits.registers_after (drop 1 puts_sign) digits.after) Bge (register 0) (register 7) (block_id 3) (drop 1 puts_sign) sign_test)
-              (walk_join low p (here digits.registers_after (drop 1 puts_sign) digits.after) (here registers (drop 3 puts_sign) digits.after) end [] [] 2 (1 + 1)
+              (walk_then
               (minus_step digits.registers_after digits.after)
-              (walk_join low p (here registers (drop 3 puts_sign) digits.after) (here registers (drop 4 puts_sign) stored) end [] [] 1 1
+              (walk_then
               (char_step registers digits.after (drop 4 puts_sign) at 45 address refl (omega arith) (omega arith))
-              (to_text_step registers stored))))))));
+              (to_text_step registers stored)))))))) (omega arith);
         }
       where
         negative_below : (before memory : ℕ → ℕ) (first : ℕ) → m.limit < first → ((x : ℕ) → x < first → memory x ≡ before x) → (x : ℕ) → x < m.limit → with_bytes memory (first - 1) (45 ∷ []) x ≡ before x
@@ -431,21 +426,7 @@ module _ (others : List Routine) (entry : RoutineId) (named : Counts) (globals :
           stands = bytes_there made.after made.first text made.stands;
         } in
         let last = bytes_last others entry named globals p small_blanks small_bytes m write_number_number operands rest registers made.after m.output (register 3) (register 5) (register 1) (register 5) made.first width text made.address size_is made.width_is (omega arith) (λ x lower. made.below x lower ∙ kept x lower) spaces stands (omega arith) wide in
-        let end = standing (behind m operands rest last.value last.memory (m.output ++ bytes)) rest in
-        record {
-          value = last.value;
-          memory = last.memory;
-          kept = last.kept;
-          pieces = last.pieces;
-          joined = last.joined;
-          walk =
-              walk_weaken low p (here given begins memory) end last.pieces (73 + (1 + (length bytes + 156))) (length bytes + 230) (omega arith)
-              (walk_join low p (here given begins memory) (here made.registers_after writes_text made.after) end [] last.pieces 73 (1 + (length bytes + 156))
-              made.walk
-              (walk_join low p (here made.registers_after writes_text made.after) (here registers (drop 1 writes_text) made.after) end [] last.pieces 1 (length bytes + 156)
-              (length_step made.registers_after made.after)
-              last.walk));
-        }
+        then_written (walk_then made.walk (length_step made.registers_after made.after)) last (omega arith)
 
     any_number : (memory : ℕ → ℕ) → ((x : ℕ) → x < m.limit → memory x ≡ m.memory x) → WrittenInside low p m write_number_number operands rest given begins memory m.output (padded (width_of (signed width)) (text_of_number (signed value))) (length (padded (width_of (signed width)) (text_of_number (signed value))) + 230)
     any_number memory kept =

@@ -17,7 +17,7 @@ use Rattle.op_rt_text.specs.Names.{routine_id}
 use Rattle.op_rt_text.specs.Running.{behind}
 use Rattle.op_rt_text.specs.Runtime.{runtime_routines}
 use Rattle.op_rt_text.proofs.Calls.{cleared, inside, walk_enter}
-use Rattle.op_rt_text.proofs.Walks.{Walk, standing, walk_join, walk_weaken}
+use Rattle.op_rt_text.proofs.Walks.{Walk, standing, walk_longer, walk_then}
 use Rattle.op_rv.specs.declared.objects.GlobalVariable.{GlobalVariable}
 use Rattle.op_rv.specs.declared.symbol.RoutineId.{RoutineId}
 
@@ -43,6 +43,18 @@ pub record WrittenInside (low : Low) (p : Placement) (m : State) (r : ℕ) (oper
   pub joined : concat pieces ≡ bytes
   pub walk : Walk low p (inside low p m r operands rest registers now before output) (standing (behind m operands rest value memory (output ++ bytes)) rest) pieces most
 
+-- some silent steps, and then the code that writes
+pub then_written : {low : Low} {p : Placement} {m : State} {r : ℕ} {operands : Operands} {rest : List Instruction} {registers next : ℕ → ℕ} {now later : List Instruction} {before middle : ℕ → ℕ} {output bytes : List ℕ} {k most more : ℕ} → Walk low p (inside low p m r operands rest registers now before output) (inside low p m r operands rest next later middle output) [] k → WrittenInside low p m r operands rest next later middle output bytes most → k + most ≤ more → WrittenInside low p m r operands rest registers now before output bytes more
+then_written first last enough =
+    record {
+      value = last.value;
+      memory = last.memory;
+      kept = last.kept;
+      pieces = last.pieces;
+      joined = last.joined;
+      walk = walk_longer (walk_then first last.walk) enough;
+    }
+
 module _ (others : List Routine) (entry : RoutineId) (named : Counts) (globals : List GlobalVariable) (p : Placement) where
   abbrev low : Low
   low = program others entry named globals
@@ -62,7 +74,6 @@ module _ (others : List Routine) (entry : RoutineId) (named : Counts) (globals :
       let number : length operands.arguments ≡ length passed = sym (length-map operands.arguments (value m)) ∙ ap (λ vs. length vs) are in
       let before = standing m (Call (routine_id r) operands ∷ rest) in
       let first = λ (vs : List ℕ). inside low p m r operands rest (slice_index vs) (block_of low r 0) (cleared low m r) m.output in
-      let end = standing (behind m operands rest body.value body.memory (m.output ++ bytes)) rest in
       let cost = 1 + space low p r + length operands.arguments in
       let enters = walk_enter low p m r operands rest (may_enter r m operands.arguments passed there are same has) in
       record {
@@ -72,6 +83,5 @@ module _ (others : List Routine) (entry : RoutineId) (named : Counts) (globals :
         pieces = body.pieces;
         joined = body.joined;
         walk =
-            walk_weaken low p before end body.pieces (cost + inner) most (omega arith)
-            (walk_join low p before (first passed) end [] body.pieces cost inner (subst (λ vs. Walk low p before (first vs) [] cost) are enters) body.walk);
+            walk_longer (walk_then (subst (λ vs. Walk low p before (first vs) [] cost) are enters) body.walk) (omega arith);
       }

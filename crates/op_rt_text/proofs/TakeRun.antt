@@ -15,9 +15,9 @@ use Rattle.op_rt_text.specs.Names.{block_id, copy_bytes_number, copy_words_numbe
 use Rattle.op_rt_text.specs.Running.{Allowed, Copyable, HasRoom, behind}
 use Rattle.op_rt_text.specs.Take.{begins, copies}
 use Rattle.op_rt_text.proofs.Calls.{cleared, inside, walk_leave}
-use Rattle.op_rt_text.proofs.CopyCalls.{Copied, CopiedBelow, bytes_copied, call_copied, words_called}
+use Rattle.op_rt_text.proofs.CopyCalls.{Copied, CopiedBelow, bytes_copied, call_copied, then_copied, words_called}
 use Rattle.op_rt_text.proofs.Programs.{program}
-use Rattle.op_rt_text.proofs.Walks.{Walk, standing, walk_branch, walk_join, walk_load, walk_past, walk_weaken}
+use Rattle.op_rt_text.proofs.Walks.{Walk, standing, walk_branch, walk_load, walk_longer, walk_past, walk_then}
 use Rattle.op_rv.proofs.Memory.{can_access_word, with_bytes-below, word_at-same}
 use Rattle.op_rv.specs.Operation.{branch_taken, imm_value, word_from}
 use Rattle.op_rv.specs.State.{word_at}
@@ -88,7 +88,7 @@ module _ (others : List Routine) (entry : RoutineId) (named : Counts) (globals :
           after = calls.memory;
           copied = λ x lower. calls.copied x (omega arith);
           walk =
-              walk_join low p (here registers (copies r) memory) (here after (Return (register 3) ∷ []) calls.memory) (standing (behind m operands rest (after 3) calls.memory m.output) rest) [] [] most 1
+              walk_then
               calls.walk
               (walk_leave low p m take_number operands rest after (register 3) [] calls.memory m.output (omega arith));
         }
@@ -131,19 +131,6 @@ module _ (others : List Routine) (entry : RoutineId) (named : Counts) (globals :
     abbrev size_left : ℕ → ℕ
     size_left = with_left from_left size
 
-    then_copied : (registers : ℕ → ℕ) (now after_it : List Instruction) (next : ℕ → ℕ) (steps most : ℕ) → Walk low p (here registers now memory) (here next after_it memory) [] steps → CopiedBelow low p m take_number operands rest next after_it memory to from size most → CopiedBelow low p m take_number operands rest registers now memory to from size (steps + most)
-    then_copied registers now after_it next steps most first last =
-        record {
-          value = last.value;
-          after = last.after;
-          copied = last.copied;
-          walk = walk_join low p (here registers now memory) (here next after_it memory) (standing (behind m operands rest last.value last.after m.output) rest) [] [] steps most first last.walk;
-        }
-
-    at_most : (registers : ℕ → ℕ) (now : List Instruction) (most more : ℕ) → most ≤ more → CopiedBelow low p m take_number operands rest registers now memory to from size most → CopiedBelow low p m take_number operands rest registers now memory to from size more
-    at_most registers now most more less it =
-        record { value = it.value; after = it.after; copied = it.copied; walk = walk_weaken low p _ _ [] most more less it.walk }
-
     left_is : (a : ℕ) (registers : ℕ → ℕ) → 0 < a % 4 → branch_taken Bne (with_left registers a 3) 0 ≡ true
     left_is a registers some =
         let left = low_bits a in
@@ -160,41 +147,34 @@ module _ (others : List Routine) (entry : RoutineId) (named : Counts) (globals :
     by_size from_whole =
         elim (cases_lt 0 (size % 4)) [
           | inl some ↦
-              at_most size_left (drop 4 begins) (1 + (78 + 5 * size + 1)) (80 + 5 * size + 1) (omega arith)
-              (then_copied size_left (drop 4 begins) (copies copy_bytes_number) size_left 1 (78 + 5 * size + 1)
+              then_copied
               (walk_branch low p (here size_left (drop 5 begins) memory) Bne (register 3) (register 4) (block_id 2) (drop 5 begins) (left_is size from_left some))
-              (by_bytes size_left refl refl refl))
+              (by_bytes size_left refl refl refl)
+              (omega arith)
           | inr none ↦
-              at_most size_left (drop 4 begins) (1 + (1 + (78 + 2 * size + 1))) (80 + 5 * size + 1) (omega arith)
-              (then_copied size_left (drop 4 begins) (drop 5 begins) size_left 1 (1 + (78 + 2 * size + 1))
-              (walk_past low p (here size_left (drop 5 begins) memory) Bne (register 3) (register 4) (block_id 2) (drop 5 begins) (none_left size from_left (omega arith)))
-              (then_copied size_left (drop 5 begins) (copies copy_words_number) size_left 1 (78 + 2 * size + 1)
-              (words_step size_left)
-              (by_words size_left refl refl refl from_whole (omega arith))))
+              then_copied
+              (walk_then (walk_past low p (here size_left (drop 5 begins) memory) Bne (register 3) (register 4) (block_id 2) (drop 5 begins) (none_left size from_left (omega arith))) (words_step size_left))
+              (by_words size_left refl refl refl from_whole (omega arith))
+              (omega arith)
         ]
 
     by_from : CopiedBelow low p m take_number operands rest from_left (drop 2 begins) memory to from size (82 + 5 * size + 1)
     by_from =
         elim (cases_lt 0 (from % 4)) [
           | inl some ↦
-              at_most from_left (drop 2 begins) (1 + (78 + 5 * size + 1)) (82 + 5 * size + 1) (omega arith)
-              (then_copied from_left (drop 2 begins) (copies copy_bytes_number) from_left 1 (78 + 5 * size + 1)
+              then_copied
               (walk_branch low p (here from_left (drop 3 begins) memory) Bne (register 3) (register 4) (block_id 2) (drop 3 begins) (left_is from with_from some))
-              (by_bytes from_left refl refl refl))
+              (by_bytes from_left refl refl refl)
+              (omega arith)
           | inr none ↦
-              at_most from_left (drop 2 begins) (1 + (1 + (80 + 5 * size + 1))) (82 + 5 * size + 1) (omega arith)
-              (then_copied from_left (drop 2 begins) (drop 3 begins) from_left 1 (1 + (80 + 5 * size + 1))
-              (walk_past low p (here from_left (drop 3 begins) memory) Bne (register 3) (register 4) (block_id 2) (drop 3 begins) (none_left from with_from (omega arith)))
-              (then_copied from_left (drop 3 begins) (drop 4 begins) size_left 1 (80 + 5 * size + 1)
-              (size_step from_left refl)
-              (by_size (omega arith))))
+              then_copied
+              (walk_then (walk_past low p (here from_left (drop 3 begins) memory) Bne (register 3) (register 4) (block_id 2) (drop 3 begins) (none_left from with_from (omega arith))) (size_step from_left refl))
+              (by_size (omega arith))
+              (omega arith)
         ]
 
     take_inside : CopiedBelow low p m take_number operands rest given begins memory to from size (84 + 5 * size + 1)
-    take_inside =
-        at_most given begins (1 + (1 + (82 + 5 * size + 1))) (84 + 5 * size + 1) (omega arith)
-        (then_copied given begins (drop 1 begins) with_from 1 (1 + (82 + 5 * size + 1)) load_step
-        (then_copied with_from (drop 1 begins) (drop 2 begins) from_left 1 (82 + 5 * size + 1) from_step by_from))
+    take_inside = then_copied (walk_then load_step from_step) by_from (omega arith)
 
   -- a call of the routine
   pub take_called : (m : State) (operands : Operands) (rest : List Instruction) (to from size : ℕ) → values m operands.arguments ≡ to ∷ size ∷ [] → HasRoom p m 128 → Copyable p m to from size → to % 4 ≡ 0 → Allowed p.rights.readable m.limit to 4 → word_at m.memory to ≡ from → Copied low p m take_number operands rest to from size (152 + 5 * size)

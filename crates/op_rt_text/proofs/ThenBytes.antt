@@ -15,7 +15,7 @@ use Rattle.op_rt_text.specs.Running.{StandsAt, behind}
 use Rattle.op_rt_text.proofs.BytesRun.{bytes_called, stands_on}
 use Rattle.op_rt_text.proofs.Calls.{inside, walk_leave}
 use Rattle.op_rt_text.proofs.Programs.{WrittenInside, program}
-use Rattle.op_rt_text.proofs.Walks.{standing, walk_join, walk_weaken}
+use Rattle.op_rt_text.proofs.Walks.{standing, walk_longer, walk_then}
 use Rattle.op_rv.specs.Operation.{signed}
 use Rattle.op_rv.specs.declared.objects.GlobalVariable.{GlobalVariable}
 use Rattle.op_rv.specs.declared.symbol.RoutineId.{RoutineId}
@@ -33,7 +33,6 @@ module _ (others : List Routine) (entry : RoutineId) (named : Counts) (globals :
       let passed = ap₂ (λ a vs. a ∷ vs) there (ap₂ (λ l w. l ∷ w ∷ []) counts wanted) in
       let calls = bytes_called others entry named globals p small_blanks small state the_call (Return to ∷ []) at width text passed stands (stands_on p m state (p.address blanks) (replicate {A = ℕ} 64 32) (omega arith) kept spaces) short word (omega arith) in
       let after = λ (x : ℕ). cond (nat_eq x to.0) calls.value (registers x) in
-      let end = standing (behind m operands rest (after to.0) calls.memory (output ++ bytes)) rest in
       record {
         value = after to.0;
         memory = calls.memory;
@@ -41,8 +40,7 @@ module _ (others : List Routine) (entry : RoutineId) (named : Counts) (globals :
         pieces = calls.pieces ++ [];
         joined = ap concat (append-nil calls.pieces) ∙ calls.joined;
         walk =
-            walk_weaken low p (inside low p m r operands rest registers (call write_bytes_number (address ∷ size ∷ wide ∷ []) to ∷ Return to ∷ []) memory output) end (calls.pieces ++ []) (length bytes + 155 + 1) (length bytes + 156) (omega arith)
-            (walk_join low p (inside low p m r operands rest registers (call write_bytes_number (address ∷ size ∷ wide ∷ []) to ∷ Return to ∷ []) memory output) (inside low p m r operands rest after (Return to ∷ []) calls.memory (output ++ bytes)) end calls.pieces [] (length bytes + 155) 1
+            walk_longer (walk_then
             calls.walk
-            (walk_leave low p m r operands rest after to [] calls.memory (output ++ bytes) (omega arith)));
+            (walk_leave low p m r operands rest after to [] calls.memory (output ++ bytes) (omega arith))) (omega arith);
       }

@@ -16,10 +16,10 @@ use Rattle.op_rt_text.specs.Running.{HasTexts, StandsAt, behind}
 use Rattle.op_rt_text.specs.Truth.{chooses, writes_literal}
 use Rattle.op_rt_text.proofs.BytesRun.{stands_on}
 use Rattle.op_rt_text.proofs.Calls.{cleared, inside}
-use Rattle.op_rt_text.proofs.Programs.{Written, WrittenInside, call_written, program}
+use Rattle.op_rt_text.proofs.Programs.{Written, WrittenInside, call_written, program, then_written}
 use Rattle.op_rt_text.proofs.Signs.{signed_high, signed_low}
 use Rattle.op_rt_text.proofs.ThenBytes.{bytes_last}
-use Rattle.op_rt_text.proofs.Walks.{Walk, standing, walk_branch, walk_join, walk_past, walk_weaken}
+use Rattle.op_rt_text.proofs.Walks.{Walk, standing, walk_branch, walk_longer, walk_past, walk_then}
 use Rattle.op_rv.proofs.Memory.{with_bytes-below}
 use Rattle.op_rv.specs.Operation.{branch_taken, signed}
 use Rattle.op_rv.specs.declared.instruction.BranchOp.TheVariants.{Bne}
@@ -69,34 +69,7 @@ module _ (others : List Routine) (entry : RoutineId) (named : Counts) (globals :
         let n = length text in
         let are = literal_registers symbol n in
         let last = bytes_last others entry named globals p small_blanks small_bytes m write_truth_number operands rest (with_literal symbol n) memory m.output (register 2) (register 3) (register 1) (register 3) (p.address symbol) width text are.1 are.2 are.0 (omega arith) kept texts.blanks (stands_on p m (here (with_literal symbol n) []) (p.address symbol) text (omega arith) kept stands) short wide in
-        let end = standing (behind m operands rest last.value last.memory (m.output ++ bytes)) rest in
-        record {
-          value = last.value;
-          memory = last.memory;
-          kept = last.kept;
-          pieces = last.pieces;
-          joined = last.joined;
-          walk =
-              walk_weaken low p (here given (writes_literal symbol n)) end last.pieces (2 + (length bytes + 156)) (length bytes + 158) (omega arith)
-              (walk_join low p (here given (writes_literal symbol n)) (here (with_literal symbol n) (drop 2 (writes_literal symbol n))) end [] last.pieces 2 (length bytes + 156)
-              (sets symbol n)
-              last.walk);
-        }
-
-    -- behind the choice
-    chosen : (symbol : Symbol) (n : ℕ) (bytes : List ℕ) → Walk low p (here given chooses) (here given (writes_literal symbol n)) [] 2 → WrittenInside low p m write_truth_number operands rest given (writes_literal symbol n) memory m.output bytes (length bytes + 158) → WrittenInside low p m write_truth_number operands rest given chooses memory m.output bytes (length bytes + 160)
-    chosen symbol n bytes first last =
-        let end = standing (behind m operands rest last.value last.memory (m.output ++ bytes)) rest in
-        record {
-          value = last.value;
-          memory = last.memory;
-          kept = last.kept;
-          pieces = last.pieces;
-          joined = last.joined;
-          walk =
-              walk_weaken low p (here given chooses) end last.pieces (2 + (length bytes + 158)) (length bytes + 160) (omega arith)
-              (walk_join low p (here given chooses) (here given (writes_literal symbol n)) end [] last.pieces 2 (length bytes + 158) first last.walk);
-        }
+        then_written (sets symbol n) last (omega arith)
 
     goes_to_false : Walk low p (here given (drop 1 chooses)) (here given (writes_literal false_text 5)) [] 1
     unfolding step step_by_ending done act run trace spent shows shown_by cost cost_by
@@ -109,20 +82,20 @@ module _ (others : List Routine) (entry : RoutineId) (named : Counts) (globals :
               let test : nat_eq value 0 ≡ false = grind (arith, nat_tests) in
               let taken : branch_taken Bne value 0 ≡ true = ap not test in
               rw (true_of_word value some word)
-              (chosen true_text 4 (padded (width_of (signed width)) (codes "TRUE"))
-              (walk_weaken low p (here given chooses) (here given (writes_literal true_text 4)) [] 1 2 (omega arith) (walk_branch low p (here given chooses) Bne (register 0) (register 4) (block_id 2) (drop 1 chooses) taken))
-              (literal_written true_text (codes "TRUE") texts.truth (omega arith)))
+              (then_written
+              (walk_branch low p (here given chooses) Bne (register 0) (register 4) (block_id 2) (drop 1 chooses) taken)
+              (literal_written true_text (codes "TRUE") texts.truth (omega arith))
+              (omega arith))
           | inr nothing ↦
               let test : nat_eq value 0 ≡ true = grind (arith, nat_tests) in
               let passed : branch_taken Bne value 0 ≡ false = ap not test in
               let is : value ≡ 0 = omega arith in
               let text : text_of_truth (signed value) ≡ codes "FALSE" = ap (λ v. text_of_truth (signed v)) is in
               rw text
-              (chosen false_text 5 (padded (width_of (signed width)) (codes "FALSE"))
-              (walk_join low p (here given chooses) (here given (drop 1 chooses)) (here given (writes_literal false_text 5)) [] [] 1 1
-              (walk_past low p (here given chooses) Bne (register 0) (register 4) (block_id 2) (drop 1 chooses) passed)
-              goes_to_false)
-              (literal_written false_text (codes "FALSE") texts.falsehood (omega arith)))
+              (then_written
+              (walk_then (walk_past low p (here given chooses) Bne (register 0) (register 4) (block_id 2) (drop 1 chooses) passed) goes_to_false)
+              (literal_written false_text (codes "FALSE") texts.falsehood (omega arith))
+              (omega arith))
         ]
 
   -- a call of the routine

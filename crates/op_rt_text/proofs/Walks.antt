@@ -35,32 +35,33 @@ pub record Walk (low : Low) (p : Placement) (b c : State) (pieces : List (List �
 abbrev pub standing : State → List Instruction → State
 standing m now = record m { top = record m.top { now = now }; ending = Running }
 
+-- two walks, one behind the other
+pub walk_then : {low : Low} {p : Placement} {b c d : State} {xs ys : List (List ℕ)} {m n : ℕ} → Walk low p b c xs m → Walk low p c d ys n → Walk low p b d (xs ++ ys) (m + n)
+walk_then {low = low} {p = p} {b = b} {c = c} {xs = xs} {ys = ys} first second =
+    let few_first = first.few in
+    let few_second = second.few in
+    let before = first.within in
+    let after = second.within in
+    let cost = spent_add (low_machine low p) first.steps second.steps b in
+    let same : spent (low_machine low p) second.steps (run (low_machine low p) first.steps b) ≡ spent (low_machine low p) second.steps c = ap (spent (low_machine low p) second.steps) first.ends in
+    record {
+      steps = first.steps + second.steps;
+      few = omega arith;
+      ends = run_add (low_machine low p) first.steps second.steps b ∙ ap (run (low_machine low p) second.steps) first.ends ∙ second.ends;
+      shown =
+          trace_add (low_machine low p) first.steps second.steps b
+          ∙ ap₂ (λ us vs. us ++ vs) first.shown (ap (trace (low_machine low p) second.steps) first.ends ∙ second.shown)
+          ∙ sym (map-append _ xs ys);
+      within = omega arith;
+    }
+
+pub walk_longer : {low : Low} {p : Placement} {b c : State} {xs : List (List ℕ)} {m n : ℕ} → Walk low p b c xs m → m ≤ n → Walk low p b c xs n
+walk_longer walk more =
+    let few = walk.few in
+    let within = walk.within in
+    record { steps = walk.steps; few = omega arith; ends = walk.ends; shown = walk.shown; within = omega arith }
+
 module _ (low : Low) (p : Placement) where
-  pub walk_join : (b c d : State) (xs ys : List (List ℕ)) (m n : ℕ) → Walk low p b c xs m → Walk low p c d ys n → Walk low p b d (xs ++ ys) (m + n)
-  walk_join b c d xs ys m n first second =
-      let few_first = first.few in
-      let few_second = second.few in
-      let before = first.within in
-      let after = second.within in
-      let cost = spent_add (low_machine low p) first.steps second.steps b in
-      let same : spent (low_machine low p) second.steps (run (low_machine low p) first.steps b) ≡ spent (low_machine low p) second.steps c = ap (spent (low_machine low p) second.steps) first.ends in
-      record {
-        steps = first.steps + second.steps;
-        few = omega arith;
-        ends = run_add (low_machine low p) first.steps second.steps b ∙ ap (run (low_machine low p) second.steps) first.ends ∙ second.ends;
-        shown =
-            trace_add (low_machine low p) first.steps second.steps b
-            ∙ ap₂ (λ us vs. us ++ vs) first.shown (ap (trace (low_machine low p) second.steps) first.ends ∙ second.shown)
-            ∙ sym (map-append _ xs ys);
-        within = omega arith;
-      }
-
-  pub walk_weaken : (b c : State) (xs : List (List ℕ)) (m n : ℕ) → m ≤ n → Walk low p b c xs m → Walk low p b c xs n
-  walk_weaken b c xs m n more walk =
-      let few = walk.few in
-      let within = walk.within in
-      record { steps = walk.steps; few = omega arith; ends = walk.ends; shown = walk.shown; within = omega arith }
-
   -- one instruction
   pub walk_act : (m c : State) (i : Instruction) (is : List Instruction) (pieces : List (List ℕ)) → act low p i (standing m is) ≡ c → shown_by p i (standing m (i ∷ is)) ≡ all_written pieces → (most : ℕ) → 1 ≤ most → cost_by low p i (standing m (i ∷ is)) ≤ most → Walk low p (standing m (i ∷ is)) c pieces most
   unfolding step step_by_ending done run trace spent shows cost
