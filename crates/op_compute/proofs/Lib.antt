@@ -1,6 +1,10 @@
+pub mod ArithmeticLemmas
+pub mod ComparisonLemmas
 pub mod MeaningLemmas
 pub mod Registers
 pub mod StraightRuns
-pub mod SumLemmas
 pub mod WordBits
+pub mod WordParts
+pub mod WordProducts
+pub mod WordSets
 pub mod Words

@@ -1,12 +1,16 @@
 -- Registers, of which one has another value, and parts of what code comes to.
-use Rattle.std.proofs.Common.{◌≡◌, ◌≢◌, ℕ, ℤ, ◌<◌, ◌≤◌, Bool, true, false, nat_eq, refl, sym, ◌∙◌, subst, arith, if◌then◌else◌}
+use Rattle.std.proofs.Common.{◌≡◌, ◌≢◌, ℕ, ℤ, ◌<◌, ◌≤◌, Bool, true, false, not, nat_eq, refl, ap₂, sym, ◌∙◌, subst, arith, if◌then◌else◌}
 use Rattle.std.proofs.lemmas.Bool.Decides.{nat_tests}
-use Rattle.op_compute.specs.Meaning.{Meant, gives, fails, Answers, AreKept, IsWordOf, block_for}
+use Rattle.op_compute.specs.Meaning.{Meant, gives, fails, computed, Answers, AreKept, IsApart, IsWordOf, block_for}
 use Rattle.op_compute.specs.Moves.{move_code}
-use Rattle.op_compute.specs.Straight.{put, outcome, Outcome, Behind, Away}
+use Rattle.op_compute.specs.Straight.{put, outcome, takes, Outcome, Behind, Away}
+use Rattle.op_compute.specs.declared.bank.Operands.{Operands}
 use Rattle.op_compute.specs.declared.bank.RuntimeError.{RuntimeError}
+use Rattle.op_compute.specs.declared.bank.RuntimeError.TheVariants.{IntegerOverflow}
 use Rattle.op_compute.specs.declared.bank.Work.{Work}
 use Rattle.op_low.specs.declared.ids.VirtualRegister.{VirtualRegister}
+use Rattle.op_meaning.specs.Numbers.{fits_word, wrapped}
+use Rattle.op_rv.specs.declared.instruction.BranchOp.TheVariants.{Bne}
 
 -- ---- one register
 
@@ -64,9 +68,35 @@ moved w to from f g n kept is =
 
 -- ---- tests
 
--- where the test of the code is that of the meaning
-pub tested : (w : Work) (to : VirtualRegister) (f g : ℕ → ℕ) (taken : Bool) (test : Bool) (error : RuntimeError) (meaning : Meant) (rest : Outcome) → taken ≡ test → AreKept w to f g → Answers w to f meaning rest → Answers w to f (if test then fails error else meaning) (if taken then Away (block_for w error) g else rest)
+-- where the test of the code is that of the meaning; behind it the test has not held
+pub tested : (w : Work) (to : VirtualRegister) (f g : ℕ → ℕ) (taken test : Bool) (error : RuntimeError) (meaning : Meant) (rest : Outcome) → taken ≡ test → AreKept w to f g → (test ≡ false → Answers w to f meaning rest) → Answers w to f (if test then fails error else meaning) (if taken then Away (block_for w error) g else rest)
 tested w to f g true true error meaning rest e kept behind = record { leads = refl; others = kept }
-tested w to f g false false error meaning rest e kept behind = behind
+tested w to f g false false error meaning rest e kept behind = behind refl
 tested w to f g true false error meaning rest e kept behind = absurd cc
 tested w to f g false true error meaning rest e kept behind = absurd cc
+
+-- ---- three scratch registers
+
+abbrev pub three : Work → (ℕ → ℕ) → (a b c : ℕ) → (ℕ → ℕ)
+three w f a b c = put (put (put f w.first a) w.second b) w.third c
+
+pub three_kept : (w : Work) (o : Operands) (f : ℕ → ℕ) (a b c : ℕ) → IsApart w o → AreKept w o.to f (three w f a b c)
+three_kept w o f a b c apart =
+    kept_scratch w o.to w.third f (put (put f w.first a) w.second b) c (omega arith)
+    (kept_scratch w o.to w.second f (put f w.first a) b (omega arith) (kept_scratch w o.to w.first f f a (omega arith) (kept_none w o.to f)))
+
+pub three_first : (w : Work) (o : Operands) (f : ℕ → ℕ) (a b c : ℕ) → IsApart w o → three w f a b c w.first.0 ≡ a
+three_first w o f a b c apart =
+    put_lower (put (put f w.first a) w.second b) w.third c w.first.0 (omega arith) ∙ put_lower (put f w.first a) w.second b w.first.0 apart.second ∙ put_same f w.first a
+
+pub three_second : (w : Work) (o : Operands) (f : ℕ → ℕ) (a b c : ℕ) → IsApart w o → three w f a b c w.second.0 ≡ b
+three_second w o f a b c apart = put_lower (put (put f w.first a) w.second b) w.third c w.second.0 apart.third ∙ put_same (put f w.first a) w.second b
+
+-- the first of three is the result where the other two do not differ
+pub overflow_tested : (w : Work) (o : Operands) (f : ℕ → ℕ) (a b c : ℕ) (n : ℤ) → IsApart w o → takes Bne b c ≡ not (fits_word n) → IsWordOf a (wrapped n) → Answers w o.to f (computed true n) (if takes Bne (three w f a b c w.second.0) (three w f a b c w.third.0) then Away w.overflow (three w f a b c) else outcome (move_code o.to w.first) (three w f a b c))
+overflow_tested w o f a b c n apart test is =
+    let g = three w f a b c in
+    let kept = three_kept w o f a b c apart in
+    let values : takes Bne (g w.second.0) (g w.third.0) ≡ takes Bne b c = ap₂ (takes Bne) (three_second w o f a b c apart) (put_same (put (put f w.first a) w.second b) w.third c) in
+    tested w o.to f g (takes Bne (g w.second.0) (g w.third.0)) (not (fits_word n)) IntegerOverflow (gives (wrapped n)) (outcome (move_code o.to w.first) g) (values ∙ test) kept
+    (λ fits. moved w o.to w.first f g (wrapped n) kept (subst (λ u. IsWordOf u (wrapped n)) (sym (three_first w o f a b c apart)) is))

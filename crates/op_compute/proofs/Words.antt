@@ -1,7 +1,7 @@
 -- Words and the numbers that they are.
 use Rattle.std.proofs.Common.{rules, ◌≡◌, ℕ, ℤ, pos, ◌+◌, ◌-◌, ◌%◌, ◌^◌, ◌<◌, ◌+ℤ◌, ◌-ℤ◌, Bool, true, false, not, refl, ap, ap₂, sym, ◌∙◌, subst, arith, neg_ℤ, nat_eq, if◌then◌else◌}
 use Rattle.std.proofs.lemmas.Bool.Decides.{nat_tests}
-use Rattle.std.proofs.lemmas.Int.{wrapping_add-bits, wrapping_sub-bits, of_z-to_z, to_z_pos, int_wrap_fits, ints}
+use Rattle.std.proofs.lemmas.Int.{wrapping_add-bits, wrapping_sub-bits, of_z-to_z, to_z_pos, to_z-of_z, int_wrap_fits, ints}
 use Rattle.std.specs.Int.{w32, int_wrap, from_bool, cast_unsigned}
 use Rattle.std.specs.Int.RustNames.{FitsSigned}
 use Rattle.std.specs.Prelude.{int_lt, int_le, ◌&&◌}
@@ -21,6 +21,13 @@ word_is n p = record { number = refl; bound = p }
 
 pub small_is : (n : ℕ) → n < 2 ^ 31 → IsWordOf n (pos n)
 small_is n p = record { number = to_z_pos w32 n p; bound = omega arith }
+
+-- a number of 32 bits is its word
+pub number_is : (z : ℤ) → FitsSigned w32 z → IsWordOf (cast_unsigned w32 z) z
+number_is z p = record { number = to_z-of_z w32 z p; bound = number_bound z p }
+  where
+    number_bound : (z : ℤ) → FitsSigned w32 z → cast_unsigned w32 z < 2 ^ 32
+    number_bound z p = search rules
 
 pub unsigned_is : (a : ℕ) (x : ℤ) → IsWordOf a x → cast_unsigned w32 x ≡ a
 unsigned_is a x p = ap (cast_unsigned w32) (sym p.number) ∙ of_z-to_z w32 a p.bound

@@ -1,5 +1,5 @@
 -- The fields of a record lie in order, apart and within, each at its alignment.
-use Rattle.std.proofs.Common.{◌≡◌, ◌<◌, ◌≤◌, ℕ, zero, suc, ◌+◌, ◌-◌, ◌*◌, ◌%◌, ◌^◌, max, List, [], ◌∷◌, length, map, Option, Some, None, slice_get, refl, sym, ap, ◌∙◌, subst, arith}
+use Rattle.std.proofs.Common.{◌≡◌, ◌<◌, ◌≤◌, ℕ, zero, suc, ◌+◌, ◌-◌, ◌*◌, ◌%◌, ◌^◌, max, List, [], ◌∷◌, length, map, Option, slice_get, subst, arith}
 use Rattle.std.specs.List.{fold}
 use Rattle.std.proofs.lemmas.Nat.{mul-le}
 use Rattle.op_core.specs.Sizes.{extent_of, extended, aligned}

@@ -1,7 +1,7 @@
 -- Which byte of a first value stands where.
-use Rattle.std.proofs.Common.{◌≡◌, ◌<◌, ◌≤◌, ℕ, zero, suc, ◌+◌, ◌-◌, ◌*◌, ◌^◌, List, [], ◌∷◌, ◌++◌, length, take, replicate, get_or, slice_get, refl, sym, ap, ◌∙◌, subst, arith}
+use Rattle.std.proofs.Common.{◌≡◌, ◌<◌, ℕ, zero, suc, ◌+◌, ◌-◌, ◌*◌, ◌^◌, List, [], ◌∷◌, ◌++◌, length, take, replicate, get_or, slice_get, refl, ap, ◌∙◌, arith}
 use Rattle.std.proofs.Common.{append_assoc, length-take}
-use Rattle.std.proofs.lemmas.List.{length-append, get_or-append-add, get_or_append_left, get_or-take, get_or_past, length-replicate}
+use Rattle.std.proofs.lemmas.List.{length-append, get_or-append-add, get_or_append_left, get_or-take, length-replicate}
 use Rattle.op_core.specs.Initial.{FirstValue, constant, parts, FirstValues, no_values, values}
 use Rattle.op_core.specs.Sizes.{extent_of, extended}
 use Rattle.op_core.specs.declared.ids.TypeId.{TypeId}
@@ -10,9 +10,9 @@ use Rattle.op_core.specs.declared.types.Extent.{Extent}
 use Rattle.op_core.specs.declared.types.Field.{Field}
 use Rattle.op_meaning.specs.Shapes.{field_type}
 use Rattle.op_rv.proofs.Memory.{get_or-zeros}
-use Rattle.op_constants.specs.FirstBytes.{first_bytes, fields_bytes, elements_bytes, fitted, content}
+use Rattle.op_constants.specs.FirstBytes.{first_bytes, fields_bytes, elements_bytes, fitted}
 use Rattle.op_constants.specs.Offsets.{size_in, begin_behind, offset_behind}
-use Rattle.op_constants.proofs.FieldOffsets.{all, field_extent, field_within, grows}
+use Rattle.op_constants.proofs.FieldOffsets.{all, field_within, grows}
 use Rattle.op_constants.proofs.Units.{at_least, below_cap}
 
 -- ---- what is cut, and zeros behind it

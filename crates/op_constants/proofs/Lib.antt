@@ -1,9 +1,11 @@
 pub mod FieldOffsets
+pub mod FirstLies
 pub mod FirstParts
 pub mod FirstRows
 pub mod Fitting
 pub mod Lying
 pub mod Numbers
+pub mod Reaching
 pub mod Sets
 pub mod TypesArranged
 pub mod Units

@@ -1,5 +1,5 @@
 -- What loads, stores and copies of bytes are to values.
-use Rattle.std.proofs.Common.{◌≡◌, ◌<◌, ◌≤◌, ℕ, zero, suc, ◌+◌, ◌*◌, ◌^◌, List, [], ◌∷◌, ◌++◌, Bool, true, false, nat_eq, refl, sym, ap, ap₂, ◌∙◌, subst, arith, inl, inr}
+use Rattle.std.proofs.Common.{◌≡◌, ◌<◌, ◌≤◌, ℕ, suc, ◌+◌, ◌*◌, ◌^◌, List, [], ◌∷◌, ◌++◌, true, false, nat_eq, sym, ap, ap₂, ◌∙◌, subst, arith, inl, inr}
 use Rattle.std.specs.Prelude.{◌⊎◌, if◌then◌else◌}
 use Rattle.std.proofs.lemmas.Bool.{cases_eq, cases_lt}
 use Rattle.std.proofs.lemmas.Bool.Decides.{nat_tests}
@@ -9,7 +9,7 @@ use Rattle.op_core.specs.declared.types.IntegerKind.TheVariants.{Signed8, Unsign
 use Rattle.op_meaning.specs.Values.{Value, part_of, get, put}
 use Rattle.op_rv.specs.Operation.{signed, extended_byte, extended_half}
 use Rattle.op_rv.specs.Step.{load_value}
-use Rattle.op_constants.specs.Lies.{Arrangement, one_number, in_parts, bytes_in, IsArranged, IsAligned, Lies, Leads, load_op, number_there}
+use Rattle.op_constants.specs.Lies.{Arrangement, one_number, in_parts, bytes_in, IsArranged, IsAligned, Lies, Leads, load_op}
 
 -- ---- parts
 

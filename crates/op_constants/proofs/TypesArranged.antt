@@ -1,5 +1,5 @@
 -- Every type of a program is arranged, if its values are small enough.
-use Rattle.std.proofs.Common.{◌≡◌, ◌<◌, ◌≤◌, ℕ, zero, suc, ◌+◌, ◌-◌, ◌*◌, ◌%◌, ◌^◌, Bool, true, false, List, [], ◌∷◌, length, length-take, length-drop, take, drop, Option, Some, None, slice_get, unwrap_or, refl, sym, ap, ◌∙◌, subst, arith, inl, inr}
+use Rattle.std.proofs.Common.{◌≡◌, ◌<◌, ◌≤◌, ℕ, zero, suc, ◌+◌, ◌-◌, ◌*◌, ◌%◌, ◌^◌, Bool, true, false, List, [], ◌∷◌, length, length-take, length-drop, drop, Option, Some, slice_get, unwrap_or, refl, sym, ap, ◌∙◌, subst, arith, inl, inr}
 use Rattle.std.specs.List.{All}
 use Rattle.std.proofs.lemmas.Option.{slice_get-get_or}
 use Rattle.op_core.specs.Rows.{rows}
@@ -8,14 +8,14 @@ use Rattle.op_core.specs.declared.ids.Run.{Run}
 use Rattle.op_core.specs.declared.ids.TypeId.{TypeId}
 use Rattle.op_core.specs.declared.program.Core.{Core}
 use Rattle.op_core.specs.declared.types.CoreType.{CoreType}
-use Rattle.op_core.specs.declared.types.CoreType.TheVariants.{Integer, Boolean, Char, String, Record, Array, DynamicArray, Class, Interface}
+use Rattle.op_core.specs.declared.types.CoreType.TheVariants.{Integer, Boolean, Char, String, Record, Array, DynamicArray, Interface}
 use Rattle.op_core.specs.declared.types.Extent.{Extent}
 use Rattle.op_core.specs.declared.types.Field.{Field}
 use Rattle.op_core.specs.declared.types.IntegerKind.{IntegerKind}
 use Rattle.op_core.specs.declared.types.IntegerKind.TheVariants.{Signed8, Unsigned8, Signed16, Unsigned16, Signed32}
-use Rattle.op_meaning.specs.Shapes.{Shape, single, composite, of_chars, of_elements, of_instance, field_type, part_type, parts_by, shape_by, shape_of}
+use Rattle.op_meaning.specs.Shapes.{field_type, shape_by}
 use Rattle.op_constants.specs.Arranged.{Arranged, IsSmall, IsUnit}
-use Rattle.op_constants.specs.Lies.{Arrangement, one_number, in_parts, bytes_in, IsArranged, IsAligned, arrangement_by, arrangement_within, arrangement_of, part_offset}
+use Rattle.op_constants.specs.Lies.{Arrangement, one_number, in_parts, bytes_in, IsArranged, IsAligned, arrangement_by, arrangement_within, arrangement_of}
 use Rattle.op_constants.specs.Offsets.{size_in, alignment_in, offset_behind}
 use Rattle.op_constants.proofs.FieldOffsets.{all, field_extent, AreUnits, all_unit, field_aligned, field_coarser, field_within, fields_apart, element_within, elements_apart}
 use Rattle.op_constants.proofs.Units.{below_cap, at_least, aligned-of, coarser, none_of, sum_of, times_of}
@@ -32,6 +32,14 @@ all_at P xs k x low e each = subst P (ap (λ o. unwrap_or o x) (sym (slice_get-g
 
 pub many_rows : {A : Type 0} (table : List A) (run : Run) → run.first + run.count ≤ length table → length (rows table run) ≡ run.count
 many_rows table run room = omega (arith, length-take run.count (drop run.first table), length-drop run.first table)
+
+-- the arrangement of a type of this form
+abbrev pub by_form : Core → (TypeId → Arrangement) → TypeId → Option CoreType → Arrangement
+by_form core inner of t = arrangement_by inner core (size_in core of) t (shape_by core t)
+
+-- in front of the first field
+abbrev pub none : Extent
+none = record { size = 0; alignment = 1; managed = false }
 
 module _ (core : Core) (keeps : KeepsExtents core) where
   -- ---- alignments
@@ -96,13 +104,9 @@ module _ (core : Core) (keeps : KeepsExtents core) where
 
   -- ---- records
 
-  abbrev pub none : Extent
-  none = record { size = 0; alignment = 1; managed = false }
-
-  module _ (of : TypeId) (inner : TypeId → Arrangement) (run : Run) (small : IsSmall core of)
+  module _ (of : TypeId) (run : Run) (small : IsSmall core of)
       (kept : extent_of core of ≡ extent_by (extent_of core) core (Some (Record run)))
-      (behind : IsBehind core.fields core.interfaces of.0 (Record run))
-      (parts : (part : TypeId) → part.0 < of.0 → IsSmall core part → Arranged core part (inner part)) where
+      (behind : IsBehind core.fields core.interfaces of.0 (Record run)) where
     abbrev pub fs : List Field
     fs = rows core.fields run
 
@@ -115,7 +119,7 @@ module _ (core : Core) (keeps : KeepsExtents core) where
     ends : size_in core of ≡ aligned fields.alignment fields.size
     ends = ap (λ x. x.size) kept
 
-    whole : fields.size ≤ size_in core of
+    pub whole : fields.size ≤ size_in core of
     whole = subst (λ s. fields.size ≤ s) (sym ends) (at_least fields.alignment fields.size (subst (λ s. s < 2 ^ 32 - 1) ends small.size))
 
     pub few : fields.size < 2 ^ 32 - 1
@@ -132,9 +136,6 @@ module _ (core : Core) (keeps : KeepsExtents core) where
         let size : size_in core f.of < 2 ^ 32 - 1 = let same = ap (λ o. (field_extent core o).size) is in omega arith in
         subst (λ o. ((field_type o).0 < of.0) × IsSmall core (field_type o)) (sym is) (before, record { there = omega arith; size = size })
 
-    field_arranged : (k : ℕ) → k < length fs → Arranged core (field_type (slice_get fs k)) (inner (field_type (slice_get fs k)))
-    field_arranged k low = let (before, less) = field_small k low in parts (field_type (slice_get fs k)) before less
-
     units : AreUnits core fs
     units k low =
         let (f, is) = some_at fs k low in
@@ -145,47 +146,50 @@ module _ (core : Core) (keeps : KeepsExtents core) where
     unit : IsUnit fields.alignment
     unit = all_unit core fs none (inl refl) units
 
-    record_arranged : Arranged core of (in_parts (size_in core of) run.count (offset_behind core 0 fs) (λ k. inner (field_type (slice_get fs k))))
-    record_arranged = record {
-      arranged = (λ k low. by k (subst (λ n. k < n) (sym many) low), λ j k order low. apart j k order (subst (λ n. k < n) (sym many) low));
-      size = refl;
-      unit = subst IsUnit (sym alignment) unit;
-      whole = subst (λ a. size_in core of % a ≡ 0) (sym alignment) (subst (λ s. s % fields.alignment ≡ 0) (sym ends) (aligned-of fields.alignment fields.size unit (subst (λ s. s < 2 ^ 32 - 1) ends small.size)));
-      aligned = λ a multiple k low. at a (subst (λ n. a % n ≡ 0) alignment multiple) k (subst (λ n. k < n) (sym many) low);
-    }
-      where
-        alignment : alignment_in core of ≡ fields.alignment
-        alignment = ap (λ x. x.alignment) kept
+    module _ (inner : TypeId → Arrangement) (parts : (part : TypeId) → part.0 < of.0 → IsSmall core part → Arranged core part (inner part)) where
+      field_arranged : (k : ℕ) → k < length fs → Arranged core (field_type (slice_get fs k)) (inner (field_type (slice_get fs k)))
+      field_arranged k low = let (before, less) = field_small k low in parts (field_type (slice_get fs k)) before less
 
-        by : (k : ℕ) → k < length fs → IsArranged (inner (field_type (slice_get fs k))) × (offset_behind core 0 fs k + bytes_in (inner (field_type (slice_get fs k))) ≤ size_in core of)
-        by k low =
-            let field = field_arranged k low in
-            let w = whole in
-            let within = (field_within core fs none k low few).1 in
-            let same = field.size in
-            (field.arranged, omega arith)
+      record_arranged : Arranged core of (in_parts (size_in core of) run.count (offset_behind core 0 fs) (λ k. inner (field_type (slice_get fs k))))
+      record_arranged = record {
+        arranged = (λ k low. by k (subst (λ n. k < n) (sym many) low), λ j k order low. apart j k order (subst (λ n. k < n) (sym many) low));
+        size = refl;
+        unit = subst IsUnit (sym alignment) unit;
+        whole = subst (λ a. size_in core of % a ≡ 0) (sym alignment) (subst (λ s. s % fields.alignment ≡ 0) (sym ends) (aligned-of fields.alignment fields.size unit (subst (λ s. s < 2 ^ 32 - 1) ends small.size)));
+        aligned = λ a multiple k low. at a (subst (λ n. a % n ≡ 0) alignment multiple) k (subst (λ n. k < n) (sym many) low);
+      }
+        where
+          alignment : alignment_in core of ≡ fields.alignment
+          alignment = ap (λ x. x.alignment) kept
 
-        apart : (j k : ℕ) → j < k → k < length fs → offset_behind core 0 fs j + bytes_in (inner (field_type (slice_get fs j))) ≤ offset_behind core 0 fs k
-        apart j k order low =
-            let between = fields_apart core fs none j k order low few in
-            let same = (field_arranged j (omega arith)).size in
-            omega arith
+          by : (k : ℕ) → k < length fs → IsArranged (inner (field_type (slice_get fs k))) × (offset_behind core 0 fs k + bytes_in (inner (field_type (slice_get fs k))) ≤ size_in core of)
+          by k low =
+              let field = field_arranged k low in
+              let w = whole in
+              let within = (field_within core fs none k low few).1 in
+              let same = field.size in
+              (field.arranged, omega arith)
 
-        at : (a : ℕ) → a % fields.alignment ≡ 0 → (k : ℕ) → k < length fs → IsAligned (inner (field_type (slice_get fs k))) (a + offset_behind core 0 fs k)
-        at a multiple k low =
-            let field = field_arranged k low in
-            let own = alignment_in core (field_type (slice_get fs k)) in
-            field.aligned (a + offset_behind core 0 fs k)
-            (sum_of own a (offset_behind core 0 fs k) field.unit
-            (coarser own fields.alignment a field.unit unit (field_coarser core fs none k low) multiple)
-            (field_aligned core fs none k low few units))
+          apart : (j k : ℕ) → j < k → k < length fs → offset_behind core 0 fs j + bytes_in (inner (field_type (slice_get fs j))) ≤ offset_behind core 0 fs k
+          apart j k order low =
+              let between = fields_apart core fs none j k order low few in
+              let same = (field_arranged j (omega arith)).size in
+              omega arith
+
+          at : (a : ℕ) → a % fields.alignment ≡ 0 → (k : ℕ) → k < length fs → IsAligned (inner (field_type (slice_get fs k))) (a + offset_behind core 0 fs k)
+          at a multiple k low =
+              let field = field_arranged k low in
+              let own = alignment_in core (field_type (slice_get fs k)) in
+              field.aligned (a + offset_behind core 0 fs k)
+              (sum_of own a (offset_behind core 0 fs k) field.unit
+              (coarser own fields.alignment a field.unit unit (field_coarser core fs none k low) multiple)
+              (field_aligned core fs none k low few units))
 
   -- ---- arrays
 
-  module _ (of : TypeId) (inner : TypeId → Arrangement) (index element : TypeId) (small : IsSmall core of)
+  module _ (of index element : TypeId) (small : IsSmall core of)
       (kept : extent_of core of ≡ extent_by (extent_of core) core (Some (Array index element)))
-      (behind : IsBehind core.fields core.interfaces of.0 (Array index element))
-      (parts : (part : TypeId) → part.0 < of.0 → IsSmall core part → Arranged core part (inner part)) where
+      (behind : IsBehind core.fields core.interfaces of.0 (Array index element)) where
     abbrev pub count : ℕ
     count = values_of (range_of (type_at core index))
 
@@ -203,59 +207,57 @@ module _ (core : Core) (keeps : KeepsExtents core) where
         let there = small.there in
         record { there = omega arith; size = omega arith }
 
-    element_arranged : 0 < count → Arranged core element (inner element)
-    element_arranged some = parts element behind.1 (element_small some)
-
     element_unit : IsUnit (alignment_in core element)
     element_unit = let before = behind.1 in let there = small.there in unit_of element (omega arith)
 
-    -- so many elements take a multiple of the alignment
-    elements_whole : (n : ℕ) → n ≤ count → (n * size_in core element) % alignment_in core element ≡ 0
-    elements_whole zero less = let none : 0 ≡ 0 * size_in core element = omega arith in subst (λ x. x % alignment_in core element ≡ 0) none (none_of (alignment_in core element) element_unit)
-    elements_whole (suc n) less = times_of (alignment_in core element) (suc n) (size_in core element) element_unit (element_arranged (omega arith)).whole
+    module _ (inner : TypeId → Arrangement) (parts : (part : TypeId) → part.0 < of.0 → IsSmall core part → Arranged core part (inner part)) where
+      element_arranged : 0 < count → Arranged core element (inner element)
+      element_arranged some = parts element behind.1 (element_small some)
 
-    array_arranged : Arranged core of (in_parts (size_in core of) count (λ k. k * size_in core element) (λ k. inner element))
-    array_arranged = record {
-      arranged = (λ k low. by k low, λ j k order low. apart j k order low);
-      size = refl;
-      unit = subst IsUnit (sym alignment) element_unit;
-      whole = subst (λ a. size_in core of % a ≡ 0) (sym alignment) (subst (λ s. s % alignment_in core element ≡ 0) (sym size_is) (elements_whole count (omega arith)));
-      aligned = λ a multiple k low. at a (subst (λ n. a % n ≡ 0) alignment multiple) k low;
-    }
-      where
-        alignment : alignment_in core of ≡ alignment_in core element
-        alignment = ap (λ x. x.alignment) kept
+      -- so many elements take a multiple of the alignment
+      elements_whole : (n : ℕ) → n ≤ count → (n * size_in core element) % alignment_in core element ≡ 0
+      elements_whole zero less = let none : 0 ≡ 0 * size_in core element = omega arith in subst (λ x. x % alignment_in core element ≡ 0) none (none_of (alignment_in core element) element_unit)
+      elements_whole (suc n) less = times_of (alignment_in core element) (suc n) (size_in core element) element_unit (element_arranged (omega arith)).whole
 
-        by : (k : ℕ) → k < count → IsArranged (inner element) × (k * size_in core element + bytes_in (inner element) ≤ size_in core of)
-        by k low =
-            let own = element_arranged (omega arith) in
-            let within = element_within count (size_in core element) k low few_elements in
-            (own.arranged, subst (λ s. k * size_in core element + s ≤ size_in core of) (sym own.size) (subst (λ s. k * size_in core element + size_in core element ≤ s) (sym size_is) within))
+      array_arranged : Arranged core of (in_parts (size_in core of) count (λ k. k * size_in core element) (λ k. inner element))
+      array_arranged = record {
+        arranged = (λ k low. by k low, λ j k order low. apart j k order low);
+        size = refl;
+        unit = subst IsUnit (sym alignment) element_unit;
+        whole = subst (λ a. size_in core of % a ≡ 0) (sym alignment) (subst (λ s. s % alignment_in core element ≡ 0) (sym size_is) (elements_whole count (omega arith)));
+        aligned = λ a multiple k low. at a (subst (λ n. a % n ≡ 0) alignment multiple) k low;
+      }
+        where
+          alignment : alignment_in core of ≡ alignment_in core element
+          alignment = ap (λ x. x.alignment) kept
 
-        apart : (j k : ℕ) → j < k → k < count → j * size_in core element + bytes_in (inner element) ≤ k * size_in core element
-        apart j k order low =
-            let own = element_arranged (omega arith) in
-            subst (λ s. j * size_in core element + s ≤ k * size_in core element) (sym own.size) (elements_apart (size_in core element) j k order)
+          by : (k : ℕ) → k < count → IsArranged (inner element) × (k * size_in core element + bytes_in (inner element) ≤ size_in core of)
+          by k low =
+              let own = element_arranged (omega arith) in
+              let within = element_within count (size_in core element) k low few_elements in
+              (own.arranged, subst (λ s. k * size_in core element + s ≤ size_in core of) (sym own.size) (subst (λ s. k * size_in core element + size_in core element ≤ s) (sym size_is) within))
 
-        at : (a : ℕ) → a % alignment_in core element ≡ 0 → (k : ℕ) → k < count → IsAligned (inner element) (a + k * size_in core element)
-        at a multiple k low =
-            let own = element_arranged (omega arith) in
-            own.aligned (a + k * size_in core element) (sum_of (alignment_in core element) a (k * size_in core element) element_unit multiple (elements_whole k (omega arith)))
+          apart : (j k : ℕ) → j < k → k < count → j * size_in core element + bytes_in (inner element) ≤ k * size_in core element
+          apart j k order low =
+              let own = element_arranged (omega arith) in
+              subst (λ s. j * size_in core element + s ≤ k * size_in core element) (sym own.size) (elements_apart (size_in core element) j k order)
+
+          at : (a : ℕ) → a % alignment_in core element ≡ 0 → (k : ℕ) → k < count → IsAligned (inner element) (a + k * size_in core element)
+          at a multiple k low =
+              let own = element_arranged (omega arith) in
+              own.aligned (a + k * size_in core element) (sum_of (alignment_in core element) a (k * size_in core element) element_unit multiple (elements_whole k (omega arith)))
 
   -- ---- all types
-
-  abbrev pub by_form : (TypeId → Arrangement) → TypeId → Option CoreType → Arrangement
-  by_form inner of t = arrangement_by inner core (size_in core of) t (shape_by core t)
 
   plain_at : (of : TypeId) (n : ℕ) (managed : Bool) → extent_of core of ≡ plain n managed → IsPlain of n
   plain_at of n managed kept = (ap (λ x. x.size) kept, ap (λ x. x.alignment) kept)
 
-  type_arranged : (inner : TypeId → Arrangement) (of : TypeId) (t : CoreType) → IsSmall core of → extent_of core of ≡ extent_by (extent_of core) core (Some t) → IsBehind core.fields core.interfaces of.0 t → ((part : TypeId) → part.0 < of.0 → IsSmall core part → Arranged core part (inner part)) → Arranged core of (by_form inner of (Some t))
+  type_arranged : (inner : TypeId → Arrangement) (of : TypeId) (t : CoreType) → IsSmall core of → extent_of core of ≡ extent_by (extent_of core) core (Some t) → IsBehind core.fields core.interfaces of.0 t → ((part : TypeId) → part.0 < of.0 → IsSmall core part → Arranged core part (inner part)) → Arranged core of (by_form core inner of (Some t))
   type_arranged inner of (Integer kind) small kept behind parts = kind_arranged of kind (plain_at of (integer_size kind) false kept)
   type_arranged inner of Boolean small kept behind parts = kind_arranged of Unsigned8 (plain_at of 1 false kept)
   type_arranged inner of Char small kept behind parts = kind_arranged of Unsigned8 (plain_at of 1 false kept)
-  type_arranged inner of (Record run) small kept behind parts = record_arranged of inner run small kept behind parts
-  type_arranged inner of (Array index element) small kept behind parts = array_arranged of inner index element small kept behind parts
+  type_arranged inner of (Record run) small kept behind parts = record_arranged of run small kept behind inner parts
+  type_arranged inner of (Array index element) small kept behind parts = array_arranged of index element small kept behind inner parts
   type_arranged inner of (Interface i) small kept behind parts = word_arranged of (plain_at of 4 _ kept)
   type_arranged inner of String small kept behind parts = word_arranged of (plain_at of 4 true kept)
   type_arranged inner of (DynamicArray element) small kept behind parts = word_arranged of (plain_at of 4 true kept)
@@ -266,7 +268,7 @@ module _ (core : Core) (keeps : KeepsExtents core) where
   arranged_within (suc n) of few small =
       let (t, e) = some_at core.types of.0 small.there in
       let all = type_arranged (arrangement_within n core) of t small (extent_kept of t e) (keeps.behind of.0 t e) (λ part before less. arranged_within n part (omega arith) less) in
-      subst (λ o. Arranged core of (by_form (arrangement_within n core) of o)) (sym e) all
+      subst (λ o. Arranged core of (by_form core (arrangement_within n core) of o)) (sym e) all
 
   pub type_is_arranged : (of : TypeId) → IsSmall core of → Arranged core of (arrangement_of core of)
   type_is_arranged of small = arranged_within (suc of.0) of (omega arith) small

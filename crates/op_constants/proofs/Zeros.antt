@@ -1,12 +1,12 @@
 -- Zeros in memory are what variables begin with.
-use Rattle.std.proofs.Common.{◌≡◌, ◌<◌, ◌≤◌, ℕ, zero, suc, ◌+◌, refl, sym, ap, ◌∙◌, subst, arith}
+use Rattle.std.proofs.Common.{◌≡◌, ◌<◌, ◌≤◌, ℕ, zero, suc, ◌+◌, refl, ap, ◌∙◌, arith}
 use Rattle.std.specs.Prelude.{pos}
 use Rattle.op_core.specs.Sizes.{type_at}
 use Rattle.op_core.specs.declared.ids.TypeId.{TypeId}
 use Rattle.op_core.specs.declared.program.Core.{Core}
 use Rattle.op_core.specs.declared.types.IntegerKind.TheVariants.{Signed32}
 use Rattle.op_meaning.specs.Shapes.{Shape, single, composite, of_chars, of_elements, of_instance, part_type, shape_of, zero_by, zero_within}
-use Rattle.op_meaning.specs.Values.{Value, number, number_in, part_of}
+use Rattle.op_meaning.specs.Values.{number, number_in}
 use Rattle.op_constants.specs.Lies.{Arrangement, one_number, in_parts, bytes_in, IsArranged, Lies, arrangement_by, arrangement_within, part_offset}
 use Rattle.op_constants.specs.Offsets.{size_in}
 use Rattle.op_constants.proofs.Numbers.{zero_there}

@@ -1,5 +1,5 @@
 -- How the types of a program are arranged: what is true of each type whose values are small enough.
-use Rattle.std.specs.Prelude.{◌≡◌, ◌<◌, ◌⊎◌, ℕ, ◌+◌, ◌-◌, ◌%◌, ◌^◌, length}
+use Rattle.std.specs.Prelude.{◌≡◌, ◌<◌, ◌⊎◌, ℕ, ◌-◌, ◌%◌, ◌^◌, length}
 use Rattle.op_core.specs.declared.ids.TypeId.{TypeId}
 use Rattle.op_core.specs.declared.program.Core.{Core}
 use Rattle.op_constants.specs.Lies.{Arrangement, bytes_in, IsArranged, IsAligned}

@@ -1,8 +1,10 @@
 pub mod Arranged
+pub mod Facts
 pub mod FirstBytes
 pub mod FirstFits
 pub mod Fixed
 pub mod Lies
 pub mod Literals
 pub mod Offsets
+pub mod Reaching
 pub mod Shapes

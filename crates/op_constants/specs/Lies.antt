@@ -1,9 +1,8 @@
 -- When values lie in the bytes of memory: how the values of a type are arranged, when one lies at an address, and where a path leads.
 -- (Free Pascal Reference Guide, "Types", "Record types" and "Arrays"; RISC-V Unprivileged ISA manual, "Load and Store Instructions".)
-use Rattle.std.specs.Prelude.{◌≡◌, ◌<◌, ◌≤◌, ◌⊎◌, ℕ, zero, suc, ◌+◌, ◌*◌, ◌%◌, ◌^◌, ℤ, List, [], ◌∷◌, Option, Some, None}
-use Rattle.op_core.specs.Initial.{FirstValue, constant, parts as first_parts, FirstValues, no_values, values}
+use Rattle.std.specs.Prelude.{◌≡◌, ◌<◌, ◌≤◌, ℕ, zero, suc, ◌+◌, ◌*◌, ◌%◌, ℤ, List, [], ◌∷◌, Option, Some}
 use Rattle.op_core.specs.Rows.{rows}
-use Rattle.op_core.specs.Sizes.{type_at, extent_of, integer_size}
+use Rattle.op_core.specs.Sizes.{type_at, integer_size}
 use Rattle.op_core.specs.declared.ids.TypeId.{TypeId}
 use Rattle.op_core.specs.declared.program.Core.{Core}
 use Rattle.op_core.specs.declared.types.CoreType.{CoreType}

@@ -44,7 +44,7 @@ field_offset core of k = offset_behind core 0 (fields_in core (type_at core of))
 
 -- ---- arrays: the elements lie one behind the other
 
-abbrev element_size_by : Core → Option CoreType → ℕ
+abbrev pub element_size_by : Core → Option CoreType → ℕ
 element_size_by core (Some (Array index element)) = size_in core element
 element_size_by core _ = 0
 

@@ -10,6 +10,7 @@ mod fixed;
 mod literals;
 mod shape;
 mod size;
+mod theorems;
 
 pub use first_value::{first_bytes, first_number};
 pub use fixed::{
@@ -19,3 +20,4 @@ pub use fixed::{
 pub use literals::{layout, literals_in};
 pub use shape::{is_composite, single_kind};
 pub use size::{alignment_of, element_size, field_offset, size_of};
+pub use theorems::{first_values_lie, types_are_arranged, values_are_placed};

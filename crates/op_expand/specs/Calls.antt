@@ -9,6 +9,7 @@ use Rattle.op_core.specs.declared.ids.TypeId.{TypeId}
 use Rattle.op_core.specs.declared.program.Core.{Core}
 use Rattle.op_core.specs.declared.types.IntegerKind.{IntegerKind}
 use Rattle.op_core.specs.declared.types.IntegerKind.TheVariants.{Signed8, Unsigned8, Signed16, Unsigned16, Signed32}
+use Rattle.op_expand.specs.Homes.{parameter}
 use Rattle.op_expand.specs.Moves.{by_words, bytes_code, held, limit_of, load_code}
 use Rattle.op_expand.specs.Places.{after, at_register, at_scratch, place_code, place_of}
 use Rattle.op_expand.specs.declared.frame.Frame.{Frame}
@@ -114,28 +115,26 @@ call_code core mir frame r operands =
     ++ charging_code frame given (charge_of mir r)
     ++ call (runtime + r) (given ∷ result.base ∷ givens_in core frame operands.given result.free) (receiver_of frame operands.receiver given) ∷ []
 
--- ---- returns
+-- ---- returns; they take registers in which nothing stands any more
 
 abbrev number_by : Core → Frame → IntegerKind → LocalId → Option VirtualRegister → List Instruction
 number_by core frame kind v (Some r) = Return r ∷ []
-number_by core frame kind v None =
-    load_code core frame kind (scratch_of frame.bank 0) (Local v) [] (scratch_of frame.bank 1) ++ Return (scratch_of frame.bank 0) ∷ []
+number_by core frame kind v None = load_code core frame kind left (Local v) [] left ++ Return left ∷ []
 
 abbrev pub number_code : Core → Frame → IntegerKind → LocalId → List Instruction
 number_code core frame kind v = number_by core frame kind v (held core frame (Local v) [])
 
-abbrev pub parts_code : Core → Frame → TypeId → LocalId → List Instruction
+unfoldable pub parts_code : Core → Frame → TypeId → LocalId → List Instruction
 parts_code core frame of v =
     let limit = limit_of (by_words core of) (size_in core of) in
-    let source = place_of core frame limit (Local v) [] (scratch_of frame.bank 0) in
-    place_code core frame limit (Local v) [] (scratch_of frame.bank 0)
-    ++ bytes_code (by_words core of) (size_in core of) source (at_register result_address source.free)
+    place_code core frame limit (Local v) [] left
+    ++ bytes_code (by_words core of) (size_in core of) (place_of core frame limit (Local v) [] left) (at_register result_address (register (parameter 0)))
     ++ Return left ∷ []
 
 abbrev pub result_code : Core → Frame → TypeId → LocalId → List Instruction
 result_code core frame of v = if is_composite (shape_of core of) then parts_code core frame of v else number_code core frame (kind_of core of) v
 
 abbrev pub return_code : Core → Frame → Returning → List Instruction
-return_code core frame Ending = Const (scratch_of frame.bank 0) 0 ∷ Exit (scratch_of frame.bank 0) ∷ []
+return_code core frame Ending = Const left 0 ∷ Exit left ∷ []
 return_code core frame Nothing = Return left ∷ []
 return_code core frame (Result of v) = result_code core frame of v

@@ -10,9 +10,10 @@ use Rattle.op_constants.specs.Offsets.{alignment_in, size_in}
 use Rattle.op_constants.specs.Shapes.{is_composite}
 use Rattle.op_core.specs.declared.ids.TypeId.{TypeId}
 use Rattle.op_core.specs.declared.program.Core.{Core}
+use Rattle.op_core.specs.declared.routine.Variable.{Variable}
 use Rattle.op_core.specs.declared.types.IntegerKind.{IntegerKind}
 use Rattle.op_core.specs.declared.types.IntegerKind.TheVariants.{Signed8, Unsigned8, Signed16, Unsigned16, Signed32}
-use Rattle.op_expand.specs.Places.{after, at_scratch, home_of, place_code, place_of}
+use Rattle.op_expand.specs.Places.{home_of, place_code, place_of}
 use Rattle.op_expand.specs.declared.frame.Frame.{Frame}
 use Rattle.op_expand.specs.declared.homes.Home.{Home}
 use Rattle.op_expand.specs.declared.homes.Home.TheVariants.{Held}
@@ -31,7 +32,7 @@ use Rattle.op_mir.specs.declared.path.Path.{Path}
 use Rattle.op_mir.specs.declared.path.Root.{Root}
 use Rattle.op_mir.specs.declared.path.Root.TheVariants.{Local}
 use Rattle.op_mir.specs.declared.path.Step.{Step}
-use Rattle.op_rt_text.specs.Names.{call, copy_bytes_number, copy_words_number, literal, write_bytes_number, write_char_number, write_number_number, write_truth_number}
+use Rattle.op_rt_text.specs.Names.{call, copy_bytes_number, copy_words_number, literal, take_number, write_bytes_number, write_char_number, write_number_number, write_truth_number}
 use Rattle.op_rv.specs.Operation.{word_from}
 use Rattle.op_rv.specs.declared.instruction.AluOp.TheVariants.{Add}
 use Rattle.op_rv.specs.declared.instruction.BranchOp.TheVariants.{Bgeu}
@@ -149,25 +150,37 @@ copy_code core frame of to from =
 
 -- ---- first values of variables
 
-abbrev pub number_begun : Core → Frame → IntegerKind → ℤ → LocalId → List Instruction
+unfoldable pub number_begun : Core → Frame → IntegerKind → ℤ → LocalId → List Instruction
 number_begun core frame kind n v =
     Const (scratch_of frame.bank 0) (word_from n) ∷ store_code core frame kind (scratch_of frame.bank 0) (Local v) [] (scratch_of frame.bank 1)
 
--- a literal may lie at any address
-abbrev pub parts_begun : Core → Frame → (size id : ℕ) → LocalId → List Instruction
-parts_begun core frame size id v =
-    let limit = limit_of false size in
-    let source = at_scratch (scratch_of frame.bank 0) in
-    Address (scratch_of frame.bank 0) (literal id)
-    ∷ place_code core frame limit (Local v) [] source.free
-    ++ bytes_code false size source (place_of core frame limit (Local v) [] source.free)
+-- A variable takes so many bytes from the address that a register has, which is then free. That stands where the value is to go first, so
+-- that the run-time routine needs two registers. What has no bytes takes nothing.
+unfoldable pub taken_code : Core → Frame → (from : VirtualRegister) → (size : ℕ) → LocalId → List Instruction
+taken_code core frame from size v =
+    let place = place_of core frame 0 (Local v) [] (scratch_of frame.bank 0) in
+    if nat_eq size 0 then []
+    else
+    place_code core frame 0 (Local v) [] (scratch_of frame.bank 0)
+    ++ StoreWord Sw from place.base (pos 0)
+    ∷ Const from size
+    ∷ call take_number (place.base ∷ from ∷ []) from
+    ∷ []
 
-abbrev pub begun_code : Core → Frame → (id : ℕ) → LocalId → List Instruction
-begun_code core frame id v =
-    let row = slice_get core.variables (frame.first + v.0) in
-    let of = type_of_row row in
+abbrev pub parts_begun : Core → Frame → (size id : ℕ) → LocalId → List Instruction
+parts_begun core frame size id v = Address frame.spare (literal id) ∷ taken_code core frame frame.spare size v
+
+-- a variable of the type, whose row tells what it begins with
+unfoldable pub begun_by : Core → Frame → (id : ℕ) → LocalId → TypeId → Option Variable → List Instruction
+begun_by core frame id v of row =
     if is_composite (shape_of core of) then parts_begun core frame (size_in core of) id v
     else number_begun core frame (kind_of core of) (first_number (first_of_row row)) v
+
+abbrev pub row_of : Core → Frame → LocalId → Option Variable
+row_of core frame v = slice_get core.variables (frame.first + v.0)
+
+abbrev pub begun_code : Core → Frame → (id : ℕ) → LocalId → List Instruction
+begun_code core frame id v = begun_by core frame id v (type_of_row (row_of core frame v)) (row_of core frame v)
 
 -- ---- literals
 

@@ -82,7 +82,7 @@ power_of n =
     else 0
 
 -- so many bytes for each
-abbrev pub scale_code : (to from via : VirtualRegister) → ℕ → List Instruction
+unfoldable pub scale_code : (to from via : VirtualRegister) → ℕ → List Instruction
 scale_code to from via size =
     if nat_eq size 1 then []
     else if nat_eq (power_of size) 0 then Const via size ∷ Alu Mul to from via ∷ []
@@ -91,16 +91,22 @@ scale_code to from via size =
 abbrev pub scaled : (to from : VirtualRegister) → ℕ → VirtualRegister
 scaled to from size = if nat_eq size 1 then from else to
 
--- error 201 where the index is not from `low` to `high`
-abbrev pub test_code : Frame → (index via : VirtualRegister) → (low high : ℤ) → List Instruction
-test_code frame index via low high = Const via (word_from (high -ℤ low)) ∷ Branch Bltu via index (error_block_of frame.bank RangeCheck) ∷ []
+-- how far the index is behind the least one, and error 201 where it is not from `low` to `high`
+unfoldable pub index_code : Frame → (to via index : VirtualRegister) → (low high : ℤ) → List Instruction
+index_code frame to via index low high =
+    distance_code to index low
+    ++ Const via (word_from (high -ℤ low))
+    ∷ Branch Bltu via (distance_register to index low) (error_block_of frame.bank RangeCheck)
+    ∷ []
 
-abbrev pub element_code : Frame → (low high : ℤ) → (index : VirtualRegister) → (size : ℕ) → Spot → List Instruction
+-- the address that is so many elements behind another one
+unfoldable pub behind_code : (to base distance via : VirtualRegister) → (size : ℕ) → List Instruction
+behind_code to base distance via size = scale_code to distance via size ++ Alu Add to base (scaled to distance size) ∷ []
+
+unfoldable pub element_code : Frame → (low high : ℤ) → (index : VirtualRegister) → (size : ℕ) → Spot → List Instruction
 element_code frame low high index size spot =
-    let to = spot.free in
-    let via = after to in
-    let distance = distance_register to index low in
-    distance_code to index low ++ test_code frame distance via low high ++ scale_code to distance via size ++ Alu Add to spot.base (scaled to distance size) ∷ []
+    let via = after spot.free in
+    index_code frame spot.free via index low high ++ behind_code spot.free spot.base (distance_register spot.free index low) via size
 
 -- ---- paths
 

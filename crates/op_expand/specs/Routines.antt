@@ -12,8 +12,7 @@ use Rattle.op_core.specs.declared.routine.Variable.{Variable}
 use Rattle.op_expand.specs.Calls.{call_code, left, result_address, return_code}
 use Rattle.op_expand.specs.Frames.{frame_of, parameters_of}
 use Rattle.op_expand.specs.Homes.{home_at, parameter}
-use Rattle.op_expand.specs.Moves.{action_code, store_code}
-use Rattle.op_expand.specs.Places.{place_code, place_of}
+use Rattle.op_expand.specs.Moves.{action_code, store_code, taken_code}
 use Rattle.op_expand.specs.Registers.{registers_in}
 use Rattle.op_expand.specs.declared.frame.Frame.{Frame}
 use Rattle.op_expand.specs.declared.frame.Returning.{Returning}
@@ -24,7 +23,7 @@ use Rattle.op_low.specs.declared.code.Block.{Block as LowBlock}
 use Rattle.op_low.specs.declared.code.Routine.{Routine as LowRoutine}
 use Rattle.op_low.specs.declared.ids.VirtualRegister.{VirtualRegister}
 use Rattle.op_low.specs.declared.instruction.Instruction.{Instruction as LowInstruction}
-use Rattle.op_low.specs.declared.instruction.Instruction.TheVariants.{Address, Const, Exit, Jump as LowJump, Load, Store, Write}
+use Rattle.op_low.specs.declared.instruction.Instruction.TheVariants.{Address, Const, Exit, Jump as LowJump, Load, Write}
 use Rattle.op_low.specs.declared.instruction.Output.TheVariants.{Errors}
 use Rattle.op_meaning.specs.Shapes.{shape_of, variables_of}
 use Rattle.op_meaning.specs.Statements.{kind_of}
@@ -35,9 +34,8 @@ use Rattle.op_mir.specs.declared.ids.LocalId.{LocalId}
 use Rattle.op_mir.specs.declared.instruction.Instruction.{Instruction}
 use Rattle.op_mir.specs.declared.instruction.Instruction.TheVariants.{Act, Call, Jump, When, Unless, Switch, Dispatch, MakeDue, Stop, Return}
 use Rattle.op_mir.specs.declared.path.Root.TheVariants.{Local}
-use Rattle.op_rt_text.specs.Names.{call, literal, register, take_number}
+use Rattle.op_rt_text.specs.Names.{literal, register}
 use Rattle.op_rv.specs.declared.instruction.LoadOp.TheVariants.{Lw}
-use Rattle.op_rv.specs.declared.instruction.StoreOp.TheVariants.{Sw}
 use Rattle.op_rv.specs.declared.symbol.Symbol.TheVariants.{Global}
 
 -- ---- instructions; a literal that one takes has the number `id`
@@ -75,20 +73,8 @@ abbrev pub received_number : Core → Frame → (k : ℕ) → TypeId → List Lo
 received_number core frame k of =
     store_code core frame (kind_of core of) (register (parameter k)) (Local (record { 0 = k })) [] (scratch_of frame.bank 0)
 
-abbrev pub received_parts : Core → Frame → (k size : ℕ) → List LowInstruction
-received_parts core frame k size =
-    let given = register (parameter k) in
-    let place = place_of core frame 0 (Local (record { 0 = k })) [] (scratch_of frame.bank 0) in
-    if nat_eq size 0 then []
-    else
-    place_code core frame 0 (Local (record { 0 = k })) [] (scratch_of frame.bank 0)
-    ++ Store Sw given place.base (pos 0)
-    ∷ Const given size
-    ∷ call take_number (place.base ∷ given ∷ []) given
-    ∷ []
-
 abbrev received_by : Core → Frame → (k : ℕ) → TypeId → Home → List LowInstruction
-received_by core frame k of (Stored offset) = if is_composite (shape_of core of) then received_parts core frame k (size_in core of) else received_number core frame k of
+received_by core frame k of (Stored offset) = if is_composite (shape_of core of) then taken_code core frame (register (parameter k)) (size_in core of) (record { 0 = k }) else received_number core frame k of
 received_by core frame k of _ = []
 
 abbrev pub received : Core → Frame → (k : ℕ) → Variable → List LowInstruction

@@ -1,19 +1,17 @@
 //! The code of actions.
 ghost use Rattle.op_compute.specs.Bank.{register_of, scratch_of};
-ghost use Rattle.op_expand.specs.Moves.{action_code, begun_code, number_begun, parts_begun, pick_code, text_code, writing_code, written_by};
+ghost use Rattle.op_expand.specs.Moves.{action_code, begun_by, begun_code, number_begun, parts_begun, pick_code, row_of, text_code, writing_code, written_by};
 ghost use Rattle.op_constants.specs.FirstBytes.{first_number};
 ghost use Rattle.op_constants.specs.Literals.{first_of_row};
 ghost use Rattle.op_meaning.specs.Shapes.{type_of_row};
 ghost use Rattle.std.specs.Option.{option_copied};
 ghost use Rattle.std.specs.Prelude.{◌≡◌, ◌∷◌, ◌++◌, [], IfOk, OnOk};
 
-use crate::copy::{limit_of, push_bytes, push_copy};
+use crate::copy::{push_copy, push_taken};
 use crate::frame::Frame;
-use crate::homes::sum;
 use crate::number::{NEAR, kind_of, push_load_from, push_store_to};
 use crate::place::push_place;
 use crate::push::{push_address, push_call, push_load};
-use crate::spot::at_scratch;
 use op_base::NoMemory;
 use op_compute::{
     RuntimeError, compute, constant, push_alu, push_branch, push_const, push_immediate,
@@ -97,11 +95,30 @@ fn push_begun(
 ) -> Result<(), NoMemory>
     ensures { OnOk result (code.new.items ≡ code.old.items ++ begun_code core.now frame.now id variable) }
 {
-    let row = core
-        .variables
-        .as_slice()
-        .get(frame.first as usize + variable.0 as usize);
-    let of = type_of(row);
+    let row = row_of(core, frame, variable);
+    push_begun_by(alloc, code, core, frame, id, variable, type_of(row), row)
+}
+
+fn row_of<'a>(core: &'a Core, frame: &Frame, variable: LocalId) -> Option<&'a Variable>
+    ensures { option_copied result ≡ row_of core.now frame.now variable }
+{
+    let place = frame.first as usize + variable.0 as usize;
+    core.variables.as_slice().get(place)
+}
+
+#[tactic(auto, unfolding(crate::specs::Moves::begun_by))]
+fn push_begun_by(
+    alloc: Global,
+    code: &mut Vec<Instruction>,
+    core: &Core,
+    frame: &Frame,
+    id: u32,
+    variable: LocalId,
+    of: TypeId,
+    row: Option<&Variable>,
+) -> Result<(), NoMemory>
+    ensures { OnOk result (code.new.items ≡ code.old.items ++ begun_by core.now frame.now id variable of (option_copied row.entry)) }
+{
     if is_composite(core, of) {
         return push_parts_begun(alloc, code, core, frame, size_of(core, of), id, variable);
     }
@@ -116,7 +133,7 @@ fn push_begun(
 }
 
 fn type_of(row: Option<&Variable>) -> TypeId
-    ensures { result ≡ type_of_row (option_copied row) }
+    ensures { result ≡ type_of_row (option_copied row.entry) }
 {
     match row {
         None => TypeId(0),
@@ -126,7 +143,7 @@ fn type_of(row: Option<&Variable>) -> TypeId
 
 /// What a variable begins with as a number; 0 where it is none.
 fn number_of(row: Option<&Variable>) -> i32
-    ensures { result ≡ first_number (first_of_row (option_copied row)) }
+    ensures { result ≡ first_number (first_of_row (option_copied row.entry)) }
 {
     let Some(variable) = row else {
         return 0;
@@ -137,6 +154,7 @@ fn number_of(row: Option<&Variable>) -> i32
     }
 }
 
+#[tactic(auto, unfolding(crate::specs::Moves::number_begun))]
 fn push_number_begun(
     code: &mut Vec<Instruction>,
     core: &Core,
@@ -162,7 +180,7 @@ fn push_number_begun(
     )
 }
 
-/// A copy of a literal, which may lie at any address.
+/// The bytes of a literal.
 fn push_parts_begun(
     alloc: Global,
     code: &mut Vec<Instruction>,
@@ -174,20 +192,8 @@ fn push_parts_begun(
 ) -> Result<(), NoMemory>
     ensures { OnOk result (code.new.items ≡ code.old.items ++ parts_begun core.now frame.now size id variable) }
 {
-    let limit = limit_of(false, size);
-    let address = frame.bank.scratch(0)?;
-    let source = at_scratch(address)?;
-    push_address(code, address, Symbol::Literal(LiteralId(id)))?;
-    let target = push_place(
-        code,
-        core,
-        frame,
-        limit,
-        Root::Local { variable },
-        &[],
-        source.free,
-    )?;
-    push_bytes(alloc, code, false, size, source, target)
+    push_address(code, frame.spare, Symbol::Literal(LiteralId(id)))?;
+    push_taken(alloc, code, core, frame, frame.spare, size, variable)
 }
 
 /// A length of less than 2^32 bytes.

@@ -1,5 +1,6 @@
 //! Instructions and blocks.
 ghost use Rattle.op_compute.specs.Bank.{register_of};
+ghost use Rattle.op_low.specs.declared.instruction.Instruction.{Instruction as LowInstruction};
 ghost use Rattle.op_expand.specs.Routines.{behind_blocks, behind_code, blocks_of, code_of, error_block, error_blocks, error_code, instruction_code};
 ghost use Rattle.std.specs.Prelude.{◌≡◌, ◌∷◌, ◌++◌, [], IfOk, OnOk};
 
@@ -47,7 +48,7 @@ fn push_instruction(
 }
 
 fn push_jump(code: &mut Vec<op_low::Instruction>, block: u32) -> Result<(), NoMemory>
-    ensures { OnOk result (code.new.items ≡ code.old.items ++ op_low.Instruction.Jump (record { 0 = block }) ∷ []) }
+    ensures { OnOk result (code.new.items ≡ code.old.items ++ LowInstruction.Jump (record { 0 = block }) ∷ []) }
 {
     let block = BlockId(block);
     push(code, op_low::Instruction::Jump { block })
@@ -167,7 +168,7 @@ fn push_exit(
     code: &mut Vec<op_low::Instruction>,
     status: op_low::VirtualRegister,
 ) -> Result<(), NoMemory>
-    ensures { OnOk result (code.new.items ≡ code.old.items ++ op_low.Instruction.Exit status ∷ []) }
+    ensures { OnOk result (code.new.items ≡ code.old.items ++ LowInstruction.Exit status ∷ []) }
 {
     push(code, op_low::Instruction::Exit { status })
 }

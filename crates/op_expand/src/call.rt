@@ -6,7 +6,7 @@ ghost use Rattle.std.specs.Prelude.{◌≡◌, ◌++◌, IfOk, OnOk};
 
 use crate::copy::{by_words, limit_of, push_bytes};
 use crate::frame::{Frame, Returning};
-use crate::homes::sum;
+use crate::homes::{parameter, sum};
 use crate::number::{held, kind_of, push_load_from};
 use crate::place::push_place;
 use crate::push::push_call;
@@ -207,13 +207,12 @@ fn push_number(
     if let Some(value) = held(core, frame, root, &[]) {
         return push(code, Instruction::Return { value });
     }
-    let value = frame.bank.scratch(0)?;
-    let free = frame.bank.scratch(1)?;
-    push_load_from(code, core, frame, kind, value, root, &[], free)?;
-    push(code, Instruction::Return { value })
+    push_load_from(code, core, frame, kind, LEFT, root, &[], LEFT)?;
+    push(code, Instruction::Return { value: LEFT })
 }
 
 /// Copies the parts of a variable to where the result goes, and returns.
+#[tactic(auto, unfolding(crate::specs::Calls::parts_code))]
 fn push_parts(
     alloc: Global,
     code: &mut Vec<Instruction>,
@@ -226,17 +225,9 @@ fn push_parts(
 {
     let words = by_words(core, of);
     let size = size_of(core, of);
-    let free = frame.bank.scratch(0)?;
-    let source = push_place(
-        code,
-        core,
-        frame,
-        limit_of(words, size),
-        Root::Local { variable },
-        &[],
-        free,
-    )?;
-    let target = at_register(RESULT_ADDRESS, source.free);
+    let root = Root::Local { variable };
+    let source = push_place(code, core, frame, limit_of(words, size), root, &[], LEFT)?;
+    let target = at_register(RESULT_ADDRESS, parameter(0)?);
     push_bytes(alloc, code, words, size, source, target)?;
     push(code, Instruction::Return { value: LEFT })
 }
@@ -267,9 +258,8 @@ pub fn push_return(
 {
     match frame.returning {
         Returning::Ending => {
-            let status = frame.bank.scratch(0)?;
-            push_const(code, status, 0)?;
-            push(code, Instruction::Exit { status })
+            push_const(code, LEFT, 0)?;
+            push(code, Instruction::Exit { status: LEFT })
         }
         Returning::Nothing => push(code, Instruction::Return { value: LEFT }),
         Returning::Result { of, variable } => {

@@ -1,5 +1,5 @@
 //! Values of record and array types, from place to place.
-ghost use Rattle.op_expand.specs.Moves.{by_words, bytes_code, copy_code, copy_number, is_short, limit_of, near, unit_code, unit_load, unit_of, unit_store, units_code, units_in};
+ghost use Rattle.op_expand.specs.Moves.{by_words, bytes_code, copy_code, copy_number, is_short, limit_of, near, taken_code, unit_code, unit_load, unit_of, unit_store, units_code, units_in};
 ghost use Rattle.std.specs.Prelude.{◌≡◌, ◌++◌, ◌+◌, ◌*◌, ◌<◌, ◌≤◌, ◌^◌, IfOk, OnOk};
 
 use crate::frame::Frame;
@@ -11,9 +11,9 @@ use op_base::NoMemory;
 use op_compute::push_const;
 use op_constants::{alignment_of, size_of};
 use op_core::{Core, TypeId};
-use op_low::Instruction;
-use op_mir::Path;
-use op_rt_text::{COPY_BYTES, COPY_WORDS};
+use op_low::{Instruction, VirtualRegister};
+use op_mir::{LocalId, Path, Root};
+use op_rt_text::{COPY_BYTES, COPY_WORDS, TAKE};
 use op_rv::{LoadOp, RoutineId, StoreOp};
 use std::alloc::Global;
 
@@ -173,4 +173,28 @@ pub fn push_copy(
         source.free,
     )?;
     push_bytes(alloc, code, words, size, source, target)
+}
+
+/// A variable takes so many bytes from the address that a register has, which is then free.
+#[tactic(auto, unfolding(crate::specs::Moves::taken_code))]
+pub fn push_taken(
+    alloc: Global,
+    code: &mut Vec<Instruction>,
+    core: &Core,
+    frame: &Frame,
+    from: VirtualRegister,
+    size: u32,
+    variable: LocalId,
+) -> Result<(), NoMemory>
+    ensures { OnOk result (code.new.items ≡ code.old.items ++ taken_code core.now frame.now from size variable) }
+{
+    if size == 0 {
+        return Ok(());
+    }
+    let root = Root::Local { variable };
+    let place = push_place(code, core, frame, 0, root, &[], frame.bank.scratch(0)?)?;
+    push_store(code, StoreOp::Sw, from, place.base, 0)?;
+    push_const(code, from, size)?;
+    let arguments = vec![in alloc; place.base, from]?;
+    push_call(code, TAKE, arguments, from)
 }

@@ -1,13 +1,14 @@
 //! What is settled of a routine before its code is expanded.
-ghost use Rattle.op_expand.specs.Frames.{bank_of, first_room, frame_of, parameters_of, returning_of};
+ghost use Rattle.op_expand.specs.Frames.{bank_of, first_room, frame_of, parameters_of, returning_of, spare_from, spare_of};
 ghost use Rattle.op_meaning.specs.Shapes.{result_of_routine, variables_of};
 ghost use Rattle.std.specs.Prelude.{◌≡◌, IfOk};
 
-use crate::homes::{Home, Room, end_of, give_homes, sum};
+use crate::homes::{Home, Room, end_of, give_homes, parameter, sum};
 use crate::root::roots;
 use op_base::{NoMemory, Sequence};
 use op_compute::Bank;
 use op_core::{Core, Owner, RoutineId, Run, TypeId};
+use op_low::VirtualRegister;
 use op_mir::{LocalId, Root, Routine};
 use std::alloc::Global;
 
@@ -36,6 +37,8 @@ pub struct Frame {
     /// The bytes of all locals.
     pub locals: u32,
     pub bank: Bank,
+    /// A register that is free where variables get their first values.
+    pub spare: VirtualRegister,
     pub returning: Returning,
 }
 
@@ -55,14 +58,10 @@ pub fn parameters_of(core: &Core, routine: RoutineId) -> Result<u32, NoMemory>
 {
     match core.routines.as_slice().get(routine.0 as usize) {
         None => Ok(0),
-        Some(row) => sum(objects_in(row.owner), row.parameters.count),
-    }
-}
-
-fn objects_in(owner: Owner) -> u32 {
-    match owner {
-        Owner::Unit => 0,
-        _ => 1,
+        Some(row) => match row.owner {
+            Owner::Unit => Ok(row.parameters.count),
+            _ => sum(1, row.parameters.count),
+        },
     }
 }
 
@@ -83,7 +82,7 @@ fn returning_of(core: &Core, routine: RoutineId) -> Result<Returning, NoMemory>
 }
 
 /// The registers of temporaries stand behind those of variables, and the blocks of errors behind those of the routine.
-fn bank(room: Room, routine: &Routine) -> Result<Bank, NoMemory>
+fn bank_of(room: Room, routine: &Routine) -> Result<Bank, NoMemory>
     ensures { IfOk result (λ bank. bank ≡ bank_of room routine.now) }
 {
     let blocks = routine.blocks.as_slice().len();
@@ -92,6 +91,27 @@ fn bank(room: Room, routine: &Routine) -> Result<Bank, NoMemory>
         scratch: sum(room.register, routine.temporaries)?,
         errors: u32::try_from(blocks).ok().ok_or(NoMemory)?,
     })
+}
+
+/// The register of the first parameter that is stored, or another one.
+fn spare_from(other: VirtualRegister, homes: &[Home]) -> Result<VirtualRegister, NoMemory>
+    ensures { IfOk result (λ register. register ≡ spare_from other 0 homes.now) }
+{
+    let mut k = 0u32;
+    for home in homes {
+        if let Home::Stored { .. } = home {
+            return parameter(k);
+        }
+        k = sum(k, 1)?;
+    }
+    Ok(other)
+}
+
+fn spare(bank: Bank, parameters: u32, homes: &[Home]) -> Result<VirtualRegister, NoMemory>
+    ensures { IfOk result (λ register. register ≡ spare_of bank parameters homes.now) }
+{
+    let (front, _) = homes.split_at(homes.len().min(parameters as usize));
+    spare_from(bank.scratch(1)?, front)
 }
 
 pub fn frame_of(
@@ -118,13 +138,15 @@ pub fn frame_of(
         core.variables.rows(variables),
         &mut homes,
     )?;
+    let bank = bank_of(room, routine)?;
     Ok(Frame {
         first: variables.first,
+        spare: spare(bank, parameters, &homes)?,
         homes: Sequence::from(homes),
         temporaries: room.offset,
         locals: end_of(core, room.offset, &roots)?,
         roots: Sequence::from(roots),
-        bank: bank(room, routine)?,
+        bank,
         returning: returning_of(core, id)?,
     })
 }

@@ -1,11 +1,11 @@
 //! Global variables.
-ghost use Rattle.op_expand.specs.Programs.{global_of, globals_in, no_bytes, stack_global};
+ghost use Rattle.op_expand.specs.Programs.{global_of, globals_in, no_bytes, stack_global, with_global};
 ghost use Rattle.std.specs.Option.{option_copied};
-ghost use Rattle.std.specs.Prelude.{◌≡◌, ◌∷◌, ◌++◌, [], IfOk, length, replicate};
+ghost use Rattle.std.specs.Prelude.{◌≡◌, ◌∷◌, ◌++◌, [], IfOk, OnOk, length, replicate, slice_set};
 
 use op_base::{NoMemory, Sequence};
 use op_constants::{first_bytes, size_of};
-use op_core::{Core, Variable};
+use op_core::{Core, Variable, VariableId};
 use op_rv::GlobalVariable;
 use std::alloc::Global;
 
@@ -34,7 +34,7 @@ fn global(
     core: &Core,
     variable: Option<&Variable>,
 ) -> Result<GlobalVariable, NoMemory>
-    ensures { IfOk result (λ global. global ≡ global_of core.now (option_copied variable)) }
+    ensures { IfOk result (λ global. global ≡ global_of core.now (option_copied variable.entry)) }
 {
     let Some(row) = variable else {
         return Ok(zeros(alloc, 0));
@@ -55,18 +55,38 @@ fn empty_globals(alloc: Global, count: usize) -> Result<Vec<GlobalVariable>, NoM
     Ok(globals)
 }
 
+/// Takes the place of another one, if that is there.
+#[tactic(auto, using(std::proofs::lemmas::List::set_past))]
+fn put(globals: &mut Vec<GlobalVariable>, place: usize, made: GlobalVariable)
+    ensures { globals.new.items ≡ slice_set globals.old.items place made }
+{
+    if place < globals.len() {
+        globals[place] = made;
+    }
+}
+
+/// Puts a global variable at its number.
+fn put_global(
+    alloc: Global,
+    core: &Core,
+    globals: &mut Vec<GlobalVariable>,
+    id: VariableId,
+) -> Result<(), NoMemory>
+    ensures { OnOk result (globals.new.items ≡ with_global core.now globals.old.items id) }
+{
+    let place = id.0 as usize;
+    let made = global(alloc, core, core.variables.as_slice().get(place))?;
+    put(globals, place, made);
+    Ok(())
+}
+
 /// One for each row of the table of variables, with its number; rows that are no global variables have no bytes.
 fn globals_in(alloc: Global, core: &Core) -> Result<Vec<GlobalVariable>, NoMemory>
     ensures { IfOk result (λ globals. globals.items ≡ globals_in core.now) }
 {
-    let rows = core.variables.as_slice();
-    let mut globals = empty_globals(alloc, rows.len())?;
+    let mut globals = empty_globals(alloc, core.variables.as_slice().len())?;
     for id in core.globals.as_slice() {
-        let place = id.0 as usize;
-        let made = global(alloc, core, rows.get(place))?;
-        if place < globals.len() {
-            globals[place] = made;
-        }
+        put_global(alloc, core, &mut globals, *id)?;
     }
     Ok(globals)
 }

@@ -1,6 +1,7 @@
 //! Where a routine keeps its variables, and its temporaries of record and array types.
 ghost use Rattle.op_expand.specs.Homes.{end_of, home_at, home_by, homes_from, is_one_root, keeping_of, offset_of, parameter, room_behind, room_by, rounded, size_of_root};
 ghost use Rattle.op_meaning.specs.Shapes.{is_reference};
+ghost use Rattle.op_rt_text.specs.Names.{register};
 ghost use Rattle.std.specs.Prelude.{◌≡◌, ◌+◌, ◌++◌, IfOk, OnOk};
 
 use crate::root::{has_root, one_root};
@@ -56,7 +57,7 @@ fn round(bytes: u32) -> Result<u32, NoMemory>
 
 /// The register in which a parameter comes.
 pub fn parameter(k: u32) -> Result<VirtualRegister, NoMemory>
-    ensures { IfOk result (λ register. register.0 ≡ parameter k) }
+    ensures { IfOk result (λ given. given ≡ register (parameter k)) }
 {
     Ok(VirtualRegister(sum(2, k)?))
 }

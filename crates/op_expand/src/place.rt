@@ -1,6 +1,7 @@
 //! How code comes to a place in memory.
 ghost use Rattle.op_compute.specs.Bank.{register_of};
-ghost use Rattle.op_expand.specs.Places.{element_code, home_code, home_of, home_spot, place_code, place_of, power_of, scale_code, scaled, step_code, step_spot, steps_code, steps_spot, stored_code, test_code};
+ghost use Rattle.op_compute.specs.Ranges.{distance_register};
+ghost use Rattle.op_expand.specs.Places.{behind_code, element_code, home_code, home_of, home_spot, index_code, place_code, place_of, power_of, scale_code, scaled, step_code, step_spot, steps_code, steps_spot, stored_code};
 ghost use Rattle.op_constants.specs.Offsets.{element_size};
 ghost use Rattle.std.specs.Prelude.{◌≡◌, ◌++◌, ◌<◌, ◌≤◌, IfOk, OnOk};
 
@@ -71,20 +72,26 @@ fn push_home(
     }
 }
 
-/// Error 201 where the index is not from `low` to `high`.
-fn push_test(
+/// How far the index is behind the least one, and error 201 where it is not from `low` to `high`. The answer is the register that has
+/// the distance.
+#[tactic(auto, unfolding(crate::specs::Places::index_code))]
+fn push_index(
     code: &mut Vec<Instruction>,
     frame: &Frame,
-    index: VirtualRegister,
+    to: VirtualRegister,
     via: VirtualRegister,
+    index: VirtualRegister,
     low: i32,
     high: i32,
-) -> Result<(), NoMemory>
-    ensures { OnOk result (code.new.items ≡ code.old.items ++ test_code frame.now index via low high) }
+) -> Result<VirtualRegister, NoMemory>
+    ensures code { OnOk result (code.new.items ≡ code.old.items ++ index_code frame.now to via index low high) }
+    ensures register { IfOk result (λ register. register ≡ distance_register to index low) }
 {
-    push_const(code, via, high.wrapping_sub(low).cast_unsigned())?;
     let block = frame.bank.error_block(RuntimeError::RangeCheck)?;
-    push_branch(code, BranchOp::Bltu, via, index, block)
+    let distance = push_distance(code, to, index, low)?;
+    push_const(code, via, high.wrapping_sub(low).cast_unsigned())?;
+    push_branch(code, BranchOp::Bltu, via, distance, block)?;
+    Ok(distance)
 }
 
 /// Which power of two it is; 0 for 1 and for other numbers.
@@ -104,6 +111,7 @@ fn power_of(n: u32) -> u8
 }
 
 /// So many bytes for each; the answer is the register that has them.
+#[tactic(auto, unfolding(crate::specs::Places::scale_code))]
 fn push_scale(
     code: &mut Vec<Instruction>,
     to: VirtualRegister,
@@ -127,7 +135,24 @@ fn push_scale(
     Ok(to)
 }
 
-/// An element that has so many bytes.
+/// The address that is so many elements behind another one.
+#[tactic(auto, unfolding(crate::specs::Places::behind_code))]
+fn push_behind(
+    code: &mut Vec<Instruction>,
+    to: VirtualRegister,
+    base: VirtualRegister,
+    distance: VirtualRegister,
+    via: VirtualRegister,
+    size: u32,
+) -> Result<(), NoMemory>
+    ensures { OnOk result (code.new.items ≡ code.old.items ++ behind_code to base distance via size) }
+{
+    let bytes = push_scale(code, to, distance, via, size)?;
+    push_alu(code, AluOp::Add, to, base, bytes)
+}
+
+/// An element of so many bytes.
+#[tactic(auto, unfolding(crate::specs::Places::element_code))]
 fn push_element(
     code: &mut Vec<Instruction>,
     frame: &Frame,
@@ -139,12 +164,9 @@ fn push_element(
 ) -> Result<(), NoMemory>
     ensures { OnOk result (code.new.items ≡ code.old.items ++ element_code frame.now low high index size spot) }
 {
-    let to = spot.free;
-    let via = after(to)?;
-    let distance = push_distance(code, to, index, low)?;
-    push_test(code, frame, distance, via, low, high)?;
-    let bytes = push_scale(code, to, distance, via, size)?;
-    push_alu(code, AluOp::Add, to, spot.base, bytes)
+    let via = after(spot.free)?;
+    let distance = push_index(code, frame, spot.free, via, index, low, high)?;
+    push_behind(code, spot.free, spot.base, distance, via, size)
 }
 
 fn push_step(

@@ -1,21 +1,19 @@
 //! The beginning of a routine: what it makes of what it was given.
-ghost use Rattle.op_expand.specs.Routines.{all_received, beginning, begun_with_stack, received, received_number, received_parts};
+ghost use Rattle.op_expand.specs.Routines.{all_received, beginning, begun_with_stack, received, received_number};
 ghost use Rattle.std.specs.Prelude.{◌≡◌, ◌≤◌, ◌++◌, OnOk, length, take};
 
 use crate::call::LEFT;
+use crate::copy::push_taken;
 use crate::frame::{Frame, Returning, parameters_of, variables_of};
 use crate::homes::{Home, home_at, parameter, sum};
 use crate::number::{kind_of, push_store_to};
-use crate::place::push_place;
-use crate::push::{push_address, push_call, push_load, push_store};
+use crate::push::{push_address, push_load};
 use op_base::NoMemory;
-use op_compute::push_const;
 use op_constants::{is_composite, size_of};
 use op_core::{Core, RoutineId, TypeId, Variable};
 use op_low::Instruction;
 use op_mir::{LocalId, Root};
-use op_rt_text::TAKE;
-use op_rv::{GlobalId, LoadOp, StoreOp, Symbol};
+use op_rv::{GlobalId, LoadOp, Symbol};
 use std::alloc::Global;
 
 /// A number that has an address, from the register in which it came.
@@ -44,31 +42,6 @@ fn push_received_number(
     )
 }
 
-/// A value of a record or array type, from the address that came in a register.
-fn push_received_parts(
-    alloc: Global,
-    code: &mut Vec<Instruction>,
-    core: &Core,
-    frame: &Frame,
-    k: u32,
-    size: u32,
-) -> Result<(), NoMemory>
-    ensures { OnOk result (code.new.items ≡ code.old.items ++ received_parts core.now frame.now k size) }
-{
-    if size == 0 {
-        return Ok(());
-    }
-    let root = Root::Local {
-        variable: LocalId(k),
-    };
-    let given = parameter(k)?;
-    let place = push_place(code, core, frame, 0, root, &[], frame.bank.scratch(0)?)?;
-    push_store(code, StoreOp::Sw, given, place.base, 0)?;
-    push_const(code, given, size)?;
-    let arguments = vec![in alloc; place.base, given]?;
-    push_call(code, TAKE, arguments, given)
-}
-
 fn push_received(
     alloc: Global,
     code: &mut Vec<Instruction>,
@@ -83,7 +56,7 @@ fn push_received(
         Home::Stored { .. } => {
             if is_composite(core, variable.of) {
                 let size = size_of(core, variable.of);
-                return push_received_parts(alloc, code, core, frame, k, size);
+                return push_taken(alloc, code, core, frame, parameter(k)?, size, LocalId(k));
             }
             push_received_number(code, core, frame, k, variable.of)
         }

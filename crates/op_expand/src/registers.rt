@@ -53,10 +53,10 @@ fn greatest_in(instruction: &Instruction) -> u32
     }
 }
 
-fn greatest_in_block(most: u32, block: &Block) -> u32
-    ensures { result ≡ with_block most block.now }
+fn greatest_in_block(first: u32, block: &Block) -> u32
+    ensures { result ≡ with_block first block.now }
 {
-    let mut most = most;
+    let mut most = first;
     for instruction in block.code.as_slice() {
         most = most.max(greatest_in(instruction));
     }

@@ -112,8 +112,8 @@ make_is : (env : Env) (here : Here) (e : Expression) → own env (type_of e) her
 make_is env here (expression root of others) = refl
 
 pub makes : (setting : Setting) (old mid new : List Item) (f f' : RustFound) (here : Here) (e : Expression) (of : TypeId) → of ≡ type_of e → Gives setting old mid f (find (env_view setting) here e) → Gives setting mid new f' (own (env_view setting) of here (found_view f)) → Gives setting old new f' (make (env_view setting) here e)
-makes setting old mid new f f' here e of is a b =
-    let c : Gives setting mid new f' (own (env_view setting) (type_of e) here (found_view f)) = subst (λ t. Gives setting mid new f' (own (env_view setting) t here (found_view f))) is b in
+makes setting old mid new f f' here e of same a b =
+    let c : Gives setting mid new f' (own (env_view setting) (type_of e) here (found_view f)) = subst (λ t. Gives setting mid new f' (own (env_view setting) t here (found_view f))) same b in
     subst (λ g. Gives setting old new f' g) (make_is (env_view setting) here e) (own_gives setting old mid new f f' (find (env_view setting) here e) (type_of e) here a c)
 
 pub acts_gives : (setting : Setting) (old mid new : List Item) (f : RustFound) (g : Found) (more : List Action) → Gives setting old mid f g → Adds setting mid new (acts more) → Gives setting old new f (then_acts g more)

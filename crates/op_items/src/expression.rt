@@ -55,11 +55,11 @@ pub fn make(
     here: Here,
     e: &CoreExpr,
     items: &mut Vec<Item>,
-) -> Result<Found, NoMemory>
-    ensures { IfOk result (λ f. Gives setting.entry items.old.items items.new.items f (make (env_view setting.entry) (here_view here) (expr_of e.now))) }
+) -> Result<(), NoMemory>
+    ensures { IfOk result (λ _. Adds setting.entry items.old.items items.new.items (make (env_view setting.entry) (here_view here) (expr_of e.now)).items) }
 {
     let found = find(setting, here, e, items)?;
-    setting.own(items, type_of(e), here, found)
+    setting.make(items, type_of(e), here, found)
 }
 
 #[cycle(expression)]
@@ -136,7 +136,7 @@ fn step(
             checked,
             operand,
         } => {
-            setting.own(items, of, here, found)?;
+            setting.make(items, of, here, found)?;
             second(setting, here, of, *operator, *checked, operand, items)
         }
         Action::Apply { function, checked } => setting.apply(

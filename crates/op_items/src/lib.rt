@@ -5,6 +5,7 @@
 #![tactic(auto)]
 
 mod adding;
+mod assignment;
 mod call;
 mod expression;
 mod found;
@@ -12,10 +13,16 @@ mod item;
 mod law;
 mod operation;
 mod path;
+mod routine;
 mod set;
 mod setting;
 mod shape;
+mod simple;
+mod statement;
+mod turns;
 mod value;
+mod writing;
 
 pub use item::{Case, Clause, Item, Turns, Way};
 pub use law::item_nodes;
+pub use routine::routine_items;

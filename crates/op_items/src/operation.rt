@@ -14,7 +14,7 @@ ghost use Rattle.op_types.specs.Values.{IsRange};
 use crate::found::{Found, Now};
 use crate::item::Item;
 use crate::set::set_of_type;
-use crate::setting::{Here, Setting, sum};
+use crate::setting::{Here, Setting, next};
 use crate::shape::{counted_of, high_in, low_in, number};
 use op_base::NoMemory;
 use op_core::{Conversion, Core, CoreType, Function, IntegerKind, TypeId};
@@ -89,13 +89,6 @@ fn on_two(
             right,
         },
     })
-}
-
-/// The next temporary.
-pub fn next(temporary: TemporaryId) -> Result<TemporaryId, NoMemory>
-    ensures { IfOk result (λ t. t.0 ≡ temporary.0 + 1) }
-{
-    Ok(TemporaryId(sum(temporary.0, 1)?))
 }
 
 /// How many values a range has, or its first or its last one.
@@ -196,16 +189,21 @@ impl Setting<'_> {
                 let all = set_of_type(self.core, base)?;
                 self.compute(items, Computation::CheckSet { all, to, from })
             }
-            (Conversion::Check, _) => self.check(items, of, to),
+            (Conversion::Check, _) => self.check(items, of, to, from),
             _ => Ok(()),
         }
     }
 
     /// The value is tested to be one of the type.
-    pub fn check(self, items: &mut Vec<Item>, of: TypeId, to: TemporaryId) -> Result<(), NoMemory>
-        ensures { IfOk result (λ _. Adds self.entry items.old.items items.new.items (only (act (check (low_in self.entry.core.now of) (high_in self.entry.core.now of) to.0 to.0)))) }
+    pub fn check(
+        self,
+        items: &mut Vec<Item>,
+        of: TypeId,
+        to: TemporaryId,
+        from: TemporaryId,
+    ) -> Result<(), NoMemory>
+        ensures { IfOk result (λ _. Adds self.entry items.old.items items.new.items (only (act (check (low_in self.entry.core.now of) (high_in self.entry.core.now of) to.0 from.0)))) }
     {
-        let from = to;
         let low = low_in(self.core, of)?;
         let high = high_in(self.core, of)?;
         self.compute(

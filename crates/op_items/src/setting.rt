@@ -87,3 +87,17 @@ pub fn sum(a: u32, b: u32) -> Result<u32, NoMemory>
 {
     a.checked_add(b).ok_or(NoMemory)
 }
+
+/// The temporary so many behind this one.
+pub fn behind(temporary: TemporaryId, count: u32) -> Result<TemporaryId, NoMemory>
+    ensures { IfOk result (λ t. t.0 ≡ temporary.0 + count) }
+{
+    Ok(TemporaryId(sum(temporary.0, count)?))
+}
+
+/// The next temporary.
+pub fn next(temporary: TemporaryId) -> Result<TemporaryId, NoMemory>
+    ensures { IfOk result (λ t. t.0 ≡ temporary.0 + 1) }
+{
+    behind(temporary, 1)
+}

@@ -68,6 +68,20 @@ impl Setting<'_> {
         }
     }
 
+    /// A value in a temporary of its own, if it is no literal.
+    pub fn make(
+        self,
+        items: &mut Vec<Item>,
+        of: TypeId,
+        here: Here,
+        found: Found,
+    ) -> Result<(), NoMemory>
+        ensures { IfOk result (λ _. Adds self.entry items.old.items items.new.items (own (env_view self.entry) of (here_view here) (found_view found)).items) }
+    {
+        self.own(items, of, here, found)?;
+        Ok(())
+    }
+
     /// One step further from what is so far. Its index is in one temporary more, where it has one.
     fn step_to(
         self,

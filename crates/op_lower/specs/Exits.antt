@@ -1,7 +1,7 @@
 -- Where Exit, Break and Continue lead, as the definition of code has it.
-use Rattle.std.specs.Prelude.{ℕ}
+use Rattle.std.specs.Prelude.{ℕ, suc}
+use Rattle.op_items.specs.View.{way_view}
 use Rattle.op_items.specs.declared.item.Way.{Way}
-use Rattle.op_items.specs.declared.item.Way.TheVariants.{Exit, Break, Continue}
 use Rattle.op_lower.specs.declared.exits.Exits.{Exits}
 use Rattle.op_lower.specs.declared.exits.Exits.TheVariants.{Routine, Loop', Finally}
 use Rattle.op_mir.specs.Code.{Exits as MeantExits, routine_exits, loop_exits, finally_exits}
@@ -11,7 +11,6 @@ exits_of Routine = routine_exits
 exits_of (Loop' _ around behind) = loop_exits (exits_of around) behind.0
 exits_of (Finally reason finalization) = finally_exits reason.0 finalization.0
 
+-- 1 leaves the routine, 2 the loop, 3 its turn
 abbrev pub reason_of : Way → ℕ
-reason_of Exit = 1
-reason_of Break = 2
-reason_of Continue = 3
+reason_of way = suc (way_view way)

@@ -1,4 +1,5 @@
 pub mod Exits
+pub mod Lowers
 pub mod Made
 pub mod Seen
 pub mod Temporaries

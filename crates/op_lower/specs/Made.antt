@@ -36,6 +36,14 @@ MakesArms made old new arms = (core : Core) (r : ℕ) → (map view_arm arms ≡
 abbrev pub IsBody : (Core → ℕ → Made) → BlockId → List Block → List Block → BlockId → Type 0
 IsBody made block old new on = (core : Core) (r : ℕ) → (seen_blocks core r new ≡ slice_set (seen_blocks core r old ++ (made core r).blocks) block.0 (made core r).now) × (jump on.0 ∷ [] ≡ continued block.0 (made core r).now)
 
+-- What is left to be made, at the blocks that there are by now, gives the whole. This is what a loop over items keeps.
+abbrev pub Completes : (whole rest : Core → ℕ → Made) → List Block → List Block → Type 0
+Completes whole rest old now = (core : Core) (r : ℕ) → ((rest core r).now ≡ (whole core r).now) × (seen_blocks core r now ++ (rest core r).blocks ≡ seen_blocks core r old ++ (whole core r).blocks)
+
+-- the same of arms, of which the last ones are there
+abbrev pub CompletesArms : (whole rest : Core → ℕ → List MeantArm × List (List Instr)) → List Block → List Block → List Arm → Type 0
+CompletesArms whole rest old now arms = (core : Core) (r : ℕ) → ((rest core r).0 ++ map view_arm arms ≡ (whole core r).0) × (seen_blocks core r now ++ (rest core r).1 ≡ seen_blocks core r old ++ (whole core r).1)
+
 -- ---- of what
 
 -- items in front of code

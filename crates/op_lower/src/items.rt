@@ -14,9 +14,7 @@ use crate::instructions::Instructions;
 use op_base::{NoMemory, Sequence};
 use op_core::{Label, RoutineId};
 use op_items::{Case, Item, Turns, Way};
-use op_mir::{
-    Action, Arm, BlockId, Call, Given, Instruction, Receiver, TemporaryId,
-};
+use op_mir::{Action, Arm, BlockId, Call, Given, Instruction, Receiver, TemporaryId};
 use std::alloc::Global;
 
 /// The code that does the items and goes on at what stands behind them. Its blocks are put behind those that there are.
@@ -318,7 +316,7 @@ fn loop_blocks(
     } = turns;
     let made = blocks.begin_loop(behind)?;
     let within = Exits::Loop {
-        around: exits,
+        around: &*exits,
         behind: made.behind,
     };
     let on = body_block(alloc, blocks, &within, body, made)?;

@@ -8,5 +8,7 @@ mod blocks;
 mod exits;
 mod instructions;
 mod items;
+mod program;
 mod temporaries;
 
+pub use program::lower;

@@ -19,11 +19,7 @@ pub fn in_blocks(blocks: &[Block]) -> u64
 fn in_block(block: &Block) -> u64
     ensures { result ≡ in_block block.now }
 {
-    block
-        .code
-        .as_slice()
-        .iter()
-        .fold(0, |most, instruction| most.max(in_instruction(instruction)))
+    block.code.as_slice().iter().fold(0, |most, instruction| most.max(in_instruction(instruction)))
 }
 
 // ---- instructions
@@ -64,9 +60,7 @@ fn in_call(call: &Call) -> u64
 fn all_given(given: &[Given]) -> u64
     ensures { result ≡ most_of in_given given.now }
 {
-    given
-        .iter()
-        .fold(0, |most, one| most.max(in_given(one)))
+    given.iter().fold(0, |most, one| most.max(in_given(one)))
 }
 
 fn in_given(given: &Given) -> u64

@@ -159,11 +159,11 @@ items_of p r = first_items p.core p.first r (variables_of p.core r).count & work
 
 -- ---- the program itself enters the parts of its units
 
-abbrev entering : Option RoutineId → List Instr
+abbrev pub entering : Option RoutineId → List Instr
 entering None = []
 entering (Some r) = do_call r.0 [] nowhere None ∷ []
 
-abbrev becoming_due : Option RoutineId → List Instr
+abbrev pub becoming_due : Option RoutineId → List Instr
 becoming_due None = []
 becoming_due (Some r) = make_due r ∷ []
 

@@ -1,7 +1,7 @@
 -- From walks over a program that is written out to paths of any program with run-time routines.
-use Rattle.std.proofs.Common.{◌≡◌, ◌≢◌, ℕ, ◌+◌, ◌*◌, ◌≤◌, List, [], ◌∷◌, ◌++◌, length, refl, ap, ap₂, sym, subst, ◌∙◌, arith}
+use Rattle.std.proofs.Common.{◌≡◌, ◌≢◌, ℕ, ◌+◌, ◌*◌, ◌≤◌, List, [], ◌∷◌, ◌++◌, length, refl, ap, ap₂, sym, subst, arith}
 use Rattle.op_low.specs.Machine.{low_machine}
-use Rattle.op_low.specs.State.{Bad, Placement, Running, State}
+use Rattle.op_low.specs.State.{Bad, Placement, State}
 use Rattle.op_low.specs.declared.code.Low.{Low}
 use Rattle.op_low.specs.declared.instruction.Call.{Call as Operands}
 use Rattle.op_low.specs.declared.instruction.Instruction.{Instruction}
@@ -36,10 +36,10 @@ module _ (low : Low) (p : Placement) (m : State) (r : ℕ) (arguments : List ℕ
       let path = path_of_walk (whole low p called.runtime) p (standing m (Call (routine_id r) operands ∷ rest)) (standing (behind m operands rest value memory output) rest) pieces most walk refl in
       let within = path.within in
       let longer : Along (whole low p called.runtime) (standing m (Call (routine_id r) operands ∷ rest)) (standing (behind m operands rest value memory output) rest) walk.steps pieces more =
-          record { ends = path.ends; shows = path.shows; within = omega arith; moments = path.moments } in
+      record { ends = path.ends; shows = path.shows; within = omega arith; moments = path.moments } in
       subst (λ program. Along program m (behind m operands rest value memory output) walk.steps pieces more) (sym (whole_is low p called.runtime))
       (subst (λ b. Along (whole low p called.runtime) b (behind m operands rest value memory output) walk.steps pieces more) (sym begins_there)
-       (subst (λ c. Along (whole low p called.runtime) (standing m (Call (routine_id r) operands ∷ rest)) c walk.steps pieces more) (ends_there value memory output) longer))
+      (subst (λ c. Along (whole low p called.runtime) (standing m (Call (routine_id r) operands ∷ rest)) c walk.steps pieces more) (ends_there value memory output) longer))
 
   pub writes : (bytes : List ℕ) (most : ℕ) → most ≤ 512 + length bytes → Written (whole low p called.runtime) p m r operands rest bytes most → Writes low p m operands rest bytes
   writes bytes most less it =

@@ -1,29 +1,29 @@
 -- The routine that writes blanks writes them.
-use Rattle.std.proofs.Common.{◌≡◌, ℕ, zero, suc, ◌+◌, ◌-◌, ◌*◌, ◌/◌, ◌%◌, ◌^◌, ◌<◌, ◌≤◌, inl, inr, Bool, true, false, not, cond, nat_eq, nat_lt, negsuc, drop, List, [], ◌∷◌, ◌++◌, length, replicate, slice_index, map, refl, ap, ap₂, sym, subst, ◌∙◌, append_assoc, append-nil, arith}
-use Rattle.std.proofs.lemmas.Bool.{and_from, cases_lt}
+use Rattle.std.proofs.Common.{◌≡◌, ℕ, zero, suc, ◌+◌, ◌-◌, ◌*◌, ◌/◌, ◌^◌, ◌<◌, ◌≤◌, inl, inr, true, false, not, cond, nat_eq, nat_lt, negsuc, drop, List, [], ◌∷◌, ◌++◌, replicate, slice_index, refl, ap, ap₂, sym, subst, ◌∙◌, append_assoc, append-nil, arith}
+use Rattle.std.proofs.lemmas.Bool.{cases_lt}
 use Rattle.std.proofs.lemmas.Bool.Decides.{nat_tests}
-use Rattle.std.proofs.lemmas.List.{length-map, replicate-append-replicate}
+use Rattle.std.proofs.lemmas.List.{replicate-append-replicate}
 use Rattle.op_rv.proofs.Memory.{with_bytes-below}
 use Rattle.std.specs.List.{concat}
-use Rattle.op_low.specs.Machine.{act, act, cost, cost_by, done, low_machine, shown_by, shows, step, step_by_ending}
-use Rattle.op_low.specs.State.{Placement, State, block_of, routine_of, space, usable, value, values}
+use Rattle.op_low.specs.Machine.{act, act, cost, cost_by, done, shown_by, shows, step, step_by_ending}
+use Rattle.op_low.specs.State.{Placement, State, space, usable, values}
 use Rattle.op_low.specs.declared.code.Counts.{Counts}
 use Rattle.op_low.specs.declared.code.Low.{Low}
 use Rattle.op_low.specs.declared.code.Routine.{Routine}
 use Rattle.op_low.specs.declared.instruction.Call.{Call as Operands}
 use Rattle.op_low.specs.declared.instruction.Instruction.{Instruction}
-use Rattle.op_low.specs.declared.instruction.Instruction.TheVariants.{Call, Jump, Write}
+use Rattle.op_low.specs.declared.instruction.Instruction.TheVariants.{Write}
 use Rattle.op_low.specs.declared.instruction.Output.TheVariants.{Console}
 use Rattle.op_low.specs.declared.ids.VirtualRegister.{VirtualRegister}
 use Rattle.op_meaning.specs.Texts.{width_of}
 use Rattle.op_rt_text.specs.Blanks.{begins, ends, writes_piece, writes_rest}
-use Rattle.op_rt_text.specs.Names.{blanks, block_id, register, routine_id, write_blanks_number}
+use Rattle.op_rt_text.specs.Names.{blanks, block_id, register, write_blanks_number}
 use Rattle.op_rt_text.specs.Running.{StandsAt, behind}
 use Rattle.op_rt_text.proofs.BytesLemmas.{all_usable, each_byte, same_bytes}
-use Rattle.op_rt_text.proofs.Calls.{cleared, inside, walk_enter, walk_leave}
+use Rattle.op_rt_text.proofs.Calls.{cleared, inside, walk_leave}
 use Rattle.op_rt_text.proofs.Programs.{Written, call_written, program}
 use Rattle.op_rt_text.proofs.Signs.{at_least_low, at_least_negative, less_low, width_high, width_low}
-use Rattle.op_rt_text.proofs.Walks.{Walk, standing, walk_act, walk_branch, walk_join, walk_past, walk_weaken, walk_write}
+use Rattle.op_rt_text.proofs.Walks.{Walk, standing, walk_branch, walk_join, walk_past, walk_weaken, walk_write}
 use Rattle.op_rv.specs.Operation.{branch_taken, imm_value, signed, word_from}
 use Rattle.op_rv.specs.declared.instruction.ImmOp.TheVariants.{Addi}
 use Rattle.op_rv.specs.State.{all_from, bytes_from}
@@ -131,12 +131,12 @@ module _ (others : List Routine) (entry : RoutineId) (named : Counts) (globals :
           walk =
               walk_weaken low p (here registers writes_piece output) (end (output ++ replicate {A = ℕ} count 32)) (piece ∷ behind_it.pieces) (1 + (1 + (2 + (4 * turns + 3)))) (4 * suc turns + 3) (omega arith)
               (walk_join low p (here registers writes_piece output) (here registers (drop 1 writes_piece) output) (end (output ++ replicate {A = ℕ} count 32)) [] (piece ∷ behind_it.pieces) 1 (1 + (2 + (4 * turns + 3)))
-               (walk_past low p (here registers writes_piece output) Bgeu (register 2) (register 0) (block_id 2) (drop 1 writes_piece) passed)
-               (walk_join low p (here registers (drop 1 writes_piece) output) (here registers (drop 2 writes_piece) (output ++ piece)) (end (output ++ replicate {A = ℕ} count 32)) (piece ∷ []) behind_it.pieces 1 (2 + (4 * turns + 3))
-                (piece_written registers (register 1) (register 2) (drop 2 writes_piece) output 64 there full (omega arith))
-                (walk_join low p (here registers (drop 2 writes_piece) (output ++ piece)) (here (less_by_piece registers) writes_piece (output ++ piece)) (end (output ++ replicate {A = ℕ} count 32)) [] behind_it.pieces 2 (4 * turns + 3)
-                 (goes_round registers (output ++ piece))
-                 (subst (λ out. Walk low p (here (less_by_piece registers) writes_piece (output ++ piece)) (end out) behind_it.pieces (4 * turns + 3)) same behind_it.walk))));
+              (walk_past low p (here registers writes_piece output) Bgeu (register 2) (register 0) (block_id 2) (drop 1 writes_piece) passed)
+              (walk_join low p (here registers (drop 1 writes_piece) output) (here registers (drop 2 writes_piece) (output ++ piece)) (end (output ++ replicate {A = ℕ} count 32)) (piece ∷ []) behind_it.pieces 1 (2 + (4 * turns + 3))
+              (piece_written registers (register 1) (register 2) (drop 2 writes_piece) output 64 there full (omega arith))
+              (walk_join low p (here registers (drop 2 writes_piece) (output ++ piece)) (here (less_by_piece registers) writes_piece (output ++ piece)) (end (output ++ replicate {A = ℕ} count 32)) [] behind_it.pieces 2 (4 * turns + 3)
+              (goes_round registers (output ++ piece))
+              (subst (λ out. Walk low p (here (less_by_piece registers) writes_piece (output ++ piece)) (end out) behind_it.pieces (4 * turns + 3)) same behind_it.walk))));
         }
 
     -- pieces as long as more than one is left
@@ -183,12 +183,12 @@ module _ (others : List Routine) (entry : RoutineId) (named : Counts) (globals :
           walk =
               walk_weaken low p (here (slice_index (count ∷ [])) begins output) end loop.pieces (2 + (1 + (1 + (4 * (count / 64) + 3)))) (count + 16) (omega arith)
               (walk_join low p (here (slice_index (count ∷ [])) begins output) (here (begins_with count) (drop 2 begins) output) end [] loop.pieces 2 (1 + (1 + (4 * (count / 64) + 3)))
-               (sets count output)
-               (walk_join low p (here (begins_with count) (drop 2 begins) output) (here (begins_with count) (drop 3 begins) output) end [] loop.pieces 1 (1 + (4 * (count / 64) + 3))
-                (walk_past low p (here (begins_with count) (drop 2 begins) output) Bge (register 3) (register 0) (block_id 3) (drop 3 begins) test)
-                (walk_join low p (here (begins_with count) (drop 3 begins) output) (here (begins_with count) writes_piece output) end [] loop.pieces 1 (4 * (count / 64) + 3)
-                 (goes_in (begins_with count) output)
-                 loop.walk)));
+              (sets count output)
+              (walk_join low p (here (begins_with count) (drop 2 begins) output) (here (begins_with count) (drop 3 begins) output) end [] loop.pieces 1 (1 + (4 * (count / 64) + 3))
+              (walk_past low p (here (begins_with count) (drop 2 begins) output) Bge (register 3) (register 0) (block_id 3) (drop 3 begins) test)
+              (walk_join low p (here (begins_with count) (drop 3 begins) output) (here (begins_with count) writes_piece output) end [] loop.pieces 1 (4 * (count / 64) + 3)
+              (goes_in (begins_with count) output)
+              loop.walk)));
         }
 
     none : (count : ℕ) (output : List ℕ) → branch_taken Bge 0 count ≡ true → Walk low p (here (slice_index (count ∷ [])) begins output) (standing (behind m operands rest 0 memory output) rest) [] 16
@@ -198,11 +198,11 @@ module _ (others : List Routine) (entry : RoutineId) (named : Counts) (globals :
         let end = λ (v : ℕ). standing (behind m operands rest v memory output) rest in
         walk_weaken low p (here (slice_index (count ∷ [])) begins output) (end 0) [] (2 + (1 + 1)) 16 (omega arith)
         (walk_join low p (here (slice_index (count ∷ [])) begins output) (here (begins_with count) (drop 2 begins) output) (end 0) [] [] 2 (1 + 1)
-         (sets count output)
-         (walk_join low p (here (begins_with count) (drop 2 begins) output) (here (begins_with count) ends output) (end 0) [] [] 1 1
-          (walk_branch low p (here (begins_with count) (drop 2 begins) output) Bge (register 3) (register 0) (block_id 3) (drop 3 begins) test)
-          (subst (λ v. Walk low p (here (begins_with count) ends output) (end v) [] 1) are.3
-           (walk_leave low p m write_blanks_number operands rest (begins_with count) (register 3) [] memory output has))))
+        (sets count output)
+        (walk_join low p (here (begins_with count) (drop 2 begins) output) (here (begins_with count) ends output) (end 0) [] [] 1 1
+        (walk_branch low p (here (begins_with count) (drop 2 begins) output) Bge (register 3) (register 0) (block_id 3) (drop 3 begins) test)
+        (subst (λ v. Walk low p (here (begins_with count) ends output) (end v) [] 1) are.3
+        (walk_leave low p m write_blanks_number operands rest (begins_with count) (register 3) [] memory output has))))
 
     -- all that is written for a count
     pub written : (count : ℕ) (output : List ℕ) → count < 2 ^ 32 → Blanks low p (here (slice_index (count ∷ [])) begins output) m operands rest memory output (width_of (signed count)) (width_of (signed count) + 16)

@@ -1,23 +1,19 @@
 -- The routine that writes bytes writes them, with blanks in front.
-use Rattle.std.proofs.Common.{◌≡◌, ℕ, zero, suc, ◌+◌, ◌-◌, ◌*◌, ◌%◌, ◌^◌, ◌<◌, ◌≤◌, inl, inr, Bool, true, false, cond, nat_eq, None, List, [], ◌∷◌, ◌++◌, drop, length, replicate, slice_index, refl, ap, ap₂, sym, subst, ◌∙◌, append_assoc, append-nil, arith}
+use Rattle.std.proofs.Common.{◌≡◌, ℕ, ◌+◌, ◌-◌, ◌^◌, ◌<◌, ◌≤◌, inl, inr, true, cond, nat_eq, None, List, [], ◌∷◌, ◌++◌, drop, length, replicate, slice_index, refl, ap, ap₂, sym, subst, ◌∙◌, append_assoc, append-nil, arith}
 use Rattle.std.proofs.lemmas.Bool.{cases_lt}
 use Rattle.std.proofs.lemmas.List.Folds.{concat-append}
 use Rattle.std.proofs.lemmas.List.{length-append, length-replicate}
-use Rattle.std.specs.List.{concat}
-use Rattle.op_low.specs.Machine.{act, cost, cost_by, done, low_machine, shown_by, shows, step, step_by_ending}
+use Rattle.op_low.specs.Machine.{act, cost, cost_by, done, shown_by, shows, step, step_by_ending}
 use Rattle.op_low.specs.State.{Placement, State, space, usable, values}
 use Rattle.op_low.specs.declared.code.Counts.{Counts}
 use Rattle.op_low.specs.declared.code.Low.{Low}
 use Rattle.op_low.specs.declared.code.Routine.{Routine}
-use Rattle.op_low.specs.declared.ids.VirtualRegister.{VirtualRegister}
 use Rattle.op_low.specs.declared.instruction.Call.{Call as Operands}
 use Rattle.op_low.specs.declared.instruction.Instruction.{Instruction}
-use Rattle.op_low.specs.declared.instruction.Instruction.TheVariants.{Return, Write}
-use Rattle.op_low.specs.declared.instruction.Output.TheVariants.{Console}
 use Rattle.op_meaning.specs.Texts.{padded, width_of}
 use Rattle.op_rt_text.specs.Bytes.{begins, writes_text}
 use Rattle.op_rt_text.specs.Names.{blanks, block_id, register, write_blanks_number, write_bytes_number}
-use Rattle.op_rt_text.specs.Running.{HasRuntime, HasTexts, StandsAt, behind}
+use Rattle.op_rt_text.specs.Running.{StandsAt, behind}
 use Rattle.op_rt_text.proofs.BlanksRun.{blanks_called}
 use Rattle.op_rt_text.proofs.BytesLemmas.{all_usable}
 use Rattle.op_rt_text.proofs.Calls.{cleared, inside, walk_leave}
@@ -63,8 +59,8 @@ module _ (others : List Routine) (entry : RoutineId) (named : Counts) (globals :
         let there_also = stands_on p m (here registers writes_text memory output) at text (omega arith) kept stands in
         walk_join low p (here registers writes_text memory output) (here registers (drop 1 writes_text) memory (output ++ text)) (standing (behind m operands rest (registers 1) memory (output ++ text)) rest) (text ∷ []) [] 1 1
         (walk_write low p (here registers (drop 1 writes_text) memory output) (register 0) (register 1) (drop 1 writes_text) text
-         (ap₂ (all_from (usable p.rights.readable (here registers writes_text memory output))) there counts ∙ all_usable p.rights.readable (here registers writes_text memory output) at (length text) there_also.readable there_also.below)
-         (ap₂ (bytes_from memory) there counts ∙ there_also.stands))
+        (ap₂ (all_from (usable p.rights.readable (here registers writes_text memory output))) there counts ∙ all_usable p.rights.readable (here registers writes_text memory output) at (length text) there_also.readable there_also.below)
+        (ap₂ (bytes_from memory) there counts ∙ there_also.stands))
         (walk_leave low p m write_bytes_number operands rest registers (register 1) [] memory (output ++ text) room)
 
     abbrev given : ℕ → ℕ
@@ -83,8 +79,8 @@ module _ (others : List Routine) (entry : RoutineId) (named : Counts) (globals :
           walk =
               walk_weaken low p (here given begins memory m.output) end (text ∷ []) (1 + 2) 87 (omega arith)
               (walk_join low p (here given begins memory m.output) (here given writes_text memory m.output) end [] (text ∷ []) 1 2
-               (walk_branch low p (here given begins memory m.output) Bge (register 1) (register 2) (block_id 1) (drop 1 begins) taken)
-               (text_written given memory m.output kept refl refl));
+              (walk_branch low p (here given begins memory m.output) Bge (register 1) (register 2) (block_id 1) (drop 1 begins) taken)
+              (text_written given memory m.output kept refl refl));
         }
 
     -- the registers with the number of blanks
@@ -115,7 +111,7 @@ module _ (others : List Routine) (entry : RoutineId) (named : Counts) (globals :
         let state = here with_blanks [] memory m.output in
         subst (λ n. Written low p state write_blanks_number the_call (drop 3 begins) (replicate {A = ℕ} n 32) (n + 82)) pad
         (blanks_called others entry named globals p state the_call (drop 3 begins) (width - length text) (ap (λ v. v ∷ []) (are.2 ∙ number)) (omega arith)
-         (stands_on p m state (p.address blanks) (replicate {A = ℕ} 64 32) (omega arith) kept spaces) small_blanks (omega arith))
+        (stands_on p m state (p.address blanks) (replicate {A = ℕ} 64 32) (omega arith) kept spaces) small_blanks (omega arith))
 
     -- with blanks in front
     behind_blanks : (memory : ℕ → ℕ) → Kept memory → length text < width → width < 2 ^ 31 → WrittenInside low p m write_bytes_number operands rest given begins memory m.output (replicate {A = ℕ} (width - length text) 32 ++ text) (width - length text + 87)
@@ -138,15 +134,15 @@ module _ (others : List Routine) (entry : RoutineId) (named : Counts) (globals :
           walk =
               walk_weaken low p first (end (m.output ++ (spaces_of ++ text))) (calls.pieces ++ (text ∷ [])) (1 + (1 + ((width - length text + 82) + (1 + 2)))) (width - length text + 87) (omega arith)
               (subst (λ out. Walk low p first (end out) (calls.pieces ++ (text ∷ [])) (1 + (1 + ((width - length text + 82) + (1 + 2))))) (append_assoc m.output spaces_of text)
-               (walk_join low p first (here given (drop 1 begins) memory m.output) (end (output ++ text)) [] (calls.pieces ++ (text ∷ [])) 1 (1 + ((width - length text + 82) + (1 + 2)))
-                (walk_past low p first Bge (register 1) (register 2) (block_id 1) (drop 1 begins) (less_low (length text) width less positive))
-                (walk_join low p (here given (drop 1 begins) memory m.output) (here with_blanks (drop 2 begins) memory m.output) (end (output ++ text)) [] (calls.pieces ++ (text ∷ [])) 1 ((width - length text + 82) + (1 + 2))
-                 (subtracts memory)
-                 (walk_join low p (here with_blanks (drop 2 begins) memory m.output) (here after (drop 3 begins) calls.memory output) (end (output ++ text)) calls.pieces (text ∷ []) (width - length text + 82) (1 + 2)
-                  calls.walk
-                  (walk_join low p (here after (drop 3 begins) calls.memory output) (here after writes_text calls.memory output) (end (output ++ text)) [] (text ∷ []) 1 2
-                   (goes_on after calls.memory output)
-                   last)))));
+              (walk_join low p first (here given (drop 1 begins) memory m.output) (end (output ++ text)) [] (calls.pieces ++ (text ∷ [])) 1 (1 + ((width - length text + 82) + (1 + 2)))
+              (walk_past low p first Bge (register 1) (register 2) (block_id 1) (drop 1 begins) (less_low (length text) width less positive))
+              (walk_join low p (here given (drop 1 begins) memory m.output) (here with_blanks (drop 2 begins) memory m.output) (end (output ++ text)) [] (calls.pieces ++ (text ∷ [])) 1 ((width - length text + 82) + (1 + 2))
+              (subtracts memory)
+              (walk_join low p (here with_blanks (drop 2 begins) memory m.output) (here after (drop 3 begins) calls.memory output) (end (output ++ text)) calls.pieces (text ∷ []) (width - length text + 82) (1 + 2)
+              calls.walk
+              (walk_join low p (here after (drop 3 begins) calls.memory output) (here after writes_text calls.memory output) (end (output ++ text)) [] (text ∷ []) 1 2
+              (goes_on after calls.memory output)
+              last)))));
         }
 
     -- all that the code does

@@ -1,6 +1,6 @@
 -- A call and a return, as walks.
-use Rattle.std.proofs.Common.{◌≡◌, ℕ, zero, suc, ◌+◌, ◌-◌, ◌<◌, ◌≤◌, Bool, true, false, cond, List, [], ◌∷◌, ◌++◌, length, replicate, slice_index, map, refl, ap, ap₂, sym, subst, ◌∙◌, arith}
-use Rattle.std.proofs.lemmas.Bool.{cond-false, cond-true}
+use Rattle.std.proofs.Common.{◌≡◌, ℕ, ◌+◌, ◌-◌, ◌≤◌, true, List, [], ◌∷◌, length, replicate, slice_index, refl, ap₂, arith}
+use Rattle.std.proofs.lemmas.Bool.{cond-true}
 use Rattle.op_low.specs.Machine.{act, call, can_enter, cost_by, shown_by}
 use Rattle.op_low.specs.State.{Placement, Running, State, bad, block_of, routine_of, space, values}
 use Rattle.op_low.specs.declared.code.Low.{Low}

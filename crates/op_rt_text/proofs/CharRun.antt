@@ -1,11 +1,10 @@
 -- The routine that writes a character writes it.
-use Rattle.std.proofs.Common.{◌≡◌, ℕ, ℤ, pos, negsuc, zero, suc, ◌+◌, ◌-◌, ◌*◌, ◌%◌, ◌^◌, ◌<◌, ◌≤◌, inl, inr, Bool, true, false, ◌&&◌, cond, nat_eq, nat_lt, None, List, [], ◌∷◌, ◌++◌, drop, length, replicate, slice_index, refl, ap, ap₂, sym, subst, ◌∙◌, append-nil, arith}
+use Rattle.std.proofs.Common.{◌≡◌, ℕ, pos, ◌+◌, ◌-◌, ◌%◌, ◌^◌, ◌<◌, ◌≤◌, inl, inr, Bool, true, cond, nat_eq, List, [], ◌∷◌, ◌++◌, drop, length, replicate, slice_index, refl, ap, subst, ◌∙◌, arith}
 use Rattle.std.proofs.lemmas.Bool.{and_from, cases_lt}
 use Rattle.std.proofs.lemmas.Bool.Decides.{nat_tests}
-use Rattle.std.specs.Int.{bytes_low_first, int_rem_euclid}
-use Rattle.std.specs.Int.RustNames.{unsigned_abs}
-use Rattle.op_low.specs.Machine.{act, cost, cost_by, done, low_machine, shown_by, shows, step, step_by_ending}
-use Rattle.op_low.specs.State.{Placement, State, space, usable, values}
+use Rattle.std.specs.Int.{bytes_low_first}
+use Rattle.op_low.specs.Machine.{act, cost, cost_by, done, shown_by, shows, step, step_by_ending}
+use Rattle.op_low.specs.State.{Placement, State, usable, values}
 use Rattle.op_low.specs.declared.code.Counts.{Counts}
 use Rattle.op_low.specs.declared.code.Low.{Low}
 use Rattle.op_low.specs.declared.code.Routine.{Routine}
@@ -22,8 +21,8 @@ use Rattle.op_rt_text.proofs.Signs.{signed_high, signed_low}
 use Rattle.op_rt_text.proofs.ThenBytes.{bytes_last}
 use Rattle.op_rt_text.proofs.Walks.{Walk, standing, walk_join, walk_store, walk_weaken}
 use Rattle.op_rv.proofs.Memory.{bytes_there, with_bytes-below, with_bytes-within}
-use Rattle.op_rv.specs.Operation.{signed, word_from}
-use Rattle.op_rv.specs.State.{all_from, bytes_from, with_bytes}
+use Rattle.op_rv.specs.Operation.{signed}
+use Rattle.op_rv.specs.State.{all_from, with_bytes}
 use Rattle.op_rv.specs.Step.{can_access, offset_from}
 use Rattle.op_rv.specs.declared.instruction.StoreOp.TheVariants.{Sb}
 use Rattle.op_rv.specs.declared.objects.GlobalVariable.{GlobalVariable}
@@ -90,8 +89,8 @@ module _ (others : List Routine) (entry : RoutineId) (named : Counts) (globals :
         let state = here with_address (drop 2 writes_byte) in
         subst (λ a. Walk low p (here with_address (drop 1 writes_byte) memory) (state (with_bytes memory a text)) [] 1) there
         (subst (λ v. Walk low p (here with_address (drop 1 writes_byte) memory) (state (with_bytes memory (offset_from (with_address 2) (pos 0)) (bytes_low_first 0 1 v))) [] 1) are.0
-         (walk_store low p (state memory) Sb (register 0) (register 2) (pos 0) (drop 2 writes_byte)
-          (ap (λ a. can_access (usable p.rights.writable (state memory)) a 1) there ∙ byte_storable p.rights.writable (state memory) m.limit may (omega arith))))
+        (walk_store low p (state memory) Sb (register 0) (register 2) (pos 0) (drop 2 writes_byte)
+        (ap (λ a. can_access (usable p.rights.writable (state memory)) a 1) there ∙ byte_storable p.rights.writable (state memory) m.limit may (omega arith))))
 
     text_there : (memory : ℕ → ℕ) → StandsAt p (here with_length [] (with_bytes memory m.limit text)) m.limit text
     text_there memory =
@@ -119,12 +118,12 @@ module _ (others : List Routine) (entry : RoutineId) (named : Counts) (globals :
           walk =
               walk_weaken low p (here given writes_byte memory) end last.pieces (1 + (1 + (1 + (length bytes + 156)))) (length bytes + 159) (omega arith)
               (walk_join low p (here given writes_byte memory) (here with_address (drop 1 writes_byte) memory) end [] last.pieces 1 (1 + (1 + (length bytes + 156)))
-               (first_step memory)
-               (walk_join low p (here with_address (drop 1 writes_byte) memory) (here with_address (drop 2 writes_byte) stored) end [] last.pieces 1 (1 + (length bytes + 156))
-                (store_step memory)
-                (walk_join low p (here with_address (drop 2 writes_byte) stored) (here with_length (drop 3 writes_byte) stored) end [] last.pieces 1 (length bytes + 156)
-                 (third_step stored)
-                 last.walk)));
+              (first_step memory)
+              (walk_join low p (here with_address (drop 1 writes_byte) memory) (here with_address (drop 2 writes_byte) stored) end [] last.pieces 1 (1 + (length bytes + 156))
+              (store_step memory)
+              (walk_join low p (here with_address (drop 2 writes_byte) stored) (here with_length (drop 3 writes_byte) stored) end [] last.pieces 1 (length bytes + 156)
+              (third_step stored)
+              last.walk)));
         }
 
   -- a call of the routine
@@ -133,5 +132,5 @@ module _ (others : List Routine) (entry : RoutineId) (named : Counts) (globals :
       let some = room.room in
       rw (char_of_word value word)
       (call_written others entry named globals p m write_char_number operands rest (value ∷ width ∷ []) (omega arith) passed refl (omega arith) (padded (width_of (signed width)) (value % 256 ∷ [])) (length (padded (width_of (signed width)) (value % 256 ∷ [])) + 159) (length (padded (width_of (signed width)) (value % 256 ∷ [])) + 232)
-       (omega arith)
-       (char_inside m operands rest value width spaces room word wide (cleared low m write_char_number) (λ x below. with_bytes-below m.memory m.limit (replicate {A = ℕ} 4 0) x below)))
+      (omega arith)
+      (char_inside m operands rest value width spaces room word wide (cleared low m write_char_number) (λ x below. with_bytes-below m.memory m.limit (replicate {A = ℕ} 4 0) x below)))

@@ -1,5 +1,5 @@
 -- What calls of the run-time routines do.
-use Rattle.std.proofs.Common.{◌≡◌, ℕ, zero, suc, ◌+◌, ◌*◌, ◌%◌, ◌^◌, ◌<◌, ◌≤◌, List, [], ◌∷◌, length, replicate, refl, arith}
+use Rattle.std.proofs.Common.{◌≡◌, ℕ, ◌+◌, ◌*◌, ◌%◌, ◌^◌, ◌<◌, ◌≤◌, List, [], ◌∷◌, length, replicate, refl, arith}
 use Rattle.std.proofs.lemmas.List.{length-replicate}
 use Rattle.op_low.specs.State.{Placement, State}
 use Rattle.op_low.specs.declared.code.Low.{Low}
@@ -7,7 +7,7 @@ use Rattle.op_low.specs.declared.instruction.Call.{Call as Operands}
 use Rattle.op_low.specs.declared.instruction.Instruction.{Instruction}
 use Rattle.op_meaning.specs.Texts.{padded, text_of_char, text_of_number, text_of_truth, width_of}
 use Rattle.op_rt_text.specs.Names.{copy_bytes_number, copy_words_number, take_number, write_blanks_number, write_bytes_number, write_char_number, write_number_number, write_truth_number}
-use Rattle.op_rt_text.specs.Running.{Allowed, Called, Copies, Copyable, HasRoom, HasTexts, StandsAt, Writes}
+use Rattle.op_rt_text.specs.Running.{Allowed, Called, Copies, Copyable, HasRoom, HasTexts, StandsAt, Writes, blank_text}
 use Rattle.op_rt_text.proofs.Behind.{copies, writes}
 use Rattle.op_rt_text.proofs.BlanksRun.{blanks_called}
 use Rattle.op_rt_text.proofs.BytesRun.{bytes_called}
@@ -25,7 +25,7 @@ less_room p m least less room =
     record { room = omega arith; words = room.words; readable = room.readable; writable = room.writable }
 
 module _ (low : Low) (p : Placement) (m : State) (operands : Operands) (rest : List Instruction) where
-  pub blanks_written : (count : ℕ) → HasTexts p m → Called low p m write_blanks_number (count ∷ []) operands rest → Writes low p m operands rest (replicate {A = ℕ} (width_of (signed count)) 32)
+  pub blanks_written : (count : ℕ) → HasTexts p m → Called low p m write_blanks_number (count ∷ []) operands rest → Writes low p m operands rest (blank_text (width_of (signed count)))
   blanks_written count texts called =
       let runtime = called.runtime in
       let some = called.room.room in

@@ -1,5 +1,5 @@
 -- Calls of the routines that copy memory.
-use Rattle.std.proofs.Common.{◌≡◌, ℕ, pos, zero, suc, ◌+◌, ◌-◌, ◌*◌, ◌/◌, ◌%◌, ◌^◌, ◌<◌, ◌≤◌, ◌⊎◌, inl, inr, true, ◌&&◌, cond, nat_le, nat_lt, List, [], ◌∷◌, length, replicate, slice_index, refl, ap, sym, subst, ◌∙◌, arith}
+use Rattle.std.proofs.Common.{◌≡◌, ℕ, ◌+◌, ◌-◌, ◌*◌, ◌/◌, ◌%◌, ◌^◌, ◌<◌, ◌≤◌, inl, inr, ◌&&◌, cond, nat_le, nat_lt, List, [], ◌∷◌, length, replicate, slice_index, refl, ap, sym, subst, ◌∙◌, arith}
 use Rattle.std.proofs.lemmas.Bool.{cases_lt}
 use Rattle.std.proofs.lemmas.List.{length-map}
 use Rattle.op_low.specs.State.{Placement, State, block_of, routine_of, space, value, values}
@@ -91,7 +91,7 @@ module _ (others : List Routine) (entry : RoutineId) (named : Counts) (globals :
             let none : 0 ≡ count = omega arith in
             calls 3 (omega arith)
             (subst (λ n. CopiedInside low p m copy_words_number operands rest (slice_index (to ∷ from ∷ n ∷ [])) (block_of low copy_words_number 0) memory to from n 3) none
-             (none_copied low p copy_words_number Lw Sw 4 (omega arith) (omega arith) refl refl unit_word refl refl m operands rest room has to from memory (omega arith)))
+            (none_copied low p copy_words_number Lw Sw 4 (omega arith) (omega arith) refl refl unit_word refl refl m operands rest room has to from memory (omega arith)))
       ]
 
   pub bytes_copied : (m : State) (operands : Operands) (rest : List Instruction) (to from count : ℕ) → values m operands.arguments ≡ to ∷ from ∷ count ∷ [] → p.frame copy_bytes_number ≤ 64 → HasRoom p m 64 → Copyable p m to from count → Copied low p m copy_bytes_number operands rest to from count (78 + 5 * count)
@@ -111,5 +111,5 @@ module _ (others : List Routine) (entry : RoutineId) (named : Counts) (globals :
             let none : 0 ≡ count = omega arith in
             calls 3 (omega arith)
             (subst (λ n. CopiedInside low p m copy_bytes_number operands rest (slice_index (to ∷ from ∷ n ∷ [])) (block_of low copy_bytes_number 0) memory to from n 3) none
-             (none_copied low p copy_bytes_number Lbu Sb 1 (omega arith) (omega arith) refl refl unit_byte refl refl m operands rest room has to from memory (omega arith)))
+            (none_copied low p copy_bytes_number Lbu Sb 1 (omega arith) (omega arith) refl refl unit_byte refl refl m operands rest room has to from memory (omega arith)))
       ]

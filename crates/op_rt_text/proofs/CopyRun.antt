@@ -1,23 +1,19 @@
 -- The routines that copy memory copy it.
-use Rattle.std.proofs.Common.{◌≡◌, ◌≢◌, ℕ, ℤ, pos, zero, suc, ◌+◌, ◌-◌, ◌*◌, ◌/◌, ◌%◌, ◌^◌, ◌<◌, ◌≤◌, ◌⊎◌, inl, inr, Bool, true, false, ◌&&◌, cond, not, nat_eq, nat_lt, nat_le, List, [], ◌∷◌, ◌++◌, drop, length, get_or, replicate, slice_index, refl, ap, ap₂, sym, subst, ◌∙◌, arith}
+use Rattle.std.proofs.Common.{◌≡◌, ℕ, pos, zero, suc, ◌+◌, ◌-◌, ◌*◌, ◌/◌, ◌%◌, ◌^◌, ◌<◌, ◌≤◌, ◌⊎◌, inl, inr, Bool, true, false, cond, not, nat_eq, List, [], ◌∷◌, drop, length, get_or, slice_index, refl, ap, ap₂, sym, subst, ◌∙◌, arith}
 use Rattle.std.proofs.Math.Nat.{add-mod_right, mul-suc, mul-zero}
 use Rattle.std.proofs.lemmas.Bool.{and_from, cases_lt}
 use Rattle.std.proofs.lemmas.Bool.Decides.{nat_tests}
 use Rattle.std.specs.Int.{bytes_low_first}
-use Rattle.op_low.specs.Machine.{act, cost, cost_by, done, low_machine, shown_by, shows, step, step_by_ending}
-use Rattle.op_low.specs.State.{Placement, State, block_of, routine_of, space, usable, values}
-use Rattle.op_low.specs.declared.code.Counts.{Counts}
+use Rattle.op_low.specs.Machine.{act, cost, cost_by, done, shown_by, shows, step, step_by_ending}
+use Rattle.op_low.specs.State.{Placement, State, block_of, space, usable}
 use Rattle.op_low.specs.declared.code.Low.{Low}
-use Rattle.op_low.specs.declared.code.Routine.{Routine}
 use Rattle.op_low.specs.declared.instruction.Call.{Call as Operands}
 use Rattle.op_low.specs.declared.instruction.Instruction.{Instruction}
-use Rattle.op_low.specs.declared.instruction.Instruction.TheVariants.{Call}
 use Rattle.op_rt_text.specs.Copying.{begins, copies_unit, ends}
-use Rattle.op_rt_text.specs.Names.{block_id, register, routine_id}
+use Rattle.op_rt_text.specs.Names.{block_id, register}
 use Rattle.op_rt_text.specs.Running.{Allowed, HasRoom, behind}
 use Rattle.op_rt_text.proofs.BytesLemmas.{all_usable}
-use Rattle.op_rt_text.proofs.Calls.{cleared, inside, walk_leave}
-use Rattle.op_rt_text.proofs.Programs.{program}
+use Rattle.op_rt_text.proofs.Calls.{inside, walk_leave}
 use Rattle.op_rt_text.proofs.Walks.{Walk, standing, walk_branch, walk_join, walk_jump, walk_load, walk_past, walk_store, walk_weaken}
 use Rattle.op_rv.proofs.Memory.{with_bytes-outside, with_bytes-within}
 use Rattle.op_rv.specs.Operation.{branch_taken, imm_value, word_from}
@@ -28,9 +24,6 @@ use Rattle.op_rv.specs.declared.instruction.ImmOp.TheVariants.{Addi}
 use Rattle.op_rv.specs.declared.instruction.LoadOp.{LoadOp}
 use Rattle.op_rv.specs.declared.instruction.LoadOp.TheVariants.{Lbu, Lw}
 use Rattle.op_rv.specs.declared.instruction.StoreOp.{StoreOp}
-use Rattle.op_rv.specs.declared.instruction.StoreOp.TheVariants.{Sb, Sw}
-use Rattle.op_rv.specs.declared.objects.GlobalVariable.{GlobalVariable}
-use Rattle.op_rv.specs.declared.symbol.RoutineId.{RoutineId}
 use Rattle.op_simulation.specs.System.{run, spent, trace}
 
 -- ---- memory
@@ -166,7 +159,7 @@ module _ (low : Low) (p : Placement) (r : ℕ) (load : LoadOp) (store : StoreOp)
         let there : offset_from (registers 1) (pos 0) ≡ f = ap (λ a. offset_from a (pos 0)) is ∙ no_offset f (omega arith) in
         subst (λ a. Walk low p (here registers code memory) (here (with_unit registers (load_value load memory a)) (drop 1 code) memory) [] 1) there
         (walk_load low p state load (register 4) (register 1) (pos 0) (drop 1 code)
-         (ap (λ a. can_access (usable p.rights.readable state) (offset_from a (pos 0)) (load_size_of load)) is ∙ accessible p.rights.readable state f (load_size_of load) (omega arith) load_size can aligned))
+        (ap (λ a. can_access (usable p.rights.readable state) (offset_from a (pos 0)) (load_size_of load)) is ∙ accessible p.rights.readable state f (load_size_of load) (omega arith) load_size can aligned))
 
     store_step : (registers memory : ℕ → ℕ) (t v : ℕ) → registers 0 ≡ t → registers 4 ≡ v → Allowed p.rights.writable m.limit t n → t % n ≡ 0 → Walk low p (here registers (drop 1 code) memory) (here registers (drop 2 code) (with_bytes memory t (bytes_low_first 0 n v))) [] 1
     store_step registers memory t v is value_is can aligned =
@@ -178,9 +171,9 @@ module _ (low : Low) (p : Placement) (r : ℕ) (load : LoadOp) (store : StoreOp)
         let from = here registers (drop 1 code) memory in
         subst (λ w. Walk low p from (here registers (drop 2 code) (with_bytes memory t (bytes_low_first 0 n w))) [] 1) value_is
         (subst (λ k. Walk low p from (here registers (drop 2 code) (with_bytes memory t (bytes_low_first 0 k (registers 4)))) [] 1) store_size
-         (subst (λ a. Walk low p from (here registers (drop 2 code) (with_bytes memory a (bytes_low_first 0 (store_size_of store) (registers 4)))) [] 1) there
-          (walk_store low p state store (register 4) (register 0) (pos 0) (drop 2 code)
-           (ap (λ a. can_access (usable p.rights.writable state) (offset_from a (pos 0)) (store_size_of store)) is ∙ accessible p.rights.writable state t (store_size_of store) (omega arith) store_size can aligned))))
+        (subst (λ a. Walk low p from (here registers (drop 2 code) (with_bytes memory a (bytes_low_first 0 (store_size_of store) (registers 4)))) [] 1) there
+        (walk_store low p state store (register 4) (register 0) (pos 0) (drop 2 code)
+        (ap (λ a. can_access (usable p.rights.writable state) (offset_from a (pos 0)) (store_size_of store)) is ∙ accessible p.rights.writable state t (store_size_of store) (omega arith) store_size can aligned))))
 
     advance_step : (registers memory : ℕ → ℕ) → Walk low p (here registers (drop 2 code) memory) (here (advanced registers) (drop 4 code) memory) [] 2
     unfolding step step_by_ending done act run trace spent shows shown_by cost cost_by
@@ -195,9 +188,9 @@ module _ (low : Low) (p : Placement) (r : ℕ) (load : LoadOp) (store : StoreOp)
         walk_join low p (here registers code memory) (here loaded (drop 1 code) memory) (here (advanced loaded) (drop 4 code) stored) [] [] 1 3
         (load_step registers memory f from_is from_open from_aligned)
         (walk_join low p (here loaded (drop 1 code) memory) (here loaded (drop 2 code) stored) (here (advanced loaded) (drop 4 code) stored) [] [] 1 2
-         (subst (λ bytes. Walk low p (here loaded (drop 1 code) memory) (here loaded (drop 2 code) (with_bytes memory t bytes)) [] 1) (unit_is memory f bytes)
-          (store_step loaded memory t v to_is refl to_open to_aligned))
-         (advance_step loaded stored))
+        (subst (λ bytes. Walk low p (here loaded (drop 1 code) memory) (here loaded (drop 2 code) (with_bytes memory t bytes)) [] 1) (unit_is memory f bytes)
+        (store_step loaded memory t v to_is refl to_open to_aligned))
+        (advance_step loaded stored))
 
     -- what the routine returns
     ends_step : (registers memory : ℕ → ℕ) → Walk low p (here registers ends memory) (standing (behind m operands rest (registers 4) memory m.output) rest) [] 1
@@ -211,8 +204,8 @@ module _ (low : Low) (p : Placement) (r : ℕ) (load : LoadOp) (store : StoreOp)
         walk_join low p (here registers (drop 4 code) memory) (here registers (drop 5 code) memory) end [] [] 1 2
         (walk_past low p (here registers (drop 5 code) memory) Bne (register 0) (register 3) (block_id 1) (drop 5 code) passed)
         (walk_join low p (here registers (drop 5 code) memory) (here registers ends memory) end [] [] 1 1
-         (subst (λ now. Walk low p (here registers (drop 5 code) memory) (here registers now memory) [] 1) end_block (walk_jump low p (here registers [] memory) (block_id 2) []))
-         (ends_step registers memory))
+        (subst (λ now. Walk low p (here registers (drop 5 code) memory) (here registers now memory) [] 1) end_block (walk_jump low p (here registers [] memory) (block_id 2) []))
+        (ends_step registers memory))
 
     again_step : (registers memory : ℕ → ℕ) (t e : ℕ) → registers 0 ≡ t → registers 3 ≡ e → t < e → Walk low p (here registers (drop 4 code) memory) (here registers code memory) [] 1
     again_step registers memory t e is end_is less =
@@ -257,8 +250,8 @@ module _ (low : Low) (p : Placement) (r : ℕ) (load : LoadOp) (store : StoreOp)
               walk_join low p (here registers code memory) (here (advanced loaded) (drop 4 code) stored) end [] [] 4 (1 + most)
               (unit_step registers memory t f to_is from_is (open_front p.rights.writable t (n + k) to_open) (open_front p.rights.readable f (n + k) from_open) to_aligned from_aligned (λ x from before. bytes x from (omega arith)))
               (walk_join low p (here (advanced loaded) (drop 4 code) stored) (here (advanced loaded) code stored) end [] [] 1 most
-               (again_step (advanced loaded) stored (t + n) (t + (n + (n + k))) next end_is (omega arith))
-               more.walk);
+              (again_step (advanced loaded) stored (t + n) (t + (n + (n + k))) next end_is (omega arith))
+              more.walk);
         }
 
     -- the last unit
@@ -302,13 +295,13 @@ module _ (low : Low) (p : Placement) (r : ℕ) (load : LoadOp) (store : StoreOp)
         let end_next : advanced loaded 3 ≡ t + n + (n + n * k) = end_is ∙ omega arith in
         let first = moved_unit memory t f n in
         let more_copied =
-            loop_copied k (n * k) refl (advanced loaded) stored (t + n) (f + n) to_next from_next end_next
-            (open_back p.rights.writable t (n + n * k) to_all) (open_back p.rights.readable f (n + n * k) from_all)
-            (add-mod_right t n ∙ to_aligned) (add-mod_right f n ∙ from_aligned) (apart_on t f (n * k) apart_all)
-            (λ x from before. subst (λ b. b < 2 ^ 8) (sym (first.outside x (source_kept t f (n * k) apart_all x from before))) (bytes x (omega arith) (omega arith))) in
+        loop_copied k (n * k) refl (advanced loaded) stored (t + n) (f + n) to_next from_next end_next
+        (open_back p.rights.writable t (n + n * k) to_all) (open_back p.rights.readable f (n + n * k) from_all)
+        (add-mod_right t n ∙ to_aligned) (add-mod_right f n ∙ from_aligned) (apart_on t f (n * k) apart_all)
+        (λ x from before. subst (λ b. b < 2 ^ 8) (sym (first.outside x (source_kept t f (n * k) apart_all x from before))) (bytes x (omega arith) (omega arith))) in
         subst (λ z. CopiedInside low p m r operands rest registers code memory t f (n + z) (5 * suc k + 7)) (sym split)
         (subst (CopiedInside low p m r operands rest registers code memory t f (n + (n + n * k))) cost
-         (unit_first registers memory t f (n * k) (5 * k + 7) to_is from_is (end_is ∙ ap (λ z. t + (n + z)) split) to_all from_all to_aligned from_aligned apart_all (λ x from before. bytes x from (omega arith)) more_copied))
+        (unit_first registers memory t f (n * k) (5 * k + 7) to_is from_is (end_is ∙ ap (λ z. t + (n + z)) split) to_all from_all to_aligned from_aligned apart_all (λ x from before. bytes x from (omega arith)) more_copied))
 
     abbrev with_end : ℕ → ℕ → ℕ → ℕ → ℕ
     with_end t f k x = cond (nat_eq x 3) ((t + k) % 2 ^ 32) (slice_index (t ∷ f ∷ k ∷ []) x)
@@ -335,9 +328,9 @@ module _ (low : Low) (p : Placement) (r : ℕ) (load : LoadOp) (store : StoreOp)
               walk_join low p first (here registers (drop 1 begins) memory) end [] [] 1 2
               (end_step t f 0 memory)
               (walk_join low p (here registers (drop 1 begins) memory) (here registers ends memory) end [] [] 1 1
-               (subst (λ now. Walk low p (here registers (drop 1 begins) memory) (here registers now memory) [] 1) end_block
-                (walk_branch low p (here registers (drop 2 begins) memory) Beq (register 0) (register 3) (block_id 2) (drop 2 begins) same))
-               (ends_step registers memory));
+              (subst (λ now. Walk low p (here registers (drop 1 begins) memory) (here registers now memory) [] 1) end_block
+              (walk_branch low p (here registers (drop 2 begins) memory) Beq (register 0) (register 3) (block_id 2) (drop 2 begins) same))
+              (ends_step registers memory));
         }
 
     -- k more units than one
@@ -359,10 +352,10 @@ module _ (low : Low) (p : Placement) (r : ℕ) (load : LoadOp) (store : StoreOp)
           walk =
               walk_weaken low p first end [] (1 + (1 + (1 + (5 * k + 7)))) (5 * k + 10) (omega arith)
               (walk_join low p first (here registers (drop 1 begins) memory) end [] [] 1 (1 + (1 + (5 * k + 7)))
-               (end_step t f count memory)
-               (walk_join low p (here registers (drop 1 begins) memory) (here registers (drop 2 begins) memory) end [] [] 1 (1 + (5 * k + 7))
-                (walk_past low p (here registers (drop 2 begins) memory) Beq (register 0) (register 3) (block_id 2) (drop 2 begins) differ)
-                (walk_join low p (here registers (drop 2 begins) memory) (here registers code memory) end [] [] 1 (5 * k + 7)
-                 (subst (λ now. Walk low p (here registers (drop 2 begins) memory) (here registers now memory) [] 1) loop_block (walk_jump low p (here registers [] memory) (block_id 1) []))
-                 inner.walk)));
+              (end_step t f count memory)
+              (walk_join low p (here registers (drop 1 begins) memory) (here registers (drop 2 begins) memory) end [] [] 1 (1 + (5 * k + 7))
+              (walk_past low p (here registers (drop 2 begins) memory) Beq (register 0) (register 3) (block_id 2) (drop 2 begins) differ)
+              (walk_join low p (here registers (drop 2 begins) memory) (here registers code memory) end [] [] 1 (5 * k + 7)
+              (subst (λ now. Walk low p (here registers (drop 2 begins) memory) (here registers now memory) [] 1) loop_block (walk_jump low p (here registers [] memory) (block_id 1) []))
+              inner.walk)));
         }

@@ -7,10 +7,12 @@ pub mod CharRun
 pub mod Contracts
 pub mod CopyCalls
 pub mod CopyRun
+pub mod ExampleRuns
 pub mod NumberRun
 pub mod Programs
 pub mod Signs
 pub mod TakeRun
 pub mod ThenBytes
 pub mod TruthRun
+pub mod ValidRoutines
 pub mod Walks

@@ -1,15 +1,14 @@
 -- The routine that writes a number writes it.
-use Rattle.std.proofs.Common.{◌≡◌, ℕ, ℤ, pos, negsuc, zero, suc, ◌+◌, ◌-◌, ◌*◌, ◌/◌, ◌%◌, ◌^◌, ◌<◌, ◌≤◌, ◌⊎◌, inl, inr, Bool, true, false, cond, not, nat_eq, nat_lt, int_lt, List, [], ◌∷◌, ◌++◌, drop, get_or, length, replicate, slice_index, refl, ap, ap₂, sym, subst, ◌∙◌, arith}
-use Rattle.std.proofs.lemmas.Bool.{cases_lt, cond-false, cond-true}
+use Rattle.std.proofs.Common.{◌≡◌, ℕ, pos, negsuc, zero, suc, ◌+◌, ◌-◌, ◌*◌, ◌/◌, ◌%◌, ◌^◌, ◌<◌, ◌≤◌, inl, inr, true, false, cond, not, nat_eq, nat_lt, int_lt, List, [], ◌∷◌, ◌++◌, drop, get_or, length, replicate, slice_index, refl, ap, ap₂, sym, subst, ◌∙◌, arith}
+use Rattle.std.proofs.lemmas.Bool.{cases_lt, cond-false}
 use Rattle.std.proofs.lemmas.Bool.Decides.{nat_tests}
 use Rattle.std.proofs.lemmas.List.{length-append}
 use Rattle.std.proofs.Math.ListN.{get_or-append}
 use Rattle.std.proofs.Math.Nat.{pow-succ'}
 use Rattle.std.proofs.Math.Seq.{get_or-append_seam}
 use Rattle.std.specs.Int.{bytes_low_first}
-use Rattle.std.specs.Int.RustNames.{unsigned_abs}
-use Rattle.op_low.specs.Machine.{act, cost, cost_by, done, low_machine, shown_by, shows, step, step_by_ending}
-use Rattle.op_low.specs.State.{Placement, State, space, usable, values}
+use Rattle.op_low.specs.Machine.{act, cost, cost_by, done, shown_by, shows, step, step_by_ending}
+use Rattle.op_low.specs.State.{Placement, State, usable, values}
 use Rattle.op_low.specs.declared.code.Counts.{Counts}
 use Rattle.op_low.specs.declared.code.Low.{Low}
 use Rattle.op_low.specs.declared.code.Routine.{Routine}
@@ -138,8 +137,8 @@ module _ (others : List Routine) (entry : RoutineId) (named : Counts) (globals :
         let first = here registers (Store Sb (register 5) (register 3) (pos 0) ∷ is) memory in
         subst (λ x. Walk low p first (here registers is (with_bytes memory a (x ∷ []))) [] 1) digit
         (subst (λ x. Walk low p first (here registers is (with_bytes memory x (bytes_low_first 0 1 (registers 5)))) [] 1) address
-         (walk_store low p state Sb (register 5) (register 3) (pos 0) is
-          (ap (λ x. can_access (usable p.rights.writable state) x 1) address ∙ byte_storable p.rights.writable state a may (omega arith))))
+        (walk_store low p state Sb (register 5) (register 3) (pos 0) is
+        (ap (λ x. can_access (usable p.rights.writable state) x 1) address ∙ byte_storable p.rights.writable state a may (omega arith))))
 
     abbrev with_digit : (ℕ → ℕ) → ℕ → ℕ → ℕ → ℕ
     with_digit memory a n = with_bytes memory (a - 1) ((48 + n % 10) ∷ [])
@@ -152,8 +151,8 @@ module _ (others : List Routine) (entry : RoutineId) (named : Counts) (globals :
         walk_join low p (here registers puts_digit memory) (here (scratch registers) (drop 3 puts_digit) memory) (here (divided registers) (drop 5 puts_digit) stored) [] [] 3 2
         (scratch_step registers memory)
         (walk_join low p (here (scratch registers) (drop 3 puts_digit) memory) (here (scratch registers) (drop 4 puts_digit) stored) (here (divided registers) (drop 5 puts_digit) stored) [] [] 1 1
-         (char_step (scratch registers) memory (drop 4 puts_digit) (a - 1) (48 + n % 10) last digit (omega arith) (omega arith))
-         (divide_step registers stored))
+        (char_step (scratch registers) memory (drop 4 puts_digit) (a - 1) (48 + n % 10) last digit (omega arith) (omega arith))
+        (divide_step registers stored))
 
     -- the digits that stand in front of an address
     record Digits (registers memory : ℕ → ℕ) (a : ℕ) (text : List ℕ) (most : ℕ) : Type 0 where
@@ -201,8 +200,8 @@ module _ (others : List Routine) (entry : RoutineId) (named : Counts) (globals :
               walk_join low p (here registers puts_digit memory) (here (divided registers) (drop 5 puts_digit) stored) (here (divided registers) puts_sign stored) [] [] 5 2
               (digit_step registers memory a n there rest_is ten some few (omega arith))
               (walk_join low p (here (divided registers) (drop 5 puts_digit) stored) (here (divided registers) (drop 6 puts_digit) stored) (here (divided registers) puts_sign stored) [] [] 1 1
-               (walk_past low p (here (divided registers) (drop 6 puts_digit) stored) Bne (register 4) (register 7) (block_id 1) (drop 6 puts_digit) passed)
-               (to_sign_step (divided registers) stored));
+              (walk_past low p (here (divided registers) (drop 6 puts_digit) stored) Bne (register 4) (register 7) (block_id 1) (drop 6 puts_digit) passed)
+              (to_sign_step (divided registers) stored));
         }
 
     -- one more digit behind others
@@ -244,8 +243,8 @@ module _ (others : List Routine) (entry : RoutineId) (named : Counts) (globals :
               walk_join low p (here registers puts_digit memory) (here (divided registers) (drop 5 puts_digit) stored) (here more.registers_after puts_sign more.after) [] [] 5 (1 + most)
               (digit_step registers memory a n there rest_is ten some few small_n)
               (walk_join low p (here (divided registers) (drop 5 puts_digit) stored) (here (divided registers) puts_digit stored) (here more.registers_after puts_sign more.after) [] [] 1 most
-               (walk_branch low p (here (divided registers) (drop 6 puts_digit) stored) Bne (register 4) (register 7) (block_id 1) (drop 6 puts_digit) taken)
-               more.walk);
+              (walk_branch low p (here (divided registers) (drop 6 puts_digit) stored) Bne (register 4) (register 7) (block_id 1) (drop 6 puts_digit) taken)
+              more.walk);
         }
 
     -- the digits of a number, if there is room for so many
@@ -267,8 +266,8 @@ module _ (others : List Routine) (entry : RoutineId) (named : Counts) (globals :
               let cost : 5 + (1 + (6 * k + 7)) ≡ 6 * suc k + 7 = omega arith in
               rw test
               (subst (Digits registers memory a (decimal_by (suc k) (n / 10) ++ (48 + n % 10) ∷ [])) cost
-               (next_digit registers memory a n (decimal_by (suc k) (n / 10)) (6 * k + 7) there rest_is ten nothing (omega arith) few great fits
-                (digits_put k (divided registers) (with_digit memory a n) (a - 1) (n / 10) (one_less_is registers a there (omega arith) few) quotient ten nothing (omega arith) (omega arith) (omega arith) (omega arith))))
+              (next_digit registers memory a n (decimal_by (suc k) (n / 10)) (6 * k + 7) there rest_is ten nothing (omega arith) few great fits
+              (digits_put k (divided registers) (with_digit memory a n) (a - 1) (n / 10) (one_less_is registers a there (omega arith) few) quotient ten nothing (omega arith) (omega arith) (omega arith) (omega arith))))
         ]
       where
         longer : Digits registers memory a ((48 + n) ∷ []) 7 → Digits registers memory a ((48 + n) ∷ []) (6 * suc k + 7)
@@ -341,12 +340,12 @@ module _ (others : List Routine) (entry : RoutineId) (named : Counts) (globals :
           walk =
               walk_weaken low p (here given begins memory) end [] (4 + (1 + (61 + 1))) 73 (omega arith)
               (walk_join low p (here given begins memory) (here begun (drop 4 begins) memory) end [] [] 4 (1 + (61 + 1))
-               (begin_step memory)
-               (walk_join low p (here begun (drop 4 begins) memory) (here begun puts_digit memory) end [] [] 1 (61 + 1)
-                (walk_branch low p (here begun (drop 5 begins) memory) Bge (register 0) (register 7) (block_id 1) (drop 5 begins) test)
-                (walk_join low p (here begun puts_digit memory) (here digits.registers_after puts_sign digits.after) end [] [] 61 1
-                 digits.walk
-                 (walk_branch low p (here digits.registers_after (drop 1 puts_sign) digits.after) Bge (register 0) (register 7) (block_id 3) (drop 1 puts_sign) sign_test))));
+              (begin_step memory)
+              (walk_join low p (here begun (drop 4 begins) memory) (here begun puts_digit memory) end [] [] 1 (61 + 1)
+              (walk_branch low p (here begun (drop 5 begins) memory) Bge (register 0) (register 7) (block_id 1) (drop 5 begins) test)
+              (walk_join low p (here begun puts_digit memory) (here digits.registers_after puts_sign digits.after) end [] [] 61 1
+              digits.walk
+              (walk_branch low p (here digits.registers_after (drop 1 puts_sign) digits.after) Bge (register 0) (register 7) (block_id 3) (drop 1 puts_sign) sign_test))));
         }
 
     made_negative : (memory : ℕ → ℕ) → 2 ^ 31 ≤ value → Made memory (45 ∷ decimal_by 10 (2 ^ 32 - value))
@@ -376,26 +375,29 @@ module _ (others : List Routine) (entry : RoutineId) (named : Counts) (globals :
           from = omega arith;
           length_is = omega arith;
           stands = negative_stands digits.after digits.first text (omega arith) digits.stands;
-          below = λ x lower. with_bytes-below digits.after at (45 ∷ []) x (omega arith) ∙ digits.below x (omega arith);
+          below = negative_below memory digits.after digits.first (omega arith) digits.below;
           walk =
               walk_weaken low p (here given begins memory) end [] (4 + (1 + (2 + (61 + (1 + (2 + (1 + 1))))))) 73 (omega arith)
               (walk_join low p (here given begins memory) (here begun (drop 4 begins) memory) end [] [] 4 (1 + (2 + (61 + (1 + (2 + (1 + 1))))))
-               (begin_step memory)
-               (walk_join low p (here begun (drop 4 begins) memory) (here begun (drop 5 begins) memory) end [] [] 1 (2 + (61 + (1 + (2 + (1 + 1)))))
-                (walk_past low p (here begun (drop 5 begins) memory) Bge (register 0) (register 7) (block_id 1) (drop 5 begins) test)
-                (walk_join low p (here begun (drop 5 begins) memory) (here negated puts_digit memory) end [] [] 2 (61 + (1 + (2 + (1 + 1))))
-                 (negate_step memory)
-                 (walk_join low p (here negated puts_digit memory) (here digits.registers_after puts_sign digits.after) end [] [] 61 (1 + (2 + (1 + 1)))
-                  digits.walk
-                  (walk_join low p (here digits.registers_after puts_sign digits.after) (here digits.registers_after (drop 1 puts_sign) digits.after) end [] [] 1 (2 + (1 + 1))
-                   (walk_past low p (here digits.registers_after (drop 1 puts_sign) digits.after) Bge (register 0) (register 7) (block_id 3) (drop 1 puts_sign) sign_test)
-                   (walk_join low p (here digits.registers_after (drop 1 puts_sign) digits.after) (here registers (drop 3 puts_sign) digits.after) end [] [] 2 (1 + 1)
-                    (minus_step digits.registers_after digits.after)
-                    (walk_join low p (here registers (drop 3 puts_sign) digits.after) (here registers (drop 4 puts_sign) stored) end [] [] 1 1
-                     (char_step registers digits.after (drop 4 puts_sign) at 45 address refl (omega arith) (omega arith))
-                     (to_text_step registers stored))))))));
+              (begin_step memory)
+              (walk_join low p (here begun (drop 4 begins) memory) (here begun (drop 5 begins) memory) end [] [] 1 (2 + (61 + (1 + (2 + (1 + 1)))))
+              (walk_past low p (here begun (drop 5 begins) memory) Bge (register 0) (register 7) (block_id 1) (drop 5 begins) test)
+              (walk_join low p (here begun (drop 5 begins) memory) (here negated puts_digit memory) end [] [] 2 (61 + (1 + (2 + (1 + 1))))
+              (negate_step memory)
+              (walk_join low p (here negated puts_digit memory) (here digits.registers_after puts_sign digits.after) end [] [] 61 (1 + (2 + (1 + 1)))
+              digits.walk
+              (walk_join low p (here digits.registers_after puts_sign digits.after) (here digits.registers_after (drop 1 puts_sign) digits.after) end [] [] 1 (2 + (1 + 1))
+              (walk_past low p (here digits.registers_after (drop 1 puts_sign) digits.after) Bge (register 0) (register 7) (block_id 3) (drop 1 puts_sign) sign_test)
+              (walk_join low p (here digits.registers_after (drop 1 puts_sign) digits.after) (here registers (drop 3 puts_sign) digits.after) end [] [] 2 (1 + 1)
+              (minus_step digits.registers_after digits.after)
+              (walk_join low p (here registers (drop 3 puts_sign) digits.after) (here registers (drop 4 puts_sign) stored) end [] [] 1 1
+              (char_step registers digits.after (drop 4 puts_sign) at 45 address refl (omega arith) (omega arith))
+              (to_text_step registers stored))))))));
         }
       where
+        negative_below : (before memory : ℕ → ℕ) (first : ℕ) → m.limit < first → ((x : ℕ) → x < first → memory x ≡ before x) → (x : ℕ) → x < m.limit → with_bytes memory (first - 1) (45 ∷ []) x ≡ before x
+        negative_below before memory first some below x lower = with_bytes-below memory (first - 1) (45 ∷ []) x (omega arith) ∙ below x (omega arith)
+
         negative_stands : (memory : ℕ → ℕ) (first : ℕ) (text : List ℕ) → 0 < first → ((j : ℕ) → j < length text → memory (first + j) ≡ get_or text j 0) → (j : ℕ) → j < length (45 ∷ text) → with_bytes memory (first - 1) (45 ∷ []) (first - 1 + j) ≡ get_or (45 ∷ text) j 0
         negative_stands memory first text some each zero within =
             let place : first - 1 + 0 - (first - 1) ≡ 0 = omega arith in
@@ -423,11 +425,11 @@ module _ (others : List Routine) (entry : RoutineId) (named : Counts) (globals :
         let registers = with_length made.registers_after in
         let size_is : registers 5 ≡ length text = ap₂ (alu_value Sub) made.end_is made.address ∙ omega arith in
         let stands : StandsAt p (here registers [] made.after) made.first text =
-            record {
-              readable = λ x at before. room.readable x (omega arith) (omega arith);
-              below = omega arith;
-              stands = bytes_there made.after made.first text made.stands;
-            } in
+        record {
+          readable = λ x at before. room.readable x (omega arith) (omega arith);
+          below = omega arith;
+          stands = bytes_there made.after made.first text made.stands;
+        } in
         let last = bytes_last others entry named globals p small_blanks small_bytes m write_number_number operands rest registers made.after m.output (register 3) (register 5) (register 1) (register 5) made.first width text made.address size_is made.width_is (omega arith) (λ x lower. made.below x lower ∙ kept x lower) spaces stands (omega arith) wide in
         let end = standing (behind m operands rest last.value last.memory (m.output ++ bytes)) rest in
         record {
@@ -439,10 +441,10 @@ module _ (others : List Routine) (entry : RoutineId) (named : Counts) (globals :
           walk =
               walk_weaken low p (here given begins memory) end last.pieces (73 + (1 + (length bytes + 156))) (length bytes + 230) (omega arith)
               (walk_join low p (here given begins memory) (here made.registers_after writes_text made.after) end [] last.pieces 73 (1 + (length bytes + 156))
-               made.walk
-               (walk_join low p (here made.registers_after writes_text made.after) (here registers (drop 1 writes_text) made.after) end [] last.pieces 1 (length bytes + 156)
-                (length_step made.registers_after made.after)
-                last.walk));
+              made.walk
+              (walk_join low p (here made.registers_after writes_text made.after) (here registers (drop 1 writes_text) made.after) end [] last.pieces 1 (length bytes + 156)
+              (length_step made.registers_after made.after)
+              last.walk));
         }
 
     any_number : (memory : ℕ → ℕ) → ((x : ℕ) → x < m.limit → memory x ≡ m.memory x) → WrittenInside low p m write_number_number operands rest given begins memory m.output (padded (width_of (signed width)) (text_of_number (signed value))) (length (padded (width_of (signed width)) (text_of_number (signed value))) + 230)

@@ -1,9 +1,8 @@
 -- Words as numbers with a sign.
-use Rattle.std.proofs.Common.{◌≡◌, ℕ, ℤ, pos, negsuc, ◌-◌, ◌<◌, ◌≤◌, ◌^◌, Bool, true, false, not, int_lt, nat_lt, refl, ap, ◌∙◌, arith}
+use Rattle.std.proofs.Common.{◌≡◌, ℕ, pos, negsuc, ◌-◌, ◌<◌, ◌≤◌, ◌^◌, true, false, not, int_lt, nat_lt, refl, ap, ◌∙◌, arith}
 use Rattle.std.proofs.lemmas.Bool.{cond-false}
 use Rattle.std.proofs.lemmas.Bool.Decides.{nat_tests}
 use Rattle.std.proofs.lemmas.Int.{ints}
-use Rattle.std.specs.Int.RustNames.{unsigned_abs}
 use Rattle.op_meaning.specs.Texts.{width_of}
 use Rattle.op_rv.specs.Operation.{branch_taken, signed}
 use Rattle.op_rv.specs.declared.instruction.BranchOp.TheVariants.{Bge}

@@ -1,10 +1,10 @@
 -- The routine that takes a value does it.
-use Rattle.std.proofs.Common.{◌≡◌, ℕ, pos, zero, suc, ◌+◌, ◌-◌, ◌*◌, ◌/◌, ◌%◌, ◌^◌, ◌<◌, ◌≤◌, ◌⊎◌, inl, inr, Bool, true, false, ◌&&◌, cond, not, nat_eq, nat_le, nat_lt, None, List, [], ◌∷◌, ◌++◌, drop, length, replicate, slice_index, refl, ap, ap₂, sym, subst, ◌∙◌, arith}
+use Rattle.std.proofs.Common.{◌≡◌, ℕ, pos, ◌+◌, ◌*◌, ◌%◌, ◌^◌, ◌<◌, ◌≤◌, inl, inr, true, false, cond, not, nat_eq, nat_lt, None, List, [], ◌∷◌, drop, replicate, slice_index, refl, ap, ap₂, sym, subst, ◌∙◌, arith}
 use Rattle.std.proofs.lemmas.Bool.{and_from, cases_lt}
 use Rattle.std.proofs.lemmas.Bool.Decides.{nat_tests}
 use Rattle.std.proofs.lemmas.Nat.{and_mask}
-use Rattle.op_low.specs.Machine.{act, cost, cost_by, done, low_machine, shown_by, shows, step, step_by_ending}
-use Rattle.op_low.specs.State.{Placement, State, space, usable, values}
+use Rattle.op_low.specs.Machine.{act, cost, cost_by, done, shown_by, shows, step, step_by_ending}
+use Rattle.op_low.specs.State.{Placement, State, usable, values}
 use Rattle.op_low.specs.declared.code.Counts.{Counts}
 use Rattle.op_low.specs.declared.code.Low.{Low}
 use Rattle.op_low.specs.declared.code.Routine.{Routine}
@@ -14,14 +14,13 @@ use Rattle.op_low.specs.declared.instruction.Instruction.TheVariants.{Return}
 use Rattle.op_rt_text.specs.Names.{block_id, copy_bytes_number, copy_words_number, register, take_number}
 use Rattle.op_rt_text.specs.Running.{Allowed, Copyable, HasRoom, behind}
 use Rattle.op_rt_text.specs.Take.{begins, copies}
-use Rattle.op_rt_text.proofs.BytesLemmas.{all_usable}
 use Rattle.op_rt_text.proofs.Calls.{cleared, inside, walk_leave}
-use Rattle.op_rt_text.proofs.CopyCalls.{Copied, CopiedBelow, begun_bytes, bytes_copied, call_copied, words_called}
+use Rattle.op_rt_text.proofs.CopyCalls.{Copied, CopiedBelow, bytes_copied, call_copied, words_called}
 use Rattle.op_rt_text.proofs.Programs.{program}
 use Rattle.op_rt_text.proofs.Walks.{Walk, standing, walk_branch, walk_join, walk_load, walk_past, walk_weaken}
 use Rattle.op_rv.proofs.Memory.{can_access_word, with_bytes-below, word_at-same}
 use Rattle.op_rv.specs.Operation.{branch_taken, imm_value, word_from}
-use Rattle.op_rv.specs.State.{bytes_from, with_bytes, word_at}
+use Rattle.op_rv.specs.State.{word_at}
 use Rattle.op_rv.specs.Step.{can_access, offset_from}
 use Rattle.op_rv.specs.declared.instruction.BranchOp.TheVariants.{Bne}
 use Rattle.op_rv.specs.declared.instruction.ImmOp.TheVariants.{Andi}
@@ -58,8 +57,8 @@ module _ (others : List Routine) (entry : RoutineId) (named : Counts) (globals :
         let state = here given (drop 1 begins) memory in
         let there : offset_from to (pos 0) ≡ to = omega arith in
         let may : can_access (usable p.rights.readable state) to 4 ≡ true =
-            can_access_word (usable p.rights.readable state) to whole
-            (λ x at before. and_from (p.rights.readable x) (nat_lt x state.limit) (word.may x at before) (grind (arith, nat_tests))) in
+        can_access_word (usable p.rights.readable state) to whole
+        (λ x at before. and_from (p.rights.readable x) (nat_lt x state.limit) (word.may x at before) (grind (arith, nat_tests))) in
         let found : word_at memory (offset_from to (pos 0)) ≡ from = ap (word_at memory) there ∙ word_at-same m.memory memory to (λ x at before. kept x (omega arith)) ∙ is in
         subst (λ v. Walk low p (here given begins memory) (here (λ r. cond (nat_eq r 2) v (given r)) (drop 1 begins) memory) [] 1) found
         (walk_load low p state Lw (register 2) (register 0) (pos 0) (drop 1 begins) (ap (λ a. can_access (usable p.rights.readable state) a 4) there ∙ may))
@@ -163,15 +162,15 @@ module _ (others : List Routine) (entry : RoutineId) (named : Counts) (globals :
           | inl some ↦
               at_most size_left (drop 4 begins) (1 + (78 + 5 * size + 1)) (80 + 5 * size + 1) (omega arith)
               (then_copied size_left (drop 4 begins) (copies copy_bytes_number) size_left 1 (78 + 5 * size + 1)
-               (walk_branch low p (here size_left (drop 5 begins) memory) Bne (register 3) (register 4) (block_id 2) (drop 5 begins) (left_is size from_left some))
-               (by_bytes size_left refl refl refl))
+              (walk_branch low p (here size_left (drop 5 begins) memory) Bne (register 3) (register 4) (block_id 2) (drop 5 begins) (left_is size from_left some))
+              (by_bytes size_left refl refl refl))
           | inr none ↦
               at_most size_left (drop 4 begins) (1 + (1 + (78 + 2 * size + 1))) (80 + 5 * size + 1) (omega arith)
               (then_copied size_left (drop 4 begins) (drop 5 begins) size_left 1 (1 + (78 + 2 * size + 1))
-               (walk_past low p (here size_left (drop 5 begins) memory) Bne (register 3) (register 4) (block_id 2) (drop 5 begins) (none_left size from_left (omega arith)))
-               (then_copied size_left (drop 5 begins) (copies copy_words_number) size_left 1 (78 + 2 * size + 1)
-                (words_step size_left)
-                (by_words size_left refl refl refl from_whole (omega arith))))
+              (walk_past low p (here size_left (drop 5 begins) memory) Bne (register 3) (register 4) (block_id 2) (drop 5 begins) (none_left size from_left (omega arith)))
+              (then_copied size_left (drop 5 begins) (copies copy_words_number) size_left 1 (78 + 2 * size + 1)
+              (words_step size_left)
+              (by_words size_left refl refl refl from_whole (omega arith))))
         ]
 
     by_from : CopiedBelow low p m take_number operands rest from_left (drop 2 begins) memory to from size (82 + 5 * size + 1)
@@ -180,22 +179,22 @@ module _ (others : List Routine) (entry : RoutineId) (named : Counts) (globals :
           | inl some ↦
               at_most from_left (drop 2 begins) (1 + (78 + 5 * size + 1)) (82 + 5 * size + 1) (omega arith)
               (then_copied from_left (drop 2 begins) (copies copy_bytes_number) from_left 1 (78 + 5 * size + 1)
-               (walk_branch low p (here from_left (drop 3 begins) memory) Bne (register 3) (register 4) (block_id 2) (drop 3 begins) (left_is from with_from some))
-               (by_bytes from_left refl refl refl))
+              (walk_branch low p (here from_left (drop 3 begins) memory) Bne (register 3) (register 4) (block_id 2) (drop 3 begins) (left_is from with_from some))
+              (by_bytes from_left refl refl refl))
           | inr none ↦
               at_most from_left (drop 2 begins) (1 + (1 + (80 + 5 * size + 1))) (82 + 5 * size + 1) (omega arith)
               (then_copied from_left (drop 2 begins) (drop 3 begins) from_left 1 (1 + (80 + 5 * size + 1))
-               (walk_past low p (here from_left (drop 3 begins) memory) Bne (register 3) (register 4) (block_id 2) (drop 3 begins) (none_left from with_from (omega arith)))
-               (then_copied from_left (drop 3 begins) (drop 4 begins) size_left 1 (80 + 5 * size + 1)
-                (size_step from_left refl)
-                (by_size (omega arith))))
+              (walk_past low p (here from_left (drop 3 begins) memory) Bne (register 3) (register 4) (block_id 2) (drop 3 begins) (none_left from with_from (omega arith)))
+              (then_copied from_left (drop 3 begins) (drop 4 begins) size_left 1 (80 + 5 * size + 1)
+              (size_step from_left refl)
+              (by_size (omega arith))))
         ]
 
     take_inside : CopiedBelow low p m take_number operands rest given begins memory to from size (84 + 5 * size + 1)
     take_inside =
         at_most given begins (1 + (1 + (82 + 5 * size + 1))) (84 + 5 * size + 1) (omega arith)
         (then_copied given begins (drop 1 begins) with_from 1 (1 + (82 + 5 * size + 1)) load_step
-         (then_copied with_from (drop 1 begins) (drop 2 begins) from_left 1 (82 + 5 * size + 1) from_step by_from))
+        (then_copied with_from (drop 1 begins) (drop 2 begins) from_left 1 (82 + 5 * size + 1) from_step by_from))
 
   -- a call of the routine
   pub take_called : (m : State) (operands : Operands) (rest : List Instruction) (to from size : ℕ) → values m operands.arguments ≡ to ∷ size ∷ [] → HasRoom p m 128 → Copyable p m to from size → to % 4 ≡ 0 → Allowed p.rights.readable m.limit to 4 → word_at m.memory to ≡ from → Copied low p m take_number operands rest to from size (152 + 5 * size)

@@ -1,5 +1,5 @@
 -- A routine that ends by writing bytes of memory, with blanks in front.
-use Rattle.std.proofs.Common.{◌≡◌, ℕ, ◌+◌, ◌-◌, ◌^◌, ◌<◌, ◌≤◌, cond, nat_eq, None, List, [], ◌∷◌, ◌++◌, length, replicate, refl, ap, ap₂, ◌∙◌, append-nil, arith}
+use Rattle.std.proofs.Common.{◌≡◌, ℕ, ◌+◌, ◌^◌, ◌<◌, ◌≤◌, cond, nat_eq, None, List, [], ◌∷◌, ◌++◌, length, replicate, ap, ap₂, ◌∙◌, append-nil, arith}
 use Rattle.std.specs.List.{concat}
 use Rattle.op_low.specs.State.{Placement, State, space}
 use Rattle.op_low.specs.declared.code.Counts.{Counts}
@@ -15,7 +15,7 @@ use Rattle.op_rt_text.specs.Running.{StandsAt, behind}
 use Rattle.op_rt_text.proofs.BytesRun.{bytes_called, stands_on}
 use Rattle.op_rt_text.proofs.Calls.{inside, walk_leave}
 use Rattle.op_rt_text.proofs.Programs.{WrittenInside, program}
-use Rattle.op_rt_text.proofs.Walks.{Walk, standing, walk_join, walk_weaken}
+use Rattle.op_rt_text.proofs.Walks.{standing, walk_join, walk_weaken}
 use Rattle.op_rv.specs.Operation.{signed}
 use Rattle.op_rv.specs.declared.objects.GlobalVariable.{GlobalVariable}
 use Rattle.op_rv.specs.declared.symbol.RoutineId.{RoutineId}
@@ -43,6 +43,6 @@ module _ (others : List Routine) (entry : RoutineId) (named : Counts) (globals :
         walk =
             walk_weaken low p (inside low p m r operands rest registers (call write_bytes_number (address ∷ size ∷ wide ∷ []) to ∷ Return to ∷ []) memory output) end (calls.pieces ++ []) (length bytes + 155 + 1) (length bytes + 156) (omega arith)
             (walk_join low p (inside low p m r operands rest registers (call write_bytes_number (address ∷ size ∷ wide ∷ []) to ∷ Return to ∷ []) memory output) (inside low p m r operands rest after (Return to ∷ []) calls.memory (output ++ bytes)) end calls.pieces [] (length bytes + 155) 1
-             calls.walk
-             (walk_leave low p m r operands rest after to [] calls.memory (output ++ bytes) (omega arith)));
+            calls.walk
+            (walk_leave low p m r operands rest after to [] calls.memory (output ++ bytes) (omega arith)));
       }

@@ -1,9 +1,9 @@
 -- The routine that writes a truth writes it.
-use Rattle.std.proofs.Common.{◌≡◌, ℕ, ℤ, pos, negsuc, zero, suc, ◌+◌, ◌-◌, ◌%◌, ◌^◌, ◌<◌, ◌≤◌, inl, inr, Bool, true, false, cond, not, nat_eq, nat_lt, List, [], ◌∷◌, ◌++◌, codes, drop, length, replicate, slice_index, refl, ap, sym, ◌∙◌, arith}
-use Rattle.std.proofs.lemmas.Bool.{cases_lt, cond-false, cond-true}
+use Rattle.std.proofs.Common.{◌≡◌, ℕ, pos, ◌+◌, ◌^◌, ◌<◌, ◌≤◌, inl, inr, true, false, cond, not, nat_eq, nat_lt, List, [], ◌∷◌, ◌++◌, codes, drop, length, replicate, slice_index, refl, ap, ◌∙◌, arith}
+use Rattle.std.proofs.lemmas.Bool.{cases_lt, cond-false}
 use Rattle.std.proofs.lemmas.Bool.Decides.{nat_tests}
 use Rattle.std.specs.Ordering.{int_eq}
-use Rattle.op_low.specs.Machine.{act, cost, cost_by, done, low_machine, shown_by, shows, step, step_by_ending}
+use Rattle.op_low.specs.Machine.{act, cost, cost_by, done, shown_by, shows, step, step_by_ending}
 use Rattle.op_low.specs.State.{Placement, State, values}
 use Rattle.op_low.specs.declared.code.Counts.{Counts}
 use Rattle.op_low.specs.declared.code.Low.{Low}
@@ -12,7 +12,7 @@ use Rattle.op_low.specs.declared.instruction.Call.{Call as Operands}
 use Rattle.op_low.specs.declared.instruction.Instruction.{Instruction}
 use Rattle.op_meaning.specs.Texts.{padded, text_of_truth, width_of}
 use Rattle.op_rt_text.specs.Names.{block_id, false_text, register, true_text, write_blanks_number, write_bytes_number, write_truth_number}
-use Rattle.op_rt_text.specs.Running.{HasRoom, HasTexts, StandsAt, behind}
+use Rattle.op_rt_text.specs.Running.{HasTexts, StandsAt, behind}
 use Rattle.op_rt_text.specs.Truth.{chooses, writes_literal}
 use Rattle.op_rt_text.proofs.BytesRun.{stands_on}
 use Rattle.op_rt_text.proofs.Calls.{cleared, inside}
@@ -79,8 +79,8 @@ module _ (others : List Routine) (entry : RoutineId) (named : Counts) (globals :
           walk =
               walk_weaken low p (here given (writes_literal symbol n)) end last.pieces (2 + (length bytes + 156)) (length bytes + 158) (omega arith)
               (walk_join low p (here given (writes_literal symbol n)) (here (with_literal symbol n) (drop 2 (writes_literal symbol n))) end [] last.pieces 2 (length bytes + 156)
-               (sets symbol n)
-               last.walk);
+              (sets symbol n)
+              last.walk);
         }
 
     -- behind the choice
@@ -110,8 +110,8 @@ module _ (others : List Routine) (entry : RoutineId) (named : Counts) (globals :
               let taken : branch_taken Bne value 0 ≡ true = ap not test in
               rw (true_of_word value some word)
               (chosen true_text 4 (padded (width_of (signed width)) (codes "TRUE"))
-               (walk_weaken low p (here given chooses) (here given (writes_literal true_text 4)) [] 1 2 (omega arith) (walk_branch low p (here given chooses) Bne (register 0) (register 4) (block_id 2) (drop 1 chooses) taken))
-               (literal_written true_text (codes "TRUE") texts.truth (omega arith)))
+              (walk_weaken low p (here given chooses) (here given (writes_literal true_text 4)) [] 1 2 (omega arith) (walk_branch low p (here given chooses) Bne (register 0) (register 4) (block_id 2) (drop 1 chooses) taken))
+              (literal_written true_text (codes "TRUE") texts.truth (omega arith)))
           | inr nothing ↦
               let test : nat_eq value 0 ≡ true = grind (arith, nat_tests) in
               let passed : branch_taken Bne value 0 ≡ false = ap not test in
@@ -119,10 +119,10 @@ module _ (others : List Routine) (entry : RoutineId) (named : Counts) (globals :
               let text : text_of_truth (signed value) ≡ codes "FALSE" = ap (λ v. text_of_truth (signed v)) is in
               rw text
               (chosen false_text 5 (padded (width_of (signed width)) (codes "FALSE"))
-               (walk_join low p (here given chooses) (here given (drop 1 chooses)) (here given (writes_literal false_text 5)) [] [] 1 1
-                (walk_past low p (here given chooses) Bne (register 0) (register 4) (block_id 2) (drop 1 chooses) passed)
-                goes_to_false)
-               (literal_written false_text (codes "FALSE") texts.falsehood (omega arith)))
+              (walk_join low p (here given chooses) (here given (drop 1 chooses)) (here given (writes_literal false_text 5)) [] [] 1 1
+              (walk_past low p (here given chooses) Bne (register 0) (register 4) (block_id 2) (drop 1 chooses) passed)
+              goes_to_false)
+              (literal_written false_text (codes "FALSE") texts.falsehood (omega arith)))
         ]
 
   -- a call of the routine

@@ -1,5 +1,5 @@
 -- Walks of the machine of low code: so many steps that write pieces and come to a state that goes on.
-use Rattle.std.proofs.Common.{◌≡◌, ◌≢◌, ℕ, ℤ, zero, suc, ◌+◌, ◌-◌, ◌<◌, ◌≤◌, Bool, true, false, cond, List, [], ◌∷◌, ◌++◌, map, refl, append-nil, ap, ap₂, sym, subst, ◌∙◌, arith}
+use Rattle.std.proofs.Common.{◌≡◌, ◌≢◌, ℕ, ℤ, ◌+◌, ◌≤◌, true, false, List, [], ◌∷◌, ◌++◌, refl, append-nil, ap, ap₂, sym, ◌∙◌, arith}
 use Rattle.std.proofs.lemmas.Bool.{cond-false, cond-true}
 use Rattle.std.proofs.lemmas.List.{map-append}
 use Rattle.std.specs.Int.{bytes_low_first}
@@ -91,9 +91,9 @@ module _ (low : Low) (p : Placement) where
   walk_write m buffer length is bytes may are =
       walk_act m (standing (record m { output = m.output ++ bytes }) is) (Write Console buffer length) is (bytes ∷ [])
       (cond-true (all_from (usable p.rights.readable m) (value m buffer) (value m length)) (standing (record m { output = m.output ++ bytes_from m.memory (value m buffer) (value m length) }) is) (bad (standing m is)) may
-       ∙ ap (λ bytes. standing (record m { output = m.output ++ bytes }) is) are)
+      ∙ ap (λ bytes. standing (record m { output = m.output ++ bytes }) is) are)
       (cond-true (all_from (usable p.rights.readable m) (value m buffer) (value m length)) (Written Console (bytes_from m.memory (value m buffer) (value m length)) ∷ []) [] may
-       ∙ ap (λ bytes. Written Console bytes ∷ []) are)
+      ∙ ap (λ bytes. Written Console bytes ∷ []) are)
       1 (omega arith) (omega arith)
 
   -- to memory that may be written

@@ -2,6 +2,7 @@ pub mod Blanks
 pub mod Bytes
 pub mod Char
 pub mod Copying
+pub mod Example
 pub mod Names
 pub mod Number
 pub mod Running

@@ -55,6 +55,9 @@ pub record Copyable (p : Placement) (m : State) (to from count : ℕ) : Type 0 w
 
 -- ---- a call
 
+abbrev pub blank_text : ℕ → List ℕ
+blank_text n = replicate n 32
+
 -- The next instruction is a call of the run-time routine of this number, which is there, with these words as arguments, and `rest`
 -- stands behind it. The stack has room.
 pub record Called (low : Low) (p : Placement) (m : State) (number : ℕ) (arguments : List ℕ) (operands : Operands) (rest : List Instruction) : Type 0 where

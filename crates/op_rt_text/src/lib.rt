@@ -14,6 +14,7 @@ mod number;
 mod parts;
 mod runtime;
 mod taking;
+mod theorems;
 mod truth;
 
 pub use ids::{
@@ -21,3 +22,4 @@ pub use ids::{
     WRITE_BYTES, WRITE_CHAR, WRITE_NUMBER, WRITE_TRUTH,
 };
 pub use runtime::routines;
+pub use theorems::{examples_run, memory_is_copied, routines_are_valid, texts_are_written};

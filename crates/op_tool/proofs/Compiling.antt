@@ -54,11 +54,11 @@ ok_also (Err e) f holds = holds
 -- an image of a program's code is one of the program
 pub made_of_code : (stored : Option (List NamedFile)) (name : List ℕ) (forest : Forest) (core : Core) (image : List ℕ) → IsProgram stored name forest core → output_of forest.trees core ≡ None → IsCodeImage core image → Made stored name image
 made_of_code stored name forest core image is none is_image =
-    by_code (record { mir = is_image.mir; has_code = record { has_output = record { forest = forest; core = core; is_program = is; writes = none }; lowers = is_image.lowers }; built = is_image.built })
+    by_code (record { mir = is_image.mir; has_code = record { has_output = record { forest = forest; core = core; is_program = is; writes = none }; lowers = is_image.lowers; manages = is_image.manages }; built = is_image.built })
 
 fails_to_build : (stored : Option (List NamedFile)) (name : List ℕ) (forest : Forest) (core : Core) (error : BuildError) → IsProgram stored name forest core → output_of forest.trees core ≡ None → IsNoCodeImage core error → FailsToBuild stored name error
 fails_to_build stored name forest core error is none no_image =
-    record { mir = no_image.mir; has_code = record { has_output = record { forest = forest; core = core; is_program = is; writes = none }; lowers = no_image.lowers }; why = no_image.why }
+    record { mir = no_image.mir; has_code = record { has_output = record { forest = forest; core = core; is_program = is; writes = none }; lowers = no_image.lowers; manages = no_image.manages }; why = no_image.why }
 
 -- why a program has none
 pub fails_as_code : (stored : Option (List NamedFile)) (name : List ℕ) (before after : ℕ) (forest : Forest) (core : Core) (error : CompileError) → IsProgram stored name forest core → output_of forest.trees core ≡ None → HasNoCodeImage core name error → FailsAs stored name before after error

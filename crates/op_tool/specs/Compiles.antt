@@ -14,7 +14,8 @@ use Rattle.op_check_unit.specs.Rules.{Obeys, ProgramBreaks}
 use Rattle.op_core.specs.declared.error.CheckError.{CheckError}
 use Rattle.op_core.specs.declared.error.CheckError.TheVariants as check
 use Rattle.op_core.specs.declared.program.Core.{Core}
-use Rattle.op_lower.specs.Lowering.{Lowers}
+use Rattle.op_lower.specs.Lowers.{Lowers}
+use Rattle.op_managed.specs.Managed.{Manages}
 use Rattle.op_mir.specs.declared.code.Mir.{Mir}
 use Rattle.op_tool.specs.ConstantLines.{output_of}
 use Rattle.op_tool.specs.Prints.{Prints}
@@ -55,10 +56,11 @@ pub record Compiles (stored : Option (List NamedFile)) (name image output : List
   pub has_output : HasOutput stored name (Some output)
   pub prints : Prints image output
 
--- the program is of another form, and this is its managed code
+-- the program is of another form, and this is its managed code, which goes along with the source machine where the program is plain
 pub record HasCode (stored : Option (List NamedFile)) (name : List ℕ) (mir : Mir) : Type 0 where
   pub has_output : HasOutput stored name None
   pub lowers : Lowers has_output.core mir
+  pub manages : Manages has_output.core mir
 
 -- the image is that of the program's managed code
 pub record CompilesCode (stored : Option (List NamedFile)) (name image : List ℕ) : Type 0 where
@@ -143,12 +145,14 @@ HasNoImage output NoMemory = ⊤
 pub record IsCodeImage (core : Core) (image : List ℕ) : Type 0 where
   pub mir : Mir
   pub lowers : Lowers core mir
+  pub manages : Manages core mir
   pub built : IsBuilt core mir default image
 
 -- managed code of a typed program that has no image, for this cause
 pub record IsNoCodeImage (core : Core) (error : BuildError) : Type 0 where
   pub mir : Mir
   pub lowers : Lowers core mir
+  pub manages : Manages core mir
   pub why : IsNotBuilt core mir default error
 
 -- why a typed program in this file has no image

@@ -10,7 +10,7 @@ use op_build::{BuildError, build};
 use op_check_unit::check;
 use op_core::{CheckError, Core};
 use op_link::{LinkError, Settings};
-use op_lower::lower;
+use op_managed::middle;
 use op_units::{Forest, LoadError, load};
 use std::alloc::Global;
 
@@ -132,7 +132,7 @@ fn code_image(alloc: Global, main: &str, core: &Core) -> Result<Vec<u8>, Compile
     ensures made { IfOk result (λ image. IsCodeImage core.now image.items) }
     ensures failed { IfErr result (HasNoCodeImage core.now main.now) }
 {
-    let mir = lower(alloc, core)?;
+    let mir = middle(alloc, core)?;
     match build(alloc, core, &mir, &Settings::DEFAULT) {
         Ok(image) => Ok(image),
         Err(BuildError::Limit) => Err(CompileError::Limit),
