@@ -177,7 +177,7 @@ class Program:
             lambda: f"({a} {self.one(['shl', 'shr'])} {self.one([1, 3, 8, 31, f'({b} and 31)'])})",
             lambda: f"({a} + {self.leaf(scope)} - {b})",
             lambda: f"({self.one(['-', 'not '])}{a})",
-            lambda: self.one([f"Abs({c} mod 1000)", f"Sqr({c} and 1023)", f"Succ({a})", f"Pred({a})", f"Ord('abcdefgh'[({c} and 7) + 1])"]),
+            lambda: self.one([f"Abs(Integer({c}) mod 1000)", f"Sqr(Integer({c}) and 1023)", f"Succ({a})", f"Pred({a})", f"Ord('abcdefgh'[({c} and 7) + 1])"]),
             lambda: f"Ord({self.one([self.condition(depth - 1, scope), self.within(self.colour, 0, scope), self.value(self.char, 0, scope)])})",
             lambda: (self.called(self.one(calls), depth - 1, scope) if calls else None) or c,
         ]
