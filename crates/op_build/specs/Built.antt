@@ -4,7 +4,7 @@ use Rattle.op_build.specs.declared.building.BuildError.{BuildError}
 use Rattle.op_build.specs.declared.building.BuildError.TheVariants.{Limit, Unbuildable, NoMemory}
 use Rattle.op_constants.specs.Literals.{literals_of}
 use Rattle.op_core.specs.declared.program.Core.{Core}
-use Rattle.op_expand.specs.Low.{low_of}
+use Rattle.op_expand.specs.Programs.{low_of}
 use Rattle.op_image.specs.Building.{is_buildable}
 use Rattle.op_image.specs.Means.{Means}
 use Rattle.op_layout.specs.Places.{layout_of}
