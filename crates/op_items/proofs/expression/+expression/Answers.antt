@@ -6,7 +6,7 @@ use Rattle.op_core.specs.Sizes.{type_at}
 use Rattle.op_items.proofs.Behind.{map_ok}
 use Rattle.op_items.proofs.Finding.{acts_gives, find_begins, find_ends, find_goes_on, index_gives, makes, stands, step_gives, step_ok, two_gives}
 use Rattle.op_items.proofs.Productions.{call_found, construct_found, gather_ends, gather_goes_on, no_array, not_given, one_gathered, pass_adds, pass_ends, pass_given, range_gathered, root_gives, set_found, two_alike, two_made}
-use Rattle.op_items.specs.Adding.{Adds, env_view, found_view}
+use Rattle.op_items.specs.Adding.{Adds, Gives, env_view, found_view, two_on}
 use Rattle.op_items.specs.Setting.{here_view}
 use Rattle.op_meaning.specs.Expressions.{at_path, converted, found, make, past, prefix}
 use Rattle.op_meaning.specs.Items.{acts, none}
@@ -86,10 +86,14 @@ pub root-returns-in-Eoln : goal.root-returns-in-Eoln
 root-returns-in-Eoln t c = root_gives c.args.setting c.args.items.now.items c.args.items.now.items c.ready-in-Eoln.result (here_view c.args.here) c.args.of (ap root_of c.in-Eoln.is) (stands c.args.setting c.args.items.now.items c.ready-in-Eoln.result _ c.ready-in-Eoln.ensures)
 
 pub second-returns-in_ok-operate-in-None : goal.second-returns-in_ok-operate-in-None
-second-returns-in_ok-operate-in-None t c = ?
+second-returns-in_ok-operate-in-None t c =
+    subst (λ of. Gives c.args.setting c.args.items.now.items c.operate.new.items.items c.ready.result (two_on (env_view c.args.setting) (here_view c.args.here) c.args.operator c.args.checked of (expr_of c.args.operand.now))) c.type_at-of.ensures
+    (two_made c.args.setting c.args.items.now.items c.make.new.items.items c.operate.new.items.items c.ready.result (here_view c.args.here) (here_view c.in_ok-past-in-None.field-0) c.args.operator c.args.checked c.type_at-of.result (expr_of c.args.operand.now) c.first.result.0 c.in-None.ensures c.in_ok-past-in-None.ensures c.first.ensures c.in_ok-make-in-None.ensures c.in_ok-operate-in-None.ensures c.ready.ensures)
 
 pub second-returns-in_ok-also-in-Some : goal.second-returns-in_ok-also-in-Some
-second-returns-in_ok-also-in-Some t c = ?
+second-returns-in_ok-also-in-Some t c =
+    subst (λ of. Gives c.args.setting c.args.items.now.items c.also.new.items.items c.ready-in-Some.result (two_on (env_view c.args.setting) (here_view c.args.here) c.args.operator c.args.checked of (expr_of c.args.operand.now))) c.type_at-of.ensures
+    (two_alike c.args.setting c.args.items.now.items c.also.new.items.items c.new-second.result.items c.make-in-Some.new.items.items c.ready-in-Some.result (here_view c.args.here) c.args.operator c.args.checked c.type_at-of.result (expr_of c.args.operand.now) c.in-Some.truth c.first-in-Some.result.0 c.in-Some.ensures c.first-in-Some.ensures c.new-second.ensures.items c.in_ok-make-in-Some.ensures c.in_ok-also-in-Some.ensures c.ready-in-Some.ensures)
 
 pub step-returns-in_ok-convert-in-Convert : goal.step-returns-in_ok-convert-in-Convert
 step-returns-in_ok-convert-in-Convert t c = step_gives c.args.setting c.args.items.now.items c.convert.new.items.items c.in_ok-found-in-Convert.found (here_view c.args.here) c.args.of c.args.to (found_view c.args.found) (ap action_of c.in-Convert.is) (acts_gives c.args.setting c.args.items.now.items c.own.new.items.items c.convert.new.items.items c.in_ok-found-in-Convert.found _ (converted c.args.setting.core.now c.in-Convert.conversion c.args.to) c.first.result.0 _ c.first.ensures c.in_ok-found-in-Convert.ensures c.in_ok-convert-in-Convert.ensures)
