@@ -1,0 +1,103 @@
+//! What statements are made into items against, and where values go.
+ghost use Rattle.std.specs.Prelude.{◌≡◌, ◌+◌, IfOk};
+ghost use Rattle.op_items.specs.Setting.{here_view};
+ghost use Rattle.op_meaning.specs.Expressions.{first_here, past, past_whole};
+
+use op_base::NoMemory;
+use op_core::{Core, RoutineId};
+use op_mir::TemporaryId;
+use std::alloc::Global;
+
+/// The program's tables, the routine whose text it is, and where memory comes from.
+#[derive(Clone, Copy)]
+pub struct Setting<'a> {
+    pub alloc: Global,
+    pub core: &'a Core,
+    pub routine: RoutineId,
+}
+
+/// Where values go. Temporaries are numbered by where a value stands in the text: `temporary` is the first free one for a value and
+/// `whole` the first free one for a record or an array. `keep` says how many stand round the statement that have to be ended.
+#[derive(Clone, Copy)]
+pub struct Here {
+    temporary: u32,
+    whole: u32,
+    keep: u32,
+}
+
+impl Here {
+    /// At the beginning of a routine.
+    pub fn new() -> Here
+        ensures { here_view result ≡ first_here }
+    {
+        Here {
+            temporary: 0,
+            whole: 0,
+            keep: 0,
+        }
+    }
+
+    /// The first free temporary for a value.
+    pub fn first(self) -> TemporaryId
+        ensures { result.0 ≡ (here_view self).temp }
+    {
+        TemporaryId(self.temporary)
+    }
+
+    /// The free temporary so many behind the first one.
+    pub fn behind(self, count: u32) -> Result<TemporaryId, NoMemory>
+        ensures { IfOk result (λ t. t.0 ≡ (here_view self).temp + count) }
+    {
+        Ok(TemporaryId(sum(self.temporary, count)?))
+    }
+
+    /// The first free temporary for a record or an array.
+    pub fn whole(self) -> u32
+        ensures { result ≡ (here_view self).whole }
+    {
+        self.whole
+    }
+
+    pub fn keep(self) -> u32
+        ensures { result ≡ (here_view self).keep }
+    {
+        self.keep
+    }
+
+    /// Behind so many temporaries.
+    pub fn past(self, count: u32) -> Result<Here, NoMemory>
+        ensures { IfOk result (λ here. here_view here ≡ past count (here_view self)) }
+    {
+        let temporary = sum(self.temporary, count)?;
+        Ok(Here { temporary, ..self })
+    }
+
+    /// Behind one for a record or an array.
+    pub fn past_whole(self) -> Result<Here, NoMemory>
+        ensures { IfOk result (λ here. here_view here ≡ past_whole (here_view self)) }
+    {
+        let whole = sum(self.whole, 1)?;
+        Ok(Here { whole, ..self })
+    }
+}
+
+/// The sum. No program that fits in memory has as many temporaries as its type has numbers.
+pub fn sum(a: u32, b: u32) -> Result<u32, NoMemory>
+    ensures { IfOk result (λ c. c ≡ a + b) }
+{
+    a.checked_add(b).ok_or(NoMemory)
+}
+
+/// The temporary so many behind this one.
+pub fn behind(temporary: TemporaryId, count: u32) -> Result<TemporaryId, NoMemory>
+    ensures { IfOk result (λ t. t.0 ≡ temporary.0 + count) }
+{
+    Ok(TemporaryId(sum(temporary.0, count)?))
+}
+
+/// The next temporary.
+pub fn next(temporary: TemporaryId) -> Result<TemporaryId, NoMemory>
+    ensures { IfOk result (λ t. t.0 ≡ temporary.0 + 1) }
+{
+    behind(temporary, 1)
+}

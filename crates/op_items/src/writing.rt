@@ -1,0 +1,123 @@
+//! Write and WriteLn (reference of the unit System).
+ghost use Rattle.std.specs.Prelude.{◌≡◌, ◌+◌, IfOk, map};
+ghost use Rattle.op_core.specs.Sizes.{type_at};
+ghost use Rattle.op_core.specs.Statement.{item_of};
+ghost use Rattle.op_items.specs.Adding.{Adds, env_view, now_view};
+ghost use Rattle.op_items.specs.Setting.{here_view};
+ghost use Rattle.op_meaning.specs.Expressions.{found, ready};
+ghost use Rattle.op_core.specs.StatementTyping.{host};
+ghost use Rattle.op_meaning.specs.Items.{act, none, only, ◌&◌};
+ghost use Rattle.op_meaning.specs.Statements.{line_end, no_width, write_all, write_by, write_by_now, write_one};
+ghost use Rattle.op_mir.specs.View.{view_writing};
+
+use crate::expression::{find, make};
+use crate::found::Now;
+use crate::item::Item;
+use crate::setting::{Here, Setting, next};
+use crate::shape::{host, type_of};
+use op_base::{NoMemory, Text};
+use op_core::{CoreItem, CoreType, TypeId};
+use op_mir::{Action, TemporaryId, Writing};
+
+/// How a value of the type is written, with the width in the next temporary.
+fn writing(of: Option<CoreType>, from: TemporaryId) -> Result<Writing, NoMemory>
+    ensures { IfOk result (λ w. view_writing w ≡ write_by of from.0) }
+{
+    let width = next(from)?;
+    Ok(match of {
+        Some(CoreType::Boolean) => Writing::Truth { from, width },
+        Some(CoreType::Char) => Writing::Char { from, width },
+        _ => Writing::Number { from, width },
+    })
+}
+
+impl Setting<'_> {
+    /// The value is in the first temporary and the width in the second one; a literal is written as it is.
+    fn write(self, items: &mut Vec<Item>, here: Here, of: TypeId, now: Now) -> Result<(), NoMemory>
+        ensures { IfOk result (λ _. Adds self.entry items.old.items items.new.items (write_by_now (env_view self.entry) (here_view here) of (found none ready) none (now_view now))) }
+    {
+        match now {
+            Now::Literal(text) => {
+                let width = here.behind(1)?;
+                self.act(items, Action::WriteText { text, width })
+            }
+            Now::At(_) => self.write_value(items, here, of),
+            Now::Ready => self.write_value(items, here, of),
+        }
+    }
+
+    fn write_value(self, items: &mut Vec<Item>, here: Here, of: TypeId) -> Result<(), NoMemory>
+        ensures { IfOk result (λ _. Adds self.entry items.old.items items.new.items (only (act (write_by (host self.entry.core.now (type_at self.entry.core.now of)) (here_view here).temp)))) }
+    {
+        let writing = writing(host(self.core, of), here.first())?;
+        self.act(items, Action::Write(writing))
+    }
+
+    fn no_width(self, items: &mut Vec<Item>, here: Here) -> Result<(), NoMemory>
+        ensures { IfOk result (λ _. Adds self.entry items.old.items items.new.items (no_width (here_view here))) }
+    {
+        self.number(items, here.behind(1)?, 0)
+    }
+
+    fn write_one(self, items: &mut Vec<Item>, here: Here, item: &CoreItem) -> Result<(), NoMemory>
+        ensures { IfOk result (λ _. Adds self.entry items.old.items items.new.items (write_one (env_view self.entry) (here_view here) (item_of item.now))) }
+    {
+        match item {
+            CoreItem::Plain(value) => {
+                let of = type_of(value);
+                let found = find(self, here, value, items)?;
+                let found = self.own(items, of, here, found)?;
+                self.no_width(items, here)?;
+                self.write(items, here, of, found.now)
+            }
+            CoreItem::Padded(value, width) => {
+                let of = type_of(value);
+                let found = find(self, here, value, items)?;
+                let found = self.own(items, of, here, found)?;
+                make(self, here.past(1)?, width, items)?;
+                self.write(items, here, of, found.now)
+            }
+        }
+    }
+
+    /// Each is written before the next one is evaluated.
+    fn write_all(
+        self,
+        items: &mut Vec<Item>,
+        here: Here,
+        written: &[CoreItem],
+    ) -> Result<(), NoMemory>
+        ensures { IfOk result (λ _. Adds self.entry items.old.items items.new.items (write_all (env_view self.entry) (here_view here) (map item_of written.now))) }
+    {
+        for each in written {
+            self.write_one(items, here, each)?;
+        }
+        Ok(())
+    }
+
+    fn end_line(self, items: &mut Vec<Item>, here: Here, ends_line: bool) -> Result<(), NoMemory>
+        ensures { IfOk result (λ _. Adds self.entry items.old.items items.new.items (line_end (here_view here) ends_line)) }
+    {
+        if !ends_line {
+            return Ok(());
+        }
+        self.no_width(items, here)?;
+        let text = Text::copy_of(self.alloc, b"\n")?;
+        let width = here.behind(1)?;
+        self.act(items, Action::WriteText { text, width })
+    }
+
+    /// Write, and with the end of a line WriteLn.
+    pub fn write_items(
+        self,
+        items: &mut Vec<Item>,
+        here: Here,
+        written: &[CoreItem],
+        ends_line: bool,
+    ) -> Result<(), NoMemory>
+        ensures { IfOk result (λ _. Adds self.entry items.old.items items.new.items (write_all (env_view self.entry) (here_view here) (map item_of written.now) & line_end (here_view here) ends_line)) }
+    {
+        self.write_all(items, here, written)?;
+        self.end_line(items, here, ends_line)
+    }
+}
