@@ -1,7 +1,7 @@
 -- Items behind items.
-use Rattle.std.proofs.Common.{◌≡◌, List, refl, ap, subst, IfOk, Result, Ok, Err}
+use Rattle.std.proofs.Common.{◌≡◌, List, refl, ap, subst, ◌∙◌, IfOk, Result, Ok, Err}
 use Rattle.op_base.specs.declared.memory_error.NoMemory.{NoMemory}
-use Rattle.op_items.specs.Adding.{Adds}
+use Rattle.op_items.specs.Adding.{Adds, view_in}
 use Rattle.op_items.specs.declared.item.Item.{Item}
 use Rattle.op_items.specs.declared.setting.Setting.{Setting}
 use Rattle.op_meaning.specs.Items.{Item as MeantItem, Items, none, then_do, ◌&◌, only}
@@ -16,3 +16,21 @@ behind_behind (then_do x xs) ys zs = ap (then_do x) (behind_behind xs ys zs)
 pub behind_none : (xs : Items) → xs & none ≡ xs
 behind_none none = refl
 behind_none (then_do x xs) = ap (then_do x) (behind_none xs)
+
+pub map_ok : {A E : Type 0} {P Q : A → Type 0} (r : Result A E) → ((a : A) → P a → Q a) → IfOk r P → IfOk r Q
+map_ok (Ok a) f h = f a h
+map_ok (Err e) f h = h
+
+-- ---- one thing behind another
+
+pub adds_both : (setting : Setting) (old mid new : List Item) (xs ys : Items) → Adds setting old mid xs → Adds setting mid new ys → Adds setting old new (xs & ys)
+adds_both setting old mid new xs ys a b = b ∙ ap (λ x. x & ys) a ∙ behind_behind (view_in setting old) xs ys
+
+pub adds_by : (setting : Setting) (old new : List Item) {xs ys : Items} → xs ≡ ys → Adds setting old new xs → Adds setting old new ys
+adds_by setting old new e a = a ∙ ap (λ x. view_in setting old & x) e
+
+pub ok_both : {A E : Type 0} (setting : Setting) (old mid new : List Item) (r : Result A E) (xs ys : Items) → Adds setting old mid xs → IfOk r (λ _. Adds setting mid new ys) → IfOk r (λ _. Adds setting old new (xs & ys))
+ok_both setting old mid new r xs ys a b = map_ok r (λ _ c. adds_both setting old mid new xs ys a c) b
+
+pub ok_as : {A E : Type 0} (setting : Setting) (old new : List Item) (r : Result A E) {xs ys : Items} → xs ≡ ys → IfOk r (λ _. Adds setting old new xs) → IfOk r (λ _. Adds setting old new ys)
+ok_as setting old new r e b = map_ok r (λ _ c. adds_by setting old new e c) b

@@ -1,16 +1,19 @@
 -- What is found of a value goes on behind what was found so far.
-use Rattle.std.proofs.Common.{◌≡◌, ℕ, List, Bool, Option, Some, None, ℤ, ◌+◌, refl, ap, sym, subst, ◌∙◌}
+use Rattle.std.proofs.Common.{◌≡◌, ℕ, List, Bool, Option, Some, None, ℤ, ◌+◌, ◌<◌, ◌≤◌, ◌∷◌, [], ◌++◌, suc, length, get_or, drop, drop-cons, add-one, map, append_assoc, Result, IfOk, refl, ap, sym, subst, ◌∙◌}
+use Rattle.std.proofs.lemmas.List.{drop_all}
 use Rattle.op_core.proofs.Nodes.{list_nodes}
-use Rattle.op_core.specs.Expression.{Expression, expression, root_of, expr_of, Steps, no_steps, steps, Action as Doing, convert, bracket, field, index, method, prefixed, operate, is, apply, copy}
+use Rattle.op_core.specs.Expression.{Expression, expression, root_of, expr_of, action_of, Steps, no_steps, steps, Action as Doing, convert, bracket, field, index, method, prefixed, operate, is, apply, copy}
 use Rattle.op_core.specs.Nodes.{steps_of}
 use Rattle.op_core.specs.Sizes.{type_at}
 use Rattle.op_core.specs.Typing.{type_of}
 use Rattle.op_core.specs.declared.expression.CoreExpr.{CoreExpr, out-CoreExpr}
+use Rattle.op_core.specs.declared.expression.Step.{Step}
 use Rattle.op_core.specs.declared.ids.TypeId.{TypeId}
 use Rattle.op_core.specs.declared.operation.Function.{Function}
 use Rattle.op_core.specs.declared.program.Core.{Core}
 use Rattle.op_core.specs.declared.types.CoreType.{CoreType}
-use Rattle.op_items.proofs.Behind.{behind_behind, behind_none}
+use Rattle.op_base.specs.declared.memory_error.NoMemory.{NoMemory}
+use Rattle.op_items.proofs.Behind.{adds_both, behind_behind, behind_none, map_ok, ok_as, ok_both}
 use Rattle.op_items.specs.Adding.{Adds, Gives, env_view, found_view, two_on, view_in}
 use Rattle.op_items.specs.declared.found.Found.{Found as RustFound}
 use Rattle.op_items.specs.declared.item.Item.{Item}
@@ -85,6 +88,13 @@ steps_behind env here of (steps a next others) xs f = ap (find_steps env here ne
 
 -- ---- what was given goes on
 
+-- nothing is to be done
+pub stands : (setting : Setting) (old : List Item) (f : RustFound) (g : Found) → found_view f ≡ g → Gives setting old old f g
+stands setting old f g e = record {
+  adds = sym (behind_none (view_in setting old)) ∙ ap (λ x. view_in setting old & x.items) e;
+  is = ap alone e;
+}
+
 -- one thing behind another
 pub behind_gives : (setting : Setting) (old mid new : List Item) (f : RustFound) (xs : Items) (g : Found) → Adds setting old mid xs → Gives setting mid new f g → Gives setting old new f (behind xs g)
 behind_gives setting old mid new f xs g a b = record {
@@ -98,44 +108,49 @@ then_gives setting old mid new f g more a b = record {
   is = a.is;
 }
 
--- the next thing that is done with what was found
-after_gives : (setting : Setting) (old mid new : List Item) (f f' : RustFound) (h : Found) (next : Found → Found) → ((xs : Items) (g : Found) → next (behind xs g) ≡ behind xs (next g)) → Gives setting old mid f h → Gives setting mid new f' (next (found_view f)) → Gives setting old new f' (next h)
-after_gives setting old mid new f f' h next commutes a b =
-    let e : behind h.items (next (found_view f)) ≡ next h = ap (λ x. behind h.items (next x)) a.is ∙ sym (commutes h.items (alone h)) ∙ ap next (whole h) in
-    let c : Gives setting old new f' (behind h.items (next (found_view f))) = behind_gives setting old mid new f' h.items (next (found_view f)) a.adds b in
-    subst (λ g. Gives setting old new f' g) e c
-
-pub own_gives : (setting : Setting) (old mid new : List Item) (f f' : RustFound) (h : Found) (of : TypeId) (here : Here) → Gives setting old mid f h → Gives setting mid new f' (own (env_view setting) of here (found_view f)) → Gives setting old new f' (own (env_view setting) of here h)
-own_gives setting old mid new f f' h of here a b = after_gives setting old mid new f f' h (own (env_view setting) of here) (own_behind (env_view setting) of here) a b
-
 make_is : (env : Env) (here : Here) (e : Expression) → own env (type_of e) here (find env here e) ≡ make env here e
 make_is env here (expression root of others) = refl
 
-pub makes : (setting : Setting) (old mid new : List Item) (f f' : RustFound) (here : Here) (e : Expression) (of : TypeId) → of ≡ type_of e → Gives setting old mid f (find (env_view setting) here e) → Gives setting mid new f' (own (env_view setting) of here (found_view f)) → Gives setting old new f' (make (env_view setting) here e)
-makes setting old mid new f f' here e of same a b =
-    let c : Gives setting mid new f' (own (env_view setting) (type_of e) here (found_view f)) = subst (λ t. Gives setting mid new f' (own (env_view setting) t here (found_view f))) same b in
-    subst (λ g. Gives setting old new f' g) (make_is (env_view setting) here e) (own_gives setting old mid new f f' (find (env_view setting) here e) (type_of e) here a c)
+pub makes : {A : Type 0} (setting : Setting) (old mid new : List Item) (f : RustFound) (r : Result A NoMemory) (here : Here) (e : Expression) (of : TypeId) → of ≡ type_of e → Gives setting old mid f (find (env_view setting) here e) → IfOk r (λ _. Adds setting mid new (own (env_view setting) of here (found_view f)).items) → IfOk r (λ _. Adds setting old new (make (env_view setting) here e).items)
+makes setting old mid new f r here e of same a b =
+    let env = env_view setting in
+    let g = find env here e in
+    let next = own env (type_of e) here in
+    let c : IfOk r (λ _. Adds setting mid new (next (found_view f)).items) = subst (λ t. IfOk r (λ _. Adds setting mid new (own env t here (found_view f)).items)) same b in
+    let k : g.items & (next (found_view f)).items ≡ (make env here e).items =
+        ap (λ x. g.items & (next x).items) a.is
+        ∙ ap (λ x. x.items) (sym (own_behind env (type_of e) here g.items (alone g)) ∙ ap next (whole g) ∙ make_is env here e) in
+    ok_as setting old new r k (ok_both setting old mid new r g.items (next (found_view f)).items a.adds c)
 
-pub acts_gives : (setting : Setting) (old mid new : List Item) (f : RustFound) (g : Found) (more : List Action) → Gives setting old mid f g → Adds setting mid new (acts more) → Gives setting old new f (then_acts g more)
-acts_gives setting old mid new f g more a b = then_gives setting old mid new f g (acts more) a b
+pub acts_gives : (setting : Setting) (old mid new : List Item) (f : RustFound) (g : Found) (more : ℕ → List Action) (t t' : ℕ) → t ≡ t' → Gives setting old mid f g → Adds setting mid new (acts (more t)) → Gives setting old new f (then_acts g (more t'))
+acts_gives setting old mid new f g more t t' e a b = then_gives setting old mid new f g (acts (more t')) a (subst (λ n. Adds setting mid new (acts (more n))) e b)
+
+-- what a step says
+pub step_gives : (setting : Setting) (old new : List Item) (f : RustFound) (here : Here) (of : TypeId) {a b : Doing} (to : TypeId) (g : Found) → a ≡ b → Gives setting old new f (find_step (env_view setting) here of b to g) → Gives setting old new f (find_step (env_view setting) here of a to g)
+step_gives setting old new f here of to g e x = subst (λ y. Gives setting old new f (find_step (env_view setting) here of y to g)) (sym e) x
+
+pub step_ok : (setting : Setting) (old new : List Item) (r : Result RustFound NoMemory) (here : Here) (of : TypeId) {a b : Doing} (to : TypeId) (g : Found) → a ≡ b → IfOk r (λ f. Gives setting old new f (find_step (env_view setting) here of b to g)) → IfOk r (λ f. Gives setting old new f (find_step (env_view setting) here of a to g))
+step_ok setting old new r here of to g e x = map_ok r (λ f y. step_gives setting old new f here of to g e y) x
 
 index_alone : (core : Core) (of : TypeId) (here : Here) (i : Items) (f : Found) (now : Now) → behind i (then_index_by core of here (alone f) none now) ≡ then_index_by core of here (alone f) i now
 index_alone core of here i f (a_text bytes) = refl
 index_alone core of here i f ready = ap (λ x. then_step of here (element_step core of (here.temp + f.used)) 1 (record f { items = x })) (behind_none i)
 index_alone core of here i f (at_path p) = ap (λ x. then_step of here (element_step core of (here.temp + f.used)) 1 (record f { items = x })) (behind_none i)
 
-pub index_gives : (setting : Setting) (old mid new : List Item) (f f' : RustFound) (of : TypeId) (here : Here) (i : Items) → Adds setting old mid i → Gives setting mid new f' (then_index setting.core.now of here (found_view f) none) → Gives setting old new f' (then_index setting.core.now of here (found_view f) i)
-index_gives setting old mid new f f' of here i a b = subst (λ g. Gives setting old new f' g) (index_alone setting.core.now of here i (found_view f) (found_view f).now) (behind_gives setting old mid new f' i (then_index setting.core.now of here (found_view f) none) a b)
+pub index_gives : (setting : Setting) (old mid new : List Item) (f : RustFound) (r : Result RustFound NoMemory) (of : TypeId) (here : Here) (i : Items) → Adds setting old mid i → IfOk r (λ f'. Gives setting mid new f' (then_index setting.core.now of here (found_view f) none)) → IfOk r (λ f'. Gives setting old new f' (then_index setting.core.now of here (found_view f) i))
+index_gives setting old mid new f r of here i a b =
+    map_ok r (λ f' g. subst (λ x. Gives setting old new f' x) (index_alone setting.core.now of here i (found_view f) (found_view f).now) (behind_gives setting old mid new f' i (then_index setting.core.now of here (found_view f) none) a g)) b
 
 two_alone : (goes : Option Bool) (o : Operator) (checked : Bool) (of : Option CoreType) (here : Here) (second : Items) (h : Found) → behind h.items (two_by goes o checked of here (found none ready) second) ≡ two_by goes o checked of here h second
 two_alone None o checked of here second h = refl
 two_alone (Some truth) o checked of here second h = refl
 
-pub two_gives : (setting : Setting) (old mid new : List Item) (f f' : RustFound) (here : Here) (o : Operator) (checked : Bool) (of : Option CoreType) (e : Expression) (h : Found) → Gives setting old mid f h → Gives setting mid new f' (two_on (env_view setting) here o checked of e) → Gives setting old new f' (two_by (goes_on_at o of) o checked of here h (make (env_view setting) (second_here (goes_on_at o of) here) e).items)
-two_gives setting old mid new f f' here o checked of e h a b =
-    subst (λ g. Gives setting old new f' g)
+pub two_gives : (setting : Setting) (old mid new : List Item) (r : Result RustFound NoMemory) (here : Here) (o : Operator) (checked : Bool) (of : Option CoreType) (e : Expression) (h : Found) → Adds setting old mid h.items → IfOk r (λ f. Gives setting mid new f (two_on (env_view setting) here o checked of e)) → IfOk r (λ f. Gives setting old new f (two_by (goes_on_at o of) o checked of here h (make (env_view setting) (second_here (goes_on_at o of) here) e).items))
+two_gives setting old mid new r here o checked of e h a b =
+    map_ok r
+    (λ f g. subst (λ x. Gives setting old new f x)
     (two_alone (goes_on_at o of) o checked of here (make (env_view setting) (second_here (goes_on_at o of) here) e).items h)
-    (behind_gives setting old mid new f' h.items (two_on (env_view setting) here o checked of e) a.adds b)
+    (behind_gives setting old mid new f h.items (two_on (env_view setting) here o checked of e) a g)) b
 
 -- ---- the steps of an expression: what is left gives the whole
 
@@ -155,3 +170,26 @@ gives_whole setting old new f g e = record {
 
 pub find_is : (env : Env) (here : Here) (e : CoreExpr) → find env here (expr_of e) ≡ find_steps env here (out-CoreExpr e).of (steps_of (out-CoreExpr e).steps.items) (find_root env here (out-CoreExpr e).of (root_of (out-CoreExpr e).root))
 find_is env here e = ap (find env here) (list_nodes.expr_says e)
+
+pub find_begins : (setting : Setting) (old new : List Item) (f : RustFound) (here : Here) (e : CoreExpr) (list : List Step) → list ≡ (out-CoreExpr e).steps.items → Gives setting old new f (find_root (env_view setting) here (out-CoreExpr e).of (root_of (out-CoreExpr e).root)) → behind (view_in setting new) (find_steps (env_view setting) here (out-CoreExpr e).of (steps_of list) (found_view f)) ≡ behind (view_in setting old) (find (env_view setting) here (expr_of e))
+find_begins setting old new f here e list i g =
+    let env = env_view setting in
+    let of = (out-CoreExpr e).of in
+    ap (λ xs. behind (view_in setting new) (find_steps env here of (steps_of xs) (found_view f))) i
+    ∙ goes_on setting old new f (find_root env here of (root_of (out-CoreExpr e).root)) env here of (steps_of (out-CoreExpr e).steps.items) g
+    ∙ ap (behind (view_in setting old)) (sym (find_is env here e))
+
+next_step : (list : List Step) (k : ℕ) (x : Step) → k < length list → x ≡ get_or list k x → steps_of (drop k list) ≡ steps (action_of x.action) x.of (steps_of (drop (k + 1) list))
+next_step list k x h e = rw add-one (ap steps_of (drop-cons list k x h) ∙ ap (λ y. steps (action_of y.action) y.of (steps_of (drop (suc k) list))) (sym e))
+
+pub find_goes_on : (setting : Setting) (mid new : List Item) (f f' : RustFound) (here : Here) (of : TypeId) (list : List Step) (k : ℕ) (x : Step) (end : Found) → k < length list → x ≡ get_or list k x → Gives setting mid new f' (find_step (env_view setting) here of (action_of x.action) x.of (found_view f)) → behind (view_in setting mid) (find_steps (env_view setting) here of (steps_of (drop k list)) (found_view f)) ≡ end → behind (view_in setting new) (find_steps (env_view setting) here x.of (steps_of (drop (k + 1) list)) (found_view f')) ≡ end
+find_goes_on setting mid new f f' here of list k x end h i g inv =
+    let env = env_view setting in
+    goes_on setting mid new f' (find_step env here of (action_of x.action) x.of (found_view f)) env here x.of (steps_of (drop (k + 1) list)) g
+    ∙ ap (λ ss. behind (view_in setting mid) (find_steps env here of ss (found_view f))) (sym (next_step list k x h i))
+    ∙ inv
+
+pub find_ends : (setting : Setting) (old new : List Item) (f : RustFound) (here : Here) (of : TypeId) (list : List Step) (k : ℕ) (g : Found) → length list ≤ k → behind (view_in setting new) (find_steps (env_view setting) here of (steps_of (drop k list)) (found_view f)) ≡ behind (view_in setting old) g → Gives setting old new f g
+find_ends setting old new f here of list k g h inv =
+    gives_whole setting old new f g
+    (ap (λ xs. behind (view_in setting new) (find_steps (env_view setting) here of (steps_of xs) (found_view f))) (sym (drop_all k list h)) ∙ inv)

@@ -166,14 +166,15 @@ fn second(
         None => {
             make(setting, here.past(1)?, operand, items)?;
             setting.operate(items, operator, checked, of, here.first())?;
+            Ok(Found::ready())
         }
         Some(truth) => {
             let mut second = Vec::new(setting.alloc);
             make(setting, here, operand, &mut second)?;
             setting.also(items, truth, here.first(), second)?;
+            Ok(Found::ready())
         }
     }
-    Ok(Found::ready())
 }
 
 /// The elements of a set constructor are joined one after the other ("Set Constructors").

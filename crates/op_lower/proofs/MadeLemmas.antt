@@ -1,5 +1,5 @@
 -- What is made of the parts of an item is what the definition of code says of the item.
-use Rattle.std.proofs.Common.{◌≡◌, ℕ, suc, ◌+◌, ◌<◌, Bool, List, [], ◌∷◌, ◌++◌, length, map, refl, sym, ap, ◌∙◌, arith, append_assoc, pos, None, ◌≤◌, Result, Ok, Err, IfOk, reverse}
+use Rattle.std.proofs.Common.{◌≡◌, ℕ, suc, ◌+◌, ◌<◌, Bool, List, [], ◌∷◌, ◌++◌, length, map, sym, ap, ◌∙◌, arith, append_assoc, pos, None, ◌≤◌, Result, Ok, Err, IfOk, reverse}
 use Rattle.std.proofs.lemmas.List.{append-nil, map-append, map-set, length-map, length-append, length-set, length_push, reverse-append}
 use Rattle.std.proofs.Math.Nat.{add-zero}
 use Rattle.std.proofs.Math.Seq.{set-append_seam}
@@ -7,7 +7,7 @@ use Rattle.std.specs.Prelude.{slice_set}
 use Rattle.op_core.specs.declared.program.Core.{Core}
 use Rattle.op_core.specs.declared.statement.Label.{Label}
 use Rattle.op_items.proofs.Nodes.{items_behind}
-use Rattle.op_items.specs.View.{item_view, items_view, cases_view, turns_view}
+use Rattle.op_items.specs.View.{item_view, items_view, cases_view}
 use Rattle.op_items.specs.declared.item.Case.{Case}
 use Rattle.op_items.specs.declared.item.Item.{Item}
 use Rattle.op_items.specs.declared.item.Item.TheVariants.{Leave}
@@ -17,8 +17,8 @@ use Rattle.op_lower.specs.Exits.{exits_of, reason_of}
 use Rattle.op_lower.specs.Made.{Adds, Makes, MakesArms, Completes, CompletesArms, IsBody, items_made, item_made, branch_made, arms_made, loop_made, finally_made}
 use Rattle.op_lower.specs.Seen.{seen, seen_blocks}
 use Rattle.op_lower.specs.declared.exits.Exits.{Exits}
-use Rattle.op_meaning.specs.Items.{Items, none, then_do, Cases, ◌&◌, only, Item as MeantItem, also, choose, select, loop, body_first, protect}
-use Rattle.op_mir.specs.Code.{Instr, jump, when, unless, switch, dispatch, do_act, Made, Exits as MeantExits, code, code_item, code_loop, code_cases, Arm as MeantArm, loop_exits, finally_exits, continued, branch_unless, branch_if}
+use Rattle.op_meaning.specs.Items.{Items, none, then_do, Cases, ◌&◌, only, Item as MeantItem, also, choose, select, protect}
+use Rattle.op_mir.specs.Code.{Instr, jump, unless, switch, dispatch, Made, Exits as MeantExits, code, code_item, code_cases, Arm as MeantArm, loop_exits, finally_exits, continued, branch_unless, branch_if}
 use Rattle.op_mir.specs.View.{view_arm, view_block, view_instruction}
 use Rattle.op_mir.specs.declared.action.Action.TheVariants.{Constant}
 use Rattle.op_mir.specs.declared.code.Block.{Block}

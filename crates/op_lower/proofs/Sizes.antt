@@ -1,5 +1,5 @@
 -- How large items are, for the measures of what goes down them: one for each item, case and loop.
-use Rattle.std.proofs.Common.{◌≡◌, ℕ, suc, ◌+◌, ◌<◌, ◌≤◌, Bool, List, [], ◌∷◌, ◌++◌, refl, sym, ap, ◌∙◌, arith}
+use Rattle.std.proofs.Common.{◌≡◌, ℕ, suc, ◌+◌, Bool, List, [], ◌∷◌, ◌++◌, refl, ap, ◌∙◌, arith}
 use Rattle.std.specs.Prelude.{Vec}
 use Rattle.std.specs.declared.alloc.Global.{Global}
 use Rattle.op_items.proofs.Nodes.{item_nodes}
@@ -9,7 +9,7 @@ use Rattle.op_items.specs.declared.item.Item.{Item}
 use Rattle.op_items.specs.declared.item.Item.TheVariants.{Also, Choose, Select, Loop, BodyFirst, Protect}
 use Rattle.op_items.specs.declared.item.Turns.{Turns}
 use Rattle.op_lower.proofs.MadeLemmas.{no_tables}
-use Rattle.op_meaning.specs.Items.{Item as MeantItem, act, also, choose, select, loop, body_first, protect, leave, enter, finish, attempt, throw, rethrow, halt, construct, free, Items, none, then_do, Turns as MeantTurns, turns, Cases, no_cases, cases}
+use Rattle.op_meaning.specs.Items.{Item as MeantItem, also, choose, select, loop, body_first, protect, Items, none, then_do, Turns as MeantTurns, turns, Cases, no_cases, cases}
 use Rattle.op_mir.specs.declared.ids.TemporaryId.{TemporaryId}
 
 abbrev mutual

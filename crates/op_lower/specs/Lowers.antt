@@ -8,7 +8,7 @@ use Rattle.op_lower.specs.Temporaries.{in_blocks}
 use Rattle.op_meaning.specs.Charge.{charge_of}
 use Rattle.op_meaning.specs.Frames.{program_of}
 use Rattle.op_meaning.specs.Shapes.{variables_of}
-use Rattle.op_mir.specs.Code.{Instr, ret, unit_code, blocks_of, items_of, blocks_in}
+use Rattle.op_mir.specs.Code.{ret, unit_code, blocks_of, items_of, blocks_in}
 use Rattle.op_mir.specs.View.{view_of}
 use Rattle.op_mir.specs.declared.code.Mir.{Mir}
 use Rattle.op_mir.specs.declared.code.Routine.{Routine}

@@ -1,6 +1,6 @@
 -- What is made of items: code, and blocks behind those that there are. The definition of code speaks of what the machine sees, which
 -- depends on the tables of a program and on the number of the routine; what is made is the same for all of them.
-use Rattle.std.specs.Prelude.{◌≡◌, ℕ, suc, ◌+◌, List, [], ◌∷◌, ◌++◌, length, map, slice_set}
+use Rattle.std.specs.Prelude.{◌≡◌, ℕ, ◌+◌, List, [], ◌∷◌, ◌++◌, length, map, slice_set}
 use Rattle.op_core.specs.declared.program.Core.{Core}
 use Rattle.op_items.specs.View.{items_view, cases_view, turns_view}
 use Rattle.op_items.specs.declared.item.Case.{Case}

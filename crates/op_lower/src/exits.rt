@@ -49,7 +49,7 @@ impl Exits<'_> {
 }
 
 /// The number of the next block.
-pub fn following(block: BlockId) -> Result<BlockId, NoMemory>
+fn following(block: BlockId) -> Result<BlockId, NoMemory>
     ensures { IfOk result (λ next. next.0 ≡ suc block.0) }
 {
     match block.0.checked_add(1) {

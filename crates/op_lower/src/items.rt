@@ -12,7 +12,7 @@ use crate::blocks::{Blocks, LoopBlocks};
 use crate::exits::Exits;
 use crate::instructions::Instructions;
 use op_base::{NoMemory, Sequence};
-use op_core::{Label, RoutineId};
+use op_core::RoutineId;
 use op_items::{Case, Item, Turns, Way};
 use op_mir::{Action, Arm, BlockId, Call, Given, Instruction, Receiver, TemporaryId};
 use std::alloc::Global;

@@ -1,9 +1,9 @@
-use Rattle.std.proofs.Common.{◌≡◌, ℕ, ◌∷◌, [], length, reverse, refl, ap, ◌∙◌, arith}
+use Rattle.std.proofs.Common.{ℕ, ◌∷◌, [], reverse, refl, ap, ◌∙◌, arith}
 use Rattle.op_items.proofs.Nodes.{item_nodes}
 use Rattle.op_items.specs.View.{item_view, items_view, turns_view, cases_view}
 use Rattle.op_meaning.specs.Items.{also, choose, select, loop, body_first, protect}
-use Rattle.op_mir.specs.declared.instruction.Instruction.TheVariants.{Dispatch, Jump}
-use Rattle.op_lower.proofs.MadeLemmas.{added, also_makes, arm_done, at_keep, body_is, begun, body_grows, branch_adds, choose_makes, finally_adds, grows, item_done, item_is, leave_makes, loop_adds, protect_makes, reserved, reversed_push, select_makes}
+use Rattle.op_mir.specs.declared.instruction.Instruction.TheVariants.{Jump}
+use Rattle.op_lower.proofs.MadeLemmas.{added, also_makes, arm_done, at_keep, body_is, begun, body_grows, branch_adds, choose_makes, finally_adds, grows, item_done, item_is, leave_makes, loop_adds, reserved, reversed_push, select_makes}
 use Rattle.op_lower.proofs.Sizes.{also_size, body_first_size, choose_size, loop_size, popped_case_size, popped_size, protect_size, select_size, size_of_turns}
 use Rattle.op_lower.specs.Exits.{exits_of}
 use Rattle.op_lower.specs.Made.{Makes, items_made, item_made, arms_made}
