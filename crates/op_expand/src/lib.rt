@@ -26,6 +26,3 @@ pub use frame::{Frame, Returning};
 pub use homes::{Home, Keeping, Room};
 pub use program::expand;
 pub use spot::Spot;
-
-#[cfg(test)]
-mod tests;
