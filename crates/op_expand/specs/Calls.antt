@@ -1,5 +1,5 @@
 -- Calls and returns. (Free Pascal Reference Guide, "Using functions and procedures", "Function results" and "Parameter lists".)
-use Rattle.std.specs.Prelude.{min, ◌^◌, ◌-◌, ℕ, ◌+◌, pos, List, [], ◌∷◌, ◌++◌, Option, Some, None, slice_get, if◌then◌else◌}
+use Rattle.std.specs.Prelude.{◌+◌, ◌-◌, ◌^◌, ℕ, min, List, [], ◌∷◌, ◌++◌, Option, Some, None, slice_get, if◌then◌else◌}
 use Rattle.op_compute.specs.Bank.{error_block_of, register_of, scratch_of}
 use Rattle.op_compute.specs.Conversions.{low_bits_code}
 use Rattle.op_compute.specs.declared.bank.RuntimeError.TheVariants.{StackOverflow}
@@ -8,10 +8,10 @@ use Rattle.op_constants.specs.Shapes.{is_composite}
 use Rattle.op_core.specs.declared.ids.TypeId.{TypeId}
 use Rattle.op_core.specs.declared.program.Core.{Core}
 use Rattle.op_core.specs.declared.types.IntegerKind.{IntegerKind}
-use Rattle.op_core.specs.declared.types.IntegerKind.TheVariants.{Signed8, Unsigned8, Signed16, Unsigned16, Signed32}
+use Rattle.op_core.specs.declared.types.IntegerKind.TheVariants.{Signed32}
 use Rattle.op_expand.specs.Homes.{parameter}
 use Rattle.op_expand.specs.Moves.{by_words, bytes_code, held, limit_of, load_code}
-use Rattle.op_expand.specs.Places.{after, at_register, at_scratch, place_code, place_of}
+use Rattle.op_expand.specs.Places.{at_register, at_scratch, place_code, place_of}
 use Rattle.op_expand.specs.declared.frame.Frame.{Frame}
 use Rattle.op_expand.specs.declared.frame.Returning.{Returning}
 use Rattle.op_expand.specs.declared.frame.Returning.TheVariants.{Ending, Nothing, Result}
@@ -28,7 +28,7 @@ use Rattle.op_mir.specs.declared.instruction.Call.{Call}
 use Rattle.op_mir.specs.declared.instruction.Given.{Given}
 use Rattle.op_mir.specs.declared.instruction.Given.TheVariants.{ByValue, ByReference, ByPlace, ByCopy}
 use Rattle.op_mir.specs.declared.instruction.Receiver.{Receiver}
-use Rattle.op_mir.specs.declared.instruction.Receiver.TheVariants.{Nowhere, Temporary, Place}
+use Rattle.op_mir.specs.declared.instruction.Receiver.TheVariants.{Temporary, Place}
 use Rattle.op_mir.specs.declared.path.Root.TheVariants.{Local}
 use Rattle.op_rt_text.specs.Names.{call, register}
 use Rattle.op_rv.specs.declared.instruction.AluOp.TheVariants.{Sub}

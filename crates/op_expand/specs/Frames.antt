@@ -12,7 +12,7 @@ use Rattle.op_expand.specs.declared.frame.Frame.{Frame}
 use Rattle.op_expand.specs.declared.frame.Returning.{Returning}
 use Rattle.op_expand.specs.declared.frame.Returning.TheVariants.{Ending, Nothing, Result}
 use Rattle.op_expand.specs.declared.homes.Home.{Home}
-use Rattle.op_expand.specs.declared.homes.Home.TheVariants.{Held, Stored, Shared}
+use Rattle.op_expand.specs.declared.homes.Home.TheVariants.{Stored}
 use Rattle.op_expand.specs.declared.homes.Room.{Room}
 use Rattle.op_low.specs.declared.ids.VirtualRegister.{VirtualRegister}
 use Rattle.op_meaning.specs.Expressions.{result_of}

@@ -16,12 +16,11 @@ use Rattle.op_expand.specs.Moves.{action_code, store_code, taken_code}
 use Rattle.op_expand.specs.Registers.{registers_in}
 use Rattle.op_expand.specs.declared.frame.Frame.{Frame}
 use Rattle.op_expand.specs.declared.frame.Returning.{Returning}
-use Rattle.op_expand.specs.declared.frame.Returning.TheVariants.{Ending, Nothing, Result}
+use Rattle.op_expand.specs.declared.frame.Returning.TheVariants.{Ending}
 use Rattle.op_expand.specs.declared.homes.Home.{Home}
-use Rattle.op_expand.specs.declared.homes.Home.TheVariants.{Held, Stored, Shared}
+use Rattle.op_expand.specs.declared.homes.Home.TheVariants.{Stored}
 use Rattle.op_low.specs.declared.code.Block.{Block as LowBlock}
 use Rattle.op_low.specs.declared.code.Routine.{Routine as LowRoutine}
-use Rattle.op_low.specs.declared.ids.VirtualRegister.{VirtualRegister}
 use Rattle.op_low.specs.declared.instruction.Instruction.{Instruction as LowInstruction}
 use Rattle.op_low.specs.declared.instruction.Instruction.TheVariants.{Address, Const, Exit, Jump as LowJump, Load, Write}
 use Rattle.op_low.specs.declared.instruction.Output.TheVariants.{Errors}
@@ -30,7 +29,6 @@ use Rattle.op_meaning.specs.Statements.{kind_of}
 use Rattle.op_mir.specs.declared.code.Block.{Block}
 use Rattle.op_mir.specs.declared.code.Mir.{Mir}
 use Rattle.op_mir.specs.declared.code.Routine.{Routine}
-use Rattle.op_mir.specs.declared.ids.LocalId.{LocalId}
 use Rattle.op_mir.specs.declared.instruction.Instruction.{Instruction}
 use Rattle.op_mir.specs.declared.instruction.Instruction.TheVariants.{Act, Call, Jump, When, Unless, Switch, Dispatch, MakeDue, Stop, Return}
 use Rattle.op_mir.specs.declared.path.Root.TheVariants.{Local}
