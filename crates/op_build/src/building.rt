@@ -1,5 +1,5 @@
 //! The image of a program in managed code.
-ghost use Rattle.std.specs.Prelude.{IfErr, IfOk, IsTrue};
+ghost use Rattle.std.specs.Prelude.{◌≡◌, IfErr, IfOk, IsTrue};
 ghost use Rattle.op_build.specs.Built.{IsBuilt, IsNotBuilt};
 ghost use Rattle.op_link.specs.Memory.{are_in_range};
 
