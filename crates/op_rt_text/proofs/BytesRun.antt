@@ -1,7 +1,6 @@
 -- The routine that writes bytes writes them, with blanks in front.
-use Rattle.std.proofs.Common.{◌≡◌, ℕ, ◌+◌, ◌-◌, ◌^◌, ◌<◌, ◌≤◌, inl, inr, true, cond, nat_eq, None, List, [], ◌∷◌, ◌++◌, drop, length, replicate, slice_index, refl, ap, ap₂, sym, subst, ◌∙◌, append_assoc, append-nil, arith}
+use Rattle.std.proofs.Common.{◌≡◌, ℕ, ◌+◌, ◌-◌, ◌^◌, ◌<◌, ◌≤◌, inl, inr, true, cond, nat_eq, None, List, [], ◌∷◌, ◌++◌, drop, length, replicate, slice_index, refl, ap, ap₂, sym, subst, ◌∙◌, append-nil, arith}
 use Rattle.std.proofs.lemmas.Bool.{cases_lt}
-use Rattle.std.proofs.lemmas.List.Folds.{concat-append}
 use Rattle.std.proofs.lemmas.List.{length-append, length-replicate}
 use Rattle.op_low.specs.Machine.{act, cost, cost_by, done, shown_by, shows, step, step_by_ending}
 use Rattle.op_low.specs.State.{Placement, State, space, usable, values}
@@ -13,13 +12,13 @@ use Rattle.op_low.specs.declared.instruction.Instruction.{Instruction}
 use Rattle.op_meaning.specs.Texts.{padded, width_of}
 use Rattle.op_rt_text.specs.Bytes.{begins, writes_text}
 use Rattle.op_rt_text.specs.Names.{blanks, block_id, register, write_blanks_number, write_bytes_number}
-use Rattle.op_rt_text.specs.Running.{StandsAt, behind}
+use Rattle.op_rt_text.specs.Running.{StandsAt}
 use Rattle.op_rt_text.proofs.BlanksRun.{blanks_called}
 use Rattle.op_rt_text.proofs.BytesLemmas.{all_usable}
-use Rattle.op_rt_text.proofs.Calls.{cleared, inside, walk_leave}
-use Rattle.op_rt_text.proofs.Programs.{Written, WrittenInside, call_written, program}
+use Rattle.op_rt_text.proofs.Calls.{cleared, inside}
+use Rattle.op_rt_text.proofs.Programs.{Written, WrittenInside, call_written, leaves_written, longer_written, program, then_more, then_written}
 use Rattle.op_rt_text.proofs.Signs.{at_least_low, at_least_negative, less_low, width_high, width_low}
-use Rattle.op_rt_text.proofs.Walks.{Walk, standing, walk_branch, walk_longer, walk_past, walk_then, walk_write}
+use Rattle.op_rt_text.proofs.Walks.{Walk, walk_branch, walk_past, walk_then, walk_write}
 use Rattle.op_rv.proofs.Memory.{bytes_from-same, with_bytes-below}
 use Rattle.op_rv.specs.Operation.{alu_value, branch_taken, signed}
 use Rattle.op_rv.specs.State.{all_from, bytes_from}
@@ -54,14 +53,18 @@ module _ (others : List Routine) (entry : RoutineId) (named : Counts) (globals :
     room = omega arith
 
     -- the text itself
-    text_written : (registers : ℕ → ℕ) (memory : ℕ → ℕ) (output : List ℕ) → Kept memory → registers 0 ≡ at → registers 1 ≡ length text → Walk low p (here registers writes_text memory output) (standing (behind m operands rest (registers 1) memory (output ++ text)) rest) (text ∷ []) 2
+    text_written : (registers : ℕ → ℕ) (memory : ℕ → ℕ) (output : List ℕ) → Kept memory → registers 0 ≡ at → registers 1 ≡ length text → WrittenInside low p m write_bytes_number operands rest registers writes_text memory output text 2
     text_written registers memory output kept there counts =
-        let there_also = stands_on p m (here registers writes_text memory output) at text (omega arith) kept stands in
-        walk_then
-        (walk_write low p (here registers (drop 1 writes_text) memory output) (register 0) (register 1) (drop 1 writes_text) text
-        (ap₂ (all_from (usable p.rights.readable (here registers writes_text memory output))) there counts ∙ all_usable p.rights.readable (here registers writes_text memory output) at (length text) there_also.readable there_also.below)
+        let state = here registers (drop 1 writes_text) memory output in
+        let there_also = stands_on p m state at text (omega arith) kept stands in
+        then_more
+        (walk_write low p state (register 0) (register 1) (drop 1 writes_text) text
+        (ap₂ (all_from (usable p.rights.readable state)) there counts ∙ all_usable p.rights.readable state at (length text) there_also.readable there_also.below)
         (ap₂ (bytes_from memory) there counts ∙ there_also.stands))
-        (walk_leave low p m write_bytes_number operands rest registers (register 1) [] memory (output ++ text) room)
+        (append-nil text)
+        (leaves_written low p m write_bytes_number operands rest registers (register 1) memory (output ++ text) kept room)
+        (append-nil text)
+        (omega arith)
 
     abbrev given : ℕ → ℕ
     given = slice_index (at ∷ length text ∷ width ∷ [])
@@ -69,17 +72,10 @@ module _ (others : List Routine) (entry : RoutineId) (named : Counts) (globals :
     -- with no blanks in front
     alone : (memory : ℕ → ℕ) → Kept memory → branch_taken Bge (length text) width ≡ true → WrittenInside low p m write_bytes_number operands rest given begins memory m.output text 87
     alone memory kept taken =
-        record {
-          value = length text;
-          memory = memory;
-          kept = kept;
-          pieces = text ∷ [];
-          joined = append-nil text;
-          walk =
-              walk_longer (walk_then
-              (walk_branch low p (here given begins memory m.output) Bge (register 1) (register 2) (block_id 1) (drop 1 begins) taken)
-              (text_written given memory m.output kept refl refl)) (omega arith);
-        }
+        then_written
+        (walk_branch low p (here given begins memory m.output) Bge (register 1) (register 2) (block_id 1) (drop 1 begins) taken)
+        (text_written given memory m.output kept refl refl)
+        (omega arith)
 
     -- the registers with the number of blanks
     with_blanks : ℕ → ℕ
@@ -115,32 +111,21 @@ module _ (others : List Routine) (entry : RoutineId) (named : Counts) (globals :
     behind_blanks : (memory : ℕ → ℕ) → Kept memory → length text < width → width < 2 ^ 31 → WrittenInside low p m write_bytes_number operands rest given begins memory m.output (replicate {A = ℕ} (width - length text) 32 ++ text) (width - length text + 87)
     behind_blanks memory kept less positive =
         let are = with_blanks-are in
-        let spaces_of = replicate {A = ℕ} (width - length text) 32 in
+        let first = here given begins memory m.output in
         let calls = blanks_first memory kept less positive in
         let after = λ (r : ℕ). cond (nat_eq r 3) calls.value (with_blanks r) in
-        let output = m.output ++ spaces_of in
-        let kept_on = λ (x : ℕ) (below : x < m.limit). calls.kept x (omega arith) ∙ kept x below in
-        let last = text_written after calls.memory output kept_on are.0 are.1 in
-        let end = λ (out : List ℕ). standing (behind m operands rest (after 1) calls.memory out) rest in
-        let first = here given begins memory m.output in
-        record {
-          value = after 1;
-          memory = calls.memory;
-          kept = kept_on;
-          pieces = calls.pieces ++ (text ∷ []);
-          joined = concat-append calls.pieces (text ∷ []) ∙ ap₂ (λ xs ys. xs ++ ys) calls.joined (append-nil text);
-          walk =
-              walk_longer (subst (λ out. Walk low p first (end out) (calls.pieces ++ (text ∷ [])) (1 + (1 + ((width - length text + 82) + (1 + 2))))) (append_assoc m.output spaces_of text)
-              (walk_then
-              (walk_past low p first Bge (register 1) (register 2) (block_id 1) (drop 1 begins) (less_low (length text) width less positive))
-              (walk_then
-              (subtracts memory)
-              (walk_then
-              calls.walk
-              (walk_then
-              (goes_on after calls.memory output)
-              last))))) (omega arith);
-        }
+        let output = m.output ++ replicate {A = ℕ} (width - length text) 32 in
+        then_more
+        (walk_then
+        (walk_past low p first Bge (register 1) (register 2) (block_id 1) (drop 1 begins) (less_low (length text) width less positive))
+        (walk_then (subtracts memory) calls.walk))
+        calls.joined
+        (then_written {more = 3}
+        (goes_on after calls.memory output)
+        (text_written after calls.memory output (λ x below. calls.kept x (omega arith) ∙ kept x below) are.0 are.1)
+        (omega arith))
+        refl
+        (omega arith)
 
     -- all that the code does
     bytes_inside : (memory : ℕ → ℕ) → Kept memory → WrittenInside low p m write_bytes_number operands rest given begins memory m.output (padded (width_of (signed width)) text) (length (padded (width_of (signed width)) text) + 87)
@@ -149,21 +134,18 @@ module _ (others : List Routine) (entry : RoutineId) (named : Counts) (globals :
           | inl positive ↦
               rw (width_low width positive)
               (elim (cases_lt (length text) width) [
-                | inl less ↦ longer (replicate {A = ℕ} (width - length text) 32 ++ text) (width - length text + 87) (omega (arith, length-append (replicate {A = ℕ} (width - length text) 32) text, length-replicate {A = ℕ} (width - length text) 32)) (behind_blanks memory kept less positive)
+                | inl less ↦ longer_written (behind_blanks memory kept less positive) (omega (arith, length-append (replicate {A = ℕ} (width - length text) 32) text, length-replicate {A = ℕ} (width - length text) 32))
                 | inr less ↦ bare width (omega arith) (at_least_low (length text) width short (omega arith))
               ])
           | inr negative ↦ rw (width_high width (omega arith) word) (bare 0 (omega arith) (at_least_negative (length text) width short (omega arith) word))
         ]
       where
-        longer : (bytes : List ℕ) (most : ℕ) → most ≤ length bytes + 87 → WrittenInside low p m write_bytes_number operands rest given begins memory m.output bytes most → WrittenInside low p m write_bytes_number operands rest given begins memory m.output bytes (length bytes + 87)
-        longer bytes most less it = record { value = it.value; memory = it.memory; kept = it.kept; pieces = it.pieces; joined = it.joined; walk = walk_longer it.walk less }
-
         bare : (n : ℕ) → n ≤ length text → branch_taken Bge (length text) width ≡ true → WrittenInside low p m write_bytes_number operands rest given begins memory m.output (padded n text) (length (padded n text) + 87)
         bare n few taken =
             let nothing : n - length text ≡ 0 = omega arith in
             let same : text ≡ padded n text = ap (λ k. replicate {A = ℕ} k 32 ++ text) (sym nothing) in
             subst (λ bytes. WrittenInside low p m write_bytes_number operands rest given begins memory m.output bytes (length bytes + 87)) same
-            (longer text 87 (omega arith) (alone memory kept taken))
+            (longer_written (alone memory kept taken) (omega arith))
 
   -- a call of the routine
   pub bytes_called : (m : State) (operands : Operands) (rest : List Instruction) (at width : ℕ) (text : List ℕ) → values m operands.arguments ≡ at ∷ length text ∷ width ∷ [] → StandsAt p m at text → StandsAt p m (p.address blanks) (replicate {A = ℕ} 64 32) → length text < 2 ^ 31 → width < 2 ^ 32 → 128 ≤ m.room → Written low p m write_bytes_number operands rest (padded (width_of (signed width)) text) (length (padded (width_of (signed width)) text) + 155)

@@ -1,5 +1,5 @@
 -- The routine that writes a character writes it.
-use Rattle.std.proofs.Common.{◌≡◌, ℕ, pos, ◌+◌, ◌-◌, ◌%◌, ◌^◌, ◌<◌, ◌≤◌, inl, inr, Bool, true, cond, nat_eq, List, [], ◌∷◌, ◌++◌, drop, length, replicate, slice_index, refl, ap, subst, ◌∙◌, arith}
+use Rattle.std.proofs.Common.{◌≡◌, ℕ, pos, ◌+◌, ◌-◌, ◌%◌, ◌^◌, ◌<◌, ◌≤◌, inl, inr, Bool, true, cond, nat_eq, List, [], ◌∷◌, drop, length, replicate, slice_index, refl, ap, subst, ◌∙◌, arith}
 use Rattle.std.proofs.lemmas.Bool.{and_from, cases_lt}
 use Rattle.std.proofs.lemmas.Bool.Decides.{nat_tests}
 use Rattle.std.specs.Int.{bytes_low_first}
@@ -13,13 +13,13 @@ use Rattle.op_low.specs.declared.instruction.Instruction.{Instruction}
 use Rattle.op_meaning.specs.Texts.{padded, text_of_char, width_of}
 use Rattle.op_rt_text.specs.Char.{writes_byte}
 use Rattle.op_rt_text.specs.Names.{blanks, register, write_blanks_number, write_bytes_number, write_char_number}
-use Rattle.op_rt_text.specs.Running.{HasRoom, StandsAt, behind}
+use Rattle.op_rt_text.specs.Running.{HasRoom, StandsAt}
 use Rattle.op_rt_text.proofs.BytesLemmas.{all_usable}
 use Rattle.op_rt_text.proofs.Calls.{cleared, inside}
 use Rattle.op_rt_text.proofs.Programs.{Written, WrittenInside, call_written, program, then_written}
 use Rattle.op_rt_text.proofs.Signs.{signed_high, signed_low}
 use Rattle.op_rt_text.proofs.ThenBytes.{bytes_last}
-use Rattle.op_rt_text.proofs.Walks.{Walk, standing, walk_longer, walk_store, walk_then}
+use Rattle.op_rt_text.proofs.Walks.{Walk, walk_store, walk_then}
 use Rattle.op_rv.proofs.Memory.{bytes_there, with_bytes-below, with_bytes-within}
 use Rattle.op_rv.specs.Operation.{signed}
 use Rattle.op_rv.specs.State.{all_from, with_bytes}

@@ -123,6 +123,10 @@ pub record CopiedInside (low : Low) (p : Placement) (m : State) (r : ℕ) (opera
   pub moved : Moved memory after t f k
   pub walk : Walk low p (inside low p m r operands rest registers now memory m.output) (standing (behind m operands rest value after m.output) rest) [] most
 
+-- some silent steps that leave memory, and then the code that copies
+pub then_moved : {low : Low} {p : Placement} {m : State} {r : ℕ} {operands : Operands} {rest : List Instruction} {registers next : ℕ → ℕ} {now later : List Instruction} {memory : ℕ → ℕ} {t f k steps most more : ℕ} → Walk low p (inside low p m r operands rest registers now memory m.output) (inside low p m r operands rest next later memory m.output) [] steps → CopiedInside low p m r operands rest next later memory t f k most → steps + most ≤ more → CopiedInside low p m r operands rest registers now memory t f k more
+then_moved first last enough = record { value = last.value; after = last.after; moved = last.moved; walk = walk_longer (walk_then first last.walk) enough }
+
 -- a routine that copies units of n bytes
 module _ (low : Low) (p : Placement) (r : ℕ) (load : LoadOp) (store : StoreOp) (n : ℕ) (some : 0 < n) (few : n ≤ 4) (load_size : load_size_of load ≡ n) (store_size : store_size_of store ≡ n) (unit_is : (memory : ℕ → ℕ) (a : ℕ) → ((x : ℕ) → a ≤ x → x < a + n → memory x < 2 ^ 8) → bytes_low_first 0 n (load_value load memory a) ≡ bytes_from memory a n) (loop_block : block_of low r 1 ≡ copies_unit load store (pos n)) (end_block : block_of low r 2 ≡ ends) where
   module _ (m : State) (operands : Operands) (rest : List Instruction) (room : HasRoom p m 64) (has : space low p r ≤ m.room) where
@@ -338,17 +342,12 @@ module _ (low : Low) (p : Placement) (r : ℕ) (load : LoadOp) (store : StoreOp)
         let end_is : with_end t f count 3 ≡ t + (n + n * k) = omega arith in
         let differ : nat_eq t ((t + count) % 2 ^ 32) ≡ false = grind (arith, nat_tests, end_is) in
         let registers = with_end t f count in
-        let inner = loop_copied k (n * k) refl registers memory t f refl refl end_is (subst (Allowed p.rights.writable m.limit t) is to_open) (subst (Allowed p.rights.readable m.limit f) is from_open) to_aligned from_aligned (subst (λ z. (f + z ≤ t) ⊎ (t ≤ f)) is apart) (λ x from before. bytes x from (omega arith)) in
-        record {
-          value = inner.value;
-          after = inner.after;
-          moved = subst (Moved memory inner.after t f) (sym is) inner.moved;
-          walk =
-              walk_longer (walk_then
-              (end_step t f count memory)
-              (walk_then
-              (walk_past low p (here registers (drop 2 begins) memory) Beq (register 0) (register 3) (block_id 2) (drop 2 begins) differ)
-              (walk_then
-              (subst (λ now. Walk low p (here registers (drop 2 begins) memory) (here registers now memory) [] 1) loop_block (walk_jump low p (here registers [] memory) (block_id 1) []))
-              inner.walk))) (omega arith);
-        }
+        then_moved
+        (walk_then
+        (end_step t f count memory)
+        (walk_then
+        (walk_past low p (here registers (drop 2 begins) memory) Beq (register 0) (register 3) (block_id 2) (drop 2 begins) differ)
+        (subst (λ now. Walk low p (here registers (drop 2 begins) memory) (here registers now memory) [] 1) loop_block (walk_jump low p (here registers [] memory) (block_id 1) []))))
+        (subst (λ total. CopiedInside low p m r operands rest registers code memory t f total (5 * k + 7)) (sym is)
+        (loop_copied k (n * k) refl registers memory t f refl refl end_is (subst (Allowed p.rights.writable m.limit t) is to_open) (subst (Allowed p.rights.readable m.limit f) is from_open) to_aligned from_aligned (subst (λ z. (f + z ≤ t) ⊎ (t ≤ f)) is apart) (λ x from before. bytes x from (omega arith))))
+        (omega arith)

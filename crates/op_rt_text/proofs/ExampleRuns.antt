@@ -1,5 +1,5 @@
 -- Calls of the run-time routines, run by computation.
-use Rattle.std.proofs.Common.{◌≡◌, List, [], ◌∷◌, codes, refl}
+use Rattle.std.proofs.Common.{◌≡◌, [], ◌∷◌, codes, refl}
 use Rattle.op_low.specs.Machine.{act, call, done, load, start, step, step_by_ending, store, write}
 use Rattle.op_rt_text.specs.Example.{ended_call}
 use Rattle.op_rt_text.specs.Names.{copy_bytes_number, copy_words_number, take_number, write_blanks_number, write_bytes_number, write_char_number, write_number_number, write_truth_number}

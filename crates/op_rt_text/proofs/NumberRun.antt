@@ -18,13 +18,13 @@ use Rattle.op_low.specs.declared.instruction.Instruction.TheVariants.{Store}
 use Rattle.op_meaning.specs.Texts.{decimal_by, padded, text_of_number, width_of}
 use Rattle.op_rt_text.specs.Names.{blanks, block_id, register, write_blanks_number, write_bytes_number, write_number_number}
 use Rattle.op_rt_text.specs.Number.{begins, puts_digit, puts_sign, writes_text}
-use Rattle.op_rt_text.specs.Running.{HasRoom, StandsAt, behind}
+use Rattle.op_rt_text.specs.Running.{HasRoom, StandsAt}
 use Rattle.op_rt_text.proofs.Calls.{cleared, inside}
 use Rattle.op_rt_text.proofs.CharRun.{byte_storable}
 use Rattle.op_rt_text.proofs.Programs.{Written, WrittenInside, call_written, program, then_written}
 use Rattle.op_rt_text.proofs.Signs.{at_least_low, less_negative, not_below_zero, signed_high, signed_low}
 use Rattle.op_rt_text.proofs.ThenBytes.{bytes_last}
-use Rattle.op_rt_text.proofs.Walks.{Walk, standing, walk_branch, walk_longer, walk_past, walk_store, walk_then}
+use Rattle.op_rt_text.proofs.Walks.{Walk, walk_branch, walk_longer, walk_past, walk_store, walk_then}
 use Rattle.op_rv.proofs.Memory.{bytes_there, with_bytes-above, with_bytes-below, with_bytes-within}
 use Rattle.op_rv.specs.Operation.{alu_value, branch_taken, imm_value, signed, word_from}
 use Rattle.op_rv.specs.State.{with_bytes}
@@ -300,6 +300,17 @@ module _ (others : List Routine) (entry : RoutineId) (named : Counts) (globals :
     unfolding step step_by_ending done act run trace spent shows shown_by cost cost_by
     to_text_step registers memory = record { steps = 1; few = omega arith; ends = refl; shown = refl; within = omega arith }
 
+    -- a minus in front of the digits
+    minus_put : (registers memory : ℕ → ℕ) (first : ℕ) → registers 3 ≡ first → branch_taken Bge (registers 0) (registers 7) ≡ false → m.limit < first → first ≤ m.limit + 12 → Walk low p (here registers puts_sign memory) (here (signed_with registers) writes_text (with_bytes memory (first - 1) (45 ∷ []))) [] 5
+    minus_put registers memory first there negative some few =
+        walk_then
+        (walk_past low p (here registers (drop 1 puts_sign) memory) Bge (register 0) (register 7) (block_id 3) (drop 1 puts_sign) negative)
+        (walk_then
+        (minus_step registers memory)
+        (walk_then
+        (char_step (signed_with registers) memory (drop 4 puts_sign) (first - 1) 45 (one_less_is registers first there some few) refl (omega arith) (omega arith))
+        (to_text_step (signed_with registers) (with_bytes memory (first - 1) (45 ∷ [])))))
+
     -- the whole text is made
     record Made (memory : ℕ → ℕ) (text : List ℕ) : Type 0 where
       registers_after : ℕ → ℕ
@@ -314,16 +325,10 @@ module _ (others : List Routine) (entry : RoutineId) (named : Counts) (globals :
       below : (x : ℕ) → x < m.limit → after x ≡ memory x
       walk : Walk low p (here given begins memory) (here registers_after writes_text after) [] 73
 
-    made_positive : (memory : ℕ → ℕ) → value < 2 ^ 31 → Made memory (decimal_by 10 value)
-    made_positive memory positive =
-        let there : end_at ≡ m.limit + 11 = omega arith in
-        let words = room.words in
-        let least = room.room in
-        let digits = digits_put 9 begun memory (m.limit + 11) value there refl refl refl (omega arith) (omega arith) (omega arith) word in
+    -- of the digits alone
+    made_alone : (memory : ℕ → ℕ) (text : List ℕ) → length text ≤ 10 → Walk low p (here given begins memory) (here begun puts_digit memory) [] 5 → branch_taken Bge value 0 ≡ true → Digits begun memory (m.limit + 11) text 61 → Made memory text
+    made_alone memory text few begins_there positive digits =
         let whole = digits.length_is in
-        let size = decimal_length 10 value in
-        let test = at_least_low value 0 positive (omega arith) in
-        let sign_test : branch_taken Bge (digits.registers_after 0) (digits.registers_after 7) ≡ true = ap₂ (branch_taken Bge) digits.value_kept digits.nothing_kept ∙ test in
         record {
           registers_after = digits.registers_after;
           after = digits.after;
@@ -336,70 +341,67 @@ module _ (others : List Routine) (entry : RoutineId) (named : Counts) (globals :
           stands = digits.stands;
           below = λ x lower. digits.below x (omega arith);
           walk =
-              walk_longer (walk_then
-              (begin_step memory)
+              walk_longer
               (walk_then
-              (walk_branch low p (here begun (drop 5 begins) memory) Bge (register 0) (register 7) (block_id 1) (drop 5 begins) test)
+              begins_there
               (walk_then
               digits.walk
-              (walk_branch low p (here digits.registers_after (drop 1 puts_sign) digits.after) Bge (register 0) (register 7) (block_id 3) (drop 1 puts_sign) sign_test)))) (omega arith);
+              (walk_branch low p (here digits.registers_after (drop 1 puts_sign) digits.after) Bge (register 0) (register 7) (block_id 3) (drop 1 puts_sign)
+              (ap₂ (branch_taken Bge) digits.value_kept digits.nothing_kept ∙ positive))))
+              (omega arith);
         }
 
-    made_negative : (memory : ℕ → ℕ) → 2 ^ 31 ≤ value → Made memory (45 ∷ decimal_by 10 (2 ^ 32 - value))
-    made_negative memory negative =
-        let there : end_at ≡ m.limit + 11 = omega arith in
-        let words = room.words in
-        let least = room.room in
-        let magnitude : alu_value Sub 0 value ≡ 2 ^ 32 - value = omega arith in
-        let digits = digits_put 9 negated memory (m.limit + 11) (2 ^ 32 - value) there magnitude refl refl (omega arith) (omega arith) (omega arith) (omega arith) in
+    -- of the digits and a minus
+    made_signed : (memory : ℕ → ℕ) (text : List ℕ) → length text ≤ 10 → Walk low p (here given begins memory) (here negated puts_digit memory) [] 7 → branch_taken Bge value 0 ≡ false → Digits negated memory (m.limit + 11) text 61 → Made memory (45 ∷ text)
+    made_signed memory text few begins_there negative digits =
         let whole = digits.length_is in
-        let text = decimal_by 10 (2 ^ 32 - value) in
-        let size = decimal_length 10 (2 ^ 32 - value) in
-        let test = less_negative value negative word in
-        let sign_test : branch_taken Bge (digits.registers_after 0) (digits.registers_after 7) ≡ false = ap₂ (branch_taken Bge) digits.value_kept digits.nothing_kept ∙ test in
-        let at = digits.first - 1 in
-        let registers = signed_with digits.registers_after in
-        let stored = with_bytes digits.after at (45 ∷ []) in
-        let address = one_less_is digits.registers_after digits.first digits.address (omega arith) (omega arith) in
         record {
-          registers_after = registers;
-          after = stored;
-          first = at;
-          address = address;
+          registers_after = signed_with digits.registers_after;
+          after = with_bytes digits.after (digits.first - 1) (45 ∷ []);
+          first = digits.first - 1;
+          address = one_less_is digits.registers_after digits.first digits.address (omega arith) (omega arith);
           width_is = digits.width_kept;
           end_is = digits.end_kept;
           from = omega arith;
           length_is = omega arith;
-          stands = negative_stands digits.after digits.first text (omega arith) digits.stands;
-          below = negative_below memory digits.after digits.first (omega arith) digits.below;
+          stands = minus_stands digits.after digits.first text (omega arith) digits.stands;
+          below = λ x lower. with_bytes-below digits.after (digits.first - 1) (45 ∷ []) x (omega arith) ∙ digits.below x (omega arith);
           walk =
-              walk_longer (walk_then
-              (begin_step memory)
+              walk_longer
               (walk_then
-              (walk_past low p (here begun (drop 5 begins) memory) Bge (register 0) (register 7) (block_id 1) (drop 5 begins) test)
-              (walk_then
-              (negate_step memory)
+              begins_there
               (walk_then
               digits.walk
-              (walk_then
-              (walk_past low p (here digits.registers_after (drop 1 puts_sign) digits.after) Bge (register 0) (register 7) (block_id 3) (drop 1 puts_sign) sign_test)
-              (walk_then
-              (minus_step digits.registers_after digits.after)
-              (walk_then
-              (char_step registers digits.after (drop 4 puts_sign) at 45 address refl (omega arith) (omega arith))
-              (to_text_step registers stored)))))))) (omega arith);
+              (minus_put digits.registers_after digits.after digits.first digits.address (ap₂ (branch_taken Bge) digits.value_kept digits.nothing_kept ∙ negative) (omega arith) (omega arith))))
+              (omega arith);
         }
       where
-        negative_below : (before memory : ℕ → ℕ) (first : ℕ) → m.limit < first → ((x : ℕ) → x < first → memory x ≡ before x) → (x : ℕ) → x < m.limit → with_bytes memory (first - 1) (45 ∷ []) x ≡ before x
-        negative_below before memory first some below x lower = with_bytes-below memory (first - 1) (45 ∷ []) x (omega arith) ∙ below x (omega arith)
-
-        negative_stands : (memory : ℕ → ℕ) (first : ℕ) (text : List ℕ) → 0 < first → ((j : ℕ) → j < length text → memory (first + j) ≡ get_or text j 0) → (j : ℕ) → j < length (45 ∷ text) → with_bytes memory (first - 1) (45 ∷ []) (first - 1 + j) ≡ get_or (45 ∷ text) j 0
-        negative_stands memory first text some each zero within =
+        minus_stands : (memory : ℕ → ℕ) (first : ℕ) (text : List ℕ) → 0 < first → ((j : ℕ) → j < length text → memory (first + j) ≡ get_or text j 0) → (j : ℕ) → j < length (45 ∷ text) → with_bytes memory (first - 1) (45 ∷ []) (first - 1 + j) ≡ get_or (45 ∷ text) j 0
+        minus_stands memory first text some each zero within =
             let place : first - 1 + 0 - (first - 1) ≡ 0 = omega arith in
             with_bytes-within memory (first - 1) (45 ∷ []) (first - 1 + 0) (omega arith) (omega arith) ∙ ap (λ i. get_or (45 ∷ []) i 0) place
-        negative_stands memory first text some each (suc j) within =
+        minus_stands memory first text some each (suc j) within =
             let place : first - 1 + suc j ≡ first + j = omega arith in
             with_bytes-above memory (first - 1) (45 ∷ []) (first - 1 + suc j) (omega arith) ∙ ap memory place ∙ each j (omega arith)
+
+    made_positive : (memory : ℕ → ℕ) → value < 2 ^ 31 → Made memory (decimal_by 10 value)
+    made_positive memory positive =
+        let there : end_at ≡ m.limit + 11 = omega arith in
+        let test = at_least_low value 0 positive (omega arith) in
+        made_alone memory (decimal_by 10 value) (decimal_length 10 value)
+        (walk_then (begin_step memory) (walk_branch low p (here begun (drop 5 begins) memory) Bge (register 0) (register 7) (block_id 1) (drop 5 begins) test))
+        test
+        (digits_put 9 begun memory (m.limit + 11) value there refl refl refl (omega arith) (omega arith) (omega arith) word)
+
+    made_negative : (memory : ℕ → ℕ) → 2 ^ 31 ≤ value → Made memory (45 ∷ decimal_by 10 (2 ^ 32 - value))
+    made_negative memory negative =
+        let there : end_at ≡ m.limit + 11 = omega arith in
+        let magnitude : alu_value Sub 0 value ≡ 2 ^ 32 - value = omega arith in
+        let test = less_negative value negative word in
+        made_signed memory (decimal_by 10 (2 ^ 32 - value)) (decimal_length 10 (2 ^ 32 - value))
+        (walk_then (begin_step memory) (walk_then (walk_past low p (here begun (drop 5 begins) memory) Bge (register 0) (register 7) (block_id 1) (drop 5 begins) test) (negate_step memory)))
+        test
+        (digits_put 9 negated memory (m.limit + 11) (2 ^ 32 - value) there magnitude refl refl (omega arith) (omega arith) (omega arith) (omega arith))
 
     -- ---- the write
 

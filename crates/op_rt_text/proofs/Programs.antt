@@ -1,8 +1,9 @@
 -- A program that has the run-time routines in front, and calls of them.
-use Rattle.std.proofs.Common.{◌≡◌, ℕ, ◌+◌, ◌<◌, ◌≤◌, true, nat_eq, nat_le, nat_lt, List, [], ◌∷◌, ◌++◌, length, slice_index, ap, sym, subst, ◌∙◌, arith}
+use Rattle.std.proofs.Common.{◌≡◌, ℕ, ◌+◌, ◌<◌, ◌≤◌, true, nat_eq, nat_le, nat_lt, List, [], ◌∷◌, ◌++◌, length, slice_index, ap, sym, subst, ◌∙◌, arith, append_assoc, append-nil, ap₂, refl}
 use Rattle.std.proofs.lemmas.Bool.{and_from}
 use Rattle.std.proofs.lemmas.Bool.Decides.{nat_tests}
 use Rattle.std.proofs.lemmas.List.{length-append, length-map}
+use Rattle.std.proofs.lemmas.List.Folds.{concat-append}
 use Rattle.std.specs.List.{concat}
 use Rattle.op_low.specs.Machine.{can_enter}
 use Rattle.op_low.specs.State.{Placement, State, block_of, routine_of, space, value, values}
@@ -12,11 +13,11 @@ use Rattle.op_low.specs.declared.code.Routine.{Routine}
 use Rattle.op_low.specs.declared.ids.VirtualRegister.{VirtualRegister}
 use Rattle.op_low.specs.declared.instruction.Call.{Call as Operands}
 use Rattle.op_low.specs.declared.instruction.Instruction.{Instruction}
-use Rattle.op_low.specs.declared.instruction.Instruction.TheVariants.{Call}
+use Rattle.op_low.specs.declared.instruction.Instruction.TheVariants.{Call, Return}
 use Rattle.op_rt_text.specs.Names.{routine_id}
 use Rattle.op_rt_text.specs.Running.{behind}
 use Rattle.op_rt_text.specs.Runtime.{runtime_routines}
-use Rattle.op_rt_text.proofs.Calls.{cleared, inside, walk_enter}
+use Rattle.op_rt_text.proofs.Calls.{cleared, inside, walk_enter, walk_leave}
 use Rattle.op_rt_text.proofs.Walks.{Walk, standing, walk_longer, walk_then}
 use Rattle.op_rv.specs.declared.objects.GlobalVariable.{GlobalVariable}
 use Rattle.op_rv.specs.declared.symbol.RoutineId.{RoutineId}
@@ -54,6 +55,37 @@ then_written first last enough =
       joined = last.joined;
       walk = walk_longer (walk_then first last.walk) enough;
     }
+
+-- some steps that write, and then the code that writes the rest
+pub then_more : {low : Low} {p : Placement} {m : State} {r : ℕ} {operands : Operands} {rest : List Instruction} {registers next : ℕ → ℕ} {now later : List Instruction} {before middle : ℕ → ℕ} {output text others bytes : List ℕ} {pieces : List (List ℕ)} {k most more : ℕ} → Walk low p (inside low p m r operands rest registers now before output) (inside low p m r operands rest next later middle (output ++ text)) pieces k → concat pieces ≡ text → WrittenInside low p m r operands rest next later middle (output ++ text) others most → text ++ others ≡ bytes → k + most ≤ more → WrittenInside low p m r operands rest registers now before output bytes more
+then_more {low = low} {p = p} {m = m} {r = r} {operands = operands} {rest = rest} {next = next} {later = later} {middle = middle} {output = output} {text = text} {others = others} {pieces = pieces} {most = most} first written last whole enough =
+    let same = append_assoc output text others ∙ ap (λ bytes. output ++ bytes) whole in
+    record {
+      value = last.value;
+      memory = last.memory;
+      kept = last.kept;
+      pieces = pieces ++ last.pieces;
+      joined = concat-append pieces last.pieces ∙ ap₂ (λ xs ys. xs ++ ys) written last.joined ∙ whole;
+      walk = walk_longer (walk_then first (subst (λ out. Walk low p (inside low p m r operands rest next later middle (output ++ text)) (standing (behind m operands rest last.value last.memory out) rest) last.pieces most) same last.walk)) enough;
+    }
+
+-- the return
+pub leaves_written : (low : Low) (p : Placement) (m : State) (r : ℕ) (operands : Operands) (rest : List Instruction) (registers : ℕ → ℕ) (v : VirtualRegister) (memory : ℕ → ℕ) (output : List ℕ) → ((x : ℕ) → x < m.limit → memory x ≡ m.memory x) → space low p r ≤ m.room → WrittenInside low p m r operands rest registers (Return v ∷ []) memory output [] 1
+leaves_written low p m r operands rest registers v memory output kept has =
+    record {
+      value = registers v.0;
+      memory = memory;
+      kept = kept;
+      pieces = [];
+      joined = refl;
+      walk =
+          subst (λ out. Walk low p (inside low p m r operands rest registers (Return v ∷ []) memory output) (standing (behind m operands rest (registers v.0) memory out) rest) [] 1) (sym (append-nil output))
+          (walk_leave low p m r operands rest registers v [] memory output has);
+    }
+
+pub longer_written : {low : Low} {p : Placement} {m : State} {r : ℕ} {operands : Operands} {rest : List Instruction} {registers : ℕ → ℕ} {now : List Instruction} {before : ℕ → ℕ} {output bytes : List ℕ} {most more : ℕ} → WrittenInside low p m r operands rest registers now before output bytes most → most ≤ more → WrittenInside low p m r operands rest registers now before output bytes more
+longer_written it enough =
+    record { value = it.value; memory = it.memory; kept = it.kept; pieces = it.pieces; joined = it.joined; walk = walk_longer it.walk enough }
 
 module _ (others : List Routine) (entry : RoutineId) (named : Counts) (globals : List GlobalVariable) (p : Placement) where
   abbrev low : Low

@@ -12,12 +12,12 @@ use Rattle.op_low.specs.declared.instruction.Call.{Call as Operands}
 use Rattle.op_low.specs.declared.instruction.Instruction.{Instruction}
 use Rattle.op_low.specs.declared.instruction.Instruction.TheVariants.{Return}
 use Rattle.op_rt_text.specs.Names.{block_id, copy_bytes_number, copy_words_number, register, take_number}
-use Rattle.op_rt_text.specs.Running.{Allowed, Copyable, HasRoom, behind}
+use Rattle.op_rt_text.specs.Running.{Allowed, Copyable, HasRoom}
 use Rattle.op_rt_text.specs.Take.{begins, copies}
 use Rattle.op_rt_text.proofs.Calls.{cleared, inside, walk_leave}
 use Rattle.op_rt_text.proofs.CopyCalls.{Copied, CopiedBelow, bytes_copied, call_copied, then_copied, words_called}
 use Rattle.op_rt_text.proofs.Programs.{program}
-use Rattle.op_rt_text.proofs.Walks.{Walk, standing, walk_branch, walk_load, walk_longer, walk_past, walk_then}
+use Rattle.op_rt_text.proofs.Walks.{Walk, walk_branch, walk_load, walk_past, walk_then}
 use Rattle.op_rv.proofs.Memory.{can_access_word, with_bytes-below, word_at-same}
 use Rattle.op_rv.specs.Operation.{branch_taken, imm_value, word_from}
 use Rattle.op_rv.specs.State.{word_at}

@@ -1,5 +1,5 @@
 -- The routine that writes a truth writes it.
-use Rattle.std.proofs.Common.{◌≡◌, ℕ, pos, ◌+◌, ◌^◌, ◌<◌, ◌≤◌, inl, inr, true, false, cond, not, nat_eq, nat_lt, List, [], ◌∷◌, ◌++◌, codes, drop, length, replicate, slice_index, refl, ap, ◌∙◌, arith}
+use Rattle.std.proofs.Common.{◌≡◌, ℕ, pos, ◌+◌, ◌^◌, ◌<◌, ◌≤◌, inl, inr, true, false, cond, not, nat_eq, nat_lt, List, [], ◌∷◌, codes, drop, length, replicate, slice_index, refl, ap, ◌∙◌, arith}
 use Rattle.std.proofs.lemmas.Bool.{cases_lt, cond-false}
 use Rattle.std.proofs.lemmas.Bool.Decides.{nat_tests}
 use Rattle.std.specs.Ordering.{int_eq}
@@ -12,14 +12,14 @@ use Rattle.op_low.specs.declared.instruction.Call.{Call as Operands}
 use Rattle.op_low.specs.declared.instruction.Instruction.{Instruction}
 use Rattle.op_meaning.specs.Texts.{padded, text_of_truth, width_of}
 use Rattle.op_rt_text.specs.Names.{block_id, false_text, register, true_text, write_blanks_number, write_bytes_number, write_truth_number}
-use Rattle.op_rt_text.specs.Running.{HasTexts, StandsAt, behind}
+use Rattle.op_rt_text.specs.Running.{HasTexts, StandsAt}
 use Rattle.op_rt_text.specs.Truth.{chooses, writes_literal}
 use Rattle.op_rt_text.proofs.BytesRun.{stands_on}
 use Rattle.op_rt_text.proofs.Calls.{cleared, inside}
 use Rattle.op_rt_text.proofs.Programs.{Written, WrittenInside, call_written, program, then_written}
 use Rattle.op_rt_text.proofs.Signs.{signed_high, signed_low}
 use Rattle.op_rt_text.proofs.ThenBytes.{bytes_last}
-use Rattle.op_rt_text.proofs.Walks.{Walk, standing, walk_branch, walk_longer, walk_past, walk_then}
+use Rattle.op_rt_text.proofs.Walks.{Walk, walk_branch, walk_past, walk_then}
 use Rattle.op_rv.proofs.Memory.{with_bytes-below}
 use Rattle.op_rv.specs.Operation.{branch_taken, signed}
 use Rattle.op_rv.specs.declared.instruction.BranchOp.TheVariants.{Bne}
