@@ -118,8 +118,8 @@ makes setting old mid new f r here e of same a b =
     let next = own env (type_of e) here in
     let c : IfOk r (λ _. Adds setting mid new (next (found_view f)).items) = subst (λ t. IfOk r (λ _. Adds setting mid new (own env t here (found_view f)).items)) same b in
     let k : g.items & (next (found_view f)).items ≡ (make env here e).items =
-        ap (λ x. g.items & (next x).items) a.is
-        ∙ ap (λ x. x.items) (sym (own_behind env (type_of e) here g.items (alone g)) ∙ ap next (whole g) ∙ make_is env here e) in
+    ap (λ x. g.items & (next x).items) a.is
+    ∙ ap (λ x. x.items) (sym (own_behind env (type_of e) here g.items (alone g)) ∙ ap next (whole g) ∙ make_is env here e) in
     ok_as setting old new r k (ok_both setting old mid new r g.items (next (found_view f)).items a.adds c)
 
 pub acts_gives : (setting : Setting) (old mid new : List Item) (f : RustFound) (g : Found) (more : ℕ → List Action) (t t' : ℕ) → t ≡ t' → Gives setting old mid f g → Adds setting mid new (acts (more t)) → Gives setting old new f (then_acts g (more t'))

@@ -1,4 +1,6 @@
 //! Loops that count ("The For..to/downto..do statement" and "The For..in..do statement" of the Free Pascal Reference Guide).
+#![tactic(auto, using(crate::proofs::Behind::behind_behind, crate::proofs::Behind::behind_none))]
+
 ghost use Rattle.std.specs.Prelude.{◌≡◌, ◌+◌, [], ◌∷◌, IfOk, false, pos};
 ghost use Rattle.op_core.specs.Sizes.{type_at};
 ghost use Rattle.op_items.specs.Adding.{Adds, env_view, turns_in, view_in};
