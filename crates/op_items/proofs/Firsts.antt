@@ -1,5 +1,6 @@
 -- The first values of a routine's variables, one after the other.
-use Rattle.std.proofs.Common.{◌≡◌, ℕ, suc, ◌+◌, Option, Some, None, Box, slice_get, add-one, ap, refl}
+use Rattle.std.proofs.Common.{◌≡◌, ℕ, suc, ◌+◌, Option, Some, None, Box, slice_get, get_or, length, List, ◌<◌, ◌≤◌, add-one, ap, sym, ◌∙◌, refl}
+use Rattle.std.proofs.lemmas.Option.{slice_get_past, slice_get_read}
 use Rattle.std.specs.declared.alloc.Global.{Global}
 use Rattle.op_core.specs.Initial.{FirstValue, first_value_of}
 use Rattle.op_core.specs.declared.constant.Initial.{Initial}
@@ -29,3 +30,11 @@ no_value core r v row e f = rw (e, f) refl
 
 pub a_value : (core : Core) (r v : ℕ) (row : Variable) (value : Box Initial Global) → slice_get core.variables ((variables_of core r).first + v) ≡ Some row → row.first_value ≡ Some value → first_item core r v ((program_of core 0).first ((variables_of core r).first + v)) ≡ only (act (view_action core r (BeginWith (record { 0 = v }))))
 a_value core r v row value e f = rw (e, f) (ap (λ x. only (act (begin_with v (type_of_row x) (first_value_of value.value)))) e)
+
+-- ---- rows of tables
+
+pub past_rows : {A : Type 0} (list table : List A) (i j : ℕ) → list ≡ table → i ≡ j → length list ≤ i → slice_get table j ≡ None
+past_rows list table i j e f h = ap (λ n. slice_get table n) (sym f) ∙ ap (λ l. slice_get l i) (sym e) ∙ slice_get_past list i h
+
+pub among_rows : {A : Type 0} (list table : List A) (i j : ℕ) (x : A) → list ≡ table → i ≡ j → i < length list → x ≡ get_or list i x → slice_get table j ≡ Some x
+among_rows list table i j x e f h k = ap (λ n. slice_get table n) (sym f) ∙ ap (λ l. slice_get l i) (sym e) ∙ slice_get_read list (length list) i x refl h k
