@@ -118,9 +118,18 @@ makes setting old mid new f r here e of same a b =
     let next = own env (type_of e) here in
     let c : IfOk r (λ _. Adds setting mid new (next (found_view f)).items) = subst (λ t. IfOk r (λ _. Adds setting mid new (own env t here (found_view f)).items)) same b in
     let k : g.items & (next (found_view f)).items ≡ (make env here e).items =
-        ap (λ x. g.items & (next x).items) a.is
-        ∙ ap (λ x. x.items) (sym (own_behind env (type_of e) here g.items (alone g)) ∙ ap next (whole g) ∙ make_is env here e) in
+    ap (λ x. g.items & (next x).items) a.is
+    ∙ ap (λ x. x.items) (sym (own_behind env (type_of e) here g.items (alone g)) ∙ ap next (whole g) ∙ make_is env here e) in
     ok_as setting old new r k (ok_both setting old mid new r g.items (next (found_view f)).items a.adds c)
+
+pub made_gives : (setting : Setting) (old mid new : List Item) (f f' : RustFound) (here : Here) (e : Expression) (of : TypeId) → of ≡ type_of e → Gives setting old mid f (find (env_view setting) here e) → Gives setting mid new f' (own (env_view setting) of here (found_view f)) → Gives setting old new f' (make (env_view setting) here e)
+made_gives setting old mid new f f' here e of same a b =
+    let env = env_view setting in
+    let g = find env here e in
+    let next = own env (type_of e) here in
+    let c : Gives setting mid new f' (next (found_view f)) = subst (λ t. Gives setting mid new f' (own env t here (found_view f))) same b in
+    let k : behind g.items (next (found_view f)) ≡ make env here e = ap (λ x. behind g.items (next x)) a.is ∙ sym (own_behind env (type_of e) here g.items (alone g)) ∙ ap next (whole g) ∙ make_is env here e in
+    subst (λ x. Gives setting old new f' x) k (behind_gives setting old mid new f' g.items (next (found_view f)) a.adds c)
 
 pub acts_gives : (setting : Setting) (old mid new : List Item) (f : RustFound) (g : Found) (more : ℕ → List Action) (t t' : ℕ) → t ≡ t' → Gives setting old mid f g → Adds setting mid new (acts (more t)) → Gives setting old new f (then_acts g (more t'))
 acts_gives setting old mid new f g more t t' e a b = then_gives setting old mid new f g (acts (more t')) a (subst (λ n. Adds setting mid new (acts (more n))) e b)

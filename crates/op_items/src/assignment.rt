@@ -1,4 +1,6 @@
 //! Assignments, Inc, Dec, Include and Exclude ("Assignments" of the Free Pascal Reference Guide; reference of the unit System).
+#![tactic(auto, using(crate::proofs::Behind::behind_behind, crate::proofs::Behind::behind_none))]
+
 ghost use Rattle.std.specs.Prelude.{◌≡◌, ◌+◌, [], ◌∷◌, IfOk};
 ghost use Rattle.op_core.specs.Expression.{expr_of};
 ghost use Rattle.op_core.specs.Statement.{target_of};

@@ -1,4 +1,6 @@
 //! Routines: the first values of their variables, and their statements.
+#![tactic(auto, using(crate::proofs::Behind::behind_behind, crate::proofs::Behind::behind_none))]
+
 ghost use Rattle.std.specs.Prelude.{◌≡◌, ◌+◌, IfOk};
 ghost use Rattle.op_items.specs.Adding.{Adds, env_view, view_in};
 ghost use Rattle.op_items.specs.First.{first_item};
@@ -21,9 +23,11 @@ use std::alloc::Global;
 impl Setting<'_> {
     /// A variable of the routine begins with a value where its row has one ("Initialized variables" of the Free Pascal Reference
     /// Guide).
-    fn begin_with(self, items: &mut Vec<Item>, variable: u32, row: u64) -> Result<(), NoMemory>
-        ensures { IfOk result (λ _. Adds self.entry items.old.items items.new.items (first_item self.entry.core.now self.entry.routine.0 variable ((program_of self.entry.core.now 0).first row))) }
+    fn begin_with(self, items: &mut Vec<Item>, variable: u32) -> Result<(), NoMemory>
+        ensures { IfOk result (λ _. Adds self.entry items.old.items items.new.items (first_item self.entry.core.now self.entry.routine.0 variable ((program_of self.entry.core.now 0).first ((variables_of self.entry.core.now self.entry.routine.0).first + variable)))) }
     {
+        let rows = variables_of(self.core, self.routine);
+        let row = rows.first as u64 + variable as u64;
         match self.core.variables.as_slice().get(row as usize) {
             None => Ok(()),
             Some(row) => match row.first_value {
@@ -37,12 +41,13 @@ impl Setting<'_> {
     }
 
     /// The first values of the routine's variables.
+    #[tactic(auto, using(crate::proofs::Behind::behind_behind, crate::proofs::Behind::behind_none, crate::proofs::Firsts::first_more))]
     fn first_values(self, items: &mut Vec<Item>) -> Result<(), NoMemory>
         ensures { IfOk result (λ _. Adds self.entry items.old.items items.new.items (first_items self.entry.core.now (program_of self.entry.core.now 0).first self.entry.routine.0 (variables_of self.entry.core.now self.entry.routine.0).count)) }
     {
         let rows = variables_of(self.core, self.routine);
         for variable in 0..rows.count {
-            self.begin_with(items, variable, rows.first as u64 + variable as u64)?;
+            self.begin_with(items, variable)?;
         }
         Ok(())
     }

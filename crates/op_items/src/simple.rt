@@ -1,4 +1,6 @@
 //! Statements whose parts are expressions, and the heads of the others.
+#![tactic(auto, using(crate::proofs::Behind::behind_behind, crate::proofs::Behind::behind_none))]
+
 ghost use Rattle.std.specs.Prelude.{◌≡◌, IfOk};
 ghost use Rattle.op_core.specs.Expression.{expr_of};
 ghost use Rattle.op_core.specs.Statement.{built_in_of, exit_with};

@@ -1,13 +1,17 @@
 //! Loops that count ("The For..to/downto..do statement" and "The For..in..do statement" of the Free Pascal Reference Guide).
+#![tactic(auto, using(crate::proofs::Behind::behind_behind, crate::proofs::Behind::behind_none))]
+
 ghost use Rattle.std.specs.Prelude.{◌≡◌, ◌+◌, [], ◌∷◌, IfOk, false, pos};
 ghost use Rattle.op_core.specs.Sizes.{type_at};
 ghost use Rattle.op_items.specs.Adding.{Adds, env_view, turns_in, view_in};
-ghost use Rattle.op_items.specs.Collections.{element_stored, turn_of_set};
+ghost use Rattle.op_items.specs.Collections.{bounded, element_stored, turn_of_set};
 ghost use Rattle.op_items.specs.Setting.{here_view};
 ghost use Rattle.op_meaning.specs.Actions.{arithmetic, compare, constant};
-ghost use Rattle.op_meaning.specs.Expressions.{high_in, low_in};
+ghost use Rattle.op_meaning.specs.Expressions.{element_step, high_in, low_in, whole_path};
 ghost use Rattle.op_meaning.specs.Items.{act, acts, body_first, only, then_do};
+ghost use Rattle.op_meaning.specs.Paths.{with_step};
 ghost use Rattle.op_meaning.specs.Statements.{check_bound, counting, for_items, has_turn, in_array, in_collection, in_set, store_variable, sum_or_difference};
+ghost use Rattle.op_mir.specs.View.{view_path};
 
 use crate::assignment::sum_or_difference;
 use crate::found::Found;
@@ -17,7 +21,7 @@ use crate::setting::{Here, Setting, behind, next};
 use crate::shape::{counted_of, high_in, low_in, type_of_variable};
 use op_base::NoMemory;
 use op_core::{Conversion, CoreType, TypeId, VariableId};
-use op_mir::{Computation, TemporaryId};
+use op_mir::{Computation, Path, TemporaryId};
 use op_tree::{Direction, Operator};
 use op_types::type_at;
 
@@ -127,6 +131,23 @@ impl Setting<'_> {
         self.body_first(items, turns)
     }
 
+    /// Both bounds are checked, and then there are turns.
+    fn bounded(
+        self,
+        counter: TemporaryId,
+        variable: VariableId,
+        direction: Direction,
+        body: Vec<Item>,
+    ) -> Result<Vec<Item>, NoMemory>
+        ensures { IfOk result (λ items. view_in self.entry items.items ≡ bounded (env_view self.entry) counter.0 variable direction (view_in self.entry body.items)) }
+    {
+        let mut items = Vec::new(self.alloc);
+        self.check_bound(&mut items, variable, counter)?;
+        self.check_bound(&mut items, variable, next(counter)?)?;
+        self.turns(&mut items, counter, variable, direction, body)?;
+        Ok(items)
+    }
+
     /// Behind both bounds: where there is a turn, they are checked.
     pub fn count_turns(
         self,
@@ -140,11 +161,9 @@ impl Setting<'_> {
     {
         let counter = here.first();
         self.compare(items, has_turn(direction), counter)?;
-        let mut first = Vec::new(self.alloc);
-        self.check_bound(&mut first, variable, counter)?;
-        self.check_bound(&mut first, variable, next(counter)?)?;
-        self.turns(&mut first, counter, variable, direction, body)?;
-        self.choose(items, behind(counter, 2)?, first, Vec::new(self.alloc))
+        let first = self.bounded(counter, variable, direction, body)?;
+        let temporary = behind(counter, 2)?;
+        self.choose(items, temporary, first, Vec::new(self.alloc))
     }
 
     /// Two bounds go to the temporary and to the next one.
@@ -155,6 +174,14 @@ impl Setting<'_> {
         let high = high_in(self.core, of)?;
         self.number(items, to, low)?;
         self.number(items, next(to)?, high)
+    }
+
+    /// The place of the element whose index is in the first temporary, in the copy of an array.
+    fn element_place(self, of: TypeId, here: Here) -> Result<Path, NoMemory>
+        ensures { IfOk result (λ place. view_path place ≡ with_step (element_step self.entry.core.now of (here_view here).temp) (whole_path of (here_view here))) }
+    {
+        let step = self.element_step(of, here.first())?;
+        with_step(whole_path(self.alloc, of, here), step)
     }
 
     /// An element of the array is stored in the variable.
@@ -169,20 +196,13 @@ impl Setting<'_> {
     ) -> Result<(), NoMemory>
         ensures { IfOk result (λ _. Adds self.entry items.old.items items.new.items (element_stored (env_view self.entry) (here_view here) of element variable conversion)) }
     {
-        let index = here.first();
         let to = type_of_variable(self.core, variable);
         let inner = here.past_whole()?.past(3)?;
-        let array = whole_path(self.alloc, of, here);
-        let place = with_step(array, self.element_step(of, index)?)?;
-        self.own(items, element, inner, Found::at(place))?;
+        let place = Found::at(self.element_place(of, here)?);
+        self.make(items, element, inner, place)?;
         self.convert(items, conversion, to, here.behind(3)?)?;
-        self.store(
-            items,
-            to,
-            element,
-            inner,
-            Found::at(self.variable(variable)),
-        )
+        let target = Found::at(self.variable(variable));
+        self.store(items, to, element, inner, target)
     }
 
     /// Behind a copy of an array: its elements in ascending order.

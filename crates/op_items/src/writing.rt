@@ -1,4 +1,6 @@
 //! Write and WriteLn (reference of the unit System).
+#![tactic(auto, using(crate::proofs::Behind::behind_behind, crate::proofs::Behind::behind_none))]
+
 ghost use Rattle.std.specs.Prelude.{◌≡◌, ◌+◌, IfOk, map};
 ghost use Rattle.op_core.specs.Sizes.{type_at};
 ghost use Rattle.op_core.specs.Statement.{item_of};
