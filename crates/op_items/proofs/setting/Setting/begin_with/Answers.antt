@@ -1,4 +1,4 @@
-use Rattle.std.proofs.Common.{◌+◌, ap, sym}
+use Rattle.std.proofs.Common.{arith, ◌+◌, ap, sym}
 use Rattle.op_items.proofs.Behind.{adds_by, behind_none, ok_as}
 use Rattle.op_items.proofs.Firsts.{a_value, among_rows, no_row, no_value, past_rows}
 use Rattle.op_items.specs.Adding.{view_in}
@@ -8,17 +8,17 @@ use Rattle.op_items.proofs.setting.Setting.begin_with.Goals as goal
 pub returns-in-None : goal.returns-in-None
 returns-in-None c =
     adds_by c.args.self c.args.items.now.items c.args.items.now.items
-    (sym (no_row c.args.self.core.now c.args.self.routine.0 c.args.variable (past_rows c.as_slice.result.now c.args.self.core.now.variables (c.variables_of-rows.result.first + c.args.variable) ((variables_of c.args.self.core.now c.args.self.routine.0).first + c.args.variable) c.as_slice.ensures (ap (λ x. x.first + c.args.variable) c.variables_of-rows.ensures) c.in-None.ensures.lookup.1.1.1.0)))
+    (sym (no_row c.args.self.core.now c.args.self.routine.0 c.args.variable (past_rows c.as_slice.result.now c.args.self.core.now.variables (c.variables_of-rows.result.first + c.args.variable) ((variables_of c.args.self.core.now c.args.self.routine.0).first + c.args.variable) c.as_slice.ensures (ap (λ x. x.first + c.args.variable) c.variables_of-rows.ensures) (grind (arith, c.in-None.ensures.lookup.0)))))
     (sym (behind_none (view_in c.args.self c.args.items.now.items)))
 
 pub returns-in-None-first_value : goal.returns-in-None-first_value
 returns-in-None-first_value c =
     adds_by c.args.self c.args.items.now.items c.args.items.now.items
-    (sym (no_value c.args.self.core.now c.args.self.routine.0 c.args.variable c.in-Some.row.now (among_rows c.as_slice.result.now c.args.self.core.now.variables (c.variables_of-rows.result.first + c.args.variable) ((variables_of c.args.self.core.now c.args.self.routine.0).first + c.args.variable) c.in-Some.row.now c.as_slice.ensures (ap (λ x. x.first + c.args.variable) c.variables_of-rows.ensures) c.in-Some.ensures.lookup.1.1.1.0.0 c.in-Some.ensures.lookup.1.0) c.in-None-first_value.is))
+    (sym (no_value c.args.self.core.now c.args.self.routine.0 c.args.variable c.in-Some.row.now (among_rows c.as_slice.result.now c.args.self.core.now.variables (c.variables_of-rows.result.first + c.args.variable) ((variables_of c.args.self.core.now c.args.self.routine.0).first + c.args.variable) c.in-Some.row.now c.as_slice.ensures (ap (λ x. x.first + c.args.variable) c.variables_of-rows.ensures) (grind (arith, c.in-Some.ensures.lookup.0)) c.in-Some.ensures.lookup.1) c.in-None-first_value.is))
     (sym (behind_none (view_in c.args.self c.args.items.now.items)))
 
 pub returns-in-Some-first_value : goal.returns-in-Some-first_value
 returns-in-Some-first_value c =
     ok_as c.args.self c.args.items.now.items c.act.new.items.items c.act.result
-    (sym (a_value c.args.self.core.now c.args.self.routine.0 c.args.variable c.in-Some.row.now c.in-Some-first_value.field-0 (among_rows c.as_slice.result.now c.args.self.core.now.variables (c.variables_of-rows.result.first + c.args.variable) ((variables_of c.args.self.core.now c.args.self.routine.0).first + c.args.variable) c.in-Some.row.now c.as_slice.ensures (ap (λ x. x.first + c.args.variable) c.variables_of-rows.ensures) c.in-Some.ensures.lookup.1.1.1.0.0 c.in-Some.ensures.lookup.1.0) c.in-Some-first_value.is))
+    (sym (a_value c.args.self.core.now c.args.self.routine.0 c.args.variable c.in-Some.row.now c.in-Some-first_value.field-0 (among_rows c.as_slice.result.now c.args.self.core.now.variables (c.variables_of-rows.result.first + c.args.variable) ((variables_of c.args.self.core.now c.args.self.routine.0).first + c.args.variable) c.in-Some.row.now c.as_slice.ensures (ap (λ x. x.first + c.args.variable) c.variables_of-rows.ensures) (grind (arith, c.in-Some.ensures.lookup.0)) c.in-Some.ensures.lookup.1) c.in-Some-first_value.is))
     c.act.ensures

@@ -1,4 +1,4 @@
-use Rattle.std.proofs.Common.{ap, refl, sym, ◌∙◌}
+use Rattle.std.proofs.Common.{arith, ap, refl, sym, ◌∙◌}
 use Rattle.op_core.specs.Statement.{stmts_of}
 use Rattle.op_items.proofs.Behind.{adds_by, behind_none, ok_as}
 use Rattle.op_items.proofs.Firsts.{among_rows, past_rows}
@@ -12,13 +12,13 @@ use Rattle.op_items.proofs.setting.Setting.statements.Goals as goal
 pub returns-in-None : goal.returns-in-None
 returns-in-None c =
     adds_by c.args.self c.args.items.now.items c.args.items.now.items
-    (no_routine c.args.self.core.now (env_view c.args.self) first_here c.args.self.routine.0 (past_rows c.as_slice.result.now c.args.self.core.now.routines c.args.self.routine.0 c.args.self.routine.0 c.as_slice.ensures refl c.in-None.ensures.lookup.1.1.1.0))
+    (no_routine c.args.self.core.now (env_view c.args.self) first_here c.args.self.routine.0 (past_rows c.as_slice.result.now c.args.self.core.now.routines c.args.self.routine.0 c.args.self.routine.0 c.as_slice.ensures refl (grind (arith, c.in-None.ensures.lookup.0))))
     (sym (behind_none (view_in c.args.self c.args.items.now.items)))
 
 pub returns-in-None-body : goal.returns-in-None-body
 returns-in-None-body c =
     adds_by c.args.self c.args.items.now.items c.args.items.now.items
-    (no_body c.args.self.core.now (env_view c.args.self) first_here c.args.self.routine.0 c.in-Some.routine.now (among_rows c.as_slice.result.now c.args.self.core.now.routines c.args.self.routine.0 c.args.self.routine.0 c.in-Some.routine.now c.as_slice.ensures refl c.in-Some.ensures.lookup.1.1.1.0.0 c.in-Some.ensures.lookup.1.0) c.in-None-body.is)
+    (no_body c.args.self.core.now (env_view c.args.self) first_here c.args.self.routine.0 c.in-Some.routine.now (among_rows c.as_slice.result.now c.args.self.core.now.routines c.args.self.routine.0 c.args.self.routine.0 c.in-Some.routine.now c.as_slice.ensures refl (grind (arith, c.in-Some.ensures.lookup.0)) c.in-Some.ensures.lookup.1) c.in-None-body.is)
     (sym (behind_none (view_in c.args.self c.args.items.now.items)))
 
 pub returns-in-Some-body : goal.returns-in-Some-body
@@ -26,5 +26,5 @@ returns-in-Some-body c =
     ok_as c.args.self c.args.items.now.items c.work_of_all.new.items.items c.work_of_all.result
     (ap (λ h. work_of_all (env_view c.args.self) h (stmts_of c.deref.result.now)) c.new.ensures
     ∙ ap (λ x. work_of_all (env_view c.args.self) first_here (stmts_of x)) c.deref.ensures.value
-    ∙ ap (work_of_all (env_view c.args.self) first_here) (a_body c.args.self.core.now c.args.self.routine.0 c.in-Some.routine.now c.in-Some-body.body (among_rows c.as_slice.result.now c.args.self.core.now.routines c.args.self.routine.0 c.args.self.routine.0 c.in-Some.routine.now c.as_slice.ensures refl c.in-Some.ensures.lookup.1.1.1.0.0 c.in-Some.ensures.lookup.1.0) c.in-Some-body.is))
+    ∙ ap (work_of_all (env_view c.args.self) first_here) (a_body c.args.self.core.now c.args.self.routine.0 c.in-Some.routine.now c.in-Some-body.body (among_rows c.as_slice.result.now c.args.self.core.now.routines c.args.self.routine.0 c.args.self.routine.0 c.in-Some.routine.now c.as_slice.ensures refl (grind (arith, c.in-Some.ensures.lookup.0)) c.in-Some.ensures.lookup.1) c.in-Some-body.is))
     c.work_of_all.ensures
