@@ -1,5 +1,5 @@
 -- Errors before and in the check.
-use Rattle.std.proofs.Common.{◌≡◌, ℕ, map, inl, inr, Option, None, Some, Result, Ok, Err, IfOk, List, sym, subst}
+use Rattle.std.proofs.Common.{◌≡◌, ℕ, map, inl, inr, Option, None, Some, Result, Ok, Err, IfErr, IfOk, List, sym, subst}
 use Rattle.op_base.specs.declared.files.NamedFile.{NamedFile}
 use Rattle.op_base.specs.declared.rule.Refusal.{Refusal}
 use Rattle.op_build.specs.declared.building.BuildError.{BuildError}
@@ -74,3 +74,7 @@ fails_as_text stored name before after output (Refused refusal file) has never =
 fails_as_text stored name before after output ReadFault has never = absurd never
 fails_as_text stored name before after output Limit has large = by_text output has large
 fails_as_text stored name before after output NoMemory has free = free
+
+pub err_also : {A E : Type 0} {P Q : E → Type 0} (r : Result A E) → ((e : E) → P e → Q e) → IfErr r P → IfErr r Q
+err_also (Ok a) f holds = holds
+err_also (Err e) f holds = f e holds

@@ -135,7 +135,8 @@ module _ (image text : List ℕ) (prints : Prints image text) where
   exec_owes words stored before now made name compiles finish.Limit done bytes owes = absurd owes
 
 -- the run of an image that was made of a program
-pub exec_made : (words : List (List ℕ)) (stored : Option (List NamedFile)) (before now : ℕ) (image name : List ℕ) → Made stored name image → (answer : Finish) (done : Effect) → AreBytes done.input → OwesImage image answer done → OwesExec (call words stored before now image) name answer done
-exec_made words stored before now image name (made_by_output text compiles) answer done bytes owes =
-    exec_owes image text compiles.prints words stored before now image name compiles answer done bytes owes
-exec_made words stored before now image name (made_by_code compiles) answer done bytes owes = inr (by_code compiles owes)
+pub exec_made : (words : List (List ℕ)) (stored : Option (List NamedFile)) (before now : ℕ) (image made name : List ℕ) → image ≡ made → Made stored name made → (answer : Finish) (done : Effect) → AreBytes done.input → OwesImage image answer done → OwesExec (call words stored before now made) name answer done
+exec_made words stored before now image made name same (made_by_output text compiles) answer done bytes owes =
+    exec_owes image text (subst (λ i. Prints i text) (sym same) compiles.prints) words stored before now made name compiles answer done bytes owes
+exec_made words stored before now image made name same (made_by_code compiles) answer done bytes owes =
+    inr (by_code compiles (subst (λ i. OwesImage i answer done) same owes))

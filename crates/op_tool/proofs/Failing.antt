@@ -1,13 +1,13 @@
 -- An error in checking or compiling, as the answer of a command.
-use Rattle.std.proofs.Common.{◌≡◌, ℕ, Option, List, [], codes, refl}
+use Rattle.std.proofs.Common.{◌≡◌, ℕ, Option, List, [], codes, inl, refl}
 use Rattle.op_emu.specs.Acts.{streams, faults}
 use Rattle.op_tool.specs.Compiles.{FailsAs, FailsToCheck}
-use Rattle.op_tool.specs.Effects.{Effect, Says, line}
+use Rattle.op_tool.specs.Effects.{Says, line}
 use Rattle.op_tool.specs.Owes.{Call, OwesBuild, OwesCheck, OwesError, OwesExec, ReportsError}
 use Rattle.op_tool.specs.declared.compiler.CompileError.{CompileError}
 use Rattle.op_tool.specs.declared.compiler.CompileError.TheVariants as errors
 use Rattle.op_tool.specs.declared.finish.Finish.{Finish}
-use Rattle.op_tool.specs.declared.finish.Finish.TheVariants.{Ended, Usage, Refused, ReadFault, WriteFault, Spent, NoMemory, BadImage, Faulted, Limit}
+use Rattle.op_tool.specs.declared.finish.Finish.TheVariants.{ReadFault, Limit}
 use Rattle.op_tool.proofs.Saying.{says_also, says_no_memory, says_refused, says_report}
 
 says_error : (now : Call) (name : List ℕ) (error : CompileError) (answer : Finish) (i o e e' : Option (List ℕ)) (r r' n c c' : ℕ) → FailsAs now.stored name now.file_faults_before now.file_faults_after error → now.image ≡ [] → ReportsError error answer e e' c c' → Says (OwesError now name) answer (streams i i o o e e') (faults r r' n n c c')

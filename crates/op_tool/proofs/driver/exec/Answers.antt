@@ -1,5 +1,3 @@
-use Rattle.std.proofs.Common.{subst}
-use Rattle.op_tool.specs.Effects.{Says}
 use Rattle.op_tool.specs.ImageRun.{OwesImage}
 use Rattle.op_tool.specs.Owes.{call}
 use Rattle.op_tool.proofs.Executing.{exec_made}
@@ -9,9 +7,8 @@ use Rattle.op_tool.proofs.driver.exec.Goals as goal
 
 pub returns-in-Ok-clause-says : goal.returns-in-Ok-clause-says
 returns-in-Ok-clause-says g c words =
-    let owes = exec_made words (g.F.Files.stored c.args.files.now) (g.F.Files.faults c.args.files.now) (g.F.Files.faults c.compile.new.files) _ c.args.file.now c.in-Ok.ensures.made in
-    let runs = subst (λ image. Says (OwesImage image) c.run_image.result _ _) c.as_slice.ensures.value c.run_image.ensures.says in
-    says_also (OwesImage _) _ c.run_image.result _ _ owes runs
+    let owes = exec_made words (g.F.Files.stored c.args.files.now) (g.F.Files.faults c.args.files.now) (g.F.Files.faults c.compile.new.files) c.as_slice.result.now _ c.args.file.now c.as_slice.ensures.value c.in-Ok.ensures.made in
+    says_also (OwesImage c.as_slice.result.now) _ c.run_image.result _ _ owes c.run_image.ensures.says
 
 pub returns-in-Err-clause-says : goal.returns-in-Err-clause-says
 returns-in-Err-clause-says g c words =
