@@ -140,5 +140,5 @@ module _ (w : Work) (o : Operands) (f : ℕ → ℕ) (x : ℤ) (apart : IsApart 
       (λ yes g kept same.
       let fits : fits_word n ≡ true = between_fits low high n lower higher (front ∙ yes) in
       subst (λ is. Answers w o.to f (gives n) (outcome is g)) (append-nil code)
-      (sum_then w o f apart o.to (λ h v before. kept_result w o.to f h v before) distance [] (gives n) g kept same
+      (sum_then w o f apart o.to (λ h v before. kept_result w o.to f h v before) distance [] (Answers w o.to f (gives n)) g kept same
       (λ h after value left. sum_result distance h after value q fits))))
