@@ -1,5 +1,5 @@
 -- The low code of each computation comes to what is meant by it.
-use Rattle.std.proofs.Common.{◌≡◌, ℕ, ℤ, ◌<◌, Bool, true, false, List, [], ◌∷◌, ◌++◌, refl, ap₂, sym, ◌∙◌, subst, arith, if◌then◌else◌}
+use Rattle.std.proofs.Common.{◌≡◌, ℕ, ℤ, Bool, true, false, List, [], ◌∷◌, ◌++◌, refl, ap₂, ◌∙◌, subst, arith, if◌then◌else◌}
 use Rattle.std.proofs.lemmas.Int.{ints}
 use Rattle.std.specs.Int.{w32}
 use Rattle.std.specs.Int.RustNames.{FitsSigned}
@@ -15,9 +15,9 @@ use Rattle.op_compute.specs.Bank.{register_of, work_of}
 use Rattle.op_compute.specs.Comparisons.{compare_code, equal_code}
 use Rattle.op_compute.specs.Computing.{constant_code, registers_of, code_of, computation_code}
 use Rattle.op_compute.specs.Conversions.{low_bits_code, upper_code, check_code, neighbour_test, neighbour_code}
-use Rattle.op_compute.specs.Meaning.{Meant, gives, meant, to_of, left_of, right_of, HasWords, Answers, IsApart, IsWordOf}
+use Rattle.op_compute.specs.Meaning.{gives, meant, to_of, left_of, right_of, HasWords, Answers, IsApart, IsWordOf}
 use Rattle.op_compute.specs.Moves.{move_code}
-use Rattle.op_compute.specs.Ranges.{is_immediate, sum_with, distance_code, distance_register, has_every_number, within_code, range_code, lower_end, higher_end}
+use Rattle.op_compute.specs.Ranges.{is_immediate, sum_with, distance_code, has_every_number, within_code, range_code, lower_end, higher_end}
 use Rattle.op_compute.specs.SetCode.{single_code, span_code, bits_from_code, combine_code, without_code, inclusion_code, contains_code, check_set_code}
 use Rattle.op_compute.specs.Straight.{outcome, fewest_steps}
 use Rattle.op_compute.specs.declared.bank.Bank.{Bank}

@@ -1,10 +1,10 @@
 -- The low code of sums with numbers that are known, and of tests of ranges, in front of other code.
-use Rattle.std.proofs.Common.{◌≡◌, ◌≢◌, ℕ, ℤ, pos, ◌+◌, ◌%◌, ◌^◌, ◌<◌, ◌≤◌, ◌-ℤ◌, unsigned_abs, Bool, true, false, not, ◌&&◌, List, [], ◌∷◌, ◌++◌, append_assoc, refl, ap, ap₂, sym, ◌∙◌, subst, arith, if◌then◌else◌}
+use Rattle.std.proofs.Common.{◌≡◌, ◌≢◌, ℕ, ℤ, pos, ◌+◌, ◌%◌, ◌^◌, ◌<◌, ◌-ℤ◌, unsigned_abs, Bool, true, false, not, List, [], ◌∷◌, ◌++◌, append_assoc, refl, ap, ap₂, sym, ◌∙◌, subst, arith, if◌then◌else◌}
 use Rattle.std.proofs.lemmas.Int.{ints}
 use Rattle.std.specs.Int.{w32, cast_unsigned, int_wrapping_neg}
 use Rattle.std.specs.Ordering.{int_eq}
 use Rattle.std.specs.Prelude.{int_lt}
-use Rattle.op_compute.proofs.Registers.{put_same, put_other, put_lower, put_higher, kept_scratch}
+use Rattle.op_compute.proofs.Registers.{put_same, put_other, put_lower, kept_scratch}
 use Rattle.op_compute.proofs.WordParts.{gap, gap_of, gap_zero, opposite_word, range_test, ends_between, none_between, lower_is, higher_is}
 use Rattle.op_compute.proofs.Words.{unsigned_is, word_fits}
 use Rattle.op_compute.specs.Meaning.{Meant, fails, Answers, IsApart, IsWordOf, AreKept, block_for}

@@ -1,5 +1,5 @@
 -- The low code of branches by a number leads where the number says.
-use Rattle.std.proofs.Common.{◌≡◌, ◌≢◌, ℕ, ℤ, pos, ◌+◌, ◌^◌, ◌<◌, ◌-ℤ◌, unsigned_abs, Bool, true, false, not, ◌&&◌, ◌||◌, nat_eq, List, [], ◌∷◌, ◌++◌, map, Option, Some, None, append_assoc, append-nil, inl, inr, refl, ap, ap₂, sym, ◌∙◌, subst, arith, if◌then◌else◌}
+use Rattle.std.proofs.Common.{◌≡◌, ℕ, ℤ, pos, ◌+◌, ◌^◌, ◌<◌, ◌-ℤ◌, unsigned_abs, Bool, true, false, not, ◌||◌, nat_eq, List, [], ◌∷◌, ◌++◌, map, Option, Some, None, append_assoc, append-nil, inl, inr, refl, ap, ap₂, sym, ◌∙◌, subst, arith, if◌then◌else◌}
 use Rattle.std.proofs.lemmas.Bool.{cases_eq}
 use Rattle.std.proofs.lemmas.Bool.Decides.{nat_tests}
 use Rattle.std.proofs.lemmas.Int.{ints}
@@ -30,7 +30,7 @@ use Rattle.op_mir.specs.Machine.{arm_for}
 use Rattle.op_mir.specs.View.{view_arm}
 use Rattle.op_mir.specs.declared.ids.BlockId.{BlockId as ManagedBlock}
 use Rattle.op_mir.specs.declared.instruction.Arm.{Arm}
-use Rattle.op_rv.specs.Operation.{signed, word_from}
+use Rattle.op_rv.specs.Operation.{signed}
 use Rattle.op_rv.specs.declared.instruction.BranchOp.TheVariants.{Beq, Bne, Bgeu, Bltu}
 use Rattle.op_rv.specs.declared.symbol.BlockId.{BlockId}
 
@@ -102,7 +102,7 @@ module _ (w : Work) (from : VirtualRegister) (f : ℕ → ℕ) (x : ℤ) (reads 
       let h = put f w.first 0 in
       let kept : AreAllKept w f h = kept_first f 0 (λ r below. refl) in
       let test : takes Bne (h from.0) (h w.first.0) ≡ is_true x =
-          ap₂ (takes Bne) (put_lower f w.first 0 from.0 reads.below) (put_same f w.first 0) ∙ differs (f from.0) 0 ∙ ap not (zero_test (f from.0) x reads.word) in
+      ap₂ (takes Bne) (put_lower f w.first 0 from.0 reads.below) (put_same f w.first 0) ∙ differs (f from.0) 0 ∙ ap not (zero_test (f from.0) x reads.word) in
       turned w f h (takes Bne (h from.0) (h w.first.0)) (is_true x) (block_of block) None (Behind h) test kept kept
 
   pub false_leads : (block : ManagedBlock) → Turns w f (where_false x block.0) (outcome (false_code w from block) f)
@@ -111,7 +111,7 @@ module _ (w : Work) (from : VirtualRegister) (f : ℕ → ℕ) (x : ℤ) (reads 
       let h = put f w.first 0 in
       let kept : AreAllKept w f h = kept_first f 0 (λ r below. refl) in
       let test : takes Beq (h from.0) (h w.first.0) ≡ int_eq x (pos 0) =
-          ap₂ (takes Beq) (put_lower f w.first 0 from.0 reads.below) (put_same f w.first 0) ∙ zero_test (f from.0) x reads.word in
+      ap₂ (takes Beq) (put_lower f w.first 0 from.0 reads.below) (put_same f w.first 0) ∙ zero_test (f from.0) x reads.word in
       subst (λ found. Turns w f found (if takes Beq (h from.0) (h w.first.0) then Away (block_of block) h else Behind h)) (sym (swapped x (int_eq x (pos 0)) block.0))
       (turned w f h (takes Beq (h from.0) (h w.first.0)) (int_eq x (pos 0)) (block_of block) None (Behind h) test kept kept)
 
@@ -140,15 +140,15 @@ module _ (w : Work) (from : VirtualRegister) (f : ℕ → ℕ) (x : ℤ) (reads 
       subst (λ code. Turns w f goes (outcome code g)) (sym (append_assoc (distance_code w.first from label.first) tail rest))
       (distance_then w operands g apart label.first l (tail ++ rest) (λ out. Turns w f goes out) (number_is label.first first) (word_in g kept).bound (λ r below differs. refl)
       (λ h after left value.
-          let k = put h w.second width in
-          let same : AreAllKept w f h = λ r below. all_of w from g h after left r below ∙ kept r below in
-          let now : AreAllKept w f k = kept_second h width same in
-          let test : takes Bgeu (k w.second.0) (k register.0) ≡ label_has x label =
-              ap₂ (takes Bgeu) (put_same h w.second width) (put_lower h w.second width register.0 (register_below w operands g apart label.first) ∙ value)
-              ∙ not_below width (gap (g from.0) l)
-              ∙ ap not (range_test (g from.0) l (cast_unsigned w32 label.last) x label.first label.last (word_in g kept) (number_is label.first first) (number_is label.last last) e)
-              ∙ sym (twice (label_has x label)) in
-          turned w f k (takes Bgeu (k w.second.0) (k register.0)) (label_has x label) block found (outcome rest k) test now (behind k now)))
+      let k = put h w.second width in
+      let same : AreAllKept w f h = λ r below. all_of w from g h after left r below ∙ kept r below in
+      let now : AreAllKept w f k = kept_second h width same in
+      let test : takes Bgeu (k w.second.0) (k register.0) ≡ label_has x label =
+      ap₂ (takes Bgeu) (put_same h w.second width) (put_lower h w.second width register.0 (register_below w operands g apart label.first) ∙ value)
+      ∙ not_below width (gap (g from.0) l)
+      ∙ ap not (range_test (g from.0) l (cast_unsigned w32 label.last) x label.first label.last (word_in g kept) (number_is label.first first) (number_is label.last last) e)
+      ∙ sym (twice (label_has x label)) in
+      turned w f k (takes Bgeu (k w.second.0) (k register.0)) (label_has x label) block found (outcome rest k) test now (behind k now)))
 
   label_then : (third : w.second.0 < w.third.0) (label : Label) (block : BlockId) (found : Option ℕ) (rest : List Instruction) (g : ℕ → ℕ) → FitsSigned w32 label.first → FitsSigned w32 label.last → AreAllKept w f g → ((h : ℕ → ℕ) → AreAllKept w f h → Turns w f found (outcome rest h)) → Turns w f (if label_has x label then Some block.0 else found) (outcome (label_code w from block label ++ rest) g)
   unfolding label_code
