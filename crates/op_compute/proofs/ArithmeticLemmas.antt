@@ -1,8 +1,8 @@
 -- The low code of arithmetic comes to what is meant.
-use Rattle.std.proofs.Common.{◌≡◌, ◌≢◌, ℕ, ℤ, pos, ◌^◌, ◌<◌, ◌≤◌, ◌+ℤ◌, ◌-ℤ◌, ◌*ℤ◌, neg_ℤ, Bool, true, false, not, ◌&&◌, refl, ap, ap₂, sym, ◌∙◌, subst, arith, if◌then◌else◌}
+use Rattle.std.proofs.Common.{◌≡◌, ◌≢◌, ℕ, ℤ, pos, ◌^◌, ◌<◌, ◌+ℤ◌, ◌-ℤ◌, ◌*ℤ◌, neg_ℤ, Bool, true, false, not, ◌&&◌, refl, ap, sym, ◌∙◌, subst, arith, if◌then◌else◌}
 use Rattle.std.specs.Ordering.{int_eq}
 use Rattle.std.specs.Prelude.{int_div, int_rem}
-use Rattle.op_compute.proofs.Registers.{put_same, put_lower, put_higher, kept_none, kept_scratch, result_set, moved, tested, overflow_tested}
+use Rattle.op_compute.proofs.Registers.{put_same, put_lower, kept_none, kept_scratch, result_set, moved, tested, overflow_tested}
 use Rattle.op_compute.proofs.WordBits.{and_is, or_is, xor_is, shl_is, shr_is}
 use Rattle.op_compute.proofs.WordProducts.{product_is, product_test, quotient_is, quotient_test, remainder_is, some_word, zero_test}
 use Rattle.op_compute.proofs.Words.{sum_is, sum_test, difference_is, difference_test, word_gives, small_is, opposite_is, opposite_test}

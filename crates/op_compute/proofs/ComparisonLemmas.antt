@@ -1,14 +1,14 @@
 -- The low code of comparisons comes to what is meant.
-use Rattle.std.proofs.Common.{◌≡◌, ℕ, ℤ, pos, ◌<◌, Bool, true, false, not, refl, ap, ap₂, sym, ◌∙◌, subst, arith}
+use Rattle.std.proofs.Common.{◌≡◌, ℕ, ℤ, pos, Bool, not, ap, sym, ◌∙◌, subst, arith}
 use Rattle.std.specs.Int.{from_bool}
 use Rattle.std.specs.Ordering.{int_eq}
-use Rattle.std.specs.Prelude.{int_lt, int_le}
+use Rattle.std.specs.Prelude.{int_lt}
 use Rattle.op_compute.proofs.Registers.{put_same, kept_none, kept_result, result_set}
 use Rattle.op_compute.proofs.WordBits.{equal_is}
 use Rattle.op_compute.proofs.Words.{truth_is, less_is, not_is, at_most, small_is}
 use Rattle.op_compute.specs.Comparisons.{equal_code, compare_code}
 use Rattle.op_compute.specs.Meaning.{gives, Answers, IsWordOf, AreKept}
-use Rattle.op_compute.specs.Straight.{put, outcome, alu_of, imm_of, Outcome, Behind}
+use Rattle.op_compute.specs.Straight.{put, outcome, alu_of, imm_of, Behind}
 use Rattle.op_compute.specs.declared.bank.Operands.{Operands}
 use Rattle.op_compute.specs.declared.bank.Work.{Work}
 use Rattle.op_meaning.specs.Numbers.{compared}

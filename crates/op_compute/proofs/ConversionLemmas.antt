@@ -1,29 +1,27 @@
 -- The low code of conversions comes to what is meant.
-use Rattle.std.proofs.Common.{◌≡◌, ◌≢◌, ℕ, ℤ, pos, negsuc, ◌+◌, ◌%◌, ◌^◌, ◌<◌, ◌≤◌, ◌+ℤ◌, ◌-ℤ◌, unsigned_abs, Bool, true, false, not, List, [], ◌∷◌, ◌++◌, append-nil, refl, ap, ap₂, sym, ◌∙◌, subst, arith, if◌then◌else◌}
+use Rattle.std.proofs.Common.{◌≡◌, ℕ, ℤ, pos, negsuc, ◌+◌, ◌%◌, ◌^◌, ◌<◌, ◌+ℤ◌, ◌-ℤ◌, unsigned_abs, Bool, true, false, not, [], ◌∷◌, ◌++◌, append-nil, refl, ap, sym, ◌∙◌, subst, arith, if◌then◌else◌}
 use Rattle.std.specs.Int.{w32, from_bool, int_bit_not}
 use Rattle.std.specs.Int.RustNames.{FitsSigned}
 use Rattle.std.specs.Ordering.{int_eq}
 use Rattle.op_compute.proofs.ComparisonLemmas.{truth_set}
 use Rattle.op_compute.proofs.RangeLemmas.{range_then, sum_then, every_number}
-use Rattle.op_compute.proofs.Registers.{put_same, put_lower, put_higher, kept_none, kept_scratch, kept_result, result_set, moved, tested}
+use Rattle.op_compute.proofs.Registers.{put_same, put_lower, kept_none, kept_scratch, kept_result, result_set, moved, tested}
 use Rattle.op_compute.proofs.WordBits.{complement_is}
 use Rattle.op_compute.proofs.WordParts.{absolute_is, absolute_test, zero_is, twice, odd_is, byte_is, half_is, signed_byte_is, signed_half_is, upper_is, in_front, sum_with_is, between_fits}
 use Rattle.op_compute.proofs.Words.{word_wraps, word_fits, number_is}
 use Rattle.op_compute.specs.Arithmetic.{least_test, absolute_code}
 use Rattle.op_compute.specs.Conversions.{low_bits_code, upper_code, check_code, neighbour_test, neighbour_code}
-use Rattle.op_compute.specs.Meaning.{Meant, gives, fails, computed, within, Answers, IsApart, IsWordOf, AreKept}
+use Rattle.op_compute.specs.Meaning.{gives, fails, computed, within, Answers, IsApart, IsWordOf, AreKept}
 use Rattle.op_compute.specs.Moves.{move_code}
 use Rattle.op_compute.specs.Ranges.{has_every_number, range_code, sum_with}
-use Rattle.op_compute.specs.Straight.{put, outcome, alu_of, imm_of, shift_of, takes, Outcome, Behind, Away}
+use Rattle.op_compute.specs.Straight.{put, outcome, alu_of, imm_of, shift_of, takes, Behind}
 use Rattle.op_compute.specs.declared.bank.Operands.{Operands}
 use Rattle.op_compute.specs.declared.bank.RuntimeError.TheVariants.{IntegerOverflow, RangeCheck}
 use Rattle.op_compute.specs.declared.bank.Work.{Work}
 use Rattle.op_core.specs.declared.types.IntegerKind.{IntegerKind}
 use Rattle.op_core.specs.declared.types.IntegerKind.TheVariants.{Signed8, Unsigned8, Signed16, Unsigned16, Signed32}
-use Rattle.op_low.specs.declared.ids.VirtualRegister.{VirtualRegister}
-use Rattle.op_low.specs.declared.instruction.Instruction.{Instruction}
 use Rattle.op_low.specs.declared.instruction.Instruction.TheVariants.{Move}
-use Rattle.op_meaning.specs.Numbers.{between, fits_word, is_true, low_bits_of, upper_case, wrapped}
+use Rattle.op_meaning.specs.Numbers.{fits_word, is_true, low_bits_of, upper_case, wrapped}
 use Rattle.op_meaning.specs.Sets.{bit, truth}
 use Rattle.op_rv.specs.Operation.{word_from}
 use Rattle.op_rv.specs.declared.instruction.AluOp.TheVariants.{Sub, Xor}
@@ -140,5 +138,5 @@ module _ (w : Work) (o : Operands) (f : ℕ → ℕ) (x : ℤ) (apart : IsApart 
       (λ yes g kept same.
       let fits : fits_word n ≡ true = between_fits low high n lower higher (front ∙ yes) in
       subst (λ is. Answers w o.to f (gives n) (outcome is g)) (append-nil code)
-      (sum_then w o f apart o.to (λ h v before. kept_result w o.to f h v before) distance [] (gives n) g kept same
+      (sum_then w o f apart o.to (λ h v before. kept_result w o.to f h v before) distance [] (Answers w o.to f (gives n)) g kept same
       (λ h after value left. sum_result distance h after value q fits))))

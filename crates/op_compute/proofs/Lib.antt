@@ -7,6 +7,7 @@ pub mod RangeLemmas
 pub mod Registers
 pub mod SetLemmas
 pub mod StraightRuns
+pub mod TurningLemmas
 pub mod WordBits
 pub mod WordParts
 pub mod WordProducts

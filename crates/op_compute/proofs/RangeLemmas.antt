@@ -1,10 +1,10 @@
 -- The low code of sums with numbers that are known, and of tests of ranges, in front of other code.
-use Rattle.std.proofs.Common.{◌≡◌, ◌≢◌, ℕ, ℤ, pos, ◌+◌, ◌%◌, ◌^◌, ◌<◌, ◌≤◌, ◌-ℤ◌, unsigned_abs, Bool, true, false, not, ◌&&◌, List, [], ◌∷◌, ◌++◌, append_assoc, refl, ap, ap₂, sym, ◌∙◌, subst, arith, if◌then◌else◌}
+use Rattle.std.proofs.Common.{◌≡◌, ◌≢◌, ℕ, ℤ, pos, ◌+◌, ◌%◌, ◌^◌, ◌<◌, ◌-ℤ◌, unsigned_abs, Bool, true, false, not, List, [], ◌∷◌, ◌++◌, append_assoc, refl, ap, ap₂, sym, ◌∙◌, subst, arith, if◌then◌else◌}
 use Rattle.std.proofs.lemmas.Int.{ints}
 use Rattle.std.specs.Int.{w32, cast_unsigned, int_wrapping_neg}
 use Rattle.std.specs.Ordering.{int_eq}
 use Rattle.std.specs.Prelude.{int_lt}
-use Rattle.op_compute.proofs.Registers.{put_same, put_other, put_lower, put_higher, kept_scratch}
+use Rattle.op_compute.proofs.Registers.{put_same, put_other, put_lower, kept_scratch}
 use Rattle.op_compute.proofs.WordParts.{gap, gap_of, gap_zero, opposite_word, range_test, ends_between, none_between, lower_is, higher_is}
 use Rattle.op_compute.proofs.Words.{unsigned_is, word_fits}
 use Rattle.op_compute.specs.Meaning.{Meant, fails, Answers, IsApart, IsWordOf, AreKept, block_for}
@@ -50,13 +50,13 @@ module _ (w : Work) (o : Operands) (f : ℕ → ℕ) (apart : IsApart w o) where
   a = f o.left.0
 
   -- the sum of the operand and a number
-  sum_by : (fits : Bool) (to : VirtualRegister) → ((g : ℕ → ℕ) (v : ℕ) → AreKept w o.to f g → AreKept w o.to f (put g to v)) → (n : ℤ) (rest : List Instruction) (meaning : Meant) (g : ℕ → ℕ) → AreKept w o.to f g → g o.left.0 ≡ a → ((h : ℕ → ℕ) → AreKept w o.to f h → h to.0 ≡ (a + word_from n) % 2 ^ 32 → (o.left.0 ≢ to.0 → h o.left.0 ≡ a) → Answers w o.to f meaning (outcome rest h)) → Answers w o.to f meaning (outcome ((if fits then AluImm Addi to o.left n ∷ [] else Const w.first (word_from n) ∷ Alu Add to o.left w.first ∷ []) ++ rest) g)
+  sum_by : (fits : Bool) (to : VirtualRegister) → ((g : ℕ → ℕ) (v : ℕ) → AreKept w o.to f g → AreKept w o.to f (put g to v)) → (n : ℤ) (rest : List Instruction) (Holds : Outcome → Type 0) (g : ℕ → ℕ) → AreKept w o.to f g → g o.left.0 ≡ a → ((h : ℕ → ℕ) → AreKept w o.to f h → h to.0 ≡ (a + word_from n) % 2 ^ 32 → (o.left.0 ≢ to.0 → h o.left.0 ≡ a) → Holds (outcome rest h)) → Holds (outcome ((if fits then AluImm Addi to o.left n ∷ [] else Const w.first (word_from n) ∷ Alu Add to o.left w.first ∷ []) ++ rest) g)
   unfolding outcome
-  sum_by true to keeps n rest meaning g kept same behind =
+  sum_by true to keeps n rest Holds g kept same behind =
       let v = imm_of Addi (g o.left.0) n in
       behind (put g to v) (keeps g v kept) (put_same g to v ∙ added (g o.left.0) n ∙ ap (λ u. (u + word_from n) % 2 ^ 32) same)
       (λ differs. put_other g to v o.left.0 differs ∙ same)
-  sum_by false to keeps n rest meaning g kept same behind =
+  sum_by false to keeps n rest Holds g kept same behind =
       let h = put g w.first (word_from n) in
       let v = alu_of Add (h o.left.0) (h w.first.0) in
       let left : h o.left.0 ≡ a = put_lower g w.first (word_from n) o.left.0 apart.left ∙ same in
@@ -64,20 +64,20 @@ module _ (w : Work) (o : Operands) (f : ℕ → ℕ) (apart : IsApart w o) where
       (put_same h to v ∙ added_word (h o.left.0) (h w.first.0) ∙ ap₂ (λ s t. (s + t) % 2 ^ 32) left (put_same g w.first (word_from n)))
       (λ differs. put_other h to v o.left.0 differs ∙ left)
 
-  pub sum_then : (to : VirtualRegister) → ((g : ℕ → ℕ) (v : ℕ) → AreKept w o.to f g → AreKept w o.to f (put g to v)) → (n : ℤ) (rest : List Instruction) (meaning : Meant) (g : ℕ → ℕ) → AreKept w o.to f g → g o.left.0 ≡ a → ((h : ℕ → ℕ) → AreKept w o.to f h → h to.0 ≡ (a + word_from n) % 2 ^ 32 → (o.left.0 ≢ to.0 → h o.left.0 ≡ a) → Answers w o.to f meaning (outcome rest h)) → Answers w o.to f meaning (outcome (sum_with w.first to o.left n ++ rest) g)
+  pub sum_then : (to : VirtualRegister) → ((g : ℕ → ℕ) (v : ℕ) → AreKept w o.to f g → AreKept w o.to f (put g to v)) → (n : ℤ) (rest : List Instruction) (Holds : Outcome → Type 0) (g : ℕ → ℕ) → AreKept w o.to f g → g o.left.0 ≡ a → ((h : ℕ → ℕ) → AreKept w o.to f h → h to.0 ≡ (a + word_from n) % 2 ^ 32 → (o.left.0 ≢ to.0 → h o.left.0 ≡ a) → Holds (outcome rest h)) → Holds (outcome (sum_with w.first to o.left n ++ rest) g)
   unfolding sum_with
-  sum_then to keeps n rest meaning g kept same behind = sum_by (is_immediate n) to keeps n rest meaning g kept same behind
+  sum_then to keeps n rest Holds g kept same behind = sum_by (is_immediate n) to keeps n rest Holds g kept same behind
 
-  distance_by : (zero : Bool) (low : ℤ) (l : ℕ) (rest : List Instruction) (meaning : Meant) → int_eq low (pos 0) ≡ zero → IsWordOf l low → a < 2 ^ 32 → AreKept w o.to f f → ((g : ℕ → ℕ) → AreKept w o.to f g → g o.left.0 ≡ a → g (if zero then o.left else w.first).0 ≡ gap a l → Answers w o.to f meaning (outcome rest g)) → Answers w o.to f meaning (outcome ((if zero then [] else sum_with w.first w.first o.left (int_wrapping_neg w32 low)) ++ rest) f)
-  distance_by true low l rest meaning e is bound kept behind =
+  distance_by : (zero : Bool) (low : ℤ) (l : ℕ) (rest : List Instruction) (Holds : Outcome → Type 0) → int_eq low (pos 0) ≡ zero → IsWordOf l low → a < 2 ^ 32 → AreKept w o.to f f → ((g : ℕ → ℕ) → AreKept w o.to f g → g o.left.0 ≡ a → g (if zero then o.left else w.first).0 ≡ gap a l → Holds (outcome rest g)) → Holds (outcome ((if zero then [] else sum_with w.first w.first o.left (int_wrapping_neg w32 low)) ++ rest) f)
+  distance_by true low l rest Holds e is bound kept behind =
       behind f kept refl (sym (ap (gap a) (zero_word l low is e) ∙ gap_zero a bound))
-  distance_by false low l rest meaning e is bound kept behind =
-      sum_then w.first (λ g v before. kept_scratch w o.to w.first f g v (omega arith) before) (int_wrapping_neg w32 low) rest meaning f kept refl
+  distance_by false low l rest Holds e is bound kept behind =
+      sum_then w.first (λ g v before. kept_scratch w o.to w.first f g v (omega arith) before) (int_wrapping_neg w32 low) rest Holds f kept refl
       (λ h after value left. behind h after (left (omega arith)) (value ∙ ap (λ u. (a + u) % 2 ^ 32) (opposite_word l low is) ∙ gap_of a l))
 
-  pub distance_then : (low : ℤ) (l : ℕ) (rest : List Instruction) (meaning : Meant) → IsWordOf l low → a < 2 ^ 32 → AreKept w o.to f f → ((g : ℕ → ℕ) → AreKept w o.to f g → g o.left.0 ≡ a → g (distance_register w.first o.left low).0 ≡ gap a l → Answers w o.to f meaning (outcome rest g)) → Answers w o.to f meaning (outcome (distance_code w.first o.left low ++ rest) f)
+  pub distance_then : (low : ℤ) (l : ℕ) (rest : List Instruction) (Holds : Outcome → Type 0) → IsWordOf l low → a < 2 ^ 32 → AreKept w o.to f f → ((g : ℕ → ℕ) → AreKept w o.to f g → g o.left.0 ≡ a → g (distance_register w.first o.left low).0 ≡ gap a l → Holds (outcome rest g)) → Holds (outcome (distance_code w.first o.left low ++ rest) f)
   unfolding distance_code distance_register
-  distance_then low l rest meaning is bound kept behind = distance_by (int_eq low (pos 0)) low l rest meaning refl is bound kept behind
+  distance_then low l rest Holds is bound kept behind = distance_by (int_eq low (pos 0)) low l rest Holds refl is bound kept behind
 
   either_below : (zero : Bool) → (if zero then o.left else w.first).0 < w.second.0
   either_below true = let l = apart.left in let s = apart.second in omega arith
@@ -101,7 +101,7 @@ module _ (w : Work) (o : Operands) (f : ℕ → ℕ) (apart : IsApart w o) where
       let tail = Const w.second width ∷ Branch Bltu w.second register w.range ∷ [] in
       let meant = if between low high x then meaning else fails RangeCheck in
       subst (λ code. Answers w o.to f meant (outcome code f)) (sym (append_assoc (distance_code w.first o.left low) tail rest))
-      (distance_then low l (tail ++ rest) meant lower p.bound kept
+      (distance_then low l (tail ++ rest) (Answers w o.to f meant) lower p.bound kept
       (λ g after left value.
       let k = put g w.second width in
       let test : takes Bltu (k w.second.0) (k register.0) ≡ not (between low high x) =

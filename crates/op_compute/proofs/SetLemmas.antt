@@ -1,6 +1,6 @@
 -- The low code of sets comes to what is meant.
-use Rattle.std.proofs.Common.{◌≡◌, ◌≢◌, ℕ, ℤ, pos, negsuc, ◌<◌, ◌≤◌, Bool, true, false, not, List, [], ◌∷◌, ◌++◌, refl, ap, ap₂, sym, ◌∙◌, subst, arith, if◌then◌else◌}
-use Rattle.std.specs.Int.{w32, cast_unsigned, from_bool, int_bit_not}
+use Rattle.std.proofs.Common.{◌≡◌, ◌≢◌, ℕ, ℤ, pos, negsuc, ◌<◌, Bool, true, false, not, List, [], ◌∷◌, ◌++◌, refl, ap, ap₂, sym, ◌∙◌, subst, arith, if◌then◌else◌}
+use Rattle.std.specs.Int.{w32, cast_unsigned, int_bit_not}
 use Rattle.std.specs.Ordering.{int_eq}
 use Rattle.op_compute.proofs.ComparisonLemmas.{truth_set, comparison}
 use Rattle.op_compute.proofs.Registers.{put_same, put_other, put_lower, kept_none, kept_scratch, kept_result, result_set, moved, tested}
@@ -8,7 +8,7 @@ use Rattle.op_compute.proofs.WordBits.{and_is, or_is}
 use Rattle.op_compute.proofs.WordParts.{zero_is}
 use Rattle.op_compute.proofs.WordSets.{single_is, from_on, all_if_negative, span_of, span_is, element_is, without_is, others_test}
 use Rattle.op_compute.proofs.Words.{small_is}
-use Rattle.op_compute.specs.Meaning.{Meant, gives, fails, Answers, IsApart, IsWordOf, AreKept}
+use Rattle.op_compute.specs.Meaning.{gives, fails, Answers, IsApart, IsWordOf, AreKept}
 use Rattle.op_compute.specs.Moves.{move_code}
 use Rattle.op_compute.specs.SetCode.{without_code, inclusion_code, combine_code, single_code, bits_from_code, all_if_negative_code, span_code, contains_code, check_set_code}
 use Rattle.op_compute.specs.Straight.{put, outcome, alu_of, imm_of, shift_of, takes, Outcome, Behind, Away}

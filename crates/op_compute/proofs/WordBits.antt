@@ -1,21 +1,19 @@
 -- Bits of words and of the numbers that they are.
-use Rattle.std.proofs.Common.{rules, ◌≡◌, ◌≢◌, ℕ, ℤ, zero, suc, pos, negsuc, ◌+◌, ◌-◌, ◌*◌, ◌/◌, ◌%◌, ◌^◌, ◌<◌, ◌≤◌, ◌-ℤ◌, Bool, true, false, not, nat_eq, nat_lt, inl, inr, refl, ap, ap₂, sym, ◌∙◌, subst, arith, if◌then◌else◌}
-use Rattle.std.proofs.lemmas.Bool.{cases_lt, cases_eq}
+use Rattle.std.proofs.Common.{◌≡◌, ◌≢◌, ℕ, ℤ, pos, negsuc, ◌-◌, ◌*◌, ◌/◌, ◌%◌, ◌^◌, ◌<◌, ◌≤◌, true, false, nat_lt, inl, inr, ap, ap₂, sym, ◌∙◌, arith}
+use Rattle.std.proofs.lemmas.Bool.{cases_eq}
 use Rattle.std.proofs.lemmas.Bool.Decides.{nat_tests}
 use Rattle.std.proofs.lemmas.Int.{ints}
 use Rattle.std.proofs.lemmas.Nat.{and_le_l, and_le_r, and_mask, or_lt, xor_lt}
-use Rattle.std.specs.Int.{w32, from_bool, cast_unsigned, int_bit_and, int_bit_or, int_bit_xor, int_bit_not, int_shl, bit_not}
-use Rattle.std.specs.Int.Bits.{bit_and, bit_or, bit_xor, xor_add_and, xor_self, xor_zero_r}
+use Rattle.std.specs.Int.{w32, from_bool, cast_unsigned, int_bit_and, int_bit_or, int_bit_xor, int_bit_not, bit_not}
+use Rattle.std.specs.Int.Bits.{bit_and, bit_or, bit_xor, xor_add_and, xor_self}
 use Rattle.std.specs.Ordering.{int_eq}
-use Rattle.op_base.specs.Arithmetic.{shift_count}
-use Rattle.op_compute.proofs.Words.{unsigned_is, truth_is, small_is, word_is}
+use Rattle.op_compute.proofs.Words.{unsigned_is}
 use Rattle.op_compute.specs.Meaning.{IsWordOf}
 use Rattle.op_compute.specs.Straight.{alu_of, imm_of, shift_of}
 use Rattle.op_meaning.specs.Numbers.{exact}
-use Rattle.op_meaning.specs.Sets.{truth, bit, without}
 use Rattle.op_rv.specs.Operation.{signed}
 use Rattle.op_rv.specs.declared.instruction.AluOp.TheVariants.{And, Or, Xor, Sll, Srl}
-use Rattle.op_rv.specs.declared.instruction.ImmOp.TheVariants.{Andi, Sltiu, Xori}
+use Rattle.op_rv.specs.declared.instruction.ImmOp.TheVariants.{Sltiu, Xori}
 use Rattle.op_rv.specs.declared.instruction.ShiftOp.TheVariants.{Srai}
 use Rattle.op_tree.specs.declared.operator.Operator.TheVariants.{Shl, Shr}
 

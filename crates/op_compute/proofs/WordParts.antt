@@ -1,21 +1,21 @@
 -- Parts of words, and where numbers lie.
-use Rattle.std.proofs.Common.{rules, ◌≡◌, ◌≢◌, ℕ, ℤ, zero, suc, pos, negsuc, ◌+◌, ◌-◌, ◌*◌, ◌/◌, ◌%◌, ◌^◌, ◌<◌, ◌≤◌, ◌+ℤ◌, ◌-ℤ◌, neg_ℤ, unsigned_abs, Bool, true, false, not, ◌&&◌, nat_eq, nat_lt, nat_le, inl, inr, refl, ap, ap₂, sym, ◌∙◌, subst, arith, if◌then◌else◌}
+use Rattle.std.proofs.Common.{◌≡◌, ℕ, ℤ, zero, suc, pos, negsuc, ◌+◌, ◌-◌, ◌*◌, ◌/◌, ◌%◌, ◌^◌, ◌<◌, ◌≤◌, ◌+ℤ◌, ◌-ℤ◌, unsigned_abs, Bool, true, false, not, nat_eq, nat_lt, inl, inr, refl, ap, ap₂, sym, ◌∙◌, subst, arith, if◌then◌else◌}
 use Rattle.std.proofs.lemmas.Bool.{cases_lt}
 use Rattle.std.proofs.lemmas.Bool.Decides.{nat_tests}
-use Rattle.std.proofs.lemmas.Int.{ints, of_z-to_z, to_z-of_z}
+use Rattle.std.proofs.lemmas.Int.{ints, of_z-to_z}
 use Rattle.std.proofs.lemmas.Nat.{and_mask}
-use Rattle.std.specs.Int.{w8, w16, w32, from_bool, cast_signed, cast_unsigned, int_wrap, int_rem_euclid, int_max, int_min, int_wrapping_neg}
-use Rattle.std.specs.Int.Bits.{bit_and, bit_xor, xor_zero_r}
+use Rattle.std.specs.Int.{w8, w16, w32, from_bool, cast_signed, cast_unsigned, int_wrap, int_rem_euclid, int_wrapping_neg}
+use Rattle.std.specs.Int.Bits.{bit_and, xor_zero_r}
 use Rattle.std.specs.Int.RustNames.{FitsSigned}
 use Rattle.std.specs.Ordering.{int_eq}
-use Rattle.std.specs.Prelude.{int_lt, int_le}
+use Rattle.std.specs.Prelude.{int_lt}
 use Rattle.op_compute.proofs.WordBits.{sign_none, sign_all, xor_ones}
-use Rattle.op_compute.proofs.Words.{unsigned_is, wrapped_is, number_is, word_is}
+use Rattle.op_compute.proofs.Words.{unsigned_is, wrapped_is, number_is}
 use Rattle.op_compute.specs.Meaning.{IsWordOf}
-use Rattle.op_compute.specs.Ranges.{least, greatest, lower_end, higher_end}
+use Rattle.op_compute.specs.Ranges.{lower_end, higher_end}
 use Rattle.op_compute.specs.Straight.{alu_of, imm_of, shift_of, takes}
 use Rattle.op_core.specs.declared.types.IntegerKind.TheVariants.{Signed8, Unsigned8, Signed16, Unsigned16}
-use Rattle.op_meaning.specs.Numbers.{between, fits_word, is_true, low_bits_of, upper_case, wrapped}
+use Rattle.op_meaning.specs.Numbers.{between, fits_word, low_bits_of, upper_case, wrapped}
 use Rattle.op_meaning.specs.Sets.{bit}
 use Rattle.op_rv.specs.Operation.{signed, word_from}
 use Rattle.op_rv.specs.declared.instruction.AluOp.TheVariants.{Sub, Xor}

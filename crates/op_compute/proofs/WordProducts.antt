@@ -1,11 +1,11 @@
 -- Products, quotients and remainders of words and of the numbers that they are.
-use Rattle.std.proofs.Common.{rules, ◌≡◌, ◌≢◌, ℕ, ℤ, zero, suc, pos, negsuc, ◌+◌, ◌-◌, ◌*◌, ◌/◌, ◌%◌, ◌^◌, ◌<◌, ◌≤◌, ◌*ℤ◌, neg_ℤ, unsigned_abs, Bool, true, false, not, ◌&&◌, nat_eq, nat_le, inl, inr, refl, ap, ap₂, sym, ◌∙◌, subst, arith, if◌then◌else◌}
+use Rattle.std.proofs.Common.{◌≡◌, ◌≢◌, ℕ, ℤ, zero, suc, pos, negsuc, ◌-◌, ◌/◌, ◌%◌, ◌^◌, ◌<◌, ◌≤◌, ◌*ℤ◌, neg_ℤ, unsigned_abs, Bool, true, false, not, ◌&&◌, nat_eq, nat_le, inl, inr, refl, ap, ap₂, sym, ◌∙◌, subst, arith}
 use Rattle.std.proofs.Math.Nat.{div-le_self}
-use Rattle.std.proofs.lemmas.Bool.{cases_lt, cases_eq}
+use Rattle.std.proofs.lemmas.Bool.{cases_lt}
 use Rattle.std.proofs.lemmas.Bool.Decides.{nat_tests}
 use Rattle.std.proofs.lemmas.Int.{ints, wrapping_mul-bits, of_z-to_z, unsigned_abs-mul, rem_below, fits_signed_from_abs}
 use Rattle.std.proofs.lemmas.Nat.{and_shr, and_le_l, mul-le}
-use Rattle.std.specs.Int.{w32, w64, from_bool, cast_unsigned, int_wrap, int_rem_euclid}
+use Rattle.std.specs.Int.{w32, int_wrap, int_rem_euclid}
 use Rattle.std.specs.Int.Bits.{bit_and}
 use Rattle.std.specs.Prelude.{int_div, int_rem, int_lt}
 use Rattle.std.specs.Ordering.{int_eq}

@@ -1,25 +1,25 @@
 -- Sets as words.
-use Rattle.std.proofs.Common.{rules, mul_assoc, ◌≡◌, ◌≢◌, ℕ, ℤ, zero, suc, pos, negsuc, ◌+◌, ◌-◌, ◌*◌, ◌/◌, ◌%◌, ◌^◌, ◌<◌, ◌≤◌, min, max, Bool, true, false, not, ◌&&◌, nat_eq, nat_lt, nat_le, inl, inr, refl, ap, ap₂, sym, ◌∙◌, subst, arith, if◌then◌else◌}
+use Rattle.std.proofs.Common.{mul_assoc, ◌≡◌, ◌≢◌, ℕ, ℤ, zero, suc, pos, negsuc, ◌+◌, ◌-◌, ◌*◌, ◌/◌, ◌%◌, ◌^◌, ◌<◌, ◌≤◌, min, max, Bool, true, false, not, ◌&&◌, nat_eq, nat_lt, nat_le, inl, inr, refl, ap, ap₂, sym, ◌∙◌, subst, arith}
 use Rattle.std.proofs.lemmas.Bool.{cases_lt, cases_eq}
 use Rattle.std.proofs.lemmas.Bool.Decides.{nat_tests}
 use Rattle.std.proofs.lemmas.Int.{ints, to_z-of_z}
 use Rattle.std.proofs.lemmas.Nat.{and_comm, and_mask, and_le_l, mul-mod_first, one_shl, or_lt, pow-add}
 use Rattle.std.proofs.lemmas.Nat.Bits.{bit_at-lt, bit_at-zero, bit_at-pow_same, bit_at-pow_other, bit_at_and, bit_at_or, bit_at_not, bit_at_ones, bit_at_mask_inside, bit_at_mask_below, ones_shl, same_from_bits_below}
-use Rattle.std.specs.Int.{w32, bit_at, bit_not, cast_signed, cast_unsigned, from_bool, int_bit_and, int_bit_not}
+use Rattle.std.specs.Int.{w32, bit_at, bit_not, cast_signed, cast_unsigned, from_bool, int_bit_not}
 use Rattle.std.specs.Int.Bits.{bit_and, or_zero_r}
 use Rattle.std.specs.Int.RustNames.{FitsSigned}
 use Rattle.std.specs.Ordering.{int_eq}
-use Rattle.std.specs.Prelude.{int_lt, int_le}
+use Rattle.std.specs.Prelude.{int_le}
 use Rattle.op_compute.proofs.WordBits.{and_is, complement_is, sign_none, sign_all, xor_ones}
 use Rattle.op_compute.proofs.WordParts.{twice}
 use Rattle.op_compute.proofs.WordProducts.{zero_test}
-use Rattle.op_compute.proofs.Words.{unsigned_is, small_is, truth_is}
+use Rattle.op_compute.proofs.Words.{unsigned_is, small_is}
 use Rattle.op_compute.specs.Meaning.{IsWordOf}
 use Rattle.op_compute.specs.Straight.{alu_of, imm_of, shift_of, takes}
 use Rattle.op_meaning.proofs.SetBits.{sets_are}
 use Rattle.op_meaning.specs.Numbers.{between}
 use Rattle.op_meaning.specs.Sets.{bit, bits_below, set_of, without, is_element}
-use Rattle.op_rv.specs.Operation.{signed, word_from}
+use Rattle.op_rv.specs.Operation.{signed}
 use Rattle.op_rv.specs.declared.instruction.AluOp.TheVariants.{And, Or, Sll, Srl}
 use Rattle.op_rv.specs.declared.instruction.BranchOp.TheVariants.{Bne}
 use Rattle.op_rv.specs.declared.instruction.ImmOp.TheVariants.{Addi, Sltiu, Xori}

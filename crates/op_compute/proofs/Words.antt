@@ -4,8 +4,8 @@ use Rattle.std.proofs.lemmas.Bool.Decides.{nat_tests}
 use Rattle.std.proofs.lemmas.Int.{wrapping_add-bits, wrapping_sub-bits, of_z-to_z, to_z_pos, to_z-of_z, int_wrap_fits, ints}
 use Rattle.std.specs.Int.{w32, int_wrap, from_bool, cast_unsigned}
 use Rattle.std.specs.Int.RustNames.{FitsSigned}
-use Rattle.std.specs.Prelude.{int_lt, int_le, ◌&&◌}
-use Rattle.op_compute.specs.Meaning.{IsWordOf, Meant, gives, fails, computed}
+use Rattle.std.specs.Prelude.{int_lt, int_le}
+use Rattle.op_compute.specs.Meaning.{IsWordOf, gives, computed}
 use Rattle.op_compute.specs.Straight.{alu_of, imm_of, takes}
 use Rattle.op_meaning.specs.Numbers.{fits_word, wrapped}
 use Rattle.op_meaning.specs.Sets.{truth}

@@ -1,6 +1,7 @@
 pub mod Arithmetic
 pub mod Bank
 pub mod Branches
+pub mod Claims
 pub mod Comparisons
 pub mod Computing
 pub mod Conversions
@@ -9,3 +10,4 @@ pub mod Moves
 pub mod Ranges
 pub mod SetCode
 pub mod Straight
+pub mod Turning

@@ -112,6 +112,7 @@ right_of c = left_of c
 
 -- the numbers that stand in a computation have 32 bits
 abbrev pub HasWords : Computation → Type 0
+HasWords (Check low high to a) = (fits_word low ≡ true) × (fits_word high ≡ true)
 HasWords (Neighbour distance low high to a) = FitsSigned w32 distance × (fits_word low ≡ true) × (fits_word high ≡ true)
 HasWords _ = Unit {0}
 
