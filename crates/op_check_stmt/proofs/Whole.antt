@@ -181,7 +181,7 @@ both_bounds_whole : (core : Core) (of : TypeId) (at : Place) {low high : Option 
 both_bounds_whole core of at (filled low h) (filled high k) = whole_tested 31 at (int_le low.number high.number) (λ e. whole_gives (both_in (range_of (type_at core of)) low.number high.number h k, in_order low.number high.number e))
 
 label_whole : {sees : Sees} {here : Here} → IsSettled sees here → (of : TypeId) → IsTrue (is_whole (type_at here.core of)) → (e : Element) → Whole (λ s. IsLabel here.core of s.label) (label here (Some of) e)
-label_whole {sees} {here} s of w (one e) = whole_changed_so (λ b. spot (start_of e) b b b.nodes) (bound_whole s of w e) (λ b h. (both_in (range_of (type_at here.core of)) b.number b.number h h, below_itself b.number))
+label_whole {sees} {here} s of w (one e) = whole_changed_so (λ b. spot (start_of e) b b b.weight) (bound_whole s of w e) (λ b h. (both_in (range_of (type_at here.core of)) b.number b.number h h, below_itself b.number))
 label_whole {sees} {here} s of w (range e f) = whole_followed (bound_whole s of w e) (λ low h. whole_followed (bound_whole s of w f) (λ high k. both_bounds_whole here.core of (start_of e) h k))
 
 labels_whole : {sees : Sees} {here : Here} → IsSettled sees here → (of : TypeId) → IsTrue (is_whole (type_at here.core of)) → (es : Elements) → Whole (All (IsLabel here.core of)) (labels here (Some of) es)

@@ -1,5 +1,5 @@
 -- What the selector of a case is and its labels, and which rules they break, as relations.
-use Rattle.std.specs.Prelude.{ℤ, ◌⊎◌, ◌≤ℤ◌, int_le, ◌+◌, false, None, List, [], ◌∷◌, ◌++◌}
+use Rattle.std.specs.Prelude.{ℤ, ◌⊎◌, ◌≤ℤ◌, int_le, false, None, List, [], ◌∷◌, ◌++◌}
 use Rattle.std.specs.Option.{option_to_list}
 use Rattle.op_base.specs.declared.place.Place.{Place}
 use Rattle.op_base.specs.declared.rule.Refusal.{Refusal}
@@ -9,7 +9,6 @@ use Rattle.op_check_expr.specs.Scopes.{Here}
 use Rattle.op_check_expr.specs.Values.{Value, as_type, type_of}
 use Rattle.op_core.specs.Expression.{Expression as Tree}
 use Rattle.op_core.specs.Relations.{At, Either, Entry, Fails, Holds, Lacks, Never, Only, Through, Where}
-use Rattle.op_core.specs.Sizes.{capped}
 use Rattle.op_core.specs.Typing as typing
 use Rattle.op_core.specs.declared.ids.TypeId.{TypeId}
 use Rattle.op_core.specs.declared.program.Core.{Core}
@@ -17,7 +16,7 @@ use Rattle.op_core.specs.declared.statement.Label.{Label}
 use Rattle.op_tree.specs.Expression.{Expression, Element, one, range, Elements, no_elements, elements}
 use Rattle.op_tree.specs.Statement as tree
 use Rattle.op_types.specs.Assignable.{assignable}
-use Rattle.op_types.specs.Constants.{start_of}
+use Rattle.op_types.specs.Constants.{plus, start_of}
 use Rattle.op_types.specs.Sorts.{sort_of}
 use Rattle.op_types.specs.declared.sort.Sort.{Sort}
 use Rattle.op_types.specs.declared.sort.Sort.TheVariants.{Ordinal, String}
@@ -70,10 +69,10 @@ BoundBreaks here T e =
 
 -- a value, or the values between two bounds, of which the first is not above the second: rule 31
 abbrev pub LabelIs : Here → (TypeId → Type 0) → Element → Spot → Type 0
-LabelIs here T (one e) = OfOne (λ b. spot (start_of e) b b b.nodes) (BoundIs here T e)
+LabelIs here T (one e) = OfOne (λ b. spot (start_of e) b b b.weight) (BoundIs here T e)
 LabelIs here T (range e f) =
     Through (BoundIs here T e) (λ low. Through (BoundIs here T f) (λ high.
-    If (int_le low.number high.number) (Only (spot (start_of e) low high (capped (low.nodes + high.nodes))))))
+    If (int_le low.number high.number) (Only (spot (start_of e) low high (plus low.weight high.weight)))))
 
 abbrev pub LabelBreaks : Here → (TypeId → Type 0) → Element → Refusal → Type 0
 LabelBreaks here T (one e) = BoundBreaks here T e

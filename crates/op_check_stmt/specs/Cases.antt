@@ -1,5 +1,5 @@
 -- The selector of a case and its labels (Free Pascal Reference Guide, "The Case statement").
-use Rattle.std.specs.Prelude.{ℕ, int_le, ◌+◌, Bool, true, false, ◌&&◌, List, [], ◌∷◌, ◌++◌, Option, Some, None, if◌then◌else◌}
+use Rattle.std.specs.Prelude.{int_le, Bool, true, false, ◌&&◌, List, [], ◌∷◌, ◌++◌, Option, Some, None, if◌then◌else◌}
 use Rattle.std.specs.List.{list_any}
 use Rattle.std.specs.Option.{option_to_list}
 use Rattle.op_base.specs.declared.place.Place.{Place}
@@ -9,16 +9,16 @@ use Rattle.op_check_expr.specs.Values.{Value, constant, computed, as_type, type_
 use Rattle.op_check_expr.specs.Words.{changed, followed, left_out, standing}
 use Rattle.op_core.specs.Expression.{Expression as Tree}
 use Rattle.op_core.specs.Faults.{Checked, by_entry, by_test, fine, refused, untyped, with_part}
-use Rattle.op_core.specs.Sizes.{capped}
 use Rattle.op_core.specs.declared.ids.TypeId.{TypeId}
 use Rattle.op_core.specs.declared.program.Core.{Core}
 use Rattle.op_core.specs.declared.statement.Label.{Label}
 use Rattle.op_tree.specs.Expression.{Expression, Element, one, range, Elements, no_elements, elements}
 use Rattle.op_types.specs.Assignable.{assignable}
-use Rattle.op_types.specs.Constants.{start_of}
+use Rattle.op_types.specs.Constants.{plus, start_of}
 use Rattle.op_types.specs.Sorts.{sort_of}
 use Rattle.op_types.specs.Values.{number_of}
 use Rattle.op_types.specs.declared.constant.Constant.{Constant}
+use Rattle.op_types.specs.declared.constant.Weight.{Weight}
 use Rattle.op_types.specs.declared.sort.Sort.{Sort}
 use Rattle.op_types.specs.declared.sort.Sort.TheVariants.{Ordinal, String}
 use Rattle.op_check_stmt.specs.Parts.{of_two}
@@ -47,7 +47,7 @@ constant_in (constant c) = Some c
 constant_in (computed e) = None
 
 abbrev pub number : Constant → Bound
-number c = record { number = number_of c.value; nodes = c.weight.nodes }
+number c = record { number = number_of c.value; weight = c.weight }
 
 abbrev pub fits : Core → TypeId → Option TypeId → Bool
 fits core from None = true
@@ -65,18 +65,18 @@ bound_means core place of v = by_test 20 place (by_entry 30 place (of_type of) (
 abbrev pub bound : Here → Option TypeId → Expression → Checked Bound
 bound here of e = followed (value_of here None e) (with_part (bound_means here.core (start_of e) of))
 
-abbrev pub spot : Place → Bound → Bound → ℕ → Spot
-spot place low high nodes = record { label = record { first = low.number; last = high.number; nodes = nodes }; place = place }
+abbrev pub spot : Place → Bound → Bound → Weight → Spot
+spot place low high w = record { label = record { first = low.number; last = high.number; nodes = w.nodes; words = w.words }; place = place }
 
 -- from one bound to another, which is not below it
 abbrev pub range_means : Place → Bound → Bound → Checked Spot
-range_means place low high = by_test 31 place (fine (spot place low high (capped (low.nodes + high.nodes)))) (int_le low.number high.number)
+range_means place low high = by_test 31 place (fine (spot place low high (plus low.weight high.weight))) (int_le low.number high.number)
 
 abbrev pub both_bounds : Place → Option Bound → Option Bound → Checked Spot
 both_bounds place low high = with_part (λ low. with_part (range_means place low) high) low
 
 abbrev pub label : Here → Option TypeId → Element → Checked Spot
-label here of (one e) = changed (λ b. spot (start_of e) b b b.nodes) (bound here of e)
+label here of (one e) = changed (λ b. spot (start_of e) b b b.weight) (bound here of e)
 label here of (range e f) = followed (bound here of e) (λ low. followed (bound here of f) (both_bounds (start_of e) low))
 
 abbrev pub labels : Here → Option TypeId → Elements → Checked (List Label)

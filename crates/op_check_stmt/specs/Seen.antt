@@ -6,7 +6,7 @@ use Rattle.op_core.specs.declared.statement.Label.{Label}
 use Rattle.op_check_stmt.specs.Cases.{overlap}
 
 abbrev pub from_to : ℤ → ℤ → Label
-from_to first last = record { first = first; last = last; nodes = 0 }
+from_to first last = record { first = first; last = last; nodes = 0; words = 0 }
 
 pub record Apart (seen : BTreeMap ℤ ℤ) : Type 0 where
   pub filled : (first last : ℤ) → get int_cmp seen first ≡ Some last → first ≤ℤ last

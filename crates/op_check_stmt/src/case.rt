@@ -17,14 +17,14 @@ use op_base::{NoMemory, Place};
 use op_check_expr::{Checker, Value, as_type, leave_out, refuse};
 use op_core::{Const, Core, CoreExpr, FirstRefusal, Label, TypeId};
 use op_tree::{Element, Expr};
-use op_types::{Constant, Sort, assignable, sort_of, start_of};
+use op_types::{Constant, Sort, Weight, assignable, plus, sort_of, start_of};
 use std::alloc::Global;
 
-/// A bound of a label: its number, which stands for so many nodes of the text.
+/// A bound of a label: its number, and what it counts for in the charge of its routine.
 #[derive(Clone, Copy)]
 pub struct Bound {
     pub number: i32,
-    pub nodes: u32,
+    pub weight: Weight,
 }
 
 /// A label, with the place of its first token.
@@ -119,7 +119,7 @@ fn label(
     match element {
         Element::One(e) => match check_bound(here, sink, of, e)? {
             None => Ok(None),
-            Some(bound) => Ok(Some(make_spot(start_of(e), bound, bound, bound.nodes))),
+            Some(bound) => Ok(Some(make_spot(start_of(e), bound, bound, bound.weight))),
         },
         Element::Range(first, last) => {
             let low = check_bound(here, sink, of, first)?;
@@ -129,12 +129,15 @@ fn label(
     }
 }
 
-fn make_spot(place: Place, low: Bound, high: Bound, nodes: u32) -> Spot
-    ensures { result ≡ spot place low high nodes }
+fn make_spot(place: Place, low: Bound, high: Bound, weight: Weight) -> Spot
+    ensures { result ≡ spot place low high weight }
 {
-    let first = low.number;
-    let last = high.number;
-    let label = Label { first, last, nodes };
+    let label = Label {
+        first: low.number,
+        last: high.number,
+        nodes: weight.nodes,
+        words: weight.words,
+    };
     Spot { label, place }
 }
 
@@ -150,7 +153,7 @@ fn range_of(
         return None;
     };
     if low.number <= high.number {
-        Some(make_spot(place, low, high, low.nodes.saturating_add(high.nodes)))
+        Some(make_spot(place, low, high, plus(low.weight, high.weight)))
     } else {
         refuse(sink, 31, place)
     }
@@ -211,10 +214,10 @@ fn fits(core: &Core, from: TypeId, to: Option<TypeId>) -> bool
 fn number(c: &Constant) -> Bound
     ensures { result ≡ number c.now }
 {
-    let nodes = c.weight.nodes;
+    let weight = c.weight;
     match c.value {
-        Const::Ordinal(number) => Bound { number, nodes },
-        _ => Bound { number: 0, nodes },
+        Const::Ordinal(number) => Bound { number, weight },
+        _ => Bound { number: 0, weight },
     }
 }
 

@@ -92,12 +92,13 @@ pub struct CoreBranch {
     pub body: CoreStmt,
 }
 
-/// The values from `first` to `last`. It stands for so many nodes of the text.
+/// The values from `first` to `last`. It stands for so many nodes of the text, of which those that are sets take so many words.
 #[derive(Clone, Copy)]
 pub struct Label {
     pub first: i32,
     pub last: i32,
     pub nodes: u32,
+    pub words: u32,
 }
 
 /// `on variable: class do body`

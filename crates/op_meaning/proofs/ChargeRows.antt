@@ -82,7 +82,7 @@ abbrev two : Statement → Statement → Statements
 two s t = statements s (alone t)
 
 abbrev label : ℤ → ℤ → ℕ → Label
-label first last nodes = record { first = first; last = last; nodes = nodes }
+label first last nodes = record { first = first; last = last; nodes = nodes; words = 0 }
 
 -- ---- the table
 
@@ -195,6 +195,15 @@ module _ (name : Name) where
       1 12 452
   unfolding valued
   case_with_labels = record { words_are = refl; nodes_are = refl; charge_is = refl }
+
+  -- A set in a label takes its word: (n: Integer) begin case n of Ord(3 in [1, 2]): n := 0; 5: end end
+  pub label_with_a_set : Row (one_of 4 (Parameter ByValue) ∷ [])
+      (alone (case_of (var 0 4)
+      (branches (record { first = pos 0; last = pos 0; nodes = 6; words = 1 } ∷ []) (assign (var 0 4) (number (pos 0) 1)) (branches (label (pos 5) (pos 5) 1 ∷ []) empty no_branches))
+      no_statements))
+      2 13 472
+  unfolding valued
+  label_with_a_set = record { words_are = refl; nodes_are = refl; charge_is = refl }
 
   -- An open array takes three words, its name none, and a list the words of its elements: procedure p(a: array of Byte; n: Byte);
   -- begin p([n, n, 3, n, 2], Length(a)) end

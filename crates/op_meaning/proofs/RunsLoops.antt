@@ -16,7 +16,7 @@ use Rattle.op_tree.specs.declared.statement.Direction.TheVariants.{To, Downto}
 
 -- the values from one to another
 abbrev from_to : ℤ → ℤ → Label
-from_to m n = record { first = m; last = n; nodes = 1 }
+from_to m n = record { first = m; last = n; nodes = 1; words = 0 }
 
 abbrev v : ℕ → VariableId
 v n = record { 0 = n }

@@ -4,7 +4,7 @@ ghost use Rattle.op_core.specs.Nodes.{branches_of, handlers_of};
 ghost use Rattle.op_core.specs.Statement.{built_in_of, item_of, stmt_of, stmts_of};
 ghost use Rattle.op_meaning.specs.Charge.{branches_weight, built_in_weight, charged, counter_weight, handlers_weight, item_weight, labels_weight, statement_weight, statements_weight};
 
-use crate::charge_expression::{NODE, expression, valued};
+use crate::charge_expression::{NODE, WORD, expression, valued};
 use op_core::{Core, CoreAction, CoreBranch, CoreHandler, CoreItem, CoreStmt, Label, VariableId};
 
 #[cycle(statement)]
@@ -112,7 +112,7 @@ fn labels(list: &[Label]) -> u64
 {
     let mut sum = 0u64;
     for each in list {
-        sum = sum.saturating_add(NODE * each.nodes as u64);
+        sum = sum.saturating_add(NODE * each.nodes as u64 + WORD * each.words as u64);
     }
     sum
 }

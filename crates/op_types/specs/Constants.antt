@@ -61,6 +61,7 @@ abbrev mutual
 abbrev pub nodes : ℕ → Weight
 nodes n = record { nodes = n; words = 0 }
 
+-- what two parts count for
 abbrev pub plus : Weight → Weight → Weight
 plus a b = record { nodes = capped (a.nodes + b.nodes); words = capped (a.words + b.words) }
 

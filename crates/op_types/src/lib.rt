@@ -22,8 +22,8 @@ pub use constant::{Applied, Constant, Folded, Part, Use, Weight, fold};
 pub use enter::{enter_type, predefined};
 pub use operator::{application, operation, prefixed};
 pub use part::{
-    in_brackets, is_folded, joined, made, no_members, nodes, number_behind, only_value, start_of,
-    start_of_element,
+    in_brackets, is_folded, joined, made, no_members, nodes, number_behind, only_value, plus,
+    start_of, start_of_element,
 };
 pub use set::{common_set, set_behind, set_over, widest_set};
 pub use setting::Setting;

@@ -54,7 +54,8 @@ pub fn nodes(count: u32) -> Weight
     }
 }
 
-fn plus(a: Weight, b: Weight) -> Weight
+/// What two parts count for.
+pub fn plus(a: Weight, b: Weight) -> Weight
     ensures { result ≡ plus a b }
 {
     Weight {

@@ -5,7 +5,7 @@ use Rattle.op_check_stmt.specs.declared.case.Spot.{Spot}
 use Rattle.op_check_stmt.proofs.repeated.repeated.Goals as goal
 
 abbrev zero : Spot
-zero = record { label = record { first = pos 0; last = pos 0; nodes = 0 }; place = record { file = 0; line = 0; col = 0 } }
+zero = record { label = record { first = pos 0; last = pos 0; nodes = 0; words = 0 }; place = record { file = 0; line = 0; col = 0 } }
 
 pub loop-spot-preserved : goal.loop-spot-preserved
 loop-spot-preserved c =
