@@ -1,5 +1,5 @@
 -- A program that breaks no rule comes to a state in which all is sound, and each routine has its body.
-use Rattle.std.proofs.Common.{◌≡◌, inl, inr, ◌⊎◌, ◌<◌, ◌≤◌, ℕ, ℤ, pos, ◌≤ℤ◌, zero, suc, Bool, true, false, ◌&&◌, List, [], ◌∷◌, ◌++◌, All, IfSome, IsSomeAnd, append-nil, append_assoc, codes, drop, is_some, length, length-append, length-take, ltb-true, nat_lt, slice_get, take, take_all, Option, Some, None, refl, sym, ap, ap₂, subst, ◌∙◌, arith}
+use Rattle.std.proofs.Common.{◌≡◌, inl, inr, ◌⊎◌, ◌<◌, ◌≤◌, ℕ, ℤ, pos, ◌≤ℤ◌, zero, suc, Bool, true, false, ◌&&◌, List, [], ◌∷◌, ◌++◌, All, IfSome, IsSomeAnd, IsTrue, append-nil, append_assoc, codes, drop, is_some, length, length-append, length-take, ltb-true, nat_lt, slice_get, take, take_all, Option, Some, None, refl, sym, ap, ap₂, subst, ◌∙◌, arith}
 use Rattle.std.specs.List.{list_all}
 use Rattle.std.proofs.lemmas.Bool.{and_parts}
 use Rattle.std.proofs.lemmas.Int.{ints}
@@ -27,7 +27,7 @@ use Rattle.op_core.specs.Members.{There}
 use Rattle.op_core.specs.Relations.{Always, Filled, filled}
 use Rattle.op_core.specs.Rows.{rows}
 use Rattle.op_core.specs.Sizes.{range_of, type_at}
-use Rattle.op_core.specs.Sound.{Fit, IsFounded, IsUnit, Row}
+use Rattle.op_core.specs.Sound.{Fit, HasRows, IsFounded, IsUnit, Row, is_of_block}
 use Rattle.op_core.specs.Types.{id}
 use Rattle.op_core.specs.Typing.{Fits, Sees, Within}
 use Rattle.op_core.specs.declared.constant.Const.TheVariants.{Ordinal}
@@ -213,7 +213,7 @@ unit_settled c u h y = record {
   current = y.current;
   awaits = y.awaits;
   accounted = y.accounted;
-  bodies = All-weaker (λ b. IsTypedBody h.core b × (IsOpen c h.awaited b.0.0 → ⊥)) (λ b. IsTypedBody (with_units h.core u) b × (IsOpen c h.awaited b.0.0 → ⊥)) (λ b z. (body_on w b refl z.0, z.1)) h.bodies y.bodies;
+  bodies = All-weaker (λ b. IsTypedBody h.core b × (IsOpen c h.awaited b.0.0 → ⊥)) (λ b. IsTypedBody (with_units h.core u) b × (IsOpen c h.awaited b.0.0 → ⊥)) (λ b z. (body_on w y.people b refl z.0, z.1)) h.bodies y.bodies;
   values = All-weaker (IsTypedFirst h.core) (IsTypedFirst (with_units h.core u)) (λ v z. value_on w (founded y) v z) h.first_values y.values;
 }
   where
@@ -222,7 +222,7 @@ unit_settled c u h y = record {
 
 main_settled : (n : Name) (ss : Statements) (h : Here) → Settled (outside None) h → NoneAwaited h.awaited → From (λ t g. Finished g) (main_means n ss h)
 main_settled n ss h y none =
-    from_so (statements_settled (next_routine h) ss (with_unit n (next_routine h) (with_routine n main_head None h)) row refl (unit_settled (Some (length h.core.routines)) u (with_routine n main_head None h) (with_routine_settled (Some (length h.core.routines)) n main_head None h y (omega arith, tt) (inr refl) (inl refl) refl)) (there, λ v lt c. global v c))
+    from_so (statements_settled (next_routine h) ss (with_unit n (next_routine h) (with_routine n main_head None h)) row refl (unit_settled (Some (length h.core.routines)) u (with_routine n main_head None h) (with_routine_settled (Some (length h.core.routines)) n main_head None h y (omega arith, tt) (inr refl) (inl refl) refl)) (there, (λ v lt c. global v c), main_rows))
     (λ t g c. record { unit = u; state = c.0; none = subst NoneAwaited (sym c.2) (none_last h.awaited none); sound = subst (λ core. IsUnit core u) (sym c.1) unit })
   where
     row : Routine
@@ -236,6 +236,9 @@ main_settled n ss h y none =
 
     there : slice_get core.routines (length h.core.routines) ≡ Some row
     there = first_behind h.core.routines row []
+
+    main_rows : HasRows core row
+    main_rows = record { others = []; are = refl; of_block = All-nil (λ o. IsTrue (is_of_block o.0)) }
 
     global : (v : VariableId) → (scope None core).variable v → (scope_of core row).variable v
     global v (inl c) = inl c

@@ -1,5 +1,5 @@
 -- Declarations of types, constants and variables leave a settled state or break a rule.
-use Rattle.std.proofs.Common.{◌≡◌, inl, inr, ◌⊎◌, ◌<◌, ◌≤◌, ℕ, zero, suc, ◌+◌, ◌^◌, ◌-◌, min, false, true, ◌||◌, List, [], ◌∷◌, ◌++◌, All, Contains, IfSome, IsSomeAnd, append-nil, append_assoc, cond, drop, eq-or-lt_of_le, filter, flat_map, is_some, leb-true, length, length-append, nat_le, option_to_list, slice_get, Option, Some, None, refl, sym, ap, ap₂, subst, ◌∙◌, arith}
+use Rattle.std.proofs.Common.{◌≡◌, inl, inr, ◌⊎◌, ◌<◌, ◌≤◌, ℕ, zero, suc, ◌+◌, ◌^◌, ◌-◌, min, false, true, ◌||◌, List, [], ◌∷◌, ◌++◌, All, Contains, IfSome, IsSomeAnd, IsTrue, append-nil, append_assoc, cond, drop, eq-or-lt_of_le, filter, flat_map, is_some, leb-true, length, length-append, nat_le, option_to_list, slice_get, Option, Some, None, refl, sym, ap, ap₂, subst, ◌∙◌, arith}
 use Rattle.std.proofs.lemmas.List.{drop-append-le}
 use Rattle.std.proofs.lemmas.List.Elements.{All-cons, All-head, All-nil, All-tail, Contains-push, filter-append}
 use Rattle.std.proofs.lemmas.List.Sums.{sum_by_push}
@@ -8,7 +8,7 @@ use Rattle.op_check_unit.proofs.WholeGrowth.{Wider, contains_on, counts_on, or_o
 use Rattle.op_check_unit.proofs.WholeSteps.{Moves, founded, from_after, from_breaks, from_checked, from_followed, from_gives, from_so, from_then, from_where, if_counts, later_ahead, later_itself, later_through, lead_followed, leads, leads_on, moves_each, settled_ahead, settled_all_ahead, settled_in, settled_valued, wider}
 use Rattle.op_check_unit.proofs.WholeTypes.{Denotes, IsType, behind_front, declared_settled, denoted_settled, entered_from, first_behind, with_name_settled}
 use Rattle.op_check_unit.proofs.Tables.{tabled_beside}
-use Rattle.op_check_unit.specs.Complete.{Counts, From, Inside, IsBareVariable, IsTypedFirst, Later, Leads, Settled, Stage, declared_in, scope}
+use Rattle.op_check_unit.specs.Complete.{Counts, From, Inside, IsBareVariable, IsTypedFirst, Later, Leads, Settled, Stage, WithBlockRows, declared_in, scope}
 use Rattle.op_check_unit.specs.Declaring.{constant_by, constant_declared, constant_meaning, constants_declared, defined, first_means, globals_fit, most_global_bytes, names_declared, next_variable, one_type_declared, row_entered, rows_entered, type_declared, type_meaning, typed_declared, types_declared, value_means, variable_meaning, variables_declared, variables_named, with_first, with_row}
 use Rattle.op_check_unit.specs.Initials.{first}
 use Rattle.op_check_unit.specs.Naming.{all_ahead, declared, ended, is_declared, with_ahead}
@@ -21,14 +21,14 @@ use Rattle.op_core.specs.Growing.{Grows}
 use Rattle.op_core.specs.Initial.{FirstValue}
 use Rattle.op_core.specs.Relations.{Filled, filled}
 use Rattle.op_core.specs.Sizes.{extent_of, type_at}
-use Rattle.op_core.specs.Sound.{IsFirst, Row, bytes_of, globals_of, is_declared as is_counted, size_of}
+use Rattle.op_core.specs.Sound.{IsFirst, Row, bytes_of, globals_of, is_declared as is_counted, is_of_block, size_of}
 use Rattle.op_core.specs.Typing.{Sees}
 use Rattle.op_core.specs.declared.ids.RoutineId.{RoutineId}
 use Rattle.op_core.specs.declared.ids.TypeId.{TypeId}
 use Rattle.op_core.specs.declared.ids.VariableId.{VariableId}
 use Rattle.op_core.specs.declared.program.Core.{Core}
 use Rattle.op_core.specs.declared.routine.Role.{Role}
-use Rattle.op_core.specs.declared.routine.Role.TheVariants.{Plain, Constant}
+use Rattle.op_core.specs.declared.routine.Role.TheVariants.{Plain, Constant, Parameter, Object, Result, Handler}
 use Rattle.op_core.specs.declared.routine.Variable.{Variable as VariableRow}
 use Rattle.op_core.specs.declared.types.CoreType.{CoreType}
 use Rattle.op_tree.specs.Declaration.{Constant as ConstantTree, TypeDeclaration, TypeDefinition, Variables, class, denotes, forward_class, forward_interface, interface}
@@ -95,6 +95,18 @@ settled_local {s} {h} ws b x a c =
 capped : (b size old total : ℕ) → total ≡ old + size → (b ≤ most_global_bytes → old ≤ b) → min (b + size) (2 ^ 64 - 1) ≤ most_global_bytes → total ≤ min (b + size) (2 ^ 64 - 1)
 capped b size old total e k le = let small : b ≤ most_global_bytes = omega (arith, le) in let o = k small in omega (arith, e, o, le)
 
+-- what is counted is of the block
+counted_of_block : (role : Role) → is_counted role ≡ true → IsTrue (is_of_block role)
+counted_of_block Plain e = refl
+counted_of_block Constant e = refl
+counted_of_block (Parameter mode) e = absurd (cc)
+counted_of_block Object e = absurd (cc)
+counted_of_block Result e = absurd (cc)
+counted_of_block Handler e = absurd (cc)
+
+one_of_block : (vs : List VariableRow) (v : VariableRow) → is_counted v.role ≡ true → WithBlockRows vs (vs ++ v ∷ [])
+one_of_block vs v e = record { more = v ∷ []; is = refl; of_block = All-cons (λ v. IsTrue (is_of_block v.role)) v [] (counted_of_block v.role e) (All-nil (λ v. IsTrue (is_of_block v.role))) }
+
 -- the next variable is in scope
 abbrev IsNext : Stage → Here → Unit {0} → Core → Type 0
 IsNext s h u core = (length core.variables ≡ length h.core.variables + 1) × (scope s.inside core).variable (next_variable h)
@@ -107,7 +119,7 @@ row_by s None (Some r) role of n h e x t f = absurd (let z = x.routine in cc)
 row_by s (Some i) None role of n h e x t f = absurd (let z = x.routine in cc)
 row_by s (Some i) (Some r) role of n h e x t f = leads
     (settled_local (v ∷ []) _ x (All-cons (IsBareVariable h.core) v [] (t, refl) (All-nil (IsBareVariable h.core))) counts)
-    (record { types = front_itself h.core.types; parameters = front_itself h.core.parameters; globals = front_itself h.core.globals; routines = refl })
+    (record { types = front_itself h.core.types; parameters = front_itself h.core.parameters; variables = one_of_block h.core.variables v e; globals = front_itself h.core.globals; routines = refl })
     (length-append h.core.variables (v ∷ []), inr x.inside.first)
   where
     v : VariableRow
@@ -127,7 +139,7 @@ row_by s None None role of n h e x t f = leads
     (settled_in new b x w (tabled_beside _ _ _ _ _ x.tables)
     (people_on w x.tables x.people [] (v ∷ []) (id ∷ []) (sym (append-nil h.core.parameters)) refl refl refl (All-nil (λ p. Row h.core.types p.of.0)) (All-cons (IsBareVariable h.core) v [] (t, refl) (All-nil (IsBareVariable h.core))) (All-cons (λ v. Row new.variables v.0) id [] below (All-nil (λ v. Row new.variables v.0))) room)
     refl refl counts tt)
-    (record { types = front_itself h.core.types; parameters = front_itself h.core.parameters; globals = behind_front h.core.globals (id ∷ []); routines = refl })
+    (record { types = front_itself h.core.types; parameters = front_itself h.core.parameters; variables = one_of_block h.core.variables v e; globals = behind_front h.core.globals (id ∷ []); routines = refl })
     (length-append h.core.variables (v ∷ []), inl (Contains-push h.core.globals id))
   where
     v : VariableRow

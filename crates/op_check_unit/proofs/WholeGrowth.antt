@@ -1,12 +1,12 @@
 -- What is so of a state is so where tables have grown.
-use Rattle.std.proofs.Common.{◌≡◌, inl, inr, ◌⊎◌, ◌≤◌, ℕ, ◌+◌, Bool, true, false, cond, List, [], ◌∷◌, ◌++◌, All, Contains, IfSome, IsSomeAnd, drop, filter, flat_map, length, length-append, option_to_list, slice_get, unwrap_or, Option, Some, None, refl, sym, ap, ap₂, subst, ◌∙◌, arith}
+use Rattle.std.proofs.Common.{◌≡◌, inl, inr, ◌⊎◌, ◌≤◌, ℕ, ◌+◌, Bool, true, false, cond, List, [], ◌∷◌, ◌++◌, All, Contains, IfSome, IsSomeAnd, drop, filter, flat_map, length, length-append, map, option_to_list, slice_get, unwrap_or, Option, Some, None, refl, sym, ap, ap₂, subst, ◌∙◌, arith}
 use Rattle.std.proofs.lemmas.List.Elements.{All-append, All-cons, All-drop, All-head, All-nil, All-take, All-tail, All-weaker, Contains-append_left}
 use Rattle.std.proofs.lemmas.List.Sums.{sum_by-cons}
 use Rattle.op_check_unit.specs.Complete.{Counts, Inside, IsBareRoutine, IsBareVariable, IsPeopled, IsTypedBody, IsTypedFirst, declared_in, scope, scope_of}
 use Rattle.op_check_unit.specs.Declaring.{most_global_bytes}
 use Rattle.op_check_unit.specs.Routines.{most_bytes}
 use Rattle.op_check_unit.specs.Tables.{IsTabled}
-use Rattle.op_core.proofs.Growing.{all_at, front_fit, front_row, front_rows, front_stays}
+use Rattle.op_core.proofs.Growing.{all_at, front_fit, front_row, front_rows, front_stays, some_and}
 use Rattle.op_core.proofs.GrowingRows.{first_grows}
 use Rattle.op_core.proofs.GrowingStatements.{statements_grow}
 use Rattle.op_core.proofs.GrowingTypes.{fits_grows}
@@ -14,7 +14,7 @@ use Rattle.op_core.specs.Growing.{Grows, IsFrontOf, SeesMore}
 use Rattle.op_core.specs.Initial.{FirstValue}
 use Rattle.op_core.specs.Rows.{rows}
 use Rattle.op_core.specs.Sizes.{KeepsExtents, plain, type_at}
-use Rattle.op_core.specs.Sound.{IsFirst, IsFounded, Row, at_start, bytes_of, globals_of, is_declared, size_of}
+use Rattle.op_core.specs.Sound.{HasRows, IsFirst, IsFounded, Row, at_start, bytes_of, first_rows, globals_of, is_declared, object_in, role_and_type, size_of}
 use Rattle.op_core.specs.Statement.{Statements}
 use Rattle.op_core.specs.StatementTyping.{AreStatements}
 use Rattle.op_core.specs.Typing.{Sees}
@@ -23,6 +23,7 @@ use Rattle.op_core.specs.declared.ids.TypeId.{TypeId}
 use Rattle.op_core.specs.declared.ids.VariableId.{VariableId}
 use Rattle.op_core.specs.declared.program.Core.{Core}
 use Rattle.op_core.specs.declared.routine.Parameter.{Parameter}
+use Rattle.op_core.specs.declared.routine.Role.TheVariants.{Parameter as ParameterRole, Result}
 use Rattle.op_core.specs.declared.routine.Routine.{Routine}
 use Rattle.op_core.specs.declared.routine.Variable.{Variable}
 use Rattle.op_types.proofs.Extents.{front}
@@ -75,10 +76,22 @@ names_on {old} {new} i w ns s = All-weaker (λ n. StandsFor old (scope i old) n.
 body_scope : {old new : Core} (r : Routine) → Wider old new → SeesMore (scope_of old r) (scope_of new r)
 body_scope r w = record { variable = λ v x. or_on (contains_on v w.globals) x; routine = λ q x. let more = w.routines in omega (arith, x, more) }
 
-pub body_on : {old new : Core} → Wider old new → (b : RoutineId × Statements) → slice_get new.routines b.0.0 ≡ slice_get old.routines b.0.0 → IsTypedBody old b → IsTypedBody new b
-body_on {old} {new} w b e t =
+-- the rows of a routine's variables
+rows_on : {old new : Core} → Wider old new → (r : Routine) → IsBareRoutine old r → HasRows old r → HasRows new r
+rows_on {old} {new} w r b h = record {
+  others = h.others;
+  are = ap (map role_and_type) (front_rows r.variables w.variables b.runs.1) ∙ h.are ∙ ap (λ ss. ss ++ h.others) (sym first);
+  of_block = h.of_block;
+}
+  where
+    first : first_rows new r ≡ first_rows old r
+    first = ap₂ (λ os ps. os ++ map (λ p. (ParameterRole p.mode, p.of)) ps ++ map (λ of. (Result, of)) (option_to_list r.result)) (ap (object_in new) b.owner ∙ sym (ap (object_in old) b.owner)) (front_rows r.parameters w.grows.parameters b.runs.0)
+
+pub body_on : {old new : Core} → Wider old new → IsPeopled old → (b : RoutineId × Statements) → slice_get new.routines b.0.0 ≡ slice_get old.routines b.0.0 → IsTypedBody old b → IsTypedBody new b
+body_on {old} {new} w p b e t =
     let x = some_is (slice_get old.routines b.0.0) t in
-    subst (λ o. IsSomeAnd o (λ r. AreStatements new (scope_of new r) (at_start r) b.1)) (sym (e ∙ x.1)) (statements_grow w.grows (body_scope x.0 w) (at_start x.0) b.1 x.2)
+    some_and (λ r. HasRows new r × AreStatements new (scope_of new r) (at_start r) b.1) (e ∙ x.1)
+    (rows_on w x.0 (all_at (IsBareRoutine old) old.routines b.0.0 x.0 p.routines x.1) x.2.0, statements_grow w.grows (body_scope x.0 w) (at_start x.0) b.1 x.2.1)
 
 pub value_on : {old new : Core} → Wider old new → IsFounded old → (b : VariableId × FirstValue) → IsTypedFirst old b → IsTypedFirst new b
 value_on {old} {new} w f b t =

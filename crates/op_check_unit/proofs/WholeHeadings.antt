@@ -3,7 +3,7 @@ use Rattle.std.proofs.Common.{◌≡◌, ℕ, ◌+◌, ◌≤◌, Bool, true, fa
 use Rattle.std.proofs.lemmas.List.Elements.{All-nil, All-push, All-weaker}
 use Rattle.std.specs.List.{list_any}
 use Rattle.op_check_unit.proofs.Tables.{tabled_beside}
-use Rattle.op_check_unit.proofs.WholeSteps.{from_behind, from_checked, from_followed, from_gives, later_itself, lead_behind, leads, leads_on, settled_typed, wider}
+use Rattle.op_check_unit.proofs.WholeSteps.{from_behind, from_checked, from_followed, from_gives, later_itself, lead_behind, leads, leads_on, same_variables, settled_typed, wider}
 use Rattle.op_check_unit.proofs.WholeTypes.{IsType, behind_front, denoted_settled, from_if, type_named_whole}
 use Rattle.op_check_unit.specs.Complete.{From, Later, Leads, Settled, Stage, faulty, scope}
 use Rattle.op_check_unit.specs.Denoting.{denoted}
@@ -87,7 +87,7 @@ head_by_settled {s} kind of r h a q x = from_if r.whole (λ e. from_gives (leads
     y = settled_typed wide r.rows x (wider x (front_itself h.core.types) (front_itself h.core.extents) (front_itself h.core.fields) (behind_front h.core.parameters r.rows) (front_itself h.core.variables) (front_itself h.core.globals) (front_itself h.core.routines) (refl, refl, refl, refl, refl)) (tabled_beside _ _ _ _ _ x.tables) refl a.1 refl refl refl refl
 
     later : Later h.core wide
-    later = record { types = front_itself h.core.types; parameters = behind_front h.core.parameters r.rows; globals = front_itself h.core.globals; routines = refl }
+    later = record { types = front_itself h.core.types; parameters = behind_front h.core.parameters r.rows; variables = same_variables; globals = front_itself h.core.globals; routines = refl }
 
     fit : length h.core.parameters + length r.rows ≤ length (h.core.parameters ++ r.rows)
     fit = let l = length-append h.core.parameters r.rows in omega (arith, l)

@@ -1,7 +1,7 @@
 -- Routines leave a settled state, in which each has its body or is awaited, or break a rule.
-use Rattle.std.proofs.Common.{◌≡◌, inl, inr, ◌⊎◌, ◌<◌, ◌≤◌, ℕ, zero, suc, ◌+◌, ◌-◌, Bool, true, false, nat_le, List, [], ◌∷◌, ◌++◌, All, IfSome, IsSomeAnd, IsTrue, append-nil, drop, filter, is_some, leb-true, length, map, min, take, slice_get, slice_set, length-append, length-drop, length-set, length-take, Option, Some, None, refl, sym, subst, ap, ◌∙◌, arith, if◌then◌else◌}
-use Rattle.std.specs.Option.{option_and_then, option_flatten, option_map}
-use Rattle.std.proofs.lemmas.List.{drop_all, length-map, take_all}
+use Rattle.std.proofs.Common.{◌≡◌, inl, inr, ◌⊎◌, ◌<◌, ◌≤◌, ℕ, zero, suc, ◌+◌, ◌-◌, Bool, true, false, nat_le, List, [], ◌∷◌, ◌++◌, All, IfSome, IsSomeAnd, IsTrue, append-nil, append_assoc, drop, filter, is_some, leb-true, length, map, min, take, slice_get, slice_set, length-append, length-drop, length-set, length-take, Option, Some, None, refl, sym, subst, ap, ◌∙◌, arith, if◌then◌else◌}
+use Rattle.std.specs.Option.{option_and_then, option_flatten, option_map, option_to_list}
+use Rattle.std.proofs.lemmas.List.{drop-append-le, drop_all, length-map, map-append, take_all}
 use Rattle.std.proofs.lemmas.List.Elements.{All-append, All-cons, All-drop, All-head, All-nil, All-push, All-set, All-tail, All-take, All-weaker}
 use Rattle.std.proofs.lemmas.Bool.{and_from, and_parts}
 use Rattle.std.proofs.lemmas.Option.{slice_get_within}
@@ -18,7 +18,7 @@ use Rattle.op_check_unit.proofs.WholeDeclaring.{beside, constants_settled, local
 use Rattle.op_types.proofs.Extents.{front}
 use Rattle.op_check_unit.proofs.WholeGrowth.{Wider, bare_routines_on, bare_variable_on, body_on, front_length, names_on, some_is, value_on}
 use Rattle.op_check_unit.proofs.WholeHeadings.{IsHead, form_whole, head_settled}
-use Rattle.op_check_unit.proofs.WholeSteps.{Moves, founded, from_breaks, from_checked, from_followed, from_gives, from_so, from_then, later_itself, later_through, lead_followed, leads, leads_on, settled_ahead, settled_named, wider}
+use Rattle.op_check_unit.proofs.WholeSteps.{Moves, founded, from_breaks, from_checked, from_followed, from_gives, from_so, from_then, later_itself, lead_followed, leads, leads_on, settled_ahead, settled_named, wider}
 use Rattle.op_check_unit.proofs.WholeTypes.{behind_front, declared_settled, entered_from, first_behind, found, with_name_settled}
 use Rattle.op_check_unit.specs.Complete.{Counts, From, HasBody, Inside, IsAwaited, IsBareRoutine, IsBareVariable, IsInside, IsOpen, IsTypedBody, IsTypedFirst, Later, Leads, Settled, Stage, declared_in, faulty, outside, scope, scope_of, settled}
 use Rattle.op_check_unit.specs.Headings.{form_means, head_means}
@@ -31,12 +31,13 @@ use Rattle.op_check_unit.specs.declared.heading.Head.{Head}
 use Rattle.op_core.proofs.Completing.{whole_fine, whole_gives, whole_refused, whole_rule, whole_tested}
 use Rattle.op_core.proofs.Growing.{all_at, front_fit, front_itself, front_row, front_rows, grows_heading, heading_itself, parameters_on, result_on, some_and}
 use Rattle.op_core.specs.Faults.{Checked, broken, by_test, fine, here, refused}
+use Rattle.op_core.specs.Growing.{IsFrontOf}
 use Rattle.op_core.specs.Heading.{is_same_heading, same_parameters}
 use Rattle.op_core.specs.Members.{InRun}
 use Rattle.op_core.specs.Relations.{Filled, IsWhole, Whole, filled, typed, faulty as rule_broken}
 use Rattle.op_core.specs.Rows.{rows}
 use Rattle.op_core.specs.Sizes.{type_at}
-use Rattle.op_core.specs.Sound.{Fit, Row, at_start, bytes_of, is_declared as is_counted}
+use Rattle.op_core.specs.Sound.{BeginWith, Fit, HasRows, RoleAndType, Row, at_start, bytes_of, first_rows, is_declared as is_counted, is_of_block, role_and_type}
 use Rattle.op_core.specs.Statement.{Statements as Typed}
 use Rattle.op_core.specs.StatementTyping.{AreStatements}
 use Rattle.op_core.specs.Typing.{Sees}
@@ -47,7 +48,7 @@ use Rattle.op_core.specs.declared.ids.VariableId.{VariableId}
 use Rattle.op_core.specs.declared.program.Core.{Core}
 use Rattle.op_core.specs.declared.routine.Parameter.{Parameter}
 use Rattle.op_core.specs.declared.routine.Role.{Role}
-use Rattle.op_core.specs.declared.routine.Role.TheVariants.{Result}
+use Rattle.op_core.specs.declared.routine.Role.TheVariants.{Parameter as ParameterRole, Result}
 use Rattle.op_core.specs.declared.routine.Routine.{Routine}
 use Rattle.op_core.specs.declared.routine.Variable.{Variable as VariableRow}
 use Rattle.op_tree.specs.Declaration.{Body, forward, body, Declaration, constants, types, variables, heading, routine, Declarations, no_declarations, declarations, Heading}
@@ -170,7 +171,7 @@ with_routine_settled c n x place h s k cases opens none = record {
   current = under c cases none;
   awaits = length-append h.awaited (place ∷ []) ∙ ap (λ k. k + 1) s.awaits ∙ sym e;
   accounted = λ k lt. one k (last_or k (length h.core.routines) (subst (λ m. k < m) e lt));
-  bodies = All-weaker (λ b. IsTypedBody h.core b × (IsOpen None h.awaited b.0.0 → ⊥)) (λ b. IsTypedBody new b × (IsOpen c (h.awaited ++ place ∷ []) b.0.0 → ⊥)) (λ b y. (body_on w b (still b y.0) y.0, closed b.0.0 (body_below s b y.0) y.1 cases)) h.bodies s.bodies;
+  bodies = All-weaker (λ b. IsTypedBody h.core b × (IsOpen None h.awaited b.0.0 → ⊥)) (λ b. IsTypedBody new b × (IsOpen c (h.awaited ++ place ∷ []) b.0.0 → ⊥)) (λ b y. (body_on w s.people b (still b y.0) y.0, closed b.0.0 (body_below s b y.0) y.1 cases)) h.bodies s.bodies;
   values = All-weaker (IsTypedFirst h.core) (IsTypedFirst new) (λ v y. value_on w (founded s) v y) h.first_values s.values;
 }
   where
@@ -252,9 +253,9 @@ stands_as core less more f g other s = tt
 all_as : (core : Core) (less more : Sees) → ((v : VariableId) → Row core.variables v.0 → less.variable v → more.variable v) → ((r : RoutineId) → less.routine r → more.routine r) → (ns : List Named) → AllStand core less ns → AllStand core more ns
 all_as core less more f g ns a = All-weaker (λ n. StandsFor core less n.meaning) (λ n. StandsFor core more n.meaning) (λ n x. stands_as core less more f g n.meaning x) ns a
 
--- what the scope has is what the row has
+-- what the scope has is what the row has, and the variables have their rows
 abbrev pub IsRowOf : Stage → Here → RoutineId → Routine → Type 0
-IsRowOf s h id r = (slice_get h.core.routines id.0 ≡ Some r) × ((v : VariableId) → Row h.core.variables v.0 → (scope s.inside h.core).variable v → (scope_of h.core r).variable v)
+IsRowOf s h id r = (slice_get h.core.routines id.0 ≡ Some r) × ((v : VariableId) → Row h.core.variables v.0 → (scope s.inside h.core).variable v → (scope_of h.core r).variable v) × HasRows h.core r
 
 scope_settled : {s : Stage} (h : Here) (id : RoutineId) (r : Routine) → Settled s h → IsRowOf s h id r → IsSettled (scope_of h.core r) (spec.scope_of id h)
 scope_settled {s} h id r x k = record {
@@ -270,8 +271,8 @@ surrounded h id r e = record { result = ap (λ o. option_and_then (λ r. r.resul
 abbrev pub closed_stage : Stage → Stage
 closed_stage s = record s { current = None }
 
-with_body_settled : {s : Stage} (id : RoutineId) (h : Here) {o : Option Typed} (r : Routine) → s.current ≡ Some id.0 → Settled s h → slice_get h.core.routines id.0 ≡ Some r → Filled (AreStatements h.core (scope_of h.core r) (at_start r)) o → Settled (closed_stage s) (with_body id o h)
-with_body_settled {s} id h r c x e (filled ss t) = record {
+with_body_settled : {s : Stage} (id : RoutineId) (h : Here) {o : Option Typed} (r : Routine) → s.current ≡ Some id.0 → Settled s h → slice_get h.core.routines id.0 ≡ Some r → HasRows h.core r → Filled (AreStatements h.core (scope_of h.core r) (at_start r)) o → Settled (closed_stage s) (with_body id o h)
+with_body_settled {s} id h r c x e q (filled ss t) = record {
   tables = x.tables;
   people = x.people;
   units = x.units;
@@ -283,7 +284,7 @@ with_body_settled {s} id h r c x e (filled ss t) = record {
   current = tt;
   awaits = x.awaits;
   accounted = λ k lt. one k (x.accounted k lt);
-  bodies = All-push (λ b. IsTypedBody h.core b × (IsOpen None h.awaited b.0.0 → ⊥)) h.bodies (id, ss) (All-weaker (λ b. IsTypedBody h.core b × (IsOpen s.current h.awaited b.0.0 → ⊥)) (λ b. IsTypedBody h.core b × (IsOpen None h.awaited b.0.0 → ⊥)) (λ b y. (y.0, λ z. closed b.0.0 y.1 z)) h.bodies x.bodies) (some_and (λ r. AreStatements h.core (scope_of h.core r) (at_start r) ss) e t, λ z. fresh z);
+  bodies = All-push (λ b. IsTypedBody h.core b × (IsOpen None h.awaited b.0.0 → ⊥)) h.bodies (id, ss) (All-weaker (λ b. IsTypedBody h.core b × (IsOpen s.current h.awaited b.0.0 → ⊥)) (λ b. IsTypedBody h.core b × (IsOpen None h.awaited b.0.0 → ⊥)) (λ b y. (y.0, λ z. closed b.0.0 y.1 z)) h.bodies x.bodies) (some_and (λ r. HasRows h.core r × AreStatements h.core (scope_of h.core r) (at_start r) ss) e (q, t), λ z. fresh z);
   values = x.values;
 }
   where
@@ -308,7 +309,7 @@ pub statements_settled : {s : Stage} (id : RoutineId) (ss : Statements) (h : Her
 statements_settled {s} id ss h r c x k = from (statements (spec.scope_of id h) ss) (statements_whole (at_start r) (scope_settled h id r x k) (surrounded h id r k.0) ss)
   where
     one : {o : Option Typed} → Filled (AreStatements h.core (scope_of h.core r) (at_start r)) o → Closes s h tt (with_body id o h)
-    one (filled ts t) = (with_body_settled id h r c x k.0 (filled ts t), refl, refl)
+    one (filled ts t) = (with_body_settled id h r c x k.0 k.2 (filled ts t), refl, refl)
 
     from : (c : Checked Typed) → Whole (AreStatements h.core (scope_of h.core r) (at_start r)) c → From {A = Unit {0}} (Closes s h) (record { typed = Some tt; here = with_body id c.typed h; faults = c.faults })
     from c (typed f) = settled (filled tt (one f))
@@ -382,33 +383,100 @@ with_result_settled {i} id n (Some of) h q x =
 pub rows_typed : (core : Core) (run : Run) → All (λ p. Row core.types p.of.0) core.parameters → All (λ p. Row core.types p.of.0) (rows core.parameters run)
 rows_typed core run a = All-take (λ p. Row core.types p.of.0) run.count (drop run.first core.parameters) (All-drop (λ p. Row core.types p.of.0) run.first core.parameters a)
 
-result_later : (id : RoutineId) (n : Name) (of : Option TypeId) (h : Here) → Later h.core (with_result id n of h).core
-result_later id n None h = later_itself
-result_later id n (Some of) h = record { types = front_itself h.core.types; parameters = front_itself h.core.parameters; globals = front_itself h.core.globals; routines = refl }
+-- headings say there what they said before
+pub record Reads (old new : Core) : Type 0 where
+  pub types : IsFrontOf old.types new.types
+  pub parameters : IsFrontOf old.parameters new.parameters
+  pub routines : new.routines ≡ old.routines
 
-entered_settled : (id : RoutineId) (n : Name) (x : Head) (h : Here) → IsHead x h.core → Settled (outside (Some id.0)) h → Settled (body_stage id (inside_of h)) (entered id n x h) × Later h.core (entered id n x h).core
+reads_later : {old new : Core} → Later old new → Reads old new
+reads_later l = record { types = l.types; parameters = l.parameters; routines = l.routines }
+
+result_reads : (id : RoutineId) (n : Name) (of : Option TypeId) (h : Here) → Reads h.core (with_result id n of h).core
+result_reads id n None h = reads_later later_itself
+result_reads id n (Some of) h = record { types = front_itself h.core.types; parameters = front_itself h.core.parameters; routines = refl }
+
+entered_settled : (id : RoutineId) (n : Name) (x : Head) (h : Here) → IsHead x h.core → Settled (outside (Some id.0)) h → Settled (body_stage id (inside_of h)) (entered id n x h) × Reads h.core (entered id n x h).core
 entered_settled id n x h k y = (
   with_result_settled id n x.result (with_parameters (rows h.core.parameters x.parameters) (record h { first = length h.names; bytes = 0; routine = Some id })) k.1 (with_parameters_settled (rows h.core.parameters x.parameters) (record h { first = length h.names; bytes = 0; routine = Some id }) (begun_settled id h y) (rows_typed h.core x.parameters y.people.parameters)),
-  later_through (record { types = front_itself h.core.types; parameters = front_itself h.core.parameters; globals = front_itself h.core.globals; routines = refl }) (result_later id n x.result (with_parameters (rows h.core.parameters x.parameters) (record h { first = length h.names; bytes = 0; routine = Some id }))),
+  result_reads id n x.result (with_parameters (rows h.core.parameters x.parameters) (record h { first = length h.names; bytes = 0; routine = Some id })),
 )
+
+-- ---- the rows with which a body begins
+
+past : {A : Type 0} (xs ys : List A) → drop (length xs) (xs ++ ys) ≡ ys
+past xs ys = drop-append-le (length xs) xs ys (omega arith) ∙ ap (λ zs. zs ++ ys) (drop_all (length xs) xs (omega arith))
+
+-- of a routine with these parameters and this result
+abbrev heading_rows : List Parameter → Option TypeId → List RoleAndType
+heading_rows ps of = map (λ p. (ParameterRole p.mode, p.of)) ps ++ map (λ of. (Result, of)) (option_to_list of)
+
+parameters_are : (ps : List Parameter) → map role_and_type (map parameter_variable ps) ≡ map (λ p. (ParameterRole p.mode, p.of)) ps
+parameters_are [] = refl
+parameters_are (p ∷ ps) = ap (λ ss. (ParameterRole p.mode, p.of) ∷ ss) (parameters_are ps)
+
+no_more_rows : {first : List RoleAndType} {vs : List VariableRow} → map role_and_type vs ≡ first → BeginWith first vs
+no_more_rows {first} e = record { others = []; are = e ∙ sym (append-nil first); of_block = All-nil (λ o. IsTrue (is_of_block o.0)) }
+
+result_begins : (id : RoutineId) (n : Name) (ps : List Parameter) (of : Option TypeId) (h : Here) → BeginWith (heading_rows ps of) (drop (length h.core.variables) (with_result id n of (with_parameters ps h)).core.variables)
+result_begins id n ps None h = no_more_rows (ap (map role_and_type) (past h.core.variables (map parameter_variable ps)) ∙ parameters_are ps ∙ sym (append-nil (map (λ p. (ParameterRole p.mode, p.of)) ps)))
+result_begins id n ps (Some of) h = no_more_rows
+    (ap (λ vs. map role_and_type (drop (length h.core.variables) vs)) (append_assoc h.core.variables (map parameter_variable ps) (v ∷ []))
+    ∙ ap (map role_and_type) (past h.core.variables (map parameter_variable ps ++ v ∷ []))
+    ∙ map-append role_and_type (map parameter_variable ps) (v ∷ [])
+    ∙ ap (λ ss. ss ++ (Result, of) ∷ []) (parameters_are ps))
+  where
+    v : VariableRow
+    v = record { name = result_name n; of = of; role = Result; first_value = None }
+
+-- of a routine with this heading
+abbrev head_rows : Name → Head → Core → List RoleAndType
+head_rows n x core = first_rows core (routine_row n x no_rows)
+
+entered_begins : (id : RoutineId) (n : Name) (x : Head) (h : Here) → BeginWith (head_rows n x h.core) (drop (length h.core.variables) (entered id n x h).core.variables)
+entered_begins id n x h = result_begins id n (rows h.core.parameters x.parameters) x.result (record h { first = length h.names; bytes = 0; routine = Some id })
+
+head_rows_on : {old new : Core} (n : Name) (x : Head) → IsFrontOf old.parameters new.parameters → Fit old.parameters x.parameters → head_rows n x new ≡ head_rows n x old
+head_rows_on n x f k = ap (λ ps. heading_rows ps x.result) (front_rows x.parameters f k)
+
+block_rows : (vs : List VariableRow) → All (λ v. IsTrue (is_of_block v.role)) vs → All (λ o. IsTrue (is_of_block o.0)) (map role_and_type vs)
+block_rows [] a = All-nil (λ o. IsTrue (is_of_block o.0))
+block_rows (v ∷ vs) a = All-cons (λ o. IsTrue (is_of_block o.0)) (role_and_type v) (map role_and_type vs) (All-head (λ v. IsTrue (is_of_block v.role)) v vs a) (block_rows vs (All-tail (λ v. IsTrue (is_of_block v.role)) v vs a))
+
+-- rows of the block behind them change nothing
+begins_on : {first : List RoleAndType} (vs ws : List VariableRow) → BeginWith first vs → All (λ v. IsTrue (is_of_block v.role)) ws → BeginWith first (vs ++ ws)
+begins_on {first} vs ws b a = record {
+  others = b.others ++ map role_and_type ws;
+  are = map-append role_and_type vs ws ∙ ap (λ ss. ss ++ map role_and_type ws) b.are ∙ append_assoc first b.others (map role_and_type ws);
+  of_block = All-append (λ o. IsTrue (is_of_block o.0)) b.others (map role_and_type ws) b.of_block (block_rows ws a);
+}
+
+begins_later : {old new : Core} (n : Name) (x : Head) (k : ℕ) → Later old new → IsHead x old → k ≤ length old.variables → BeginWith (head_rows n x old) (drop k old.variables) → BeginWith (head_rows n x new) (drop k new.variables)
+begins_later {old} {new} n x k l f le b =
+    subst (λ ss. BeginWith ss (drop k new.variables)) (sym (head_rows_on n x l.parameters f.0))
+    (subst (BeginWith (head_rows n x old)) (sym (ap (drop k) l.variables.is ∙ drop-append-le k old.variables l.variables.more le)) (begins_on (drop k old.variables) l.variables.more b l.variables.of_block))
 
 -- ---- the row of a body
 
 abbrev body_row : Name → Head → Inside → Core → Routine
 body_row n x i core = routine_row n x (record { first = i.first; count = length core.variables - i.first })
 
+-- its variables are all from the first one on
+all_rows : (n : Name) (x : Head) (i : Inside) (core : Core) → rows core.variables (body_row n x i core).variables ≡ drop i.first core.variables
+all_rows n x i core = take_all (length core.variables - i.first) (drop i.first core.variables) (let l = length-drop i.first core.variables in omega (arith, l))
+
 -- the row that there is has the heading
 abbrev HasHead : RoutineId → Name → Head → Core → Type 0
 HasHead id n x core = IsSomeAnd (slice_get core.routines id.0) (λ r. IsTrue (is_same_heading core r (routine_row n x no_rows)))
 
-head_later : {old new : Core} (x : Head) → Later old new → IsHead x old → IsHead x new
+head_later : {old new : Core} (x : Head) → Reads old new → IsHead x old → IsHead x new
 head_later {old} {new} x l k = (front_fit x.parameters l.parameters k.0, if_row x.result k.1)
   where
     if_row : (o : Option TypeId) → IfSome o (λ of. Row old.types of.0) → IfSome o (λ of. Row new.types of.0)
     if_row None q = tt
     if_row (Some of) q = front_row l.types q
 
-heading_later : {old new : Core} (a b : Routine) → Later old new → Fit old.parameters a.parameters → Fit old.parameters b.parameters → IsTrue (is_same_heading old a b) → IsTrue (is_same_heading new a b)
+heading_later : {old new : Core} (a b : Routine) → Reads old new → Fit old.parameters a.parameters → Fit old.parameters b.parameters → IsTrue (is_same_heading old a b) → IsTrue (is_same_heading new a b)
 heading_later {old} {new} a b l f g h =
     let x = and_parts _ _ h in
     let y = and_parts _ _ x.0 in
@@ -416,7 +484,7 @@ heading_later {old} {new} a b l f g h =
     (subst (λ ps. IsTrue (same_parameters new.types ps (rows new.parameters b.parameters))) (sym (front_rows a.parameters l.parameters f))
     (subst (λ qs. IsTrue (same_parameters new.types (rows old.parameters a.parameters) qs)) (sym (front_rows b.parameters l.parameters g)) (parameters_on (rows old.parameters a.parameters) (rows old.parameters b.parameters) l.types x.1)))
 
-has_head_later : {s : Stage} {h : Here} {new : Core} (id : RoutineId) (n : Name) (x : Head) → Settled s h → Later h.core new → IsHead x h.core → HasHead id n x h.core → HasHead id n x new
+has_head_later : {s : Stage} {h : Here} {new : Core} (id : RoutineId) (n : Name) (x : Head) → Settled s h → Reads h.core new → IsHead x h.core → HasHead id n x h.core → HasHead id n x new
 has_head_later {h = h} {new} id n x y l k a =
     let r = some_is (slice_get h.core.routines id.0) a in
     some_and (λ r. IsTrue (is_same_heading new r (routine_row n x no_rows))) (ap (λ rs. slice_get rs id.0) l.routines ∙ r.1)
@@ -441,7 +509,7 @@ with_variables_settled {i} id n x h small k head y = record {
   current = (let lt = y.current.0 in omega (arith, e, lt), y.current.1);
   awaits = y.awaits ∙ sym e;
   accounted = λ m lt. y.accounted m (omega (arith, e, lt));
-  bodies = All-weaker (λ b. IsTypedBody h.core b × (IsOpen (Some id.0) h.awaited b.0.0 → ⊥)) (λ b. IsTypedBody new b × (IsOpen (Some id.0) h.awaited b.0.0 → ⊥)) (λ b z. (body_on w b (set_apart h.core.routines id.0 r b.0.0 (λ same. z.1 (inl (ap Some (sym same))))) z.0, z.1)) h.bodies y.bodies;
+  bodies = All-weaker (λ b. IsTypedBody h.core b × (IsOpen (Some id.0) h.awaited b.0.0 → ⊥)) (λ b. IsTypedBody new b × (IsOpen (Some id.0) h.awaited b.0.0 → ⊥)) (λ b z. (body_on w y.people b (set_apart h.core.routines id.0 r b.0.0 (λ same. z.1 (inl (ap Some (sym same))))) z.0, z.1)) h.bodies y.bodies;
   values = All-weaker (IsTypedFirst h.core) (IsTypedFirst new) (λ v z. value_on w (founded y) v z) h.first_values y.values;
 }
   where
@@ -462,9 +530,6 @@ with_variables_settled {i} id n x h small k head y = record {
     w : Wider h.core new
     w = record { grows = grows_heading h.core id.0 r same; variables = front_itself h.core.variables; globals = front_itself h.core.globals; routines = omega (arith, e) }
 
-    all : rows h.core.variables r.variables ≡ drop i.first h.core.variables
-    all = take_all (length h.core.variables - i.first) (drop i.first h.core.variables) (let l = length-drop i.first h.core.variables in omega (arith, l))
-
     own : IsBareRoutine new r
     own = record {
       unit = refl;
@@ -473,12 +538,12 @@ with_variables_settled {i} id n x h small k head y = record {
       body = refl;
       runs = (k.0, (let le = y.inside.first in omega (arith, le)));
       result = k.1;
-      locals = subst (λ vs. bytes_of h.core (filter (λ v. is_counted v.role) vs) ≤ most_bytes) (sym all) (let c = y.counts (omega (arith, small)) in omega (arith, c, small));
+      locals = subst (λ vs. bytes_of h.core (filter (λ v. is_counted v.role) vs) ≤ most_bytes) (sym (all_rows n x i h.core)) (let c = y.counts (omega (arith, small)) in omega (arith, c, small));
     }
 
 -- the scope is that of the row
-row_scope : {i : Inside} (id : RoutineId) (n : Name) (x : Head) (h : Here) → Settled (body_stage id i) h → IsRowOf (body_stage id i) (with_variables id n x i.first h) id (body_row n x i h.core)
-row_scope {i} id n x h y = (set_there h.core.routines id.0 (body_row n x i h.core) y.current.0, λ v lt z. one v lt z)
+row_scope : {i : Inside} (id : RoutineId) (n : Name) (x : Head) (h : Here) → Settled (body_stage id i) h → BeginWith (head_rows n x h.core) (drop i.first h.core.variables) → IsRowOf (body_stage id i) (with_variables id n x i.first h) id (body_row n x i h.core)
+row_scope {i} id n x h y b = (set_there h.core.routines id.0 (body_row n x i h.core) y.current.0, (λ v lt z. one v lt z), subst (BeginWith (head_rows n x h.core)) (sym (all_rows n x i h.core)) b)
   where
     one : (v : VariableId) → v.0 < length h.core.variables → (scope (Some i) h.core).variable v → (scope_of h.core (body_row n x i h.core)).variable v
     one v lt (inl c) = inl c
@@ -501,13 +566,13 @@ locals_settled (declarations d ds) h x = from_then (locals_declared ds) (local_s
 abbrev Ended : Inside → Unit {0} → Here → Type 0
 Ended i t g = Settled (record { current = None; inside = Some i; units = [] }) g
 
-inner_settled : {i : Inside} (id : RoutineId) (n : Name) (x : Head) (ds : Declarations) (ss : Statements) (h : Here) → IsHead x h.core → HasHead id n x h.core → Settled (body_stage id i) h → From (Ended i) (inner id n x i.first ds ss h)
-inner_settled {i} id n x ds ss h k head y =
+inner_settled : {i : Inside} (id : RoutineId) (n : Name) (x : Head) (ds : Declarations) (ss : Statements) (h : Here) → IsHead x h.core → HasHead id n x h.core → Settled (body_stage id i) h → BeginWith (head_rows n x h.core) (drop i.first h.core.variables) → From (Ended i) (inner id n x i.first ds ss h)
+inner_settled {i} id n x ds ss h k head y b =
     from_then (λ h. followed (locals_fit n h) (λ t h. statements_mean id ss (with_variables id n x i.first h))) (locals_settled ds h y)
     (λ t j r. from_then {R = λ t g. (g ≡ j) × (j.bytes ≤ most_bytes)} (λ h. statements_mean id ss (with_variables id n x i.first h))
     (from_checked {P = λ t. j.bytes ≤ most_bytes} (whole_tested 69 n.position.place (nat_le j.bytes most_bytes) (λ e. whole_gives (leb-true j.bytes most_bytes e))) (λ t le. (refl, le)))
     (λ t g q. subst (λ g. From (Ended i) (statements_mean id ss (with_variables id n x i.first g))) (sym q.0)
-    (from_so (statements_settled id ss (with_variables id n x i.first j) (body_row n x i j.core) refl (with_variables_settled id n x j q.1 (head_later x r.later k) (has_head_later id n x y r.later k head) r.state) (row_scope id n x j r.state)) (λ a g w. w.0))))
+    (from_so (statements_settled id ss (with_variables id n x i.first j) (body_row n x i j.core) refl (with_variables_settled id n x j q.1 (head_later x (reads_later r.later) k) (has_head_later id n x y (reads_later r.later) k head) r.state) (row_scope id n x j r.state (begins_later n x i.first r.later k y.inside.first b))) (λ a g w. w.0))))
 
 left_settled : {c : Option ℕ} (h g : Here) → Settled (outside c) h → Settled (record { current = None; inside = Some (inside_of h); units = [] }) g → Settled (outside None) (left h g)
 left_settled h g y z = record {
@@ -533,7 +598,7 @@ Rests a h = Settled (outside None) h
 block_settled : (id : RoutineId) (n : Name) (x : Head) (ds : Declarations) (ss : Statements) (h : Here) → IsHead x h.core → HasHead id n x h.core → Settled (outside (Some id.0)) h → From Rests (block_means id n x ds ss h)
 block_settled id n x ds ss h k head y =
     let e = entered_settled id n x h k y in
-    from_then (λ i. gives tt (left h i)) (inner_settled id n x ds ss (entered id n x h) (head_later x e.1 k) (has_head_later id n x y e.1 k head) e.0) (λ t i z. from_gives (left_settled h i y z))
+    from_then (λ i. gives tt (left h i)) (inner_settled id n x ds ss (entered id n x h) (head_later x e.1 k) (has_head_later id n x y e.1 k head) e.0 (subst (λ ss. BeginWith ss (drop (length h.core.variables) (entered id n x h).core.variables)) (sym (head_rows_on n x e.1.parameters k.0)) (entered_begins id n x h))) (λ t i z. from_gives (left_settled h i y z))
 
 -- ---- declarations
 

@@ -32,7 +32,7 @@ use Rattle.op_core.specs.Members.{InRun, There}
 use Rattle.op_core.specs.Relations.{Filled, filled}
 use Rattle.op_core.specs.Rows.{rows}
 use Rattle.op_core.specs.Sizes.{type_at}
-use Rattle.op_core.specs.Sound.{Depth, Encloses, EndsWithin, IsBody, IsFirst, IsFounded, IsOwner, IsPart, IsRoutine, IsSound, IsSoundNesting, IsUnit, IsVariableRow, Row, at_start, bytes_of, enclosing_of, everything, globals_of, is_declared, itself, size_of, top, within}
+use Rattle.op_core.specs.Sound.{Depth, Encloses, EndsWithin, HasRows, IsBody, IsFirst, IsFounded, IsOwner, IsPart, IsRoutine, IsSound, IsSoundNesting, IsUnit, IsVariableRow, Row, at_start, bytes_of, enclosing_of, everything, globals_of, is_declared, itself, role_and_type, size_of, top, within}
 use Rattle.op_core.specs.Statement.{Statements, stmts_of}
 use Rattle.op_core.specs.StatementTyping.{AreStatements}
 use Rattle.op_core.specs.Typing.{Sees}
@@ -201,16 +201,20 @@ known h core f g = record {
 bare_at : {h : Here} {core : Core} → Known h core → (n : ℕ) (r : Routine) → slice_get core.routines n ≡ Some r → IsBareRoutine (bared core) (bare r)
 bare_at {core = core} k n r e = all_at (IsBareRoutine (bared core)) (map bare core.routines) n (bare r) k.people.routines (map_at bare core.routines n ∙ ap (option_map bare) e)
 
+-- the routine's variables have their rows, and so it is with its statements
+abbrev IsTypedRow : Core → Statements → Routine → Type 0
+IsTypedRow core ss r = HasRows core r × AreStatements core (scope_of core r) (at_start r) ss
+
 -- the statements that stand in a row
-typed_at : {h : Here} {core : Core} → Known h core → (n : ℕ) (r : Routine) (ss : Statements) → slice_get core.routines n ≡ Some r → body_in r ≡ Some ss → AreStatements (bared core) (scope_of (bared core) (bare r)) (at_start r) ss
+typed_at : {h : Here} {core : Core} → Known h core → (n : ℕ) (r : Routine) (ss : Statements) → slice_get core.routines n ≡ Some r → body_in r ≡ Some ss → IsTypedRow (bared core) ss (bare r)
 typed_at {h} {core} k n r ss e f = one (from_placed h.bodies (map body_in h.core.routines) n ss k.bodies (ap (λ xs. slice_get xs n) (sym k.placed_so) ∙ map_at body_in core.routines n ∙ ap (option_map body_in) e ∙ ap Some f))
   where
-    one : (slice_get (map body_in h.core.routines) n ≡ Some (Some ss)) ⊎ ((b : RoutineId × Statements) × IsTypedBody (bared core) b × (b.0.0 ≡ n) × (b.1 ≡ ss)) → AreStatements (bared core) (scope_of (bared core) (bare r)) (at_start r) ss
+    one : (slice_get (map body_in h.core.routines) n ≡ Some (Some ss)) ⊎ ((b : RoutineId × Statements) × IsTypedBody (bared core) b × (b.0.0 ≡ n) × (b.1 ≡ ss)) → IsTypedRow (bared core) ss (bare r)
     one (inl g) = absurd (k.no_bodies n ss g)
     one (inr x) =
         let q = some_is (slice_get (map bare core.routines) x.0.0.0) x.1 in
         let same : q.0 ≡ bare r = some_eq (sym q.1 ∙ ap (slice_get (map bare core.routines)) x.2 ∙ map_at bare core.routines n ∙ ap (option_map bare) e) in
-        subst (AreStatements (bared core) (scope_of (bared core) (bare r)) (at_start r)) x.3 (subst (λ q. AreStatements (bared core) (scope_of (bared core) q) (at_start q) x.0.1) same q.2)
+        subst (λ ss. IsTypedRow (bared core) ss (bare r)) x.3 (subst (IsTypedRow (bared core) x.0.1) same q.2)
 
 -- the first value that stands in a row
 begins_at : {h : Here} {core : Core} → Known h core → (n : ℕ) (v : Variable) (i : FirstValue) → slice_get core.variables n ≡ Some v → begins_with v ≡ Some i → IsSomeAnd (type_at core v.of) (λ t. IsFirst (bared core) t v.of i)
@@ -254,6 +258,24 @@ has_body {h} {core} k n r e =
     let p = is_placed h.bodies (map body_in h.core.routines) n (k.have n lt) (omega (arith, l, m, q, lt)) in
     is_some_of _ r.body p.0 (some_eq (ap (option_map body_in) (sym e) ∙ sym (map_at body_in core.routines n) ∙ ap (λ xs. slice_get xs n) k.placed_so ∙ p.1))
 
+some_there : {A : Type 0} (o : Option A) → IsSome o → (a : A) × (o ≡ Some a)
+some_there None s = absurd (cc)
+some_there (Some a) s = (a, refl)
+
+rows_bare : (vs : List Variable) → map role_and_type (map bare_variable vs) ≡ map role_and_type vs
+rows_bare [] = refl
+rows_bare (v ∷ vs) = ap (λ ss. role_and_type v ∷ ss) (rows_bare vs)
+
+begins : {h : Here} {core : Core} → Known h core → (n : ℕ) (r : Routine) → slice_get core.routines n ≡ Some r → IsSome r.body → HasRows core r
+begins {core = core} k n r e s =
+    let b = some_there r.body s in
+    let own = (typed_at k n r (stmts_of b.0.statements.items) e (ap (option_map (λ b. stmts_of b.statements.items)) b.1)).0 in
+    record {
+      others = own.others;
+      are = sym (ap (map role_and_type) (rows_map bare_variable core.variables r.variables) ∙ rows_bare (rows core.variables r.variables)) ∙ own.are;
+      of_block = own.of_block;
+    }
+
 routine_sound : {h : Here} {core : Core} → Known h core → (n : ℕ) (r : Routine) → slice_get core.routines n ≡ Some r → IsRoutine core r
 routine_sound {h} {core} k n r e =
     let b = bare_at k n r e in record {
@@ -264,6 +286,7 @@ routine_sound {h} {core} k n r e =
       parameters = rows_typed core r.parameters k.people.parameters;
       result = b.result;
       has_body = λ o. has_body k n r e;
+      begins = λ s. begins k n r e s;
       locals = subst (λ n. n ≤ 1048576) (ap (λ vs. bytes_of core (filter (λ v. is_declared v.role) vs)) (rows_map bare_variable core.variables r.variables) ∙ bytes_bare core (rows core.variables r.variables)) b.locals;
     }
 
@@ -294,7 +317,7 @@ sees_within {core = core} k n r e = record { variable = λ v x. one v x; routine
     alone q lt = let a = row_at core.routines q.0 (row_of bare core.routines q.0 lt) in some_and _ a.1 (inl (bare_at k q.0 a.0 a.1).enclosing)
 
 body_sound : {h : Here} {core : Core} {sees : Sees} → Known h core → (n : ℕ) (r : Routine) → slice_get core.routines n ≡ Some r → SeesMore (scope_of (bared core) (bare r)) sees → IsBody core sees r
-body_sound {core = core} k n r e m = if_first r.body (λ b f. statements_grow (filled_grows core) m (at_start r) (stmts_of b.statements.items) (typed_at k n r (stmts_of b.statements.items) e (ap (option_map (λ b. stmts_of b.statements.items)) f)))
+body_sound {core = core} k n r e m = if_first r.body (λ b f. statements_grow (filled_grows core) m (at_start r) (stmts_of b.statements.items) (typed_at k n r (stmts_of b.statements.items) e (ap (option_map (λ b. stmts_of b.statements.items)) f)).1)
 
 there_of : {A B : Type 0} (P : B → Type 0) (Q : A → Type 0) (f : A → B) (xs : List A) (n : ℕ) → ((a : A) → P (f a) → Q a) → IsSomeAnd (slice_get (map f xs) n) P → IsSomeAnd (slice_get xs n) Q
 there_of P Q f [] n k h = h

@@ -1,11 +1,11 @@
 -- Parts of declarations leave a settled state or break a rule where their parts do.
-use Rattle.std.proofs.Common.{◌≡◌, inl, inr, ◌⊎◌, ◌≤◌, ℕ, Bool, true, false, List, [], ◌∷◌, ◌++◌, All, IfSome, append-nil, is_some, length, length-append, slice_get, take, take-take, Option, Some, None, refl, sym, ap, subst, ◌∙◌, arith}
+use Rattle.std.proofs.Common.{◌≡◌, inl, inr, ◌⊎◌, ◌≤◌, ℕ, Bool, true, false, List, [], ◌∷◌, ◌++◌, All, IfSome, IsTrue, append-nil, append_assoc, is_some, length, length-append, slice_get, take, take-take, Option, Some, None, refl, sym, ap, subst, ◌∙◌, arith}
 use Rattle.std.proofs.lemmas.List.{take-append-le}
 use Rattle.std.proofs.lemmas.List.Elements.{All-append, All-nil, All-push, All-weaker}
 use Rattle.op_base.specs.declared.place.Place.{Place}
 use Rattle.op_base.specs.declared.rule.Refusal.{Refusal}
 use Rattle.op_check_unit.proofs.WholeGrowth.{Wider, body_on, counts_on, declared_bytes, front_length, names_on, people_on, value_on}
-use Rattle.op_check_unit.specs.Complete.{Counts, From, Inside, IsBareRoutine, IsBareVariable, IsInside, IsOpen, IsPeopled, IsTypedBody, IsTypedFirst, Later, Leads, Settled, Stage, declared_in, faulty, scope, settled}
+use Rattle.op_check_unit.specs.Complete.{Counts, From, Inside, IsBareRoutine, IsBareVariable, IsInside, IsOpen, IsPeopled, IsTypedBody, IsTypedFirst, Later, Leads, Settled, Stage, WithBlockRows, declared_in, faulty, scope, settled}
 use Rattle.op_check_unit.specs.Declaring.{most_global_bytes}
 use Rattle.op_check_unit.specs.Naming.{all_ahead, with_ahead}
 use Rattle.op_check_unit.specs.Steps.{Given, Here, breaks, by, checked, each, followed, gather, gives, where_true}
@@ -16,13 +16,14 @@ use Rattle.op_core.specs.Faults.{Checked, Faults, both, broken, here, front, beh
 use Rattle.op_core.specs.Growing.{Grows, IsFrontOf}
 use Rattle.op_core.specs.Initial.{FirstValue}
 use Rattle.op_core.specs.Relations.{Filled, Whole, filled, typed, faulty as broken_rule}
-use Rattle.op_core.specs.Sound.{IsFounded, IsHeaded, Row, bytes_of, globals_of}
+use Rattle.op_core.specs.Sound.{IsFounded, IsHeaded, Row, bytes_of, globals_of, is_of_block}
 use Rattle.op_core.specs.Statement.{Statements}
 use Rattle.op_core.specs.Types.{predefined}
 use Rattle.op_core.specs.declared.ids.RoutineId.{RoutineId}
 use Rattle.op_core.specs.declared.ids.VariableId.{VariableId}
 use Rattle.op_core.specs.declared.program.Core.{Core}
 use Rattle.op_core.specs.declared.routine.Parameter.{Parameter}
+use Rattle.op_core.specs.declared.routine.Variable.{Variable}
 use Rattle.op_tree.specs.declared.position.Name.{Name}
 use Rattle.op_types.specs.Names.{Named}
 use Rattle.op_types.specs.Standing.{AllStand, StandsFor}
@@ -75,13 +76,24 @@ from_so (faulty r i) k = faulty r i
 
 -- ---- states behind others
 
+pub same_variables : {vs : List Variable} → WithBlockRows vs vs
+same_variables {vs} = record { more = []; is = sym (append-nil vs); of_block = All-nil (λ v. IsTrue (is_of_block v.role)) }
+
+variables_through : {us vs ws : List Variable} → WithBlockRows us vs → WithBlockRows vs ws → WithBlockRows us ws
+variables_through {us} f g = record {
+  more = f.more ++ g.more;
+  is = g.is ∙ ap (λ vs. vs ++ g.more) f.is ∙ append_assoc us f.more g.more;
+  of_block = All-append (λ v. IsTrue (is_of_block v.role)) f.more g.more f.of_block g.of_block;
+}
+
 pub later_itself : {core : Core} → Later core core
-later_itself {core} = record { types = front_itself core.types; parameters = front_itself core.parameters; globals = front_itself core.globals; routines = refl }
+later_itself {core} = record { types = front_itself core.types; parameters = front_itself core.parameters; variables = same_variables; globals = front_itself core.globals; routines = refl }
 
 pub later_through : {a b c : Core} → Later a b → Later b c → Later a c
 later_through f g = record {
   types = front_through f.types g.types;
   parameters = front_through f.parameters g.parameters;
+  variables = variables_through f.variables g.variables;
   globals = front_through f.globals g.globals;
   routines = g.routines ∙ f.routines;
 }
@@ -151,7 +163,7 @@ settled_in {s} {h} new b x w t p u r c d = record {
   current = current_on s.current (λ n c. (let e = ap length r in let lt = c.0 in omega (arith, e, lt), c.1)) x.current;
   awaits = x.awaits ∙ sym (ap length r);
   accounted = λ n lt. let e = ap length r in x.accounted n (omega (arith, e, lt));
-  bodies = All-weaker (λ b. IsTypedBody h.core b × (IsOpen s.current h.awaited b.0.0 → ⊥)) (λ b. IsTypedBody new b × (IsOpen s.current h.awaited b.0.0 → ⊥)) (λ b y. (body_on w b (ap (λ rs. slice_get rs b.0.0) r) y.0, y.1)) h.bodies x.bodies;
+  bodies = All-weaker (λ b. IsTypedBody h.core b × (IsOpen s.current h.awaited b.0.0 → ⊥)) (λ b. IsTypedBody new b × (IsOpen s.current h.awaited b.0.0 → ⊥)) (λ b y. (body_on w x.people b (ap (λ rs. slice_get rs b.0.0) r) y.0, y.1)) h.bodies x.bodies;
   values = All-weaker (IsTypedFirst h.core) (IsTypedFirst new) (λ v y. value_on w (founded x) v y) h.first_values x.values;
 }
 

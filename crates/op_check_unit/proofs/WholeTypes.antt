@@ -11,7 +11,7 @@ use Rattle.op_check_expr.specs.Naming.{feature_of_type}
 use Rattle.op_check_unit.proofs.Tables.{plain_size, subrange_row, tabled_fields, tabled_row}
 use Rattle.op_check_unit.proofs.WholeConstants.{constant_whole}
 use Rattle.op_check_unit.proofs.WholeGrowth.{some_is}
-use Rattle.op_check_unit.proofs.WholeSteps.{Moves, filled_so, founded, from_after, from_behind, from_by, from_checked, from_gives, from_so, from_then, from_where, later_itself, lead_behind, lead_followed, leads, leads_on, settled_named, settled_typed, wider}
+use Rattle.op_check_unit.proofs.WholeSteps.{Moves, filled_so, founded, from_after, from_behind, from_by, from_checked, from_gives, from_so, from_then, from_where, later_itself, lead_behind, lead_followed, leads, leads_on, same_variables, settled_named, settled_typed, wider}
 use Rattle.op_check_unit.specs.Complete.{From, Later, Leads, Settled, Stage, faulty, scope, settled}
 use Rattle.op_check_unit.specs.Denoting.{denoted, field_lists, indices}
 use Rattle.op_check_unit.specs.Naming.{by_type, declared, declared_within, entered_name, has_room, is_ahead, is_declared, is_name, most_names, own_type, place_of, told_by, told_in, type_alone, type_meant, type_named, type_of_unit, with_name}
@@ -132,7 +132,7 @@ wide_denotes : {s : Stage} (h : Here) (t : CoreType) (ts : List CoreType) (es : 
 wide_denotes h t ts es x i = leads
     (settled_typed (wide h.core (t ∷ ts) es) [] x (wider x (behind_front h.core.types (t ∷ ts)) (behind_front h.core.extents es) (front_itself h.core.fields) (front_itself h.core.parameters) (front_itself h.core.variables) (front_itself h.core.globals) (front_itself h.core.routines) (refl, refl, refl, refl, refl)) i
     (sym (append-nil h.core.parameters)) (All-nil (λ p. Row (h.core.types ++ t ∷ ts) p.of.0)) refl refl refl refl)
-    (record { types = behind_front h.core.types (t ∷ ts); parameters = front_itself h.core.parameters; globals = front_itself h.core.globals; routines = refl })
+    (record { types = behind_front h.core.types (t ∷ ts); parameters = front_itself h.core.parameters; variables = same_variables; globals = front_itself h.core.globals; routines = refl })
     (let l = length-append h.core.types (t ∷ ts) in omega (arith, l))
 
 row_denotes : {s : Stage} (h : Here) (t : CoreType) → Settled s h → IsTabled (entered h.core t) → Denotes s h (number_of_next h.core) (in_core (entered h.core t) h)
@@ -336,7 +336,7 @@ record_settled {s} place r h a x = from_if r.whole (λ e. leads_on later (sized_
     wide_fields = record h.core { fields = h.core.fields ++ r.fields }
 
     later : Later h.core wide_fields
-    later = record { types = front_itself h.core.types; parameters = front_itself h.core.parameters; globals = front_itself h.core.globals; routines = refl }
+    later = record { types = front_itself h.core.types; parameters = front_itself h.core.parameters; variables = same_variables; globals = front_itself h.core.globals; routines = refl }
 
     fit : Fit wide_fields.fields run
     fit = let l = length-append h.core.fields r.fields in omega (arith, l)

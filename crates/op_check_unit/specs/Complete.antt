@@ -1,5 +1,5 @@
 -- What is declared where no rule is broken: every name stands for what is there, every row is sound, and every routine has its body.
-use Rattle.std.specs.Prelude.{◌≡◌, ◌⊎◌, ◌<◌, ◌≤◌, ◌+◌, ℕ, zero, suc, List, [], ◌∷◌, drop, length, take, is_some, IfSome, IsSomeAnd, Option, Some, None}
+use Rattle.std.specs.Prelude.{◌≡◌, ◌⊎◌, ◌<◌, ◌≤◌, ◌+◌, ℕ, zero, suc, List, [], ◌∷◌, ◌++◌, drop, length, take, is_some, IfSome, IsSomeAnd, IsTrue, Option, Some, None}
 use Rattle.std.specs.List.{All, Contains, filter}
 use Rattle.op_base.specs.declared.place.Place.{Place}
 use Rattle.op_base.specs.declared.rule.Refusal.{Refusal}
@@ -14,7 +14,7 @@ use Rattle.op_core.specs.Members.{InRun, There}
 use Rattle.op_core.specs.Relations.{Always, Filled}
 use Rattle.op_core.specs.Rows.{rows}
 use Rattle.op_core.specs.Sizes.{type_at}
-use Rattle.op_core.specs.Sound.{Fit, IsFirst, Row, at_start, bytes_of, globals_of, is_declared}
+use Rattle.op_core.specs.Sound.{Fit, HasRows, IsFirst, Row, at_start, bytes_of, globals_of, is_declared, is_of_block}
 use Rattle.op_core.specs.Statement.{Statements}
 use Rattle.op_core.specs.StatementTyping.{AreStatements}
 use Rattle.op_core.specs.Typing.{Sees}
@@ -94,8 +94,9 @@ pub record IsPeopled (core : Core) : Type 0 where
 
 -- ---- bodies and first values
 
+-- the statements of a routine, whose variables have their rows
 abbrev pub IsTypedBody : Core → RoutineId × Statements → Type 0
-IsTypedBody core b = There core.routines b.0.0 (λ r. AreStatements core (scope_of core r) (at_start r) b.1)
+IsTypedBody core b = There core.routines b.0.0 (λ r. HasRows core r × AreStatements core (scope_of core r) (at_start r) b.1)
 
 abbrev pub IsTypedFirst : Core → VariableId × FirstValue → Type 0
 IsTypedFirst core b = There core.variables b.0.0 (λ v. IsSomeAnd (type_at core v.of) (λ t. IsFirst core t v.of b.1))
@@ -130,10 +131,17 @@ pub record Settled (s : Stage) (h : Here) : Type 0 where
   pub bodies : All (λ b. IsTypedBody h.core b × (IsOpen s.current h.awaited b.0.0 → ⊥)) h.bodies
   pub values : All (IsTypedFirst h.core) h.first_values
 
+-- rows that a block declares stand behind the others
+pub record WithBlockRows (old new : List Variable) : Type 0 where
+  pub more : List Variable
+  pub is : new ≡ old ++ more
+  pub of_block : All (λ v. IsTrue (is_of_block v.role)) more
+
 -- what a part that is no routine does to tables
 pub record Later (old new : Core) : Type 0 where
   pub types : IsFrontOf old.types new.types
   pub parameters : IsFrontOf old.parameters new.parameters
+  pub variables : WithBlockRows old.variables new.variables
   pub globals : IsFrontOf old.globals new.globals
   pub routines : new.routines ≡ old.routines
 

@@ -1,5 +1,5 @@
 -- What every typed program keeps that the checker gives. The limits are those of this compiler.
-use Rattle.std.specs.Prelude.{◌≡◌, ℕ, suc, pos, ◌+◌, ◌<◌, ◌≤◌, ◌≤ℤ◌, ◌≢◌, Bool, true, false, List, [], ◌∷◌, Option, Some, None, IsSome, IsTrue, IsSomeAnd, IfSome, if◌then◌else◌, length, nat_le, slice_get, take, map, codes, replicate, ◌⊎◌}
+use Rattle.std.specs.Prelude.{◌≡◌, ℕ, suc, pos, ◌+◌, ◌<◌, ◌≤◌, ◌≤ℤ◌, ◌≢◌, Bool, true, false, List, [], ◌∷◌, ◌++◌, Option, Some, None, IsSome, IsTrue, IsSomeAnd, IfSome, if◌then◌else◌, length, nat_le, slice_get, take, map, codes, replicate, ◌⊎◌}
 use Rattle.std.specs.Char.{to_ascii_lowercase}
 use Rattle.std.specs.List.{All, Contains, filter, flat_map, sum_by}
 use Rattle.std.specs.Option.{option_and_then, option_map, option_to_list}
@@ -31,7 +31,7 @@ use Rattle.op_core.specs.declared.program.Unit.{Unit as RustUnit}
 use Rattle.op_core.specs.declared.routine.Owner.{Owner}
 use Rattle.op_core.specs.declared.routine.Owner.TheVariants.{Unit as OfUnit, Class as OfClass, Interface as OfInterface}
 use Rattle.op_core.specs.declared.routine.Role.{Role}
-use Rattle.op_core.specs.declared.routine.Role.TheVariants.{Plain, Constant}
+use Rattle.op_core.specs.declared.routine.Role.TheVariants.{Plain, Constant, Parameter, Object, Result, Handler}
 use Rattle.op_core.specs.declared.routine.Routine.{Routine}
 use Rattle.op_core.specs.declared.routine.Variable.{Variable}
 use Rattle.op_core.specs.declared.types.CoreType.{CoreType}
@@ -204,6 +204,40 @@ IsOwner core OfUnit = Unit {0}
 IsOwner core (OfClass c) = Row core.classes c.0
 IsOwner core (OfInterface i) = Row core.interfaces i.0
 
+-- what a variable is, and of which type
+abbrev pub RoleAndType : Type 0
+RoleAndType = Role × TypeId
+
+abbrev pub role_and_type : Variable → RoleAndType
+role_and_type v = (v.role, v.of)
+
+-- of a method the object, which is of the type of its class
+abbrev pub object_in : Core → Owner → List RoleAndType
+object_in core OfUnit = []
+object_in core (OfClass c) = map (λ x. (Object, x.of)) (option_to_list (slice_get core.classes c.0))
+object_in core (OfInterface i) = map (λ x. (Object, x.of)) (option_to_list (slice_get core.interfaces i.0))
+
+-- the object, each parameter with its mode, and the result
+abbrev pub first_rows : Core → Routine → List RoleAndType
+first_rows core r = object_in core r.owner ++ map (λ p. (Parameter p.mode, p.of)) (rows core.parameters r.parameters) ++ map (λ of. (Result, of)) (option_to_list r.result)
+
+-- declared by a block, and not by a heading: variables, typed constants, and what handlers declare
+abbrev pub is_of_block : Role → Bool
+is_of_block Plain = true
+is_of_block Constant = true
+is_of_block Handler = true
+is_of_block _ = false
+
+-- these come first, and all others are of the block
+pub record BeginWith (first : List RoleAndType) (vs : List Variable) : Type 0 where
+  pub others : List RoleAndType
+  pub are : map role_and_type vs ≡ first ++ others
+  pub of_block : All (λ o. IsTrue (is_of_block o.0)) others
+
+-- the variables of its activations
+abbrev pub HasRows : Core → Routine → Type 0
+HasRows core r = BeginWith (first_rows core r) (rows core.variables r.variables)
+
 pub record IsRoutine (core : Core) (r : Routine) : Type 0 where
   pub unit : Row core.units r.unit.0
   pub owner : IsOwner core r.owner
@@ -212,6 +246,7 @@ pub record IsRoutine (core : Core) (r : Routine) : Type 0 where
   pub parameters : All (λ p. Row core.types p.of.0) (rows core.parameters r.parameters)
   pub result : IfSome r.result (λ of. Row core.types of.0)
   pub has_body : r.owner ≡ OfUnit → IsSome r.body
+  pub begins : IsSome r.body → HasRows core r
   pub locals : bytes_of core (filter (λ v. is_declared v.role) (rows core.variables r.variables)) ≤ 1048576
 
 -- ---- while a program is declared
