@@ -13,6 +13,7 @@ use Rattle.op_core.specs.declared.ids.VariableId.{VariableId}
 use Rattle.op_core.specs.declared.program.Core.{Core}
 use Rattle.op_core.specs.declared.routine.Parameter.{Parameter}
 use Rattle.op_core.specs.declared.routine.Variable.{Variable}
+use Rattle.op_core.specs.declared.types.CoreType.{CoreType}
 use Rattle.op_tree.specs.declared.operator.Operator.{Operator}
 use Rattle.op_tree.specs.declared.operator.PrefixOperator.{PrefixOperator}
 use Rattle.op_tree.specs.declared.position.Name.{Name}
@@ -24,12 +25,12 @@ use Rattle.op_check_expr.specs.Expressions.{element_at, indexed, indexed_value, 
 use Rattle.op_check_expr.specs.NameRules.{FieldBreaks, FieldIs, IndexBreaks, Indexes, NameBreaks, NameIs, Names, NamingBreaks, Passes, PassingBreaks, TargetValue, TargetValueBreaks, VariableValue, VariableValueBreaks}
 use Rattle.op_check_expr.specs.Naming.{field_of, named, valued, variable_named, variable_tree}
 use Rattle.op_check_expr.specs.Operating.{computed_operation, computed_use, is_evaluated, operated, operation_of, prefix_of, used}
-use Rattle.op_check_expr.specs.OperatorRules.{ComputedUse, ComputedUseBreaks, Computes, ComputingBreaks, OperatorBreaks, Operates, PrefixBreaks, Prefixes, StoredBreaks, StoredIs, UseBreaks, Uses}
+use Rattle.op_check_expr.specs.OperatorRules.{ComputedUse, ComputedUseBreaks, Computes, ComputingBreaks, IndexIs, OperatorBreaks, Operates, PrefixBreaks, Prefixes, StoredBreaks, StoredIs, UseBreaks, Uses}
 use Rattle.op_check_expr.specs.Places.{target_value, variable_value}
 use Rattle.op_check_expr.specs.RuleWords.{Both, Made}
 use Rattle.op_check_expr.specs.Scopes.{Here}
 use Rattle.op_check_expr.specs.SetRules.{ConstantMember, ConstantMemberBreaks, ConstantMembers, ConstantMembersBreak, InSet, InSetBreaks, MemberInSet, MemberInSetBreaks, SetBreaks, SetBreaksBy, SetBy, SetIs, SetType, SetTypeBreaks}
-use Rattle.op_check_expr.specs.Values.{Value, constant, computed, stored, tree_of}
+use Rattle.op_check_expr.specs.Values.{Value, constant, computed, index_at, stored, tree_of}
 use Rattle.op_types.proofs.ConstantLaw.{operator_law, prefix_law, range_law, single_law, union_law, use_law}
 use Rattle.op_types.specs.Constants.{is_folded, no_members}
 use Rattle.op_types.specs.Operators as table
@@ -122,8 +123,11 @@ field_law core m v = agrees_entry_fine
 
 -- ---- elements, variables and arguments
 
-element_at_law : (core : Core) (at : Place) (a : Value) (of : TypeId × TypeId) (v : Value) → Agrees (element_at core at a of v) (Made (StoredIs core true of.0 v) (λ i. computed (with_step (tree_of a) (index_step i) of.1))) (StoredBreaks core at of.0 v)
-element_at_law core at a of v = agrees_closed (stored_law core at true of.0 v) (λ i h. agrees_made h)
+index_at_law : (core : Core) (at : Place) (of : Option CoreType) (to : TypeId) (v : Value) → Agrees (index_at core at of to v) (IndexIs core of to v) (StoredBreaks core at to v)
+index_at_law core at of to v = agrees_test_fine
+
+element_at_law : (core : Core) (at : Place) (a : Value) (of : TypeId × TypeId) (v : Value) → Agrees (element_at core at a of v) (Made (IndexIs core (type_at core (type_of a)) of.0 v) (λ i. computed (with_step (tree_of a) (index_step i) of.1))) (StoredBreaks core at of.0 v)
+element_at_law core at a of v = agrees_closed (index_at_law core at (type_at core (type_of a)) of.0 v) (λ i h. agrees_made h)
 
 indexed_value_law : (core : Core) (bracket at : Place) (a : Value) {v : Option Value} {V : Value → Type 0} → Holds v V → Agrees (indexed_value core bracket at v a) (Indexes core V a) (IndexBreaks core bracket at V a)
 indexed_value_law core bracket at a h = agrees_entry (λ of _. agrees_with h (λ v _. element_at_law core at a of v))

@@ -24,7 +24,7 @@ use Rattle.op_tree.specs.declared.operator.Operator.{Operator}
 use Rattle.op_tree.specs.declared.operator.PrefixOperator.{PrefixOperator}
 use Rattle.op_tree.specs.declared.position.Name.{Name}
 use Rattle.op_tree.specs.declared.position.Position.{Position}
-use Rattle.op_check_expr.proofs.Operations.{cast_sound, field_sound, function_sound, goes_by, index_sound, kind_from, operation_sound, prefix_sound, set_sort}
+use Rattle.op_check_expr.proofs.Operations.{IsIndex, cast_sound, field_sound, function_sound, goes_by, index_is, index_sound, kind_from, operation_sound, prefix_sound, set_sort}
 use Rattle.op_check_expr.proofs.Trees.{Passes, as_type_goes, as_type_value, as_value, one_exact}
 use Rattle.op_check_expr.specs.Calling.{passed}
 use Rattle.op_check_expr.specs.Constructors.{Member, are_constants, constant_member, constant_members, element_tree, elements_from, is_small, member_in_set, or_own, place_of, set_by, set_tree, type_of_set, value_in_set, wanted_or}
@@ -37,7 +37,7 @@ use Rattle.op_check_expr.specs.Operating.{cast_by, computed_operation, computed_
 use Rattle.op_check_expr.specs.Places.{is_very, is_writable, is_writable_row, target_value, variable_value}
 use Rattle.op_check_expr.specs.Scopes.{Here}
 use Rattle.op_check_expr.specs.Settled.{IsKnown, IsSettled, IsSoundValue}
-use Rattle.op_check_expr.specs.Values.{Value, constant, computed, as_type, stored, tree_of, type_of}
+use Rattle.op_check_expr.specs.Values.{Value, constant, computed, as_type, index_at, stored, tree_of, type_of}
 use Rattle.op_check_expr.specs.Words.{by_feature, changed}
 use Rattle.op_types.proofs.Assigning.{is_assignable}
 use Rattle.op_types.proofs.ConstantWhole.{brackets_whole, gathered_whole, numeral_whole, operator_whole, prefix_whole as prefix_constant_whole, range_whole, single_whole, use_whole}
@@ -162,8 +162,11 @@ used_whole core sees f p what at (constant c) h =
     whole_if (is_evaluated core what) (whole_changed_so constant (use_whole f what p.place at c h) (λ c q. q)) (computed_use_whole core sees f p what at (constant c) h)
 used_whole core sees f p what at (computed e) h = computed_use_whole core sees f p what at (computed e) h
 
+index_at_whole : (core : Core) (sees : Sees) (at : Place) (of : Option CoreType) (to : TypeId) (v : Value) → IsSoundValue core sees v → Whole (IsIndex core sees of to) (index_at core at of to v)
+index_at_whole core sees at of to v h = whole_tested 20 at (assignable core (type_of v) to) (λ a. whole_gives (index_is core sees of to v h a))
+
 element_at_whole : (core : Core) (sees : Sees) → IsFounded core → (at : Place) (a : Value) (of : TypeId × TypeId) (v : Value) → index_types (type_at core (type_of a)) ≡ Some of → IsSoundValue core sees a → IsSoundValue core sees v → Whole (IsSoundValue core sees) (element_at core at a of v)
-element_at_whole core sees f at a of v e h k = whole_behind (stored_whole core sees at true of.0 v k) (λ i q. whole_gives (index_sound core sees f a i of h e q))
+element_at_whole core sees f at a of v e h k = whole_behind (index_at_whole core sees at (type_at core (type_of a)) of.0 v k) (λ i q. whole_gives (index_sound core sees f a i of h e q))
 
 pub indexed_whole : (core : Core) (sees : Sees) → IsFounded core → (bracket at : Place) {a v : Option Value} → Filled (IsSoundValue core sees) a → Filled (IsSoundValue core sees) v → Whole (IsSoundValue core sees) (indexed core bracket at a v)
 indexed_whole core sees f bracket at h k =

@@ -9,7 +9,7 @@ use Rattle.op_core.specs.Rows.{rows}
 use Rattle.op_core.specs.Sizes.{range_of, type_at}
 use Rattle.op_core.specs.Sound.{IsFounded, is_whole}
 use Rattle.op_core.specs.Typing as typing
-use Rattle.op_core.specs.Typing.{All3, Applies, AreOrdered, AreSets, Converts, HoldsField, Indexes, IsBoolean, IsInteger, IsOrdinal, IsReference, IsSequence, IsSet, IsString, IsTyped, IsValue, OneType, Operates, Prefixes, Sees}
+use Rattle.op_core.specs.Typing.{All3, Applies, AreOrdered, AreSets, Converts, HoldsField, Indexes, IsBoolean, IsInteger, IsOrdinal, IsReference, IsSequence, IsSet, IsString, IsTyped, IsValue, Operates, Prefixes, Sees}
 use Rattle.op_core.specs.declared.ids.FieldId.{FieldId}
 use Rattle.op_core.specs.declared.ids.Run.{Run}
 use Rattle.op_core.specs.declared.ids.TypeId.{TypeId}
@@ -26,16 +26,18 @@ use Rattle.op_tree.specs.declared.operator.Operator.{Operator}
 use Rattle.op_tree.specs.declared.operator.Operator.TheVariants.{Equal, NotEqual, Less, Greater, LessEqual, GreaterEqual, In_, Is, Add, Subtract, Or, Xor, Multiply, Slash, Div, Mod_, And, Shl, Shr, As_}
 use Rattle.op_tree.specs.declared.operator.PrefixOperator.{PrefixOperator}
 use Rattle.op_tree.specs.declared.operator.PrefixOperator.TheVariants.{Not, Plus, Minus}
-use Rattle.op_check_expr.proofs.Trees.{Goes, Of, Passes, fitting, sets as set_to_set, empty_set, as_own, as_type_goes, as_typed, chosen_converts, is_exact, no_range, one_exact, reference_of, tree_type, tree_typed, typed_then, value_of_sort}
+use Rattle.op_check_expr.proofs.Trees.{Goes, Of, Passes, fitting, sets as set_to_set, empty_set, as_own, as_type_goes, as_typed, as_type_value, chosen_converts, is_exact, no_range, one_exact, reference_of, tree_type, tree_typed, typed_then, value_of_sort}
 use Rattle.op_check_expr.specs.Expressions.{index_types}
 use Rattle.op_check_expr.specs.Naming.{field_at, field_named, is_named}
 use Rattle.op_check_expr.specs.Operating.{bound_type, cast_by, feature_of_operands, function_tree, function_type, index_type, is_string, keeps_low_bits, length_type, operand_by, operation_tree, prefix_tree, set_beside, text_type, type_if, type_of_kind}
 use Rattle.op_check_expr.specs.Settled.{IsSoundValue}
-use Rattle.op_check_expr.specs.Values.{Value, as_type, tree_of, type_of}
+use Rattle.op_check_expr.specs.Values.{Value, as_type, index_tree, tree_of, type_of}
 use Rattle.op_check_expr.specs.Words.{number_at}
+use Rattle.op_types.proofs.Assigning.{is_assignable}
 use Rattle.op_types.proofs.Sorting.{Stands, stands, stands_as}
 use Rattle.op_types.proofs.TypeFacts.{Rooted, boolean_kind, char_kind, common_is_set, common_left, common_right, integer_kind, over_is_set, rooted, string_kind}
 use Rattle.op_types.specs.Assignable as assign
+use Rattle.op_types.specs.Assignable.{assignable}
 use Rattle.op_types.specs.Constants.{is_ordinal}
 use Rattle.op_types.specs.Operators as table
 use Rattle.op_types.specs.Sets.{common_set, set_over}
@@ -443,24 +445,62 @@ function_sound core sees f g checked v to h e = sort_typed core sees g checked v
 
 -- ---- elements and fields
 
-integer_index : (core : Core) (i : TypeId) → IsFounded core → OneType core i table.integer → IsInteger core i
-integer_index core i f o = let k = integer_kind f in subst (IsInteger core) (sym (one_exact core i table.integer (rw k refl) o)) k
+no_reference : (core : Core) (of : TypeId) (s : Sort) → Stands core of s → is_reference s ≡ true → IsOrdinal core of → ⊥
+no_reference core of DynamicArray h e o = rw h.1 at o o
+no_reference core of (Class c) h e o = rw h at o o
+no_reference core of (Interface i) h e o = rw h at o o
+no_reference core of Nil h e o = rw h at o o
+no_reference core of s h e o = absurd (cc)
 
-indexes : (core : Core) (a i : TypeId) (t : Option CoreType) (of : TypeId × TypeId) → IsFounded core → type_at core a ≡ t → index_types t ≡ Some of → OneType core i of.0 → Indexes core t i of.1
-indexes core a i (Some (type.Array at element)) of f e h o =
+-- only what is ordinal is assignable to an ordinal type
+ordinal_fits : (core : Core) (from to : TypeId) {s t : Sort} → Stands core from s → Stands core to t → assign.Fits core s t → IsOrdinal core to → IsOrdinal core from
+ordinal_fits core from to h k (assign.ordinals e) o = h.0
+ordinal_fits core from to h k assign.char_to_string o = h.0
+ordinal_fits core from to h k (assign.sets e) o = let q = rw k.1 at o in absurd q
+ordinal_fits core from to h k assign.empty_set o = let q = rw k.1 at o in absurd q
+ordinal_fits core from to {t = t} h k (assign.nil e) o = absurd (no_reference core to t k e o)
+ordinal_fits core from to h k (assign.to_ancestor d) o = let q = rw k at o in absurd q
+ordinal_fits core from to h k (assign.to_interface d) o = let q = rw k at o in absurd q
+ordinal_fits core from to h k (assign.to_parent d) o = let q = rw k at o in absurd q
+
+ordinal_goes : (core : Core) (from to : TypeId) → assign.Assignable core from to → IsOrdinal core to → IsOrdinal core from
+ordinal_goes core from to (assign.one_type e) o = subst (IsOrdinal core) (sym (one_exact core from to (no_range (type_at core to) o) e)) o
+ordinal_goes core from to (assign.by_sort f) o = ordinal_fits core from to (stands core from) (stands core to) f o
+
+-- an index of what has the type; of a static array it is ordinal, as the index type is
+abbrev pub IsIndex : Core → Sees → Option CoreType → TypeId → Tree → Type 0
+IsIndex core sees (Some (type.Array at element)) to i = IsTyped core sees i × (IsOrdinal core to → IsOrdinal core (typing.type_of i))
+IsIndex core sees of to i = IsValue core sees to i
+
+pub index_is : (core : Core) (sees : Sees) (of : Option CoreType) (to : TypeId) (v : Value) → IsSoundValue core sees v → assignable core (type_of v) to ≡ true → IsIndex core sees of to (index_tree core of to v)
+index_is core sees (Some (type.Array at element)) to v h a =
+    (tree_typed core sees v h, λ o. subst (IsOrdinal core) (sym (tree_type v)) (ordinal_goes core (type_of v) to (is_assignable core (type_of v) to a) o))
+index_is core sees of to v h a = as_type_value core sees true to v h a
+
+index_typed : (core : Core) (sees : Sees) (of : Option CoreType) (to : TypeId) (i : Tree) → IsIndex core sees of to i → IsTyped core sees i
+index_typed core sees (Some (type.Array at element)) to i k = k.0
+index_typed core sees of to i k = (as_typed core sees to i k).0
+
+integer_index : (core : Core) (sees : Sees) (i : Tree) → IsFounded core → IsValue core sees table.integer i → IsInteger core (typing.type_of i)
+integer_index core sees i f h =
+    let k = integer_kind f in
+    let o = (as_typed core sees table.integer i h).1 in
+    subst (IsInteger core) (sym (one_exact core (typing.type_of i) table.integer (rw k refl) o)) k
+
+indexes : (core : Core) (sees : Sees) (a : TypeId) (i : Tree) (t : Option CoreType) (of : TypeId × TypeId) → IsFounded core → type_at core a ≡ t → index_types t ≡ Some of → IsIndex core sees t of.0 i → Indexes core t (typing.type_of i) of.1
+indexes core sees a i (Some (type.Array at element)) of f e h k =
     let row = f.types a.0 (type.Array at element) e in
     let q : (at, element) ≡ of = some_is h in
-    (one_exact core i at (no_range (type_at core at) row.0.1) (subst (λ of. OneType core i of.0) (sym q) o), ap (λ of. of.1) q)
-indexes core a i (Some (type.DynamicArray element)) of f e h o = let q : (table.integer, element) ≡ of = some_is h in (integer_index core i f (subst (λ of. OneType core i of.0) (sym q) o), ap (λ of. of.1) q)
-indexes core a i (Some (type.OpenArray element)) of f e h o = let q : (table.integer, element) ≡ of = some_is h in (integer_index core i f (subst (λ of. OneType core i of.0) (sym q) o), ap (λ of. of.1) q)
-indexes core a i (Some type.String) of f e h o = let q : (table.integer, table.char) ≡ of = some_is h in (integer_index core i f (subst (λ of. OneType core i of.0) (sym q) o), subst (λ of. Kind core of.1 type.Char) q (char_kind f))
-indexes core a i t of f e h o = absurd (none_some h)
+    (k.1 (subst (λ of. IsOrdinal core of.0) q row.0.1), ap (λ of. of.1) q)
+indexes core sees a i (Some (type.DynamicArray element)) of f e h k = let q : (table.integer, element) ≡ of = some_is h in (integer_index core sees i f (subst (λ of. IsValue core sees of.0 i) (sym q) k), ap (λ of. of.1) q)
+indexes core sees a i (Some (type.OpenArray element)) of f e h k = let q : (table.integer, element) ≡ of = some_is h in (integer_index core sees i f (subst (λ of. IsValue core sees of.0 i) (sym q) k), ap (λ of. of.1) q)
+indexes core sees a i (Some type.String) of f e h k = let q : (table.integer, table.char) ≡ of = some_is h in (integer_index core sees i f (subst (λ of. IsValue core sees of.0 i) (sym q) k), subst (λ of. Kind core of.1 type.Char) q (char_kind f))
+indexes core sees a i t of f e h k = absurd (none_some h)
 
-pub index_sound : (core : Core) (sees : Sees) → IsFounded core → (a : Value) (i : Tree) (of : TypeId × TypeId) → IsSoundValue core sees a → index_types (type_at core (type_of a)) ≡ Some of → IsValue core sees of.0 i → IsTyped core sees (with_step (tree_of a) (index_step i) of.1)
+pub index_sound : (core : Core) (sees : Sees) → IsFounded core → (a : Value) (i : Tree) (of : TypeId × TypeId) → IsSoundValue core sees a → index_types (type_at core (type_of a)) ≡ Some of → IsIndex core sees (type_at core (type_of a)) of.0 i → IsTyped core sees (with_step (tree_of a) (index_step i) of.1)
 index_sound core sees f a i of h e k =
-    let t = as_typed core sees of.0 i k in
     typed_then core sees (tree_of a) (index_step i) of.1 (tree_typed core sees a h)
-    (t.0, subst (λ x. Indexes core (type_at core x) (typing.type_of i) of.1) (sym (tree_type a)) (indexes core (type_of a) (typing.type_of i) (type_at core (type_of a)) of f refl e t.1))
+    (index_typed core sees (type_at core (type_of a)) of.0 i k, subst (λ x. Indexes core (type_at core x) (typing.type_of i) of.1) (sym (tree_type a)) (indexes core sees (type_of a) i (type_at core (type_of a)) of f refl e k))
 
 -- a row among those that lie together
 pub row_of : {A : Type 0} (table : List A) (run : Run) (k : ℕ) (x : A) → slice_get (rows table run) k ≡ Some x → (k < run.count) × (slice_get table (run.first + k) ≡ Some x)

@@ -21,7 +21,7 @@ use Rattle.op_check_expr.specs.Naming as naming
 use Rattle.op_check_expr.specs.Naming.{Denoted, Meant, denoted, field_of, valued, variable_tree}
 use Rattle.op_check_expr.specs.Operating.{operation_of, prefix_of, used}
 use Rattle.op_check_expr.specs.Places.{variable_value}
-use Rattle.op_check_expr.specs.Values.{Value, constant, computed, in_brackets, stored, tree_of, type_of}
+use Rattle.op_check_expr.specs.Values.{Value, constant, computed, in_brackets, index_at, stored, tree_of, type_of}
 use Rattle.op_check_expr.specs.Words.{changed, followed, left_out, standing}
 use Rattle.op_check_expr.specs.declared.call.Plan.{Plan}
 use Rattle.op_check_expr.specs.declared.call.Plan.TheVariants.{Bound, Sole, Routine as RoutinePlan, Wrong}
@@ -91,7 +91,7 @@ index_types _ = None
 -- with an index that begins at a place
 abbrev pub element_at : Core → Place → Value → TypeId × TypeId → Value → Checked Value
 element_at core at a of v =
-    followed (stored core at true of.0 v) (with_part (λ i. fine (computed (with_step (tree_of a) (index_step i) of.1))))
+    followed (index_at core at (type_at core (type_of a)) of.0 v) (with_part (λ i. fine (computed (with_step (tree_of a) (index_step i) of.1))))
 
 -- behind a bracket at a place
 abbrev pub indexed_value : Core → Place → Place → Option Value → Value → Checked Value

@@ -21,7 +21,7 @@ use Rattle.op_tree.specs.declared.position.Position.{Position}
 use Rattle.op_check_expr.specs.Calling.{are_given, parameters_of, plan_of, result_type}
 use Rattle.op_check_expr.specs.Expressions.{index_types}
 use Rattle.op_check_expr.specs.Naming.{Denoted, Meant, built_in, denoted, feature_of, feature_of_type, field_named, routine, type_name, unit, value, valued, variable_tree}
-use Rattle.op_check_expr.specs.OperatorRules.{StoredIs, StoredBreaks}
+use Rattle.op_check_expr.specs.OperatorRules.{IndexIs, StoredIs, StoredBreaks}
 use Rattle.op_check_expr.specs.Places.{is_very, is_writable}
 use Rattle.op_check_expr.specs.RuleWords.{Made, Nothing, Shows, Whether}
 use Rattle.op_check_expr.specs.Scopes.{Here}
@@ -156,11 +156,11 @@ abbrev pub MemberBreaksBy : Here → Name → Denoted → Meant → Refusal → 
 MemberBreaksBy here m d (unit text) = NameBreaks here (joined_name text m.text) m.position
 MemberBreaksBy here m d what = Either (SettleBreaks here d) (Through (Settles here d) (FieldBreaks here.core m))
 
--- An index goes to the index type of what is indexed.
+-- An index is assignable to the index type of what is indexed.
 abbrev pub Indexes : Core → (Value → Type 0) → Value → Value → Type 0
 Indexes core V a =
     Through (Entry (index_types (type_at core (type_of a)))) (λ of. Through V (λ v.
-    Made (StoredIs core true of.0 v) (λ i. computed (with_step (tree_of a) (index_step i) of.1))))
+    Made (IndexIs core (type_at core (type_of a)) of.0 v) (λ i. computed (with_step (tree_of a) (index_step i) of.1))))
 
 -- the index begins at the second place, behind a bracket at the first one, and may mean nothing
 abbrev pub IndexBreaks : Core → Place → Place → (Value → Type 0) → Value → Refusal → Type 0

@@ -7,12 +7,13 @@ use Rattle.op_core.specs.Relations.{Either, Entry, Fails, Lacks, Only, Through, 
 use Rattle.op_core.specs.declared.ids.TypeId.{TypeId}
 use Rattle.op_core.specs.declared.operation.Origin.TheVariants.{Cast as CastOrigin}
 use Rattle.op_core.specs.declared.program.Core.{Core}
+use Rattle.op_core.specs.declared.types.CoreType.{CoreType}
 use Rattle.op_tree.specs.declared.operator.Operator.{Operator}
 use Rattle.op_tree.specs.declared.operator.PrefixOperator.{PrefixOperator}
 use Rattle.op_tree.specs.declared.position.Position.{Position}
 use Rattle.op_check_expr.specs.Operating.{cast_by, feature_of_operands, function_tree, function_type, is_evaluated, operation_tree, prefix_tree, rule_of}
 use Rattle.op_check_expr.specs.RuleWords.{Made, Shows, Whether}
-use Rattle.op_check_expr.specs.Values.{Value, constant, computed, as_type, tree_of, type_of}
+use Rattle.op_check_expr.specs.Values.{Value, constant, computed, as_type, index_tree, tree_of, type_of}
 use Rattle.op_types.specs.Assignable.{assignable}
 use Rattle.op_types.specs.ConstantRules as constants
 use Rattle.op_types.specs.Constants.{is_folded}
@@ -30,6 +31,10 @@ StoredIs core checked to v = Where (assignable core (type_of v) to ≡ true) (On
 
 abbrev pub StoredBreaks : Core → Place → TypeId → Value → Refusal → Type 0
 StoredBreaks core place to v = Fails (assignable core (type_of v) to) 20 place
+
+-- An index of what has the first type is assignable to the second.
+abbrev pub IndexIs : Core → Option CoreType → TypeId → Value → Tree → Type 0
+IndexIs core of to v = Where (assignable core (type_of v) to ≡ true) (Only (index_tree core of to v))
 
 -- ---- operators
 

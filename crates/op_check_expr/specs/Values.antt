@@ -115,3 +115,12 @@ as_type core checked to (computed e) = with_conversion e to (conversion core che
 -- a value at a place is stored in what has a type
 abbrev pub stored : Core → Place → Bool → TypeId → Value → Checked Tree
 stored core place checked to v = by_test 20 place (fine (as_type core checked to v)) (assignable core (type_of v) to)
+
+-- An index of a static array keeps its type, since its range is tested where the place is followed; any other goes to Integer.
+abbrev pub index_tree : Core → Option CoreType → TypeId → Value → Tree
+index_tree core (Some (type.Array at element)) to v = tree_of v
+index_tree core of to v = as_type core true to v
+
+-- a value at a place is an index of what has the first type
+abbrev pub index_at : Core → Place → Option CoreType → TypeId → Value → Checked Tree
+index_at core place of to v = by_test 20 place (fine (index_tree core of to v)) (assignable core (type_of v) to)

@@ -5,7 +5,7 @@ ghost use Rattle.std.specs.Option.{option_map};
 ghost use Rattle.op_core.specs.Expression.{expr_of};
 ghost use Rattle.op_core.specs.Sizes.{type_at};
 ghost use Rattle.op_core.specs.Typing as typing;
-ghost use Rattle.op_check_expr.specs.Values.{are_in, as_type, conversion, is_in, is_integer, is_wider, ordinal_conversion, retyped, stored, value_of};
+ghost use Rattle.op_check_expr.specs.Values.{are_in, as_type, conversion, index_at, is_in, is_integer, is_wider, ordinal_conversion, retyped, stored, value_of};
 ghost use Rattle.op_check_expr.specs.Words.{Reports};
 
 use crate::sink::refuse;
@@ -31,6 +31,28 @@ pub fn stored(
 {
     if assignable(core, value.type_of(), to) {
         Ok(Some(as_type(alloc, core, checked, to, value)?))
+    } else {
+        Ok(refuse(sink, 20, place))
+    }
+}
+
+/// An index of what has the first type, at a place: assignable to the second.
+pub fn index_at(
+    alloc: Global,
+    core: &Core,
+    sink: &mut FirstRefusal,
+    place: Place,
+    of: Option<CoreType>,
+    to: TypeId,
+    index: Value,
+) -> Result<Option<CoreExpr>, NoMemory>
+    ensures { IfOk result (λ e. Reports (index_at core.now place of to (value_of index)) sink.old sink.new (option_map expr_of e)) }
+{
+    if assignable(core, index.type_of(), to) {
+        Ok(Some(match of {
+            Some(CoreType::Array { .. }) => index.into_tree(alloc),
+            _ => as_type(alloc, core, true, to, index)?,
+        }))
     } else {
         Ok(refuse(sink, 20, place))
     }

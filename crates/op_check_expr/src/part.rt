@@ -15,7 +15,7 @@ ghost use Rattle.op_types.specs.Constants.{literal_means};
 ghost use Rattle.op_types.specs.Names.{lower};
 
 use crate::call::{Given, Plan};
-use crate::convert::stored;
+use crate::convert::index_at;
 use crate::denoted::{Denoted, Found, Meant, field_of, named};
 use crate::operate::Valued;
 use crate::scope::Checker;
@@ -265,13 +265,14 @@ impl<'a> Checker<'a> {
             return Ok(None);
         };
         let core = self.scope.core;
-        let Some(of) = index_types(type_at(core, a.type_of())) else {
+        let indexed = type_at(core, a.type_of());
+        let Some(of) = index_types(indexed) else {
             return Ok(refuse(sink, 24, bracket));
         };
         let Some(index) = index else {
             return Ok(None);
         };
-        match stored(self.alloc, core, sink, at, true, of.0, index)? {
+        match index_at(self.alloc, core, sink, at, indexed, of.0, index)? {
             Some(index) => {
                 let e = then(a.into_tree(self.alloc), Action::Index(index), of.1)?;
                 Ok(Some(Value::Computed(e)))

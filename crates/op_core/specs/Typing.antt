@@ -239,9 +239,10 @@ HoldsMethod core (Some (Class c)) Virtual r = HasMethod core c r
 HoldsMethod core (Some (Interface i)) ByInterface r = AsksFor core i r
 HoldsMethod core _ dispatch r = ⊥
 
--- a value of the type, at an index of this type, gives one of the last
+-- A value of the type, at an index of this type, gives one of the last. An index of a static array has any ordinal type: whether
+-- it is one of the array's is tested where the place is followed.
 abbrev pub Indexes : Core → Option CoreType → TypeId → TypeId → Type 0
-Indexes core (Some (Array at element)) i to = (i ≡ at) × (element ≡ to)
+Indexes core (Some (Array at element)) i to = IsOrdinal core i × (element ≡ to)
 Indexes core (Some (DynamicArray element)) i to = IsInteger core i × (element ≡ to)
 Indexes core (Some (OpenArray element)) i to = IsInteger core i × (element ≡ to)
 Indexes core (Some String) i to = IsInteger core i × Kind core to Char
