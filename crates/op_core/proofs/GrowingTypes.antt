@@ -140,7 +140,7 @@ pub holds_method_grows : {old new : Core} → Grows old new → (of : TypeId) (d
 holds_method_grows {old} {new} g of d r h = type_grows (λ t. HoldsMethod new t d r) (λ p. p) g of (holds_method_of g d r (type_at old of) h)
 
 indexes_of : {old new : Core} → Grows old new → (i to : TypeId) (t : Option CoreType) → Indexes old t i to → Indexes new t i to
-indexes_of g i to (Some (Array at element)) h = h
+indexes_of g i to (Some (Array at element)) h = (ordinal_grows g i h.0, h.1)
 indexes_of g i to (Some (DynamicArray element)) h = (integer_grows g i h.0, h.1)
 indexes_of g i to (Some (OpenArray element)) h = (integer_grows g i h.0, h.1)
 indexes_of g i to (Some String) h = (integer_grows g i h.0, kind_grows g to Char h.1)
