@@ -89,7 +89,7 @@ store_by core frame kind from root steps free None =
 abbrev pub store_code : Core → Frame → IntegerKind → (from : VirtualRegister) → Root → List Step → (free : VirtualRegister) → List Instruction
 store_code core frame kind from root steps free = store_by core frame kind from root steps free (held core frame root steps)
 
--- ---- values with parts: up to eight words or bytes one by one, and more by a run-time routine
+-- ---- values with parts: up to eight words or bytes one by one, and more by a run-time routine. Each action has an instruction at least.
 
 -- whether all its addresses are multiples of 4
 abbrev pub by_words : Core → TypeId → Bool
@@ -135,7 +135,8 @@ copy_number false = copy_bytes_number
 
 abbrev pub bytes_code : Bool → (size : ℕ) → (from to : Spot) → List Instruction
 bytes_code words size from to =
-    if is_short words size then units_code words (units_in words size) from to
+    if nat_eq size 0 then Const to.free 0 ∷ []
+    else if is_short words size then units_code words (units_in words size) from to
     else Const to.free size ∷ call (copy_number words) (to.base ∷ from.base ∷ to.free ∷ []) to.free ∷ []
 
 abbrev pub copy_code : Core → Frame → TypeId → (to from : Path) → List Instruction
@@ -219,7 +220,7 @@ action_code core frame id (Constant to n) = constant_code (register_of frame.ban
 action_code core frame id (Load to kind from) = load_code core frame kind (register_of frame.bank to) from.root from.steps (scratch_of frame.bank 0)
 action_code core frame id (Store to kind from) = store_code core frame kind (register_of frame.bank from) to.root to.steps (scratch_of frame.bank 0)
 action_code core frame id (Copy of to from) = copy_code core frame of to from
-action_code core frame id (Look at) = place_code core frame near at.root at.steps (scratch_of frame.bank 0)
+action_code core frame id (Look at) = place_code core frame near at.root at.steps (scratch_of frame.bank 0) ++ Const (scratch_of frame.bank 0) 0 ∷ []
 action_code core frame id (BeginWith v) = begun_code core frame id v
 action_code core frame id (Pick to text index) = pick_code frame id (register_of frame.bank to) (length text) (register_of frame.bank index)
 action_code core frame id (Compute c) = computation_code frame.bank c

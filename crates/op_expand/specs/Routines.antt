@@ -46,7 +46,7 @@ instruction_code core mir frame id (When t block) = true_code (work_of frame.ban
 instruction_code core mir frame id (Unless t block) = false_code (work_of frame.bank) (register_of frame.bank t) block
 instruction_code core mir frame id (Switch t arms) = switch_code (work_of frame.bank) (register_of frame.bank t) arms
 instruction_code core mir frame id (Dispatch t block) = dispatch_code (work_of frame.bank) (register_of frame.bank t) block
-instruction_code core mir frame id (MakeDue f) = []
+instruction_code core mir frame id (MakeDue f) = Const (scratch_of frame.bank 0) 0 ∷ []
 instruction_code core mir frame id (Stop t) = Exit (register_of frame.bank t) ∷ []
 instruction_code core mir frame id Return = return_code core frame frame.returning
 

@@ -70,7 +70,7 @@ pub fn push_action(
         Action::Look { at } => {
             let free = bank.scratch(0)?;
             push_place(code, core, frame, NEAR, at.root, at.steps.as_slice(), free)?;
-            Ok(())
+            push_const(code, free, 0)
         }
         Action::BeginWith { variable } => push_begun(alloc, code, core, frame, id, *variable),
         Action::Pick { to, text, index } => {

@@ -41,7 +41,7 @@ fn push_instruction(
         Instruction::Unless { temporary, block } => branch_if_false(code, bank, *temporary, *block),
         Instruction::Switch { temporary, arms } => switch(code, bank, *temporary, arms.as_slice()),
         Instruction::Dispatch { temporary, block } => dispatch(code, bank, *temporary, *block),
-        Instruction::MakeDue { .. } => Ok(()),
+        Instruction::MakeDue { .. } => push_const(code, bank.scratch(0)?, 0),
         Instruction::Stop { status } => push_exit(code, bank.temporary(*status)?),
         Instruction::Return => push_return(alloc, code, core, frame),
     }

@@ -130,6 +130,9 @@ pub fn push_bytes(
     requires to_near { to.offset ≤ near }
     ensures { OnOk result (code.new.items ≡ code.old.items ++ bytes_code words size from to) }
 {
+    if size == 0 {
+        return push_const(code, to.free, 0);
+    }
     if is_short(words, size) {
         return push_units(code, words, units_in(words, size), from, to);
     }
