@@ -7,6 +7,7 @@ use Rattle.op_core.proofs.Agreeing.{agrees_changed, agrees_entry, agrees_entry_f
 use Rattle.op_core.specs.Expression.{index as index_step, then as with_step}
 use Rattle.op_core.specs.Faults.{with_part}
 use Rattle.op_core.specs.Relations.{Agrees, Entry, Holds, Never, Through}
+use Rattle.op_core.specs.Sizes.{type_at}
 use Rattle.op_core.specs.Typing.{takes_place}
 use Rattle.op_core.specs.declared.ids.TypeId.{TypeId}
 use Rattle.op_core.specs.declared.ids.VariableId.{VariableId}
@@ -30,7 +31,7 @@ use Rattle.op_check_expr.specs.Places.{target_value, variable_value}
 use Rattle.op_check_expr.specs.RuleWords.{Both, Made}
 use Rattle.op_check_expr.specs.Scopes.{Here}
 use Rattle.op_check_expr.specs.SetRules.{ConstantMember, ConstantMemberBreaks, ConstantMembers, ConstantMembersBreak, InSet, InSetBreaks, MemberInSet, MemberInSetBreaks, SetBreaks, SetBreaksBy, SetBy, SetIs, SetType, SetTypeBreaks}
-use Rattle.op_check_expr.specs.Values.{Value, constant, computed, index_at, stored, tree_of}
+use Rattle.op_check_expr.specs.Values.{Value, constant, computed, index_at, stored, tree_of, type_of}
 use Rattle.op_types.proofs.ConstantLaw.{operator_law, prefix_law, range_law, single_law, union_law, use_law}
 use Rattle.op_types.specs.Constants.{is_folded, no_members}
 use Rattle.op_types.specs.Operators as table

@@ -446,10 +446,10 @@ function_sound core sees f g checked v to h e = sort_typed core sees g checked v
 -- ---- elements and fields
 
 no_reference : (core : Core) (of : TypeId) (s : Sort) → Stands core of s → is_reference s ≡ true → IsOrdinal core of → ⊥
-no_reference core of DynamicArray h e o = rw h.1 at o o
-no_reference core of (Class c) h e o = rw h at o o
-no_reference core of (Interface i) h e o = rw h at o o
-no_reference core of Nil h e o = rw h at o o
+no_reference core of DynamicArray h e o = let q = rw h.1 at o in absurd q
+no_reference core of (Class c) h e o = let q = rw h at o in absurd q
+no_reference core of (Interface i) h e o = let q = rw h at o in absurd q
+no_reference core of Nil h e o = let q = rw h at o in absurd q
 no_reference core of s h e o = absurd (cc)
 
 -- only what is ordinal is assignable to an ordinal type
