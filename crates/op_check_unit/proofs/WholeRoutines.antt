@@ -392,14 +392,14 @@ pub record Reads (old new : Core) : Type 0 where
 reads_later : {old new : Core} → Later old new → Reads old new
 reads_later l = record { types = l.types; parameters = l.parameters; routines = l.routines }
 
-result_reads : (id : RoutineId) (n : Name) (of : Option TypeId) (h : Here) → Reads h.core (with_result id n of h).core
-result_reads id n None h = reads_later later_itself
-result_reads id n (Some of) h = record { types = front_itself h.core.types; parameters = front_itself h.core.parameters; routines = refl }
+result_reads : (id : RoutineId) (n : Name) (of : Option TypeId) (ps : List Parameter) (h : Here) → Reads h.core (with_result id n of (with_parameters ps h)).core
+result_reads id n None ps h = record { types = front_itself h.core.types; parameters = front_itself h.core.parameters; routines = refl }
+result_reads id n (Some of) ps h = record { types = front_itself h.core.types; parameters = front_itself h.core.parameters; routines = refl }
 
 entered_settled : (id : RoutineId) (n : Name) (x : Head) (h : Here) → IsHead x h.core → Settled (outside (Some id.0)) h → Settled (body_stage id (inside_of h)) (entered id n x h) × Reads h.core (entered id n x h).core
 entered_settled id n x h k y = (
   with_result_settled id n x.result (with_parameters (rows h.core.parameters x.parameters) (record h { first = length h.names; bytes = 0; routine = Some id })) k.1 (with_parameters_settled (rows h.core.parameters x.parameters) (record h { first = length h.names; bytes = 0; routine = Some id }) (begun_settled id h y) (rows_typed h.core x.parameters y.people.parameters)),
-  result_reads id n x.result (with_parameters (rows h.core.parameters x.parameters) (record h { first = length h.names; bytes = 0; routine = Some id })),
+  result_reads id n x.result (rows h.core.parameters x.parameters) (record h { first = length h.names; bytes = 0; routine = Some id }),
 )
 
 -- ---- the rows with which a body begins
@@ -436,8 +436,8 @@ head_rows n x core = first_rows core (routine_row n x no_rows)
 entered_begins : (id : RoutineId) (n : Name) (x : Head) (h : Here) → BeginWith (head_rows n x h.core) (drop (length h.core.variables) (entered id n x h).core.variables)
 entered_begins id n x h = result_begins id n (rows h.core.parameters x.parameters) x.result (record h { first = length h.names; bytes = 0; routine = Some id })
 
-head_rows_on : {old new : Core} (n : Name) (x : Head) → IsFrontOf old.parameters new.parameters → Fit old.parameters x.parameters → head_rows n x new ≡ head_rows n x old
-head_rows_on n x f k = ap (λ ps. heading_rows ps x.result) (front_rows x.parameters f k)
+head_rows_on : (old new : Core) (n : Name) (x : Head) → IsFrontOf old.parameters new.parameters → Fit old.parameters x.parameters → head_rows n x new ≡ head_rows n x old
+head_rows_on old new n x f k = ap (λ ps. heading_rows ps x.result) (front_rows x.parameters f k)
 
 block_rows : (vs : List VariableRow) → All (λ v. IsTrue (is_of_block v.role)) vs → All (λ o. IsTrue (is_of_block o.0)) (map role_and_type vs)
 block_rows [] a = All-nil (λ o. IsTrue (is_of_block o.0))
@@ -453,7 +453,7 @@ begins_on {first} vs ws b a = record {
 
 begins_later : {old new : Core} (n : Name) (x : Head) (k : ℕ) → Later old new → IsHead x old → k ≤ length old.variables → BeginWith (head_rows n x old) (drop k old.variables) → BeginWith (head_rows n x new) (drop k new.variables)
 begins_later {old} {new} n x k l f le b =
-    subst (λ ss. BeginWith ss (drop k new.variables)) (sym (head_rows_on n x l.parameters f.0))
+    subst (λ ss. BeginWith ss (drop k new.variables)) (sym (head_rows_on old new n x l.parameters f.0))
     (subst (BeginWith (head_rows n x old)) (sym (ap (drop k) l.variables.is ∙ drop-append-le k old.variables l.variables.more le)) (begins_on (drop k old.variables) l.variables.more b l.variables.of_block))
 
 -- ---- the row of a body
@@ -598,7 +598,7 @@ Rests a h = Settled (outside None) h
 block_settled : (id : RoutineId) (n : Name) (x : Head) (ds : Declarations) (ss : Statements) (h : Here) → IsHead x h.core → HasHead id n x h.core → Settled (outside (Some id.0)) h → From Rests (block_means id n x ds ss h)
 block_settled id n x ds ss h k head y =
     let e = entered_settled id n x h k y in
-    from_then (λ i. gives tt (left h i)) (inner_settled id n x ds ss (entered id n x h) (head_later x e.1 k) (has_head_later id n x y e.1 k head) e.0 (subst (λ ss. BeginWith ss (drop (length h.core.variables) (entered id n x h).core.variables)) (sym (head_rows_on n x e.1.parameters k.0)) (entered_begins id n x h))) (λ t i z. from_gives (left_settled h i y z))
+    from_then (λ i. gives tt (left h i)) (inner_settled id n x ds ss (entered id n x h) (head_later x e.1 k) (has_head_later id n x y e.1 k head) e.0 (subst (λ ss. BeginWith ss (drop (length h.core.variables) (entered id n x h).core.variables)) (sym (head_rows_on h.core (entered id n x h).core n x e.1.parameters k.0)) (entered_begins id n x h))) (λ t i z. from_gives (left_settled h i y z))
 
 -- ---- declarations
 
