@@ -11,8 +11,6 @@ use Rattle.op_layout.specs.Places.{layout_of}
 use Rattle.op_layout.specs.declared.layout.Layout.{Layout}
 use Rattle.op_link.specs.Linking.{image_of, linked_size}
 use Rattle.op_link.specs.Memory.{most_linked}
-use Rattle.op_link.specs.declared.linker.LinkError.{LinkError}
-use Rattle.op_link.specs.declared.linker.LinkError.TheVariants as link
 use Rattle.op_link.specs.declared.memory_map.Settings.{Settings}
 use Rattle.op_low.specs.declared.code.Low.{Low}
 use Rattle.op_mir.specs.declared.code.Mir.{Mir}
@@ -36,7 +34,3 @@ abbrev pub IsNotBuilt : Core → Mir → Settings → BuildError → Type 0
 IsNotBuilt core mir settings Limit = most_linked < linked_size (select_of (program_low core mir settings)) (program_layout core mir) settings
 IsNotBuilt core mir settings Unbuildable = is_buildable (program_low core mir settings) (program_layout core mir) ≡ false
 IsNotBuilt core mir settings NoMemory = ⊤
-
-abbrev pub error_of : LinkError → BuildError
-error_of link.Limit = Limit
-error_of link.NoMemory = NoMemory

@@ -32,19 +32,6 @@ impl From<NoMemory> for BuildError {
     }
 }
 
-impl From<LinkError> for BuildError {
-    ghost use Rattle.op_build.specs.Built.{error_of};
-
-    ghost from_gives = { λ link error. error ≡ error_of link };
-
-    fn from(error: LinkError) -> BuildError {
-        match error {
-            LinkError::Limit => BuildError::Limit,
-            LinkError::NoMemory => BuildError::NoMemory,
-        }
-    }
-}
-
 /// The image of a program in managed code, beside its tables, with a heap and a stack as the settings say.
 ///
 /// `Limit` comes only where code, constants and initial globals take more than 67,108,864 bytes, `Unbuildable` only where the low code of
@@ -64,5 +51,9 @@ pub fn build(
     if !buildable(&low, &layout) {
         return Err(BuildError::Unbuildable);
     }
-    Ok(op_image::build(alloc, &low, &layout, settings)?)
+    match op_image::build(alloc, &low, &layout, settings) {
+        Ok(image) => Ok(image),
+        Err(LinkError::Limit) => Err(BuildError::Limit),
+        Err(LinkError::NoMemory) => Err(BuildError::NoMemory),
+    }
 }
