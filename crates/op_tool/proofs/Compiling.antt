@@ -12,8 +12,9 @@ use Rattle.op_core.specs.declared.program.Core.{Core}
 use Rattle.op_tree.specs.File.{file_of}
 use Rattle.op_tree.specs.declared.file.Tree.{Tree}
 use Rattle.op_units.specs.declared.forest.Forest.{Forest}
-use Rattle.op_tool.specs.Compiles.{Checks, error_of, FailsAs, FailsToBuild, FailsToCheck, HasNoCodeImage, HasNoImage, HasOutput, IsBroken, IsCodeImage, IsNoCodeImage, IsProgram, IsTooLarge, Made, RefusesBy, by_code, by_files, by_text, by_size}
+use Rattle.op_tool.specs.Compiles.{Checks, error_of, FailsAs, FailsToBuild, FailsToCheck, HasNoCodeImage, HasNoImage, HasOutput, IsBroken, IsCodeImage, IsNoCodeImage, IsProgram, IsTooLarge, Made, RefusesBy, by_code, by_files, by_output, by_text, by_size}
 use Rattle.op_tool.specs.ConstantLines.{output_of}
+use Rattle.op_tool.specs.Prints.{Prints}
 use Rattle.op_tool.specs.declared.compiler.CompileError.{CompileError}
 use Rattle.op_tool.specs.declared.compiler.CompileError.TheVariants.{Refused, ReadFault, Limit, NoMemory}
 use Rattle.op_units.specs.Loads.{FailsAs as FailsToLoad}
@@ -68,12 +69,19 @@ fails_as_code stored name before after forest core ReadFault is none never = abs
 fails_as_code stored name before after forest core Limit is none no_image = by_size (fails_to_build stored name forest core build.Limit is none no_image)
 fails_as_code stored name before after forest core NoMemory is none free = free
 
+-- ---- the text of a program
+
+-- an image of a program's text is one of the program
+pub made_of_text : (stored : Option (List NamedFile)) (name : List ℕ) (forest : Forest) (core : Core) (image output : List ℕ) → IsProgram stored name forest core → output_of forest.trees core ≡ Some output → Prints image output → Made stored name image
+made_of_text stored name forest core image output is some prints =
+    by_output output (record { has_output = record { forest = forest; core = core; is_program = is; writes = some }; prints = prints })
+
 -- a text that has no image
-pub fails_as_text : (stored : Option (List NamedFile)) (name : List ℕ) (before after : ℕ) (output : List ℕ) (error : CompileError) → HasOutput stored name (Some output) → HasNoImage output error → FailsAs stored name before after error
-fails_as_text stored name before after output (Refused refusal file) has never = absurd never
-fails_as_text stored name before after output ReadFault has never = absurd never
-fails_as_text stored name before after output Limit has large = by_text output has large
-fails_as_text stored name before after output NoMemory has free = free
+pub fails_as_text : (stored : Option (List NamedFile)) (name : List ℕ) (before after : ℕ) (forest : Forest) (core : Core) (output : List ℕ) (error : CompileError) → IsProgram stored name forest core → output_of forest.trees core ≡ Some output → HasNoImage output error → FailsAs stored name before after error
+fails_as_text stored name before after forest core output (Refused refusal file) is some never = absurd never
+fails_as_text stored name before after forest core output ReadFault is some never = absurd never
+fails_as_text stored name before after forest core output Limit is some large = by_text output (record { forest = forest; core = core; is_program = is; writes = some }) large
+fails_as_text stored name before after forest core output NoMemory is some free = free
 
 pub err_also : {A E : Type 0} {P Q : E → Type 0} (r : Result A E) → ((e : E) → P e → Q e) → IfErr r P → IfErr r Q
 err_also (Ok a) f holds = holds
