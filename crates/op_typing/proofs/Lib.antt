@@ -1,0 +1,15 @@
+pub mod Actions
+pub mod Blocks
+pub mod Bodies
+pub mod Callees
+pub mod CodeTyped
+pub mod Expressions
+pub mod Founds
+pub mod Loops
+pub mod Paths
+pub mod Rows
+pub mod SimpleRuns
+pub mod SimpleTestLemmas
+pub mod Statements
+pub mod Storing
+pub mod Types

@@ -1,0 +1,4 @@
+pub mod Claims
+pub mod Simple
+pub mod SimpleTests
+pub mod Typed
