@@ -1,0 +1,227 @@
+-- The low code of a program that fits is valid.
+use Rattle.std.proofs.Common.{◌≡◌, ◌<◌, ◌≤◌, ℕ, zero, suc, pos, ◌+◌, ◌*◌, ◌%◌, ◌^◌, max, Bool, true, false, ◌&&◌, List, [], ◌∷◌, ◌++◌, length, map, take, replicate, nat_eq, nat_le, nat_lt, slice_get, slice_set, fold, Option, Some, None, inr, refl, sym, ap, ◌∙◌, subst, arith, le_refl, append_assoc, length-append, length-take, if◌then◌else◌}
+use Rattle.std.proofs.lemmas.Bool.{ne_eqb}
+use Rattle.std.proofs.lemmas.Bool.Decides.{nat_tests}
+use Rattle.std.proofs.lemmas.List.{length-map, length-replicate}
+use Rattle.std.proofs.lemmas.List.Folds.{list_all-append}
+use Rattle.std.specs.List.{list_all}
+use Rattle.op_compute.specs.Bank.{scratch_of}
+use Rattle.op_constants.specs.Offsets.{size_in}
+use Rattle.op_core.specs.Rows.{rows}
+use Rattle.op_core.specs.declared.ids.TypeId.{TypeId}
+use Rattle.op_core.specs.declared.ids.VariableId.{VariableId}
+use Rattle.op_core.specs.declared.program.Core.{Core}
+use Rattle.op_core.specs.declared.routine.Variable.{Variable}
+use Rattle.op_expand.specs.Frames.{bank_of, frame_of, first_room, parameters_of, spare_of, variables_room}
+use Rattle.op_expand.specs.Homes.{homes_from, parameter, roots_of}
+use Rattle.op_expand.specs.Programs.{first_literal, global_of, globals_in, behind_routines, low_of, no_bytes, program_literal, routines_from, stack_global, with_global}
+use Rattle.op_expand.specs.Registers.{registers_in}
+use Rattle.op_expand.specs.Routines.{all_blocks, beginning, behind_blocks, blocks_of, error_block, error_blocks, low_parameters, low_routine, most_charge, routine_with}
+use Rattle.op_expand.specs.declared.frame.Frame.{Frame}
+use Rattle.op_expand.specs.declared.frame.Returning.{Returning}
+use Rattle.op_expand.specs.declared.frame.Returning.TheVariants.{Ending, Nothing, Result}
+use Rattle.op_expand.specs.declared.homes.Home.{Home}
+use Rattle.op_frames.proofs.CallsFine.{HasThird}
+use Rattle.op_frames.proofs.CodeFine.{CanBegin, CanDo}
+use Rattle.op_frames.proofs.Fine.{Bounds, Below, AreFine}
+use Rattle.op_frames.proofs.FramesFine.{behind_grows, beginning_fine, homes_below, locals_whole, spare_below, taken_few}
+use Rattle.op_frames.proofs.MadeLemmas.{every_append}
+use Rattle.op_frames.proofs.MovesFine.{HasRuntime}
+use Rattle.op_frames.proofs.PlacesFine.{IsFrame, Temporaries, most_each}
+use Rattle.op_frames.proofs.RoutineFine.{IsFineBlock, IsGood, IsGoodBlock, blocks_count, blocks_fine, blocks_grow, errors_fine, registers_under, stack_fine, valid_routine}
+use Rattle.op_frames.specs.Fitting.{AreFitting, IsFitting, registers_of_routine, room_of_block, room_of_instruction, scratch_of_routine}
+use Rattle.op_frames.specs.Made.{Every, IsCode, Leaves}
+use Rattle.op_frames.specs.Named.{IsNamed}
+use Rattle.op_low.specs.Valid.{is_valid, is_valid_routine, most_locals, most_registers, takes}
+use Rattle.op_low.specs.declared.code.Block.{Block as LowBlock}
+use Rattle.op_low.specs.declared.code.Low.{Low}
+use Rattle.op_low.specs.declared.code.Routine.{Routine as LowRoutine}
+use Rattle.op_lower.specs.Temporaries.{in_block, in_blocks, in_instruction, most_of}
+use Rattle.op_meaning.specs.Shapes.{is_reference, variables_of}
+use Rattle.op_mir.specs.Code.{Instr}
+use Rattle.op_mir.specs.View.{view_block, view_given, view_instruction}
+use Rattle.op_mir.specs.declared.action.Action.{Action}
+use Rattle.op_mir.specs.declared.action.Action.TheVariants.{Constant, Load, Store, Copy, Look, BeginWith, Pick, Compute, Write, WriteText}
+use Rattle.op_mir.specs.declared.code.Block.{Block}
+use Rattle.op_mir.specs.declared.code.Mir.{Mir}
+use Rattle.op_mir.specs.declared.code.Routine.{Routine}
+use Rattle.op_mir.specs.declared.ids.BlockId.{BlockId}
+use Rattle.op_mir.specs.declared.ids.LocalId.{LocalId}
+use Rattle.op_mir.specs.declared.instruction.Instruction.{Instruction}
+use Rattle.op_mir.specs.declared.instruction.Instruction.TheVariants.{Act, Call, Jump, When, Unless, Switch, Dispatch, MakeDue, Stop, Return}
+use Rattle.op_rt_text.proofs.ValidRoutines.{valid_routines}
+use Rattle.op_rt_text.specs.Runtime.{runtime_routines}
+use Rattle.op_rv.specs.declared.objects.GlobalVariable.{GlobalVariable}
+
+and_true : (a b : Bool) → a ≡ true → b ≡ true → (a && b) ≡ true
+and_true a b p q = cc
+
+lt_false : (a b : ℕ) → nat_lt a b ≡ false → b ≤ a
+lt_false a b e = grind (arith, nat_tests)
+
+under_over : (a b : ℕ) → nat_lt a b ≡ true → b ≤ a → ⊥
+under_over a b e less = grind (arith, nat_tests)
+
+-- ---- the instructions of a routine
+
+module _ (m : Bounds) (core : Core) (r : ℕ) (routine : Routine) (n blocks most : ℕ) (is : IsFrame m core (frame_of core r routine)) (temporaries : Temporaries (frame_of core r routine) n) (runtime : HasRuntime m) (fewer : blocks ≤ m.blocks) (mir : Mir)
+    (spare : Below m (frame_of core r routine).spare) (two : (frame_of core r routine).bank.scratch + 2 ≤ m.registers) (three : 3 ≤ m.registers) (room : (frame_of core r routine).bank.scratch + most ≤ m.registers)
+    (calls : (f k : ℕ) → f < length core.routines → k ≡ parameters_of core f → takes (slice_get m.low.routines (8 + f)) (suc (suc k)) ≡ true) where
+  has_third : (returning : Returning) → HasThird m core returning
+  has_third Ending = tt
+  has_third Nothing = tt
+  has_third (Result of v) = λ e. three
+
+  can_act : (a : Action) (landing : Option BlockId) → CanDo m core (frame_of core r routine) (Act a landing)
+  can_act (BeginWith v) landing = record { spare = spare; one = omega (arith, two); another = inr two }
+  can_act (Constant to k) landing = tt
+  can_act (Load to kind from) landing = tt
+  can_act (Store to kind from) landing = tt
+  can_act (Copy of to from) landing = tt
+  can_act (Look at) landing = tt
+  can_act (Pick to text index) landing = tt
+  can_act (Compute c) landing = tt
+  can_act (Write w) landing = tt
+  can_act (WriteText text width) landing = tt
+
+  can_do : (i : Instruction) → IsNamed core blocks (view_instruction core r i) → CanDo m core (frame_of core r routine) i
+  can_do (Act a landing) named = can_act a landing
+  can_do (Call f operands) named = calls f.0 (length operands.given) named.0 (sym (length-map operands.given view_given) ∙ named.1)
+  can_do (Jump block) named = tt
+  can_do (When t block) named = tt
+  can_do (Unless t block) named = tt
+  can_do (Switch t arms) named = tt
+  can_do (Dispatch t block) named = tt
+  can_do (MakeDue f) named = tt
+  can_do (Stop t) named = tt
+  can_do Return named = has_third (frame_of core r routine).returning
+
+  good_code : (code : List Instruction) → Every (IsNamed core blocks) (map (view_instruction core r) code) → Every (λ i. in_instruction i ≤ n) code → Every (λ i. room_of_instruction core r i ≤ most) code → Every (IsGood m core r routine n blocks is temporaries runtime fewer mir) code
+  good_code [] named t w = tt
+  good_code (i ∷ code) named t w =
+      (record { named = named.0; temps = t.0; room = omega (arith, room, w.0); can = can_do i named.0 }, good_code code named.1 t.1 w.1)
+
+  good_blocks : (bs : List Block) → Every (IsCode (IsNamed core blocks)) (map (view_block core r) bs) → Every (λ b. in_block b ≤ n) bs → Every (λ b. room_of_block core r b ≤ most) bs → Every (IsGoodBlock m core r routine n blocks is temporaries runtime fewer mir) bs
+  good_blocks [] c t w = tt
+  good_blocks (b ∷ bs) c t w =
+      let code = c.0 in
+      ((good_code b.code code.each (most_each in_instruction b.code n t.0) (most_each (room_of_instruction core r) b.code most w.0), code.leaves), good_blocks bs c.1 t.1 w.1)
+
+-- ---- a routine
+
+two_more : (a k : ℕ) → a + 2 ≤ a + max 2 k
+two_more a k = omega arith
+
+least_max : (k : ℕ) → k ≤ max 2 k
+least_max k = omega arith
+
+module _ (low : Low) (core : Core) (mir : Mir) (sizes : (of : TypeId) → size_in core of ≤ 1048576) (others : List LowRoutine) (routines : low.routines ≡ runtime_routines ++ others) (globals : length core.variables < length low.globals) (enough : 7 ≤ low.counts.literals)
+    (calls : (f k : ℕ) → f < length core.routines → k ≡ parameters_of core f → takes (slice_get low.routines (8 + f)) (suc (suc k)) ≡ true) where
+  parameters_by : (last : Bool) (k : ℕ) → (if last then 0 else parameter k) ≤ 2 + k
+  parameters_by true k = omega arith
+  parameters_by false k = le_refl (2 + k)
+
+  low_few : (r : ℕ) → low_parameters core r ≤ 2 + parameters_of core r
+  low_few r = parameters_by (nat_eq r (length core.routines)) (parameters_of core r)
+
+  -- what is charged more than any stack has
+  over_valid : (r : ℕ) → parameters_of core r + 4 ≤ most_registers → is_valid_routine low (routine_with (low_parameters core r) 0 (error_block 202 5 ∷ [])) ≡ true
+  over_valid r few =
+      let m : Bounds = record { low = low; locals = 0; blocks = 1; registers = 2 + parameters_of core r } in
+      valid_routine m (low_parameters core r) (error_block 202 5 ∷ []) refl (stack_fine m enough (omega arith)) (omega arith) (low_few r) (omega (arith, few)) (omega arith) refl (omega arith)
+
+  module _ (r id : ℕ) (routine : Routine) (fits : IsFitting core r routine) (literals : behind_blocks core r id routine.blocks ≤ low.counts.literals) where
+    abbrev bounds : Bounds
+    bounds = record { low = low; locals = (frame_of core r routine).locals; blocks = length routine.blocks + 4; registers = registers_of_routine core r routine }
+
+    first_fits : 2 + parameters_of core r ≤ (variables_room core r routine).register
+    first_fits = behind_grows core (parameters_of core r) (roots_of routine) 0 (first_room (parameters_of core r)) (rows core.variables (variables_of core r))
+
+    few_parameters : 2 + parameters_of core r ≤ registers_of_routine core r routine
+    few_parameters = omega (arith, first_fits)
+
+    the_frame : IsFrame bounds core (frame_of core r routine)
+    the_frame = record {
+      locals = refl;
+      homes = λ v. homes_below bounds core (parameters_of core r) (roots_of routine) few_parameters 0 (first_room (parameters_of core r)) (rows core.variables (variables_of core r)) (λ j w e i. let p = fits.references j w e i in omega (arith, p)) (omega arith) v.0;
+      scratch = omega arith;
+      two = omega (arith, few_parameters);
+      errors = le_refl (length routine.blocks + 4);
+      globals = globals;
+      sizes = sizes;
+    }
+
+    the_temporaries : Temporaries (frame_of core r routine) routine.temporaries
+    the_temporaries = refl
+
+    the_runtime : HasRuntime bounds
+    the_runtime = record { others = others; are = routines }
+
+    three_there : 3 ≤ registers_of_routine core r routine
+    three_there = let two = two_more ((variables_room core r routine).register + routine.temporaries) (most_of (room_of_block core r) routine.blocks) in omega (arith, first_fits, two)
+
+    low_fits : low_parameters core r ≤ registers_of_routine core r routine
+    low_fits = omega (arith, low_few r, few_parameters)
+
+    all_fine : Every (IsFineBlock bounds) (all_blocks core mir r id routine)
+    all_fine =
+        let m = bounds in
+        let frame = frame_of core r routine in
+        let most = scratch_of_routine core r routine in
+        let two : (variables_room core r routine).register + routine.temporaries + 2 ≤ (variables_room core r routine).register + routine.temporaries + max 2 (most_of (room_of_block core r) routine.blocks) = two_more ((variables_room core r routine).register + routine.temporaries) (most_of (room_of_block core r) routine.blocks) in
+        let three : 3 ≤ m.registers = omega (arith, first_fits, two) in
+        let fewer : length routine.blocks ≤ m.blocks = omega arith in
+        let scratch : Below m (scratch_of frame.bank 1) = omega (arith, two) in
+        let homes = homes_from core (parameters_of core r) (roots_of routine) 0 (first_room (parameters_of core r)) (rows core.variables (variables_of core r)) in
+        let spare = spare_below m (parameters_of core r) (scratch_of frame.bank 1) 0 (take (parameters_of core r) homes) few_parameters (taken_few (parameters_of core r) homes) scratch in
+        let t : in_blocks routine.blocks ≤ routine.temporaries = omega (arith, fits.temporaries) in
+        let rooms = most_each (room_of_block core r) routine.blocks most (least_max (most_of (room_of_block core r) routine.blocks)) in
+        let good = good_blocks m core r routine routine.temporaries (length routine.blocks) most the_frame the_temporaries the_runtime fewer mir spare two three (omega arith) calls routine.blocks fits.code (most_each in_block routine.blocks routine.temporaries t) rooms in
+        let one : frame.bank.scratch + 1 ≤ m.registers = omega (arith, two) in
+        let front = beginning_fine m core r routine routine.temporaries the_frame the_temporaries the_runtime few_parameters one in
+        let fine = blocks_fine m core r routine routine.temporaries (length routine.blocks) the_frame the_temporaries the_runtime fewer mir id (beginning core frame r) routine.blocks front good literals in
+        let two_registers : 2 ≤ m.registers = omega (arith, three) in
+        every_append (IsFineBlock m) (blocks_of core mir frame r id (beginning core frame r) routine.blocks) error_blocks fine (errors_fine m enough two_registers)
+
+    under_valid : routine.charge ≤ most_charge → is_valid_routine low (routine_with (low_parameters core r) (frame_of core r routine).locals (all_blocks core mir r id routine)) ≡ true
+    under_valid charge =
+        let m = bounds in
+        let frame = frame_of core r routine in
+        let fewer : length routine.blocks ≤ m.blocks = omega arith in
+        let three : 3 ≤ m.registers = three_there in
+        let count : length (all_blocks core mir r id routine) ≡ m.blocks = length-append (blocks_of core mir frame r id (beginning core frame r) routine.blocks) error_blocks ∙ ap (λ k. k + 4) (blocks_count m core r routine routine.temporaries (length routine.blocks) the_frame the_temporaries the_runtime fewer mir id (beginning core frame r) routine.blocks) in
+        let there : 0 < length (all_blocks core mir r id routine) = omega (arith, count) in
+        valid_routine m (low_parameters core r) (all_blocks core mir r id routine) count all_fine (omega (arith, three)) low_fits (fits.registers charge) (fits.locals charge) (locals_whole core r routine) there
+
+    -- its registers are no more than are counted, and its locals are those of the frame
+    pub low_frame : routine.charge ≤ most_charge → ((low_routine core mir r id routine).registers ≤ registers_of_routine core r routine) × ((low_routine core mir r id routine).locals ≡ (frame_of core r routine).locals)
+    low_frame charge = by (nat_lt most_charge routine.charge) refl (registers_under bounds (low_parameters core r) (all_blocks core mir r id routine) (omega (arith, three_there)) low_fits all_fine)
+      where
+        by : (over : Bool) → nat_lt most_charge routine.charge ≡ over → registers_in (low_parameters core r) (all_blocks core mir r id routine) ≤ registers_of_routine core r routine → ((low_routine core mir r id routine).registers ≤ registers_of_routine core r routine) × ((low_routine core mir r id routine).locals ≡ (frame_of core r routine).locals)
+        by true e few = absurd (under_over most_charge routine.charge e charge)
+        by false e few = rw e (few, refl)
+
+    routine_by : (over : Bool) → nat_lt most_charge routine.charge ≡ over → is_valid_routine low (if over then routine_with (low_parameters core r) 0 (error_block 202 5 ∷ []) else routine_with (low_parameters core r) (frame_of core r routine).locals (all_blocks core mir r id routine)) ≡ true
+    routine_by true e = over_valid r fits.parameters
+    routine_by false e = under_valid (lt_false most_charge routine.charge e)
+
+    pub low_valid : is_valid_routine low (low_routine core mir r id routine) ≡ true
+    low_valid = routine_by (nat_lt most_charge routine.charge) refl
+
+  -- ---- routines, from number r on
+
+  pub from_valid : (xs : List Routine) (r id : ℕ) → ((k : ℕ) (x : Routine) → slice_get xs k ≡ Some x → IsFitting core (r + k) x) → behind_routines core r id xs ≤ low.counts.literals → list_all (is_valid_routine low) (routines_from core mir r id xs) ≡ true
+  from_valid [] r id fits less = refl
+  from_valid (x ∷ xs) r id fits less =
+      let here : r + 0 ≡ r = omega arith in
+      let grows = routines_grow core (r + 1) (behind_blocks core r id x.blocks) xs in
+      let mine = low_valid r id x (subst (λ k. IsFitting core k x) here (fits 0 x refl)) (omega (arith, grows, less)) in
+      let rest = from_valid xs (r + 1) (behind_blocks core r id x.blocks) (λ k y e. let next : r + suc k ≡ r + 1 + k = omega arith in subst (λ j. IsFitting core j y) next (fits (suc k) y e)) less in
+      and_true _ _ mine rest
+    where
+      routines_grow : (core : Core) (r id : ℕ) (xs : List Routine) → id ≤ behind_routines core r id xs
+      routines_grow core r id [] = le_refl id
+      routines_grow core r id (x ∷ xs) =
+          let e = blocks_grow core r id x.blocks in
+          let f = routines_grow core (r + 1) (behind_blocks core r id x.blocks) xs in
+          omega (arith, e, f)

@@ -1,0 +1,52 @@
+-- What is asked of a program in managed code, so that its low code is valid.
+use Rattle.std.specs.Prelude.{◌≡◌, ◌<◌, ◌≤◌, ℕ, ◌+◌, max, true, List, length, Option, Some, slice_get}
+use Rattle.op_constants.specs.Offsets.{size_in}
+use Rattle.op_core.specs.Rows.{rows}
+use Rattle.op_core.specs.declared.ids.TypeId.{TypeId}
+use Rattle.op_core.specs.declared.program.Core.{Core}
+use Rattle.op_core.specs.declared.routine.Variable.{Variable}
+use Rattle.op_expand.specs.Frames.{frame_of, parameters_of, variables_room}
+use Rattle.op_expand.specs.Routines.{most_charge}
+use Rattle.op_frames.specs.Made.{Every, IsCode}
+use Rattle.op_frames.specs.Named.{IsNamed}
+use Rattle.op_frames.specs.Scratch.{room_in}
+use Rattle.op_low.specs.Valid.{most_locals, most_registers}
+use Rattle.op_lower.specs.Seen.{seen_blocks}
+use Rattle.op_lower.specs.Temporaries.{in_blocks, most_of}
+use Rattle.op_meaning.specs.Shapes.{is_reference, variables_of}
+use Rattle.op_mir.specs.View.{view_instruction}
+use Rattle.op_mir.specs.declared.code.Block.{Block}
+use Rattle.op_mir.specs.declared.code.Mir.{Mir}
+use Rattle.op_mir.specs.declared.code.Routine.{Routine}
+use Rattle.op_mir.specs.declared.instruction.Instruction.{Instruction}
+
+-- as many scratch registers as an instruction of the routine takes, and two for what variables begin with
+abbrev pub room_of_instruction : Core → ℕ → Instruction → ℕ
+room_of_instruction core r i = room_in (view_instruction core r i)
+
+abbrev pub room_of_block : Core → ℕ → Block → ℕ
+room_of_block core r b = most_of (room_of_instruction core r) b.code
+
+abbrev pub scratch_of_routine : Core → ℕ → Routine → ℕ
+scratch_of_routine core r routine = max 2 (most_of (room_of_block core r) routine.blocks)
+
+-- no more registers are named by the low code of the routine
+abbrev pub registers_of_routine : Core → ℕ → Routine → ℕ
+registers_of_routine core r routine = (variables_room core r routine).register + routine.temporaries + scratch_of_routine core r routine
+
+-- Of a routine with the number: its code names what is there, and its frame is small enough unless it is charged more than any stack has.
+pub record IsFitting (core : Core) (r : ℕ) (routine : Routine) : Type 0 where
+  pub code : Every (IsCode (IsNamed core (length routine.blocks))) (seen_blocks core r routine.blocks)
+  pub some : 0 < length routine.blocks
+  pub temporaries : routine.temporaries ≡ in_blocks routine.blocks
+  pub references : (k : ℕ) (v : Variable) → slice_get (rows core.variables (variables_of core r)) k ≡ Some v → is_reference v.role ≡ true → k < parameters_of core r
+  pub parameters : parameters_of core r + 4 ≤ most_registers
+  pub registers : routine.charge ≤ most_charge → registers_of_routine core r routine ≤ most_registers
+  pub locals : routine.charge ≤ most_charge → (frame_of core r routine).locals ≤ most_locals
+
+-- The number behind those of all routines is that of the program itself.
+pub record AreFitting (core : Core) (mir : Mir) : Type 0 where
+  pub sizes : (of : TypeId) → size_in core of ≤ 1048576
+  pub number : length mir.routines ≡ length core.routines
+  pub routines : (r : ℕ) (routine : Routine) → slice_get mir.routines r ≡ Some routine → IsFitting core r routine
+  pub program : IsFitting core (length mir.routines) mir.program

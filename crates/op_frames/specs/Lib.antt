@@ -1,0 +1,9 @@
+pub mod Charged
+pub mod Claims
+pub mod Counted
+pub mod Fitting
+pub mod Made
+pub mod Named
+pub mod Scratch
+pub mod Wholes
+pub mod Within

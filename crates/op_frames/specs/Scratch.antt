@@ -1,0 +1,51 @@
+-- How many scratch registers the low code of an instruction takes at most.
+use Rattle.std.specs.Prelude.{ℕ, ◌+◌, ◌*◌, List, [], ◌∷◌, length}
+use Rattle.op_meaning.specs.Actions.{Action, constant, load, store, copy, look, begin_with, write_number, write_truth, write_char}
+use Rattle.op_meaning.specs.Items.{Given, by_value, by_reference, by_place, by_copy, Receiver, nowhere, to_temp, to_place}
+use Rattle.op_meaning.specs.Paths.{Path}
+use Rattle.op_mir.specs.Code.{Instr, do_act, do_call, jump, when, unless, switch, dispatch, make_due, stop, ret}
+
+-- one has the address of the root; an element takes one and another one for its index, and a distance that is too large takes one
+abbrev pub path_room : Path → ℕ
+path_room p = 1 + 2 * length p.steps
+
+-- what variables begin with is counted with the frame
+abbrev pub action_room : Action → ℕ
+action_room (constant to n) = 0
+action_room (load to kind from) = path_room from
+action_room (store to kind from) = path_room to
+action_room (copy of to from) = path_room from + path_room to + 1
+action_room (look at) = path_room at + 1
+action_room (begin_with v of value) = 0
+action_room (write_number from width) = 1
+action_room (write_truth from width) = 1
+action_room (write_char from width) = 1
+action_room _ = 3
+
+abbrev pub given_room : Given → ℕ
+given_room (by_value kind t) = 1
+given_room (by_reference t) = 0
+given_room (by_place p) = path_room p
+given_room (by_copy of p) = path_room p
+
+abbrev pub givens_room : List Given → ℕ
+givens_room [] = 0
+givens_room (g ∷ gs) = given_room g + givens_room gs
+
+abbrev pub receiver_room : Receiver → ℕ
+receiver_room (to_place of p) = path_room p
+receiver_room nowhere = 0
+receiver_room (to_temp t) = 0
+
+-- the charge of the callee takes one
+abbrev pub room_in : Instr → ℕ
+room_in (do_act action landing) = action_room action
+room_in (do_call r given receiver landing) = 1 + receiver_room receiver + givens_room given
+room_in (jump k) = 0
+room_in (when t k) = 3
+room_in (unless t k) = 3
+room_in (switch t arms) = 3
+room_in (dispatch t k) = 3
+room_in (make_due f) = 1
+room_in (stop t) = 0
+room_in ret = 0

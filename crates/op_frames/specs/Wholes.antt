@@ -1,0 +1,40 @@
+-- Which temporaries of record and array types an instruction names: those of a list.
+use Rattle.std.specs.Prelude.{◌≡◌, ℕ, true, List}
+use Rattle.std.specs.List.{list_any}
+use Rattle.op_expand.specs.Homes.{is_one_root}
+use Rattle.op_frames.specs.Made.{Every}
+use Rattle.op_meaning.specs.Actions.{Action, load, store, copy, look}
+use Rattle.op_meaning.specs.Items.{Given, by_value, by_reference, by_place, by_copy, Receiver, nowhere, to_temp, to_place}
+use Rattle.op_meaning.specs.Paths.{Root, in_global, in_local, through, in_temporary}
+use Rattle.op_mir.specs.Code.{Instr, do_act, do_call}
+use Rattle.op_mir.specs.declared.path.Root.{Root as ManagedRoot}
+use Rattle.op_mir.specs.declared.path.Root.TheVariants.{Temporary}
+
+abbrev pub IsWholeIn : List ManagedRoot → Root → Type 0
+IsWholeIn wholes (in_temporary of n) = list_any (is_one_root (Temporary of n)) wholes ≡ true
+IsWholeIn wholes (in_global v) = Unit {0}
+IsWholeIn wholes (in_local v) = Unit {0}
+IsWholeIn wholes (through v) = Unit {0}
+
+abbrev pub ActionIn : List ManagedRoot → Action → Type 0
+ActionIn wholes (load to kind from) = IsWholeIn wholes from.root
+ActionIn wholes (store to kind from) = IsWholeIn wholes to.root
+ActionIn wholes (copy of to from) = IsWholeIn wholes to.root × IsWholeIn wholes from.root
+ActionIn wholes (look at) = IsWholeIn wholes at.root
+ActionIn wholes _ = Unit {0}
+
+abbrev pub GivenIn : List ManagedRoot → Given → Type 0
+GivenIn wholes (by_place p) = IsWholeIn wholes p.root
+GivenIn wholes (by_copy of p) = IsWholeIn wholes p.root
+GivenIn wholes (by_value kind t) = Unit {0}
+GivenIn wholes (by_reference t) = Unit {0}
+
+abbrev pub ReceiverIn : List ManagedRoot → Receiver → Type 0
+ReceiverIn wholes (to_place of p) = IsWholeIn wholes p.root
+ReceiverIn wholes nowhere = Unit {0}
+ReceiverIn wholes (to_temp t) = Unit {0}
+
+abbrev pub AreWholesIn : List ManagedRoot → Instr → Type 0
+AreWholesIn wholes (do_act a landing) = ActionIn wholes a
+AreWholesIn wholes (do_call r given receiver landing) = Every (GivenIn wholes) given × ReceiverIn wholes receiver
+AreWholesIn wholes _ = Unit {0}
