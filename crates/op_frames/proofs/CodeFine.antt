@@ -244,5 +244,5 @@ module _ (m : Bounds) (core : Core) (r : â„•) (routine : Routine) (n blocks : â„
   instruction_fine mir id (Switch t arms) named c room there can = switch_fine m _ (the_work m core (frame_of core r routine) n is temporaries runtime room) _ (register_below m core (frame_of core r routine) n is temporaries runtime t c) arms (arms_words arms named)
   instruction_fine mir id (Dispatch t block) named c room there can = dispatch_fine m _ (the_work m core (frame_of core r routine) n is temporaries runtime room) _ (register_below m core (frame_of core r routine) n is temporaries runtime t (omega (arith, c))) block (omega (arith, named, fewer))
   instruction_fine mir id (MakeDue f) named t room there can = ((omega (arith, room), omega arith), tt)
-  instruction_fine mir id (Stop t) named c room there can = (register_below m core (frame_of core r routine) n is temporaries runtime t c, tt)
+  instruction_fine mir id (Stop t) named c room there can = let there_is = register_below m core (frame_of core r routine) n is temporaries runtime t c in ((omega (arith, there_is), there_is), (omega (arith, there_is), tt))
   instruction_fine mir id Return named t room there can = return_fine m core (frame_of core r routine) n is temporaries runtime (frame_of core r routine).returning can

@@ -268,12 +268,12 @@ module _ (blocks top room : ℕ) where
     now = tt;
   }
   two_found (Some true) o checked of here n f second w made t r = record {
-    items = made_both (IsWithin top room) blocks f.items (only (also true here.temp second)) w.items ((λ k less. (omega (arith, t), r), made), tt);
+    items = made_both (IsWithin top room) blocks f.items (only (also true here.temp second)) w.items ((λ k some less. (omega (arith, t), r), made), tt);
     used = omega (arith, w.used);
     now = tt;
   }
   two_found (Some false) o checked of here n f second w made t r = record {
-    items = made_both (IsWithin top room) blocks f.items (only (also false here.temp second)) w.items ((λ k less. (omega (arith, t), r), made), tt);
+    items = made_both (IsWithin top room) blocks f.items (only (also false here.temp second)) w.items ((λ k some less. (omega (arith, t), r), made), tt);
     used = omega (arith, w.used);
     now = tt;
   }

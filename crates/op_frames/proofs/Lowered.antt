@@ -35,14 +35,14 @@ use Rattle.op_mir.specs.declared.path.Step.TheVariants.{Field, Element}
 -- ---- blocks
 
 -- this holds of each instruction of a routine's blocks, if it does of those that its items become
-pub code_is : (Q : Instr → Type 0) (core : Core) (stack r : ℕ) (routine : Routine) → ((k : ℕ) → k < length routine.blocks → Q (jump k)) → Q ret → IsRoutine core r routine → AreMade Q (length routine.blocks) (items_of (program_of core stack) r) → Every (IsCode Q) (seen_blocks core r routine.blocks)
+pub code_is : (Q : Instr → Type 0) (core : Core) (stack r : ℕ) (routine : Routine) → ((k : ℕ) → 0 < k → k < length routine.blocks → Q (jump k)) → Q ret → IsRoutine core r routine → AreMade Q (length routine.blocks) (items_of (program_of core stack) r) → Every (IsCode Q) (seen_blocks core r routine.blocks)
 code_is Q core stack r routine jumps returns is made =
     let items = items_of (program_of core stack) r in
     let count : length (blocks_of items) ≡ length routine.blocks = ap length (sym (is.blocks stack)) ∙ length-map routine.blocks (view_block core r) in
     subst (Every (IsCode Q)) (sym (is.blocks stack)) (blocks_well Q (length routine.blocks) jumps returns items count made)
 
 pub named_code : (core : Core) (stack r : ℕ) (routine : Routine) → IsRoutine core r routine → AreMade (IsNamed core (length routine.blocks)) (length routine.blocks) (items_of (program_of core stack) r) → Every (IsCode (IsNamed core (length routine.blocks))) (seen_blocks core r routine.blocks)
-named_code core stack r routine is made = code_is (IsNamed core (length routine.blocks)) core stack r routine (λ k less. less) tt is made
+named_code core stack r routine is made = code_is (IsNamed core (length routine.blocks)) core stack r routine (λ k some less. less) tt is made
 
 pub some_blocks : (core : Core) (stack r : ℕ) (routine : Routine) → IsRoutine core r routine → 0 < length routine.blocks
 some_blocks core stack r routine is =
@@ -165,7 +165,7 @@ module _ (top room : ℕ) where
   -- no more temporaries and scratch registers than the items name
   pub routine_under : (core : Core) (stack r : ℕ) (routine : Routine) → IsRoutine core r routine → AreMade (IsWithin top room) (length routine.blocks) (items_of (program_of core stack) r) → (routine.temporaries ≤ top) × (most_of (room_of_block core r) routine.blocks ≤ room)
   routine_under core stack r routine is made =
-      let code = code_is (IsWithin top room) core stack r routine (λ k less. tt) tt is made in
+      let code = code_is (IsWithin top room) core stack r routine (λ k some less. tt) tt is made in
       let under = blocks_under core r routine.blocks code in
       let t = most_at in_block routine.blocks top under.0 in
       (omega (arith, t, is.temporaries), most_at (room_of_block core r) routine.blocks room under.1)

@@ -167,7 +167,7 @@ module _ (blocks top room : ℕ) where
   -- ---- loops that count
 
   counting_well : (t : ℕ) (d : Direction) (body : Items) → t + 2 < top → 3 ≤ room → IsItems body → AreMadeTurns (IsWithin top room) blocks (counting t d body)
-  counting_well t d body less r b = (λ k e. (less, r), (((less, omega (arith, less), omega (arith, less)), r), tt), ((less, omega arith), (((omega (arith, less), omega (arith, less), less), r), tt)), b)
+  counting_well t d body less r b = (λ k some e. (less, r), (((less, omega (arith, less), omega (arith, less)), r), tt), ((less, omega arith), (((omega (arith, less), omega (arith, less), less), r), tt)), b)
 
   bound_well : (env : Env) (v : VariableId) (t : ℕ) → t < top → 3 ≤ room → IsWithin top room (do_act (check_bound env v t) None)
   bound_well env v t less r = ((less, less), r)
@@ -182,7 +182,7 @@ module _ (blocks top room : ℕ) where
       let turn : IsItems (then_do (act (store_variable env v here.temp)) body) = (stored_variable env v here.temp t r, b) in
       let loops : IsItems (only (body_first (counting here.temp d (then_do (act (store_variable env v here.temp)) body)))) = (counting_well here.temp d (then_do (act (store_variable env v here.temp)) body) less r turn, tt) in
       let checks : IsItems (acts (check_bound env v here.temp ∷ check_bound env v (here.temp + 1) ∷ [])) = (bound_well env v here.temp t r, (bound_well env v (here.temp + 1) next r, tt)) in
-      (((less, t, next), r), ((λ k e. (less, r), both (acts (check_bound env v here.temp ∷ check_bound env v (here.temp + 1) ∷ [])) (only (body_first (counting here.temp d (then_do (act (store_variable env v here.temp)) body)))) checks loops, tt), tt))
+      (((less, t, next), r), ((λ k some e. (less, r), both (acts (check_bound env v here.temp ∷ check_bound env v (here.temp + 1) ∷ [])) (only (body_first (counting here.temp d (then_do (act (store_variable env v here.temp)) body)))) checks loops, tt), tt))
 
   in_array_well : (env : Env) (here : Here) (of element : TypeId) (v : VariableId) (into : Conversion) (body : Items) → here.temp + 5 ≤ top → 5 ≤ room → IsItems body → IsItems (in_array env here of element v into body)
   in_array_well env here of element v into body t r b =
@@ -214,7 +214,7 @@ module _ (blocks top room : ℕ) where
       let turn = both check_items (acts (converted env.core into to (here.temp + 4)) & (only (act (store_variable env v (here.temp + 4))) & body)) checks (three_parts (acts (converted env.core into to (here.temp + 4))) (only (act (store_variable env v (here.temp + 4)))) body conversions stores b) in
       let tests : IsWithin top room (do_act (contains (here.temp + 4) (here.temp + 1) here.temp) None) = ((at, omega (arith, t), omega (arith, t)), three) in
       let inner_items = then_do (act (contains (here.temp + 4) (here.temp + 1) here.temp)) (only (choose (here.temp + 4) (check_items & (acts (converted env.core into to (here.temp + 4)) & (only (act (store_variable env v (here.temp + 4))) & body))) none)) in
-      let inner : IsItems (then_do (act (contains (here.temp + 4) (here.temp + 1) here.temp)) (only (choose (here.temp + 4) (acts (check (low_in env.core base) (high_in env.core base) (here.temp + 4) (here.temp + 1) ∷ []) & acts (converted env.core into to (here.temp + 4)) & only (act (store_variable env v (here.temp + 4))) & body) none))) = (tests, ((λ k e. (at, three), turn, tt), tt)) in
+      let inner : IsItems (then_do (act (contains (here.temp + 4) (here.temp + 1) here.temp)) (only (choose (here.temp + 4) (acts (check (low_in env.core base) (high_in env.core base) (here.temp + 4) (here.temp + 1) ∷ []) & acts (converted env.core into to (here.temp + 4)) & only (act (store_variable env v (here.temp + 4))) & body) none))) = (tests, ((λ k some e. (at, three), turn, tt), tt)) in
       ((omega (arith, t), omega arith), ((omega (arith, t), omega arith), (counting_well (here.temp + 1) To inner_items (omega (arith, t)) three inner, tt)))
 
   collection_well : (env : Env) (here : Here) (of : TypeId) (type : Option CoreType) (v : VariableId) (into : Conversion) (body : Items) → here.temp + 5 ≤ top → 5 ≤ room → IsItems body → IsItems (in_collection env here of type v into body)
@@ -231,12 +231,12 @@ module _ (blocks top room : ℕ) where
     work_well env here (if_then e s) c t r =
         let w = make_well blocks top room env here e c.0 (omega (arith, t)) (omega (arith, r)) in
         let first = work_well env here s c.1 (omega (arith, t)) (omega (arith, r)) in
-        both (make env here e).items (only (choose here.temp (work_of env here s) none)) w.items ((λ k less. (omega (arith, t), omega (arith, r)), first, tt), tt)
+        both (make env here e).items (only (choose here.temp (work_of env here s) none)) w.items ((λ k some less. (omega (arith, t), omega (arith, r)), first, tt), tt)
     work_well env here (if_else e s s') c t r =
         let w = make_well blocks top room env here e c.0 (omega (arith, t)) (omega (arith, r)) in
         let first = work_well env here s c.1 (omega (arith, t)) (omega (arith, r)) in
         let other = work_well env here s' c.2 (omega (arith, t)) (omega (arith, r)) in
-        both (make env here e).items (only (choose here.temp (work_of env here s) (work_of env here s'))) w.items ((λ k less. (omega (arith, t), omega (arith, r)), first, other), tt)
+        both (make env here e).items (only (choose here.temp (work_of env here s) (work_of env here s'))) w.items ((λ k some less. (omega (arith, t), omega (arith, r)), first, other), tt)
     work_well env here (case_of e bs ss) c t r =
         let w = make_well blocks top room env here e c.0 (omega (arith, t)) (omega (arith, r)) in
         let arms = branches_well env here bs c.1 (omega (arith, t)) (omega (arith, r)) in
@@ -245,11 +245,11 @@ module _ (blocks top room : ℕ) where
     work_well env here (while_do e s) c t r =
         let w = make_well blocks top room env here e c.0 (omega (arith, t)) (omega (arith, r)) in
         let body = work_well env here s c.1 (omega (arith, t)) (omega (arith, r)) in
-        ((λ k less. (omega (arith, t), omega (arith, r)), w.items, tt, body), tt)
+        ((λ k some less. (omega (arith, t), omega (arith, r)), w.items, tt, body), tt)
     work_well env here (repeat_until ss e) c t r =
         let w = make_well blocks top room env here e c.0 (omega (arith, t)) (omega (arith, r)) in
         let body = all_well env here ss c.1 (omega (arith, t)) (omega (arith, r)) in
-        ((λ k less. (omega (arith, t), omega (arith, r)), w.items, tt, body), tt)
+        ((λ k some less. (omega (arith, t), omega (arith, r)), w.items, tt, body), tt)
     work_well env here (for_to v e d f s) c t r =
         let one = counter_one env.core (slice_get env.core.variables v.0) in
         let some = expression_some env.core e c.0 in

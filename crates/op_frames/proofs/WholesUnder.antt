@@ -278,6 +278,6 @@ module _ (core : Core) where
   -- of a routine whose items name no others
   pub wholes_small : (stack r : ℕ) (routine : Routine) (wholes : List Root) → IsRoutine core r routine → AreMade (AreWholesIn wholes) (length routine.blocks) (items_of (program_of core stack) r) → sum_by (size_of_root core) (roots_of routine) ≤ sum_by (size_of_root core) wholes
   wholes_small stack r routine wholes is made =
-      let code = code_is (AreWholesIn wholes) core stack r routine (λ k less. tt) tt is made in
+      let code = code_is (AreWholesIn wholes) core stack r routine (λ k some less. tt) tt is made in
       let good = blocks_good r wholes [] routine.blocks (tt, tt) code in
       sum_covered (roots_of routine) wholes good.0 good.1

@@ -33,13 +33,13 @@ pub record IsCode (Q : Instr → Type 0) (code : List Instr) : Type 0 where
   pub each : Every Q code
   pub leaves : Leaves code
 
--- the arms of a selection: each leads to one of so many blocks
+-- the arms of a selection: each leads to one of so many blocks, and not to the first one
 abbrev pub ArmsOf : ℕ → Cases → List Arm → Type 0
 ArmsOf blocks no_cases [] = Unit {0}
-ArmsOf blocks (cases labels items others) (arm ∷ arms) = (arm.labels ≡ labels) × (arm.block < blocks) × ArmsOf blocks others arms
+ArmsOf blocks (cases labels items others) (arm ∷ arms) = (arm.labels ≡ labels) × (0 < arm.block) × (arm.block < blocks) × ArmsOf blocks others arms
 ArmsOf blocks _ _ = ⊥
 
--- Of the instructions of items, where there are so many blocks. Items of exceptions, of instances and of temporaries that have to be ended
+-- Of the instructions of items, where there are so many blocks. No branch leads to the first one. Items of exceptions, of instances and of temporaries that have to be ended
 -- have no code.
 abbrev mutual
   pub AreMade : (Instr → Type 0) → ℕ → Items → Type 0
@@ -48,8 +48,8 @@ abbrev mutual
 
   pub IsMade : (Instr → Type 0) → ℕ → Item → Type 0
   IsMade Q blocks (act a) = Q (do_act a None)
-  IsMade Q blocks (also truth t items) = ((k : ℕ) → k < blocks → Q (branch_unless truth t k)) × AreMade Q blocks items
-  IsMade Q blocks (choose t first otherwise) = ((k : ℕ) → k < blocks → Q (unless t k)) × AreMade Q blocks first × AreMade Q blocks otherwise
+  IsMade Q blocks (also truth t items) = ((k : ℕ) → 0 < k → k < blocks → Q (branch_unless truth t k)) × AreMade Q blocks items
+  IsMade Q blocks (choose t first otherwise) = ((k : ℕ) → 0 < k → k < blocks → Q (unless t k)) × AreMade Q blocks first × AreMade Q blocks otherwise
   IsMade Q blocks (select t cs otherwise) = ((arms : List Arm) → ArmsOf blocks cs arms → Q (switch t arms)) × AreMadeCases Q blocks cs × AreMade Q blocks otherwise
   IsMade Q blocks (loop l) = AreMadeTurns Q blocks l
   IsMade Q blocks (body_first l) = AreMadeTurns Q blocks l
@@ -65,7 +65,7 @@ abbrev mutual
   IsMade Q blocks (free takes_nil t) = ⊥
 
   pub AreMadeTurns : (Instr → Type 0) → ℕ → Turns → Type 0
-  AreMadeTurns Q blocks (turns head t ends between body) = ((k : ℕ) → k < blocks → Q (branch_if ends t k)) × AreMade Q blocks head × AreMade Q blocks between × AreMade Q blocks body
+  AreMadeTurns Q blocks (turns head t ends between body) = ((k : ℕ) → 0 < k → k < blocks → Q (branch_if ends t k)) × AreMade Q blocks head × AreMade Q blocks between × AreMade Q blocks body
 
   pub AreMadeCases : (Instr → Type 0) → ℕ → Cases → Type 0
   AreMadeCases Q blocks no_cases = Unit {0}

@@ -275,6 +275,7 @@ module _ (low : Low) (layout : Layout) (settings : Settings) (image : List ℕ) 
   pub means : AreBytes image → Means low layout settings image
   means bytes =
       record {
+        bytes = bytes;
         loads = loaded.meets;
         literals = literal_stands low layout settings image buildable ranged within loaded has;
         globals = globals_stand low layout settings image buildable ranged within loaded has;

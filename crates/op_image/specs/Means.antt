@@ -107,6 +107,7 @@ pub record GlobalsStand (w : Setting) (image : List ℕ) : Type 0 where
 -- The image meets all conditions, the code, the literals and the global variables stand in it, routines are found where they begin,
 -- and over every input the image does what low code does, if that never does what it must not do.
 pub record Means (low : Low) (layout : Layout) (settings : Settings) (image : List ℕ) : Type 0 where
+  pub bytes : AreBytes image
   pub loads : first_failing image ≡ None
   pub literals : (id : LiteralId) (place : LiteralPlace) → slice_get layout.literals id.0 ≡ Some place → StandsText (setting_of low layout settings image) image ((setting_of low layout settings image).placing.address (Literal id)) (literal_bytes layout place)
   pub globals : GlobalsStand (setting_of low layout settings image) image

@@ -1,0 +1,108 @@
+-- Low code follows managed code: each instruction, and the ends of a program.
+use Rattle.std.proofs.Common.{◌≡◌, ◌⊎◌, inl, inr, ℕ, List, [], ◌∷◌, Option, refl, subst, arith}
+use Rattle.std.specs.Prelude.{map}
+use Rattle.std.specs.List.{flat_map}
+use Rattle.std.proofs.lemmas.List.Concat.{flat_map-cons}
+use Rattle.op_constants.specs.Literals.{instruction_literals, literals_of}
+use Rattle.op_low.specs.State.{State}
+use Rattle.op_core.specs.declared.ids.RoutineId.{RoutineId}
+use Rattle.op_meaning.specs.Frames.{Frame, walk, destruction, construction, closing}
+use Rattle.op_meaning.specs.World.{Ending, Running as GoingOn, Ended as HasEnded}
+use Rattle.op_mir.specs.declared.instruction.Call.{Call as Operands}
+use Rattle.op_mir.specs.Machine.{MirState}
+use Rattle.op_mir.specs.View.{view_instruction}
+use Rattle.op_mir.specs.declared.action.Action.TheVariants.{Constant, Load, Store, Copy, Look, BeginWith, Pick, Compute, Write, WriteText}
+use Rattle.op_mir.specs.declared.action.Action.{Action}
+use Rattle.op_mir.specs.declared.ids.BlockId.{BlockId}
+use Rattle.op_mir.specs.declared.instruction.Instruction.TheVariants.{Act, Call, Jump, When, Unless, Switch, Dispatch, MakeDue, Stop, Return}
+use Rattle.op_mir.specs.declared.instruction.Instruction.{Instruction}
+use Rattle.op_agreement.proofs.Assigning.{copy_comes}
+use Rattle.op_agreement.proofs.Beginning.{begin_with_comes}
+use Rattle.op_agreement.proofs.Calling.{call_begins}
+use Rattle.op_agreement.proofs.Cases.{compute_comes, constant_comes, dispatch_comes, jump_comes, switch_comes, unless_comes, when_comes}
+use Rattle.op_agreement.proofs.Closing.{closing_comes, ended_comes, stop_comes}
+use Rattle.op_agreement.proofs.Computing.{rest_below}
+use Rattle.op_agreement.proofs.Following.{agrees, follows_by}
+use Rattle.op_agreement.proofs.Loading.{load_comes}
+use Rattle.op_agreement.proofs.Looking.{look_comes}
+use Rattle.op_agreement.proofs.Opening.{begins_comes}
+use Rattle.op_agreement.proofs.Picking.{pick_comes}
+use Rattle.op_agreement.proofs.PartsResult.{return_comes}
+use Rattle.op_agreement.proofs.Standing.{Next, here, literals_split}
+use Rattle.op_agreement.proofs.Storing.{store_comes}
+use Rattle.op_agreement.proofs.Waiting.{caller_waits}
+use Rattle.op_agreement.proofs.Writing.{write_comes, write_text_comes}
+use Rattle.op_agreement.specs.Chart.{Floor}
+use Rattle.op_agreement.specs.Claims.{AgreesForEver, LowCodeFollows}
+use Rattle.op_expand.specs.Routines.{code_of}
+use Rattle.op_agreement.specs.Coding.{code_for}
+use Rattle.op_agreement.specs.Fitting.{IsFitting}
+use Rattle.op_agreement.specs.Handing.{Begins}
+use Rattle.op_agreement.specs.Settings.{AreLiterals, HaveHomes, Setting}
+use Rattle.op_agreement.specs.Stands.{StandsBy, Stays}
+use Rattle.op_agreement.specs.Steps.{Comes}
+use Rattle.op_agreement.specs.Typed.{AreFine}
+
+module _ (g : Setting) (fit : IsFitting g) (m : MirState) (l : State) (ending : m.world.ending ≡ GoingOn) (frames : m.frames ≡ []) (floors : ℕ → Floor) (s : Stays g floors m l) where
+  -- the next instruction of a position
+  next_of : (i : Instruction) (is : List Instruction) (id : ℕ) → m.rest ≡ map (view_instruction g.core (here m floors).number) (i ∷ is) → l.top.now ≡ code_of g.core g.mir (here m floors).frame (here m floors).number id (i ∷ is) → AreLiterals (literals_of g.core g.mir) id (flat_map (instruction_literals g.core (here m floors).number) (i ∷ is)) → AreFine g.core g.mir (here m floors).number (here m floors).routine (i ∷ is) → HaveHomes g.core (here m floors).number (here m floors).frame (i ∷ is) → Next g m l floors i is id
+  unfolding code_for
+  next_of i is id above below literals fine homes =
+      let (first, others) = literals_split (literals_of g.core g.mir) id (instruction_literals g.core (here m floors).number i) (flat_map (instruction_literals g.core (here m floors).number) is) (subst (AreLiterals (literals_of g.core g.mir) id) (flat_map-cons (instruction_literals g.core (here m floors).number) i is) literals) in
+      record { stays = s; ending = ending; frames = frames; above = above; below = below; literals = first; others = others; fine = fine.0; on = fine.1; homes = homes.0; more = homes.1 }
+
+  action_comes : (a : Action) (landing : Option BlockId) (is : List Instruction) (id : ℕ) → Next g m l floors (Act a landing) is id → Comes g m l
+  action_comes (Constant to n) landing is id next = constant_comes g fit m l floors is id to n landing next
+  action_comes (Load to kind from) landing is id next = load_comes g fit m l floors is id to kind from landing next
+  action_comes (Store to kind from) landing is id next = store_comes g fit m l floors is id kind from to landing next
+  action_comes (Compute c) landing is id next = compute_comes g fit m l floors is id c landing next
+  action_comes (Write w) landing is id next = write_comes g fit m l floors is id w landing next
+  action_comes (WriteText text width) landing is id next = write_text_comes g fit m l floors is id text width landing next
+  action_comes (Copy of to from) landing is id next = copy_comes g fit m l floors is id of to from landing next
+  action_comes (Look at) landing is id next = look_comes g fit m l floors is id at landing next
+  action_comes (BeginWith v) landing is id next = begin_with_comes g fit m l floors is id v landing next
+  action_comes (Pick to text index) landing is id next = pick_comes g fit m l floors is id to text index landing next
+
+  -- a call ends by an error of its arguments, by error 202, or the routine begins
+  call_comes : (callee : RoutineId) (call : Operands) (is : List Instruction) (id : ℕ) → Next g m l floors (Call callee call) is id → Comes g m l
+  call_comes callee call is id next = by (call_begins g fit m l floors callee call is id next (fit.program.parameters callee.0 (let number = fit.program.number in let there = next.fine.0 in omega arith)))
+    where
+      by : Comes g m l ⊎ Begins g m l floors callee.0 call (rest_below g m l floors (Call callee call) is id next) → Comes g m l
+      by (inl comes) = comes
+      by (inr begins) =
+          begins_comes g fit m l floors callee call is id next begins
+          (λ new values bound same variables places locals. caller_waits g fit m l floors callee call is id next begins new values bound same (record { variables = variables; places = places }) locals)
+
+  instruction_comes : (i : Instruction) (is : List Instruction) (id : ℕ) → Next g m l floors i is id → Comes g m l
+  instruction_comes (Act a landing) is id next = action_comes a landing is id next
+  instruction_comes (Call r call) is id next = call_comes r call is id next
+  instruction_comes (Jump block) is id next = jump_comes g fit m l floors is id block next
+  instruction_comes (When t block) is id next = when_comes g fit m l floors is id t block next
+  instruction_comes (Unless t block) is id next = unless_comes g fit m l floors is id t block next
+  instruction_comes (Switch t arms) is id next = switch_comes g fit m l floors is id t arms next
+  instruction_comes (Dispatch t block) is id next = dispatch_comes g fit m l floors is id t block next
+  instruction_comes (MakeDue f) is id next = absurd next.fine
+  instruction_comes (Stop t) is id next = stop_comes g fit m l floors is id t next
+  instruction_comes Return is id next = return_comes g fit m l floors is id next
+
+  position_comes : (is : List Instruction) (id : ℕ) → m.rest ≡ map (view_instruction g.core (here m floors).number) is → l.top.now ≡ code_of g.core g.mir (here m floors).frame (here m floors).number id is → AreLiterals (literals_of g.core g.mir) id (flat_map (instruction_literals g.core (here m floors).number) is) → AreFine g.core g.mir (here m floors).number (here m floors).routine is → HaveHomes g.core (here m floors).number (here m floors).frame is → Comes g m l
+  position_comes [] id above below literals fine homes = absurd fine
+  position_comes (i ∷ is) id above below literals fine homes = instruction_comes i is id (next_of i is id above below literals fine homes)
+
+-- from any states that stand for one another
+module _ (g : Setting) (fit : IsFitting g) where
+  comes_by : (e : Ending) (frames : List Frame) (m : MirState) (l : State) → m.world.ending ≡ e → m.frames ≡ frames → StandsBy g e frames m l → Comes g m l
+  comes_by (HasEnded status) frames m l ending frames_are s = ended_comes g m l status ending s
+  comes_by GoingOn [] m l ending frames_are s =
+      position_comes g fit m l ending frames_are s.floors s.stays s.position.is s.position.id s.position.above s.position.below s.position.literals s.position.fine s.position.homes
+  comes_by GoingOn (closing status ∷ []) m l ending frames_are s = closing_comes g m l status ending frames_are s
+  comes_by GoingOn (closing status ∷ frame ∷ frames) m l ending frames_are s = absurd s
+  comes_by GoingOn (walk places lost waits ∷ frames) m l ending frames_are s = absurd s
+  comes_by GoingOn (destruction i started entered places waits ∷ frames) m l ending frames_are s = absurd s
+  comes_by GoingOn (construction i ∷ frames) m l ending frames_are s = absurd s
+
+pub low_code_follows : LowCodeFollows
+low_code_follows g fit = follows_by g (λ m l stands. comes_by g fit m.world.ending m.frames m l refl refl stands)
+
+pub agrees_for_ever : AgreesForEver
+agrees_for_ever g fit m l stands = agrees g (low_code_follows g fit) m l stands

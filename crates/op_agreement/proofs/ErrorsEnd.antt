@@ -1,0 +1,132 @@
+-- An error ends the program: its line goes to the error stream, and its number is the status.
+use Rattle.std.proofs.Common.{◌≡◌, ◌≤◌, ◌<◌, ℕ, ◌+◌, List, [], ◌∷◌, ◌++◌, length, Some, None, refl, sym, ap, ap₂, ◌∙◌, subst, arith}
+use Rattle.std.specs.Prelude.{◌^◌, ◌%◌, Bool, true, false, ◌&&◌, codes, nat_lt, slice_get, if◌then◌else◌}
+use Rattle.std.proofs.lemmas.Bool.{cond-true}
+use Rattle.std.proofs.lemmas.Bool.Decides.{nat_tests}
+use Rattle.op_compute.specs.Bank.{error_block_of, place_of_error}
+use Rattle.op_compute.specs.Meaning.{number_of_error}
+use Rattle.op_compute.specs.Straight.{at}
+use Rattle.op_compute.specs.declared.bank.RuntimeError.{RuntimeError}
+use Rattle.op_compute.specs.declared.bank.RuntimeError.TheVariants.{DivisionByZero, RangeCheck, StackOverflow, IntegerOverflow}
+use Rattle.op_constants.specs.Literals.{literals_of}
+use Rattle.op_core.specs.declared.program.Core.{Core}
+use Rattle.op_expand.specs.Calls.{left, result_address}
+use Rattle.op_expand.specs.Routines.{error_code}
+use Rattle.op_low.specs.Machine.{act, done, step, step_by_ending, write}
+use Rattle.op_low.specs.State.{Caller, State, Ended, bad, block_of, usable}
+use Rattle.op_low.specs.declared.instruction.Instruction.{Instruction}
+use Rattle.op_low.specs.declared.instruction.Instruction.TheVariants.{Const, Exit, Write}
+use Rattle.op_low.specs.declared.instruction.Output.TheVariants.{Errors}
+use Rattle.op_meaning.specs.Errors.{failed, stopped}
+use Rattle.op_meaning.specs.Texts.{digits_of, line_feed}
+use Rattle.op_meaning.specs.Values.{Value, Holder, Place}
+use Rattle.op_meaning.specs.World.{World}
+use Rattle.op_mir.specs.Code.{Instr}
+use Rattle.op_mir.specs.Machine.{MirCaller, MirState}
+use Rattle.op_rt_text.specs.Names.{literal}
+use Rattle.op_rv.proofs.Memory.{all_of, bytes_from-same}
+use Rattle.op_rv.specs.State.{all_from, bytes_from}
+use Rattle.op_simulation.specs.System.{run}
+use Rattle.op_agreement.proofs.Going.{Goes, goes_from, goes_one, goes_then, goes_to}
+use Rattle.op_agreement.proofs.Standing.{here}
+use Rattle.op_agreement.specs.Chart.{Floor}
+use Rattle.op_agreement.specs.Fitting.{IsFitting, LiteralStands}
+use Rattle.op_agreement.specs.Settings.{Setting}
+use Rattle.op_agreement.specs.Stands.{CallersStand, HaveEnded, Stands, StandsBy, Stays}
+
+-- ---- the stack lies above what is placed
+
+pub limit_above : (g : Setting) (floors : ℕ → Floor) (values : Holder → Value) (bound : ℕ → ℕ → Place) (cs : List MirCaller) (ls : List Caller) (number address limit room charged : ℕ) → CallersStand g floors values bound cs ls number address limit room charged → g.bottom ≤ limit
+limit_above g floors values bound [] [] number address limit room charged (is, at) = omega arith
+limit_above g floors values bound [] (l ∷ ls) number address limit room charged s = absurd s
+limit_above g floors values bound (c ∷ cs) [] number address limit room charged s = absurd s
+limit_above g floors values bound (c ∷ cs) (l ∷ ls) number address limit room charged (below, under, spare, declared, low, charge, at, more, frames, receiver, to, typed, result, nameless, made, position, activation, callers) =
+    let deeper = limit_above g floors values bound cs ls c.routine (l.activation.registers result_address.0) below spare under callers in
+    omega arith
+
+-- ---- what an error writes
+
+abbrev error_line : ℕ → List ℕ
+error_line n = codes "Runtime error " ++ digits_of n ++ line_feed
+
+line_there : (g : Setting) (e : RuntimeError) → slice_get (literals_of g.core g.mir) (3 + place_of_error e) ≡ Some (error_line (number_of_error e))
+line_there g DivisionByZero = refl
+line_there g RangeCheck = refl
+line_there g StackOverflow = refl
+line_there g IntegerOverflow = refl
+
+line_short : (e : RuntimeError) → length (error_line (number_of_error e)) ≡ 18
+line_short e = refl
+
+small_number : (e : RuntimeError) → number_of_error e % 2 ^ 8 ≡ number_of_error e
+small_number DivisionByZero = refl
+small_number RangeCheck = refl
+small_number StackOverflow = refl
+small_number IntegerOverflow = refl
+
+pub failed_is : (core : Core) → core.exceptions ≡ None → (n : ℕ) (w : World) → failed core n w ≡ stopped n w
+failed_is core none n w = rw none
+
+-- ---- its code
+
+module _ (g : Setting) where
+  abbrev after_two : State → (ℕ → ℕ) → (id : ℕ) → ℕ → ℕ
+  after_two l f id r = if Rattle.std.specs.Prelude.nat_eq r 1 then 18 else (if Rattle.std.specs.Prelude.nat_eq r 0 then g.placement.address (literal id) else f r)
+
+  abbrev said : State → (ℕ → ℕ) → List Instruction → List ℕ → State
+  said l f now text = record (at l f now) { errors = l.errors ++ text }
+
+  abbrev over : State → (ℕ → ℕ) → List ℕ → (n : ℕ) → State
+  over l f text n = record (said l (λ r. if Rattle.std.specs.Prelude.nat_eq r 0 then n else f r) [] text) { ending = Ended (n % 2 ^ 8) }
+
+  begins : (l : State) (f : ℕ → ℕ) (n id : ℕ) → Goes g 2 (at l f (error_code n id)) (at l (after_two l f id) (Write Errors left result_address ∷ Const left n ∷ Exit left ∷ []))
+  unfolding run step step_by_ending done act
+  begins l f n id = record { steps = 2; enough = omega arith; ends = refl }
+
+  writes : (l : State) (f : ℕ → ℕ) (now : List Instruction) (at_ : ℕ) (text : List ℕ) → f 0 ≡ at_ → f 1 ≡ length text → all_from (usable g.placement.rights.readable l) at_ (length text) ≡ true → bytes_from l.memory at_ (length text) ≡ text → Goes g 1 (at l f (Write Errors left result_address ∷ now)) (said l f now text)
+  unfolding act write
+  writes l f now at_ text zeroth first may is =
+      goes_to g 1 (at l f (Write Errors left result_address ∷ now)) _ (said l f now text)
+      (cond-true (all_from (usable g.placement.rights.readable l) (f 0) (f 1)) (said l f now (bytes_from l.memory (f 0) (f 1))) (bad (at l f now))
+      (ap (λ x. all_from (usable g.placement.rights.readable l) x (f 1)) zeroth ∙ ap (all_from (usable g.placement.rights.readable l) at_) first ∙ may)
+      ∙ ap (said l f now) (ap (λ x. bytes_from l.memory x (f 1)) zeroth ∙ ap (bytes_from l.memory at_) first ∙ is))
+      (goes_one g l f (Write Errors left result_address) now)
+
+  ends : (l : State) (f : ℕ → ℕ) (text : List ℕ) (n : ℕ) → Goes g 2 (said l f (Const left n ∷ Exit left ∷ []) text) (over l f text n)
+  unfolding run step step_by_ending done act
+  ends l f text n = record { steps = 2; enough = omega arith; ends = refl }
+
+  -- a literal stands where it was loaded
+  pub literal_there : (l : State) (at_ : ℕ) (text : List ℕ) → LiteralStands g at_ text → g.bottom ≤ l.limit → Rattle.op_agreement.specs.Stands.IsFixed g l.memory → (all_from (usable g.placement.rights.readable l) at_ (length text) ≡ true) × (bytes_from l.memory at_ (length text) ≡ text)
+  literal_there l at_ text stands above fixed =
+      let below = stands.below in (
+        all_of (usable g.placement.rights.readable l) at_ (length text) (λ x low high. may x (stands.readable x low high) (omega arith)),
+        bytes_from-same g.loaded l.memory at_ (length text) (λ x low high. fixed x (omega arith) (stands.fixed x low high)) ∙ stands.stands,
+      )
+    where
+      may : (x : ℕ) → g.placement.rights.readable x ≡ true → x < l.limit → (g.placement.rights.readable x && nat_lt x l.limit) ≡ true
+      may x right low = let t : nat_lt x l.limit ≡ true = grind (arith, nat_tests) in ap₂ (λ a b. a && b) right t
+
+  pub error_ends : IsFitting g → (floors : ℕ → Floor) (m : MirState) (l : State) → Stays g floors m l → (e : RuntimeError) (f : ℕ → ℕ) (rest : List Instr) → (k : State) × Goes g 5 (at l f (block_of g.low l.top.routine (error_block_of (here m floors).frame.bank e).0)) k × Stands g (record m { world = failed g.core (number_of_error e) m.world; rest = rest }) k
+  error_ends fit floors m l s e f rest =
+      let a = s.activation in
+      let n = number_of_error e in
+      let id = 3 + place_of_error e in
+      let line = error_line n in
+      let at_ = g.placement.address (literal id) in
+      let (may, is) = literal_there l at_ line (fit.placed.literals id line (line_there g e)) (limit_above g floors m.world.memory m.world.bound m.callers l.callers m.routine (l.top.registers result_address.0) l.limit l.room m.charged s.callers) s.fixed in
+      let code : block_of g.low l.top.routine (error_block_of (here m floors).frame.bank e).0 ≡ error_code n id =
+      ap₂ (λ r b. block_of g.low r (b + place_of_error e)) a.same a.floor.fits.errors ∙ a.floor.expanded.errors e in
+      let f2 = after_two l f id in (
+        over l f2 line n,
+        goes_from g 5 (at l f (block_of g.low l.top.routine (error_block_of (here m floors).frame.bank e).0)) (at l f (error_code n id)) (over l f2 line n) (ap (at l f) code)
+            (goes_then g 2 3 5 (at l f (error_code n id)) (at l f2 (Write Errors left result_address ∷ Const left n ∷ Exit left ∷ [])) (over l f2 line n) (omega arith) (begins l f n id)
+            (goes_then g 1 2 3 (at l f2 (Write Errors left result_address ∷ Const left n ∷ Exit left ∷ [])) (said l f2 (Const left n ∷ Exit left ∷ []) line) (over l f2 line n) (omega arith)
+            (writes l f2 (Const left n ∷ Exit left ∷ []) at_ line refl refl may is)
+            (ends l f2 line n))),
+        stands (failed g.core n m.world) (failed_is g.core fit.program.exceptions n m.world) (over l f2 line n) (ap (λ x. Ended x) (small_number e)) s.output (ap (λ x. x ++ line) s.errors) s.input,
+      )
+    where
+      stands : (w : World) → w ≡ stopped (number_of_error e) m.world → (k : State) → k.ending ≡ Ended (number_of_error e) → k.output ≡ m.world.output → k.errors ≡ m.world.errors ++ error_line (number_of_error e) → k.input ≡ m.world.input → Stands g (record m { world = w; rest = rest }) k
+      stands w is k ending output errors input =
+          subst (λ x. Stands g (record m { world = x; rest = rest }) k) (sym is) (record { ending = ending; output = output; errors = errors; input = input })

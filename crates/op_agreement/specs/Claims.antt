@@ -1,0 +1,63 @@
+-- In what sense low code goes along with managed code.
+use Rattle.std.specs.Prelude.{◌≡◌, ◌≢◌, ℕ, List, []}
+use Rattle.std.specs.List.{flat_map}
+use Rattle.op_low.specs.Machine.{Event, NeverBad, Written, Taken, low_machine}
+use Rattle.op_low.specs.State.{Bad, State}
+use Rattle.op_low.specs.declared.instruction.Output.TheVariants.{Console, Errors}
+use Rattle.op_meaning.specs.Source.{Event as Shown, Written as WrittenAbove, Reported}
+use Rattle.op_mir.specs.Machine.{MirState, mir_machine}
+use Rattle.op_simulation.specs.Matching.{Agreement, Matching, Follows}
+use Rattle.op_simulation.specs.System.{System}
+use Rattle.op_agreement.specs.Fitting.{IsFitting}
+use Rattle.op_agreement.specs.Settings.{Setting, managed}
+use Rattle.op_agreement.specs.Starting.{IsLoaded, Starts}
+use Rattle.op_agreement.specs.Stands.{Stands}
+
+-- ---- the bytes of each stream
+
+abbrev pub console_above : Shown → List ℕ
+console_above (WrittenAbove bytes) = bytes
+console_above _ = []
+
+abbrev pub errors_above : Shown → List ℕ
+errors_above (Reported bytes) = bytes
+errors_above _ = []
+
+abbrev pub console_below : Event → List ℕ
+console_below (Written Console bytes) = bytes
+console_below (Written Errors bytes) = []
+console_below (Taken bytes) = []
+
+abbrev pub errors_below : Event → List ℕ
+errors_below (Written Console bytes) = []
+errors_below (Written Errors bytes) = bytes
+errors_below (Taken bytes) = []
+
+pub record SameBytes (above : List Shown) (below : List Event) : Type 0 where
+  pub console : flat_map console_above above ≡ flat_map console_below below
+  pub errors : flat_map errors_above above ≡ flat_map errors_below below
+
+-- ---- the machines
+
+-- the machine of low code, whose steps cost nothing: how many there are for one of managed code is not said
+abbrev pub uncounted : Setting → System Event
+uncounted g = record (low_machine g.low g.placement) { cost = λ m. 0 }
+
+-- states that stand for one another; low code is never bad on the way; the bytes of each stream are the same
+abbrev pub lowered : (g : Setting) → Matching (mir_machine (managed g)) (uncounted g)
+lowered g = record { states = Stands g; moments = λ m l. l.ending ≢ Bad; traces = SameBytes; factor = 0 }
+
+-- a step of managed code is one or more of low code
+abbrev pub LowCodeFollows : Type 0
+LowCodeFollows = (g : Setting) → IsFitting g → Follows (lowered g)
+
+-- it begins, and so it goes along for ever from the beginning
+abbrev pub ProgramsStart : Type 0
+ProgramsStart = (g : Setting) → IsFitting g → IsLoaded g → (input : List ℕ) → Starts g input
+
+abbrev pub AgreesForEver : Type 0
+AgreesForEver = (g : Setting) → IsFitting g → (m : MirState) (l : State) → Stands g m l → Agreement (lowered g) m l
+
+-- and is never bad
+abbrev pub NeverBecomesBad : Type 0
+NeverBecomesBad = (g : Setting) (m : MirState) (l : State) → Agreement (lowered g) m l → NeverBad g.low g.placement l

@@ -1,0 +1,84 @@
+-- What is asked of a program and of where it is placed.
+use Rattle.std.specs.Prelude.{◌≡◌, ◌≢◌, ◌<◌, ◌≤◌, ℕ, ◌+◌, ◌%◌, ◌^◌, true, false, List, length, Some, None, slice_get}
+use Rattle.op_constants.specs.Arranged.{IsSmall}
+use Rattle.op_constants.specs.Literals.{literals_of}
+use Rattle.op_constants.specs.Offsets.{size_in}
+use Rattle.op_core.specs.Sizes.{KeepsExtents}
+use Rattle.op_core.specs.declared.ids.TypeId.{TypeId}
+use Rattle.op_core.specs.declared.types.CoreType.TheVariants.{Integer}
+use Rattle.op_core.specs.declared.types.IntegerKind.TheVariants.{Signed8}
+use Rattle.op_expand.specs.Calls.{runtime}
+use Rattle.op_expand.specs.Frames.{frame_of, parameters_of}
+use Rattle.op_expand.specs.Routines.{most_charge}
+use Rattle.op_low.specs.State.{space}
+use Rattle.op_meaning.specs.Expressions.{result_of}
+use Rattle.op_meaning.specs.Shapes.{type_of_variable}
+use Rattle.op_mir.specs.View.{routine_at}
+use Rattle.op_mir.specs.declared.code.Block.{Block}
+use Rattle.op_mir.specs.declared.code.Routine.{Routine}
+use Rattle.op_rt_text.specs.Names.{literal}
+use Rattle.op_rt_text.specs.Running.{HasRuntime}
+use Rattle.op_rv.specs.State.{bytes_from}
+use Rattle.op_rv.specs.declared.symbol.Symbol.{Symbol}
+use Rattle.op_rv.specs.declared.symbol.Symbol.TheVariants.{Global}
+use Rattle.op_agreement.specs.Settings.{Setting, Apart, FrameFits, HaveHomes, IsExpanded}
+use Rattle.op_agreement.specs.Typed.{IsGlobal, AreFine, HasResult, parameter_rows}
+
+-- Values are arranged by their types, each parameter has its row and each result its variable, errors end the program, and no stack has more than 2^26 bytes.
+pub record IsArrangedProgram (g : Setting) : Type 0 where
+  pub extents : KeepsExtents g.core
+  pub first_type : slice_get g.core.types 0 ≡ Some (Integer Signed8)
+  pub exceptions : g.core.exceptions ≡ None
+  pub number : length g.mir.routines ≡ length g.core.routines
+  pub parameters : (r : ℕ) → r < length g.core.routines → length (parameter_rows g.core r) ≡ parameters_of g.core r
+  pub results : (r : ℕ) (of : TypeId) → result_of (slice_get g.core.routines r) ≡ Some of → HasResult g.core r of
+  pub stack : g.stack ≤ most_charge
+
+-- the routine with the number: its blocks are typed and stand in low code, its variables have homes of their own, and an activation takes
+-- no more than it is charged
+pub record RoutineFits (g : Setting) (r : ℕ) (x : Routine) : Type 0 where
+  pub some : 0 < length x.blocks
+  pub fine : (k : ℕ) (block : Block) → slice_get x.blocks k ≡ Some block → AreFine g.core g.mir r x block.code
+  pub homes : (k : ℕ) (block : Block) → slice_get x.blocks k ≡ Some block → HaveHomes g.core r (frame_of g.core r x) block.code
+  pub frame : FrameFits g.core r x (frame_of g.core r x)
+  pub expanded : IsExpanded g r x (frame_of g.core r x)
+  pub space : r < length g.mir.routines → space g.low g.placement (runtime + r) ≤ x.charge
+
+-- a literal stands below the stack, where nothing is written
+pub record LiteralStands (g : Setting) (at : ℕ) (bytes : List ℕ) : Type 0 where
+  pub readable : (x : ℕ) → at ≤ x → x < at + length bytes → g.placement.rights.readable x ≡ true
+  pub fixed : (x : ℕ) → at ≤ x → x < at + length bytes → g.placement.rights.writable x ≡ false
+  pub below : at + length bytes ≤ g.bottom
+  pub stands : bytes_from g.loaded at (length bytes) ≡ bytes
+
+-- a global variable stands below the stack, by whole words
+pub record GlobalStands (g : Setting) (v : ℕ) (at size : ℕ) : Type 0 where
+  pub type : IsSmall g.core (type_of_variable g.core v)
+  pub words : at % 4 ≡ 0
+  pub readable : (x : ℕ) → at ≤ x → x < at + size → g.placement.rights.readable x ≡ true
+  pub writable : (x : ℕ) → at ≤ x → x < at + size → g.placement.rights.writable x ≡ true
+  pub below : at + size ≤ g.bottom
+
+abbrev pub global_address : Setting → ℕ → ℕ
+global_address g v = g.placement.address (Global (record { 0 = v }))
+
+abbrev pub global_size : Setting → ℕ → ℕ
+global_size g v = size_in g.core (type_of_variable g.core v)
+
+-- the stack lies behind all else, by whole words, and may be read and written
+pub record IsPlacedProgram (g : Setting) : Type 0 where
+  pub runtime : HasRuntime g.low g.placement
+  pub words : (symbol : Symbol) → g.placement.address symbol < 2 ^ 32
+  pub literals : (id : ℕ) (bytes : List ℕ) → slice_get (literals_of g.core g.mir) id ≡ Some bytes → LiteralStands g (g.placement.address (literal id)) bytes
+  pub globals : (v : ℕ) → IsGlobal g.core v → GlobalStands g v (global_address g v) (global_size g v)
+  pub apart : (v u : ℕ) → v ≢ u → IsGlobal g.core v → IsGlobal g.core u → Apart (global_address g v) (global_size g v) (global_address g u) (global_size g u)
+  pub whole : g.bottom % 4 ≡ 0
+  pub top : g.top < 2 ^ 32
+  pub readable : (x : ℕ) → g.bottom ≤ x → x < g.top → g.placement.rights.readable x ≡ true
+  pub writable : (x : ℕ) → g.bottom ≤ x → x < g.top → g.placement.rights.writable x ≡ true
+
+-- the premises of the agreement
+pub record IsFitting (g : Setting) : Type 0 where
+  pub program : IsArrangedProgram g
+  pub routines : (r : ℕ) (x : Routine) → routine_at g.mir r ≡ Some x → x.charge ≤ most_charge → RoutineFits g r x
+  pub placed : IsPlacedProgram g

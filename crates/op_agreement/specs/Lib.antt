@@ -1,0 +1,11 @@
+pub mod Chart
+pub mod Claims
+pub mod Coding
+pub mod Fitting
+pub mod Framing
+pub mod Handing
+pub mod Settings
+pub mod Stands
+pub mod Starting
+pub mod Steps
+pub mod Typed

@@ -1,0 +1,9 @@
+pub mod ExpressionsNamed
+pub mod FoundsNamed
+pub mod FramesFit
+pub mod ListsCovered
+pub mod LoopsNamed
+pub mod PlacesFound
+pub mod StatementsNamed
+pub mod TypesWhole
+pub mod WholesSmall

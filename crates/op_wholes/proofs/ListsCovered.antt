@@ -1,0 +1,65 @@
+-- Lists of temporaries: each has its own ones, and those that are in a list of two parts are in both.
+use Rattle.std.proofs.Common.{◌≡◌, ℕ, Bool, true, false, ◌&&◌, ◌||◌, List, [], ◌∷◌, ◌++◌, nat_eq, refl}
+use Rattle.std.proofs.lemmas.Bool.{eq-eqb}
+use Rattle.op_core.specs.declared.ids.TypeId.{TypeId}
+use Rattle.std.specs.List.{list_any}
+use Rattle.op_expand.specs.Homes.{is_one_root}
+use Rattle.op_frames.specs.Made.{Every}
+use Rattle.op_frames.specs.Wholes.{IsWholeIn}
+use Rattle.op_mir.specs.View.{view_root}
+use Rattle.op_mir.specs.declared.path.Root.{Root}
+use Rattle.op_mir.specs.declared.path.Root.TheVariants.{Global, Local, Through, Temporary}
+use Rattle.op_typing.proofs.Rows.{not_true}
+
+or_front : (a b : Bool) → a ≡ true → (a || b) ≡ true
+or_front true b e = refl
+or_front false b e = absurd (not_true e)
+
+or_back : (a b : Bool) → b ≡ true → (a || b) ≡ true
+or_back true b e = refl
+or_back false b e = e
+
+and_both : (a b : Bool) → a ≡ true → b ≡ true → (a && b) ≡ true
+and_both true b p q = q
+and_both false b p q = p
+
+one_itself : (of : TypeId) (n : ℕ) → is_one_root (Temporary of n) (Temporary of n) ≡ true
+one_itself of n = and_both (nat_eq of.0 of.0) (nat_eq n n) (eq-eqb of.0 of.0 refl) (eq-eqb n n refl)
+
+-- a list has the temporary
+abbrev pub IsListed : List Root → Root → Type 0
+IsListed wholes root = IsWholeIn wholes (view_root root)
+
+first_listed : (x : Root) (rs : List Root) → IsListed (x ∷ rs) x
+first_listed (Temporary of n) rs = or_front (is_one_root (Temporary of n) (Temporary of n)) (list_any (is_one_root (Temporary of n)) rs) (one_itself of n)
+first_listed (Global v) rs = tt
+first_listed (Local v) rs = tt
+first_listed (Through v) rs = tt
+
+listed_behind : (x r : Root) (rs : List Root) → IsListed rs r → IsListed (x ∷ rs) r
+listed_behind x (Temporary of n) rs h = or_back (is_one_root (Temporary of n) x) (list_any (is_one_root (Temporary of n)) rs) h
+listed_behind x (Global v) rs h = tt
+listed_behind x (Local v) rs h = tt
+listed_behind x (Through v) rs h = tt
+
+all_behind : (x : Root) (wholes rs : List Root) → Every (IsListed wholes) rs → Every (IsListed (x ∷ wholes)) rs
+all_behind x wholes [] h = tt
+all_behind x wholes (r ∷ rs) h = (listed_behind x r wholes h.0, all_behind x wholes rs h.1)
+
+pub all_listed : (rs : List Root) → Every (IsListed rs) rs
+all_listed [] = tt
+all_listed (x ∷ rs) = (first_listed x rs, all_behind x rs rs (all_listed rs))
+
+-- it has all of these
+abbrev pub AreListed : List Root → List Root → Type 0
+AreListed wholes roots = Every (IsListed wholes) roots
+
+-- ---- lists that are joined
+
+pub front_listed : (wholes xs ys : List Root) → AreListed wholes (xs ++ ys) → AreListed wholes xs
+front_listed wholes [] ys h = tt
+front_listed wholes (x ∷ xs) ys h = (h.0, front_listed wholes xs ys h.1)
+
+pub back_listed : (wholes xs ys : List Root) → AreListed wholes (xs ++ ys) → AreListed wholes ys
+back_listed wholes [] ys h = h
+back_listed wholes (x ∷ xs) ys h = back_listed wholes xs ys h.1
