@@ -1,7 +1,8 @@
 -- What is true of the image of the low code that a program has is true of the program's.
-use Rattle.std.proofs.Common.{◌≡◌, ℕ, ◌<◌, List, ap, subst, ◌∙◌}
+use Rattle.std.proofs.Common.{◌≡◌, ℕ, ◌<◌, List, false, ap, subst, ◌∙◌}
 use Rattle.op_build.specs.Built.{IsBuilt, program_layout, program_low}
 use Rattle.op_core.specs.declared.program.Core.{Core}
+use Rattle.op_image.specs.Building.{is_buildable}
 use Rattle.op_image.specs.Means.{Means}
 use Rattle.op_layout.specs.declared.layout.Layout.{Layout}
 use Rattle.op_link.specs.Linking.{image_of, linked_size}
@@ -19,3 +20,6 @@ made core mir settings image low layout e f i m = record {
 
 pub too_large : (core : Core) (mir : Mir) (settings : Settings) (low : Low) (layout : Layout) → low ≡ program_low core mir settings → layout ≡ program_layout core mir → most_linked < linked_size (select_of low) layout settings → most_linked < linked_size (select_of (program_low core mir settings)) (program_layout core mir) settings
 too_large core mir settings low layout e f l = subst (λ s. most_linked < s) (ap (λ l. linked_size (select_of l) layout settings) e ∙ ap (λ l. linked_size (select_of (program_low core mir settings)) l settings) f) l
+
+pub not_buildable : (core : Core) (mir : Mir) (settings : Settings) (low : Low) (layout : Layout) → low ≡ program_low core mir settings → layout ≡ program_layout core mir → is_buildable low layout ≡ false → is_buildable (program_low core mir settings) (program_layout core mir) ≡ false
+not_buildable core mir settings low layout e f no = subst (λ l. is_buildable l (program_layout core mir) ≡ false) e (subst (λ l. is_buildable low l ≡ false) f no)

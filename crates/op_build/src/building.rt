@@ -1,6 +1,6 @@
 //! The image of a program in managed code.
 ghost use Rattle.std.specs.Prelude.{◌≡◌, IfErr, IfOk, IsTrue};
-ghost use Rattle.op_build.specs.Built.{IsBuilt, IsNotBuilt};
+ghost use Rattle.op_build.specs.Built.{IsBuilt, IsNotBuilt, program_layout, program_low};
 ghost use Rattle.op_link.specs.Memory.{are_in_range};
 
 use op_base::NoMemory;
@@ -8,7 +8,9 @@ use op_constants::layout;
 use op_core::Core;
 use op_expand::expand;
 use op_image::buildable;
+use op_layout::Layout;
 use op_link::{LinkError, Settings};
+use op_low::Low;
 use op_mir::Mir;
 use std::alloc::Global;
 
@@ -32,26 +34,47 @@ impl From<NoMemory> for BuildError {
     }
 }
 
+/// The low code of a program, and its constants.
+struct LowCode {
+    low: Low,
+    layout: Layout,
+}
+
+/// Low code is made of managed code and its tables, which are freed then.
+fn low_code_of(
+    alloc: Global,
+    core: Core,
+    mir: Mir,
+    settings: &Settings,
+) -> Result<LowCode, NoMemory>
+    requires settings { IsTrue (are_in_range settings.now) }
+    ensures low { IfOk result (λ made. made.low ≡ program_low core mir settings.now) }
+    ensures layout { IfOk result (λ made. made.layout ≡ program_layout core mir) }
+{
+    let low = expand(alloc, &core, &mir, 1024 * settings.stack)?;
+    let layout = layout(alloc, &core, &mir)?;
+    Ok(LowCode { low, layout })
+}
+
 /// The image of a program in managed code, beside its tables, with a heap and a stack as the settings say.
 ///
 /// `Limit` comes only where code, constants and initial globals take more than 67,108,864 bytes, `Unbuildable` only where the low code of
 /// the program names what does not exist, and `NoMemory` only where the allocator has no room.
 pub fn build(
     alloc: Global,
-    core: &Core,
-    mir: &Mir,
+    core: Core,
+    mir: Mir,
     settings: &Settings,
 ) -> Result<Vec<u8>, BuildError>
     requires settings { IsTrue (are_in_range settings.now) }
-    ensures made { IfOk result (λ image. IsBuilt core.now mir.now settings.now image.items) }
-    ensures failed { IfErr result (IsNotBuilt core.now mir.now settings.now) }
+    ensures made { IfOk result (λ image. IsBuilt core mir settings.now image.items) }
+    ensures failed { IfErr result (IsNotBuilt core mir settings.now) }
 {
-    let low = expand(alloc, core, mir, 1024 * settings.stack)?;
-    let layout = layout(alloc, core, mir)?;
-    if !buildable(&low, &layout) {
+    let made = low_code_of(alloc, core, mir, settings)?;
+    if !buildable(&made.low, &made.layout) {
         return Err(BuildError::Unbuildable);
     }
-    match op_image::build(alloc, &low, &layout, settings) {
+    match op_image::build(alloc, &made.low, &made.layout, settings) {
         Ok(image) => Ok(image),
         Err(LinkError::Limit) => Err(BuildError::Limit),
         Err(LinkError::NoMemory) => Err(BuildError::NoMemory),

@@ -1,8 +1,7 @@
 -- Errors before and in the check.
-use Rattle.std.proofs.Common.{◌≡◌, ℕ, map, inl, inr, Option, None, Some, Result, Ok, Err, IfErr, IfOk, List, sym, subst}
+use Rattle.std.proofs.Common.{◌≡◌, ℕ, false, map, inl, inr, Option, None, Some, Result, Ok, Err, IfErr, IfOk, List, sym, subst}
 use Rattle.op_base.specs.declared.files.NamedFile.{NamedFile}
 use Rattle.op_base.specs.declared.rule.Refusal.{Refusal}
-use Rattle.op_build.specs.declared.building.BuildError.{BuildError}
 use Rattle.op_build.specs.declared.building.BuildError.TheVariants as build
 use Rattle.op_check_unit.specs.Checking.{CheckIs}
 use Rattle.op_check_unit.specs.Programs.{program_means}
@@ -11,10 +10,9 @@ use Rattle.op_core.specs.declared.error.CheckError.{CheckError}
 use Rattle.op_core.specs.declared.program.Core.{Core}
 use Rattle.op_tree.specs.File.{file_of}
 use Rattle.op_tree.specs.declared.file.Tree.{Tree}
+use Rattle.op_plain.specs.Plain.{is_plain_program}
 use Rattle.op_units.specs.declared.forest.Forest.{Forest}
-use Rattle.op_tool.specs.Compiles.{Checks, error_of, FailsAs, FailsToBuild, FailsToCheck, HasNoCodeImage, HasNoImage, HasOutput, IsBroken, IsCodeImage, IsNoCodeImage, IsProgram, IsTooLarge, Made, RefusesBy, by_code, by_files, by_output, by_text, by_size}
-use Rattle.op_tool.specs.ConstantLines.{output_of}
-use Rattle.op_tool.specs.Prints.{Prints}
+use Rattle.op_tool.specs.Compiles.{Checks, error_of, FailsAs, FailsToBuild, FailsToCheck, HasNoImage, IsBroken, IsImage, IsTypedProgram, Made, RefusesBy, by_files, not_compiled}
 use Rattle.op_tool.specs.declared.compiler.CompileError.{CompileError}
 use Rattle.op_tool.specs.declared.compiler.CompileError.TheVariants.{Refused, ReadFault, Limit, NoMemory}
 use Rattle.op_units.specs.Loads.{FailsAs as FailsToLoad}
@@ -50,38 +48,32 @@ pub ok_also : {A E : Type 0} {P Q : A → Type 0} (r : Result A E) → ((a : A) 
 ok_also (Ok a) f holds = f a holds
 ok_also (Err e) f holds = holds
 
--- ---- the code of a program
+-- ---- the image of a program
 
--- an image of a program's code is one of the program
-pub made_of_code : (stored : Option (List NamedFile)) (name : List ℕ) (forest : Forest) (core : Core) (image : List ℕ) → IsProgram stored name forest core → output_of forest.trees core ≡ None → IsCodeImage core image → Made stored name image
-made_of_code stored name forest core image is none is_image =
-    by_code (record { mir = is_image.mir; has_code = record { has_output = record { forest = forest; core = core; is_program = is; writes = none }; lowers = is_image.lowers; manages = is_image.manages }; built = is_image.built })
-
-fails_to_build : (stored : Option (List NamedFile)) (name : List ℕ) (forest : Forest) (core : Core) (error : BuildError) → IsProgram stored name forest core → output_of forest.trees core ≡ None → IsNoCodeImage core error → FailsToBuild stored name error
-fails_to_build stored name forest core error is none no_image =
-    record { mir = no_image.mir; has_code = record { has_output = record { forest = forest; core = core; is_program = is; writes = none }; lowers = no_image.lowers; manages = no_image.manages }; why = no_image.why }
+-- an image of a typed program is one of the program in the file
+pub made_of : (stored : Option (List NamedFile)) (name : List ℕ) (core : Core) (image : List ℕ) → IsTypedProgram stored name core → IsImage core image → Made stored name image
+made_of stored name core image is is_image = record { core = core; is_program = is; is_image = is_image }
 
 -- why a program has none
-pub fails_as_code : (stored : Option (List NamedFile)) (name : List ℕ) (before after : ℕ) (forest : Forest) (core : Core) (error : CompileError) → IsProgram stored name forest core → output_of forest.trees core ≡ None → HasNoCodeImage core name error → FailsAs stored name before after error
-fails_as_code stored name before after forest core (Refused refusal file) is none (is_file, is_refusal, no_image) =
-    (is_file, inr (is_refusal, fails_to_build stored name forest core build.Unbuildable is none no_image))
-fails_as_code stored name before after forest core ReadFault is none never = absurd never
-fails_as_code stored name before after forest core Limit is none no_image = by_size (fails_to_build stored name forest core build.Limit is none no_image)
-fails_as_code stored name before after forest core NoMemory is none free = free
+pub fails_as : (stored : Option (List NamedFile)) (name : List ℕ) (before after : ℕ) (core : Core) (error : CompileError) → IsTypedProgram stored name core → HasNoImage core name error → FailsAs stored name before after error
+fails_as stored name before after core (Refused refusal file) is (is_file, is_refusal, no_image) = (is_file, inr (is_refusal, core, is, no_image))
+fails_as stored name before after core ReadFault is never = absurd never
+fails_as stored name before after core Limit is no_image = (core, is, no_image)
+fails_as stored name before after core NoMemory is free = free
 
--- ---- the text of a program
+-- a typed program that is refused is not of the class that is compiled
+pub not_plain : (core : Core) (name : List ℕ) (error : CompileError) → is_plain_program core ≡ false → RefusesBy name not_compiled error → HasNoImage core name error
+not_plain core name (Refused refusal file) is (is_file, is_refusal) = (is_file, is_refusal, inl is)
+not_plain core name ReadFault is never = never
+not_plain core name Limit is never = absurd never
+not_plain core name NoMemory is free = free
 
--- an image of a program's text is one of the program
-pub made_of_text : (stored : Option (List NamedFile)) (name : List ℕ) (forest : Forest) (core : Core) (image output : List ℕ) → IsProgram stored name forest core → output_of forest.trees core ≡ Some output → Prints image output → Made stored name image
-made_of_text stored name forest core image output is some prints =
-    by_output output (record { has_output = record { forest = forest; core = core; is_program = is; writes = some }; prints = prints })
-
--- a text that has no image
-pub fails_as_text : (stored : Option (List NamedFile)) (name : List ℕ) (before after : ℕ) (forest : Forest) (core : Core) (output : List ℕ) (error : CompileError) → IsProgram stored name forest core → output_of forest.trees core ≡ Some output → HasNoImage output error → FailsAs stored name before after error
-fails_as_text stored name before after forest core output (Refused refusal file) is some never = absurd never
-fails_as_text stored name before after forest core output ReadFault is some never = absurd never
-fails_as_text stored name before after forest core output Limit is some large = by_text output (record { forest = forest; core = core; is_program = is; writes = some }) large
-fails_as_text stored name before after forest core output NoMemory is some free = free
+-- nor is one whose low code names what does not exist
+pub not_built : (core : Core) (name : List ℕ) (error : CompileError) → FailsToBuild core build.Unbuildable → RefusesBy name not_compiled error → HasNoImage core name error
+not_built core name (Refused refusal file) fails (is_file, is_refusal) = (is_file, is_refusal, inr fails)
+not_built core name ReadFault fails never = never
+not_built core name Limit fails never = absurd never
+not_built core name NoMemory fails free = free
 
 pub err_also : {A E : Type 0} {P Q : E → Type 0} (r : Result A E) → ((e : E) → P e → Q e) → IfErr r P → IfErr r Q
 err_also (Ok a) f holds = holds

@@ -3,10 +3,7 @@ pub mod Compiling
 pub mod Executing
 pub mod Failing
 pub mod Grows
-pub mod Lines
 pub mod Running
 pub mod RunningFiles
 pub mod Saying
-pub mod TextImage
-pub mod TextRuns
 pub mod Words

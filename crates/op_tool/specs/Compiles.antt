@@ -1,5 +1,5 @@
 -- What checking and compiling a file give. `stored` are the files, as far as they tell.
-use Rattle.std.specs.Prelude.{◌≡◌, ℕ, ◌⊎◌, Option, Some, None, Result, Ok, Err, List, ⊤, map}
+use Rattle.std.specs.Prelude.{◌≡◌, ℕ, ◌*◌, ◌⊎◌, false, Option, Some, None, Result, Ok, Err, List, ⊤, map}
 use Rattle.op_base.specs.Outside.{Rose}
 use Rattle.op_base.specs.declared.files.NamedFile.{NamedFile}
 use Rattle.op_base.specs.declared.place.Place.{Place}
@@ -11,16 +11,18 @@ use Rattle.op_build.specs.declared.building.BuildError.TheVariants as build
 use Rattle.op_check_unit.specs.Checking.{CheckIs}
 use Rattle.op_check_unit.specs.Programs.{program_means}
 use Rattle.op_check_unit.specs.Rules.{Obeys, ProgramBreaks}
+use Rattle.op_core.specs.Sound.{IsSound, IsSoundNesting}
 use Rattle.op_core.specs.declared.error.CheckError.{CheckError}
 use Rattle.op_core.specs.declared.error.CheckError.TheVariants as check
 use Rattle.op_core.specs.declared.program.Core.{Core}
+use Rattle.op_correctness.specs.Agrees.{Agrees}
 use Rattle.op_lower.specs.Lowers.{Lowers}
-use Rattle.op_managed.specs.Managed.{Manages}
+use Rattle.op_link.specs.declared.memory_map.Settings.{Settings}
+use Rattle.op_meaning.specs.Frames.{Program, program_of}
 use Rattle.op_mir.specs.declared.code.Mir.{Mir}
-use Rattle.op_tool.specs.ConstantLines.{output_of}
-use Rattle.op_tool.specs.Prints.{Prints}
-use Rattle.op_tool.specs.TextProgram.{IsLargeText, default}
+use Rattle.op_plain.specs.Plain.{is_plain_program}
 use Rattle.op_tool.specs.declared.compiler.CompileError.{CompileError}
+use Rattle.op_plain.specs.Plain.{is_plain_program}
 use Rattle.op_tool.specs.declared.compiler.CompileError.TheVariants.{Refused, ReadFault, Limit, NoMemory}
 use Rattle.op_tree.specs.File.{file_of}
 use Rattle.op_units.specs.declared.error.LoadError.{LoadError}
@@ -39,39 +41,39 @@ pub record Checks (forest : Forest) (result : Result Core CheckError) : Type 0 w
 pub record IsProgram (stored : Option (List NamedFile)) (name : List ℕ) (forest : Forest) (core : Core) : Type 0 where
   pub loads : Loads stored name forest
   pub checks : Checks forest (Ok core)
+  pub sound : IsSound core
+  pub nesting : IsSoundNesting core
+
+abbrev pub IsTypedProgram : Option (List NamedFile) → List ℕ → Core → Type 0
+IsTypedProgram stored name core = (forest : Forest) × IsProgram stored name forest core
 
 -- the program breaks no rule
 abbrev pub IsAccepted : Option (List NamedFile) → List ℕ → Type 0
-IsAccepted stored name = (forest : Forest) × (core : Core) × IsProgram stored name forest core
+IsAccepted stored name = (core : Core) × IsTypedProgram stored name core
 
--- the program breaks no rule, and this is what it writes, if it is of a form that is compiled
-pub record HasOutput (stored : Option (List NamedFile)) (name : List ℕ) (output : Option (List ℕ)) : Type 0 where
-  pub forest : Forest
-  pub core : Core
-  pub is_program : IsProgram stored name forest core
-  pub writes : output_of forest.trees core ≡ output
+-- ---- images
 
--- the program has this output, and its image prints that
-pub record Compiles (stored : Option (List NamedFile)) (name image output : List ℕ) : Type 0 where
-  pub has_output : HasOutput stored name (Some output)
-  pub prints : Prints image output
+-- 8 MiB of heap and 1 MiB of stack
+abbrev pub default : Settings
+default = record { heap = 8192; stack = 1024 }
 
--- the program is of another form, and this is its managed code, which goes along with the source machine where the program is plain
-pub record HasCode (stored : Option (List NamedFile)) (name : List ℕ) (mir : Mir) : Type 0 where
-  pub has_output : HasOutput stored name None
-  pub lowers : Lowers has_output.core mir
-  pub manages : Manages has_output.core mir
+-- what a typed program means, with the stack that it gets
+abbrev pub meant : Core → Program
+meant core = program_of core (1024 * default.stack)
 
--- the image is that of the program's managed code
-pub record CompilesCode (stored : Option (List NamedFile)) (name image : List ℕ) : Type 0 where
+-- The image is that of the program's managed code, and it agrees with the program: over every input it writes and ends as the program does,
+-- step by step and for ever.
+pub record IsImage (core : Core) (image : List ℕ) : Type 0 where
   pub mir : Mir
-  pub has_code : HasCode stored name mir
-  pub built : IsBuilt has_code.has_output.core mir default image
+  pub lowers : Lowers core mir
+  pub built : IsBuilt core mir default image
+  pub agrees : Agrees (meant core) image
 
--- an image of the program
-pub data Made (stored : Option (List NamedFile)) (name image : List ℕ) : Type 0 where
-  by_output : (output : List ℕ) → Compiles stored name image output → Made stored name image
-  by_code : CompilesCode stored name image → Made stored name image
+-- an image of the program in the file
+pub record Made (stored : Option (List NamedFile)) (name image : List ℕ) : Type 0 where
+  pub core : Core
+  pub is_program : IsTypedProgram stored name core
+  pub is_image : IsImage core image
 
 -- ---- refusals
 
@@ -90,20 +92,23 @@ main_start = record { file = 0; line = 1; col = 1 }
 abbrev pub not_compiled : Refusal
 not_compiled = record { rule = record { number = 13; feature = 38 }; place = main_start }
 
--- the program's managed code has no image, for this cause
-pub record FailsToBuild (stored : Option (List NamedFile)) (name : List ℕ) (error : BuildError) : Type 0 where
+-- the managed code of a typed program has no image, for this cause
+pub record FailsToBuild (core : Core) (error : BuildError) : Type 0 where
   pub mir : Mir
-  pub has_code : HasCode stored name mir
-  pub why : IsNotBuilt has_code.has_output.core mir default error
+  pub lowers : Lowers core mir
+  pub why : IsNotBuilt core mir default error
 
--- the program breaks this rule first, or it breaks none and its low code names what does not exist
+-- it is not of the class that is compiled, or its low code names what does not exist
+abbrev pub IsNotCompiled : Core → Type 0
+IsNotCompiled core = (is_plain_program core ≡ false) ⊎ FailsToBuild core build.Unbuildable
+
+-- the program breaks this rule first, or it breaks none and is not compiled
 abbrev pub IsRefused : Option (List NamedFile) → List ℕ → Refusal → Type 0
-IsRefused stored name refusal = IsBroken stored name refusal ⊎ (refusal ≡ not_compiled) × FailsToBuild stored name build.Unbuildable
+IsRefused stored name refusal = IsBroken stored name refusal ⊎ (refusal ≡ not_compiled) × (core : Core) × IsTypedProgram stored name core × IsNotCompiled core
 
 -- code, constants and initial globals of its image have more bytes than an image may have
-pub data IsTooLarge (stored : Option (List NamedFile)) (name : List ℕ) : Type 0 where
-  by_text : (output : List ℕ) → HasOutput stored name (Some output) → IsLargeText output → IsTooLarge stored name
-  by_size : FailsToBuild stored name build.Limit → IsTooLarge stored name
+abbrev pub IsTooLarge : Option (List NamedFile) → List ℕ → Type 0
+IsTooLarge stored name = (core : Core) × IsTypedProgram stored name core × FailsToBuild core build.Limit
 
 -- ---- errors
 
@@ -134,30 +139,9 @@ error_of (load.Refused refusal file) = Refused refusal file
 error_of load.ReadFault = ReadFault
 error_of load.NoMemory = NoMemory
 
--- why a text has no image
-abbrev pub HasNoImage : List ℕ → CompileError → Type 0
-HasNoImage output (Refused refusal file) = ⊥
-HasNoImage output ReadFault = ⊥
-HasNoImage output Limit = IsLargeText output
-HasNoImage output NoMemory = ⊤
-
--- managed code of a typed program, and its image
-pub record IsCodeImage (core : Core) (image : List ℕ) : Type 0 where
-  pub mir : Mir
-  pub lowers : Lowers core mir
-  pub manages : Manages core mir
-  pub built : IsBuilt core mir default image
-
--- managed code of a typed program that has no image, for this cause
-pub record IsNoCodeImage (core : Core) (error : BuildError) : Type 0 where
-  pub mir : Mir
-  pub lowers : Lowers core mir
-  pub manages : Manages core mir
-  pub why : IsNotBuilt core mir default error
-
 -- why a typed program in this file has no image
-abbrev pub HasNoCodeImage : Core → List ℕ → CompileError → Type 0
-HasNoCodeImage core name (Refused refusal file) = (file ≡ name) × (refusal ≡ not_compiled) × IsNoCodeImage core build.Unbuildable
-HasNoCodeImage core name ReadFault = ⊥
-HasNoCodeImage core name Limit = IsNoCodeImage core build.Limit
-HasNoCodeImage core name NoMemory = ⊤
+abbrev pub HasNoImage : Core → List ℕ → CompileError → Type 0
+HasNoImage core name (Refused refusal file) = (file ≡ name) × (refusal ≡ not_compiled) × IsNotCompiled core
+HasNoImage core name ReadFault = ⊥
+HasNoImage core name Limit = FailsToBuild core build.Limit
+HasNoImage core name NoMemory = ⊤

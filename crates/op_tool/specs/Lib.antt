@@ -1,9 +1,6 @@
 pub mod Command
 pub mod Compiles
-pub mod ConstantLines
 pub mod Effects
 pub mod ImageRun
 pub mod Owes
-pub mod Prints
 pub mod Status
-pub mod TextProgram

@@ -7,8 +7,10 @@ use Rattle.op_base.specs.declared.files.NamedFile.{NamedFile}
 use Rattle.op_base.specs.declared.place.Place.{Place}
 use Rattle.op_base.specs.declared.rule.Refusal.{Refusal}
 use Rattle.op_base.specs.declared.rule.Rule.{Rule}
+use Rattle.op_core.specs.declared.program.Core.{Core}
+use Rattle.op_correctness.specs.Agrees.{EndsAsMeant}
 use Rattle.op_tool.specs.Command.{IsBuild, IsCheck, IsExec, IsRun, IsNoCommand}
-use Rattle.op_tool.specs.Compiles.{Compiles, CompilesCode, IsAccepted, IsBroken, IsRefused, IsTooLarge, Made, file_missing, main_start}
+use Rattle.op_tool.specs.Compiles.{IsAccepted, IsBroken, IsRefused, IsTooLarge, Made, file_missing, main_start, meant}
 use Rattle.op_tool.specs.Effects.{Effect, OnlyReports, OnlyWrites, ReportIs, line}
 use Rattle.op_tool.specs.ImageRun.{OwesImage}
 use Rattle.op_tool.specs.declared.compiler.CompileError.{CompileError}
@@ -93,10 +95,25 @@ OwesError now name Limit done = IsTooLarge now.stored name × (now.image ≡ [])
 OwesError now name NoMemory done = OnlyReports (line (codes "opc: out of memory")) done
 OwesError now name _ done = ⊥
 
--- what a program did that was compiled and run: it wrote the output that it has, or it did what its image does
-pub data Executes (now : Call) (name : List ℕ) (answer : Finish) (done : Effect) : Type 0 where
-  by_output : (answer ≡ Ended 0) → Compiles now.stored name now.image done.out → (done.err ≡ []) → (done.left ≡ done.input) → Executes now name answer done
-  by_code : CompilesCode now.stored name now.image → OwesImage now.image answer done → Executes now name answer done
+-- the program has ended with that status, and this is what it has written and left
+abbrev pub Means : Core → Finish → Effect → Type 0
+Means core (Ended status) done = EndsAsMeant (meant core) done.input status done.out done.err done.left
+Means core _ done = Unit {0}
+
+-- an image that agrees with a program is never bad, and never faults
+abbrev pub IsEndOfRun : Finish → Type 0
+IsEndOfRun (Ended status) = Unit {0}
+IsEndOfRun Spent = Unit {0}
+IsEndOfRun ReadFault = Unit {0}
+IsEndOfRun _ = ⊥
+
+-- What a program did that was compiled and run: its image agrees with it, and this is what the run of the image owes. Where that has ended, so has the
+-- program.
+pub record Executes (now : Call) (name : List ℕ) (answer : Finish) (done : Effect) : Type 0 where
+  pub made : Made now.stored name now.image
+  pub means : Means made.core answer done
+  pub is_end : IsEndOfRun answer
+  pub owes : OwesImage now.image answer done
 
 -- `exec` of the file of this name
 abbrev pub OwesExec : Call → List ℕ → Finish → Effect → Type 0

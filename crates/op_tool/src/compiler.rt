@@ -1,17 +1,16 @@
 //! From a source file to its image.
 ghost use Rattle.std.specs.Prelude.{◌≡◌, ◌≤◌, IfErr, IfOk};
-ghost use Rattle.op_tool.specs.Compiles.{FailsAs, FailsToCheck, HasNoCodeImage, HasNoImage, IsCodeImage, IsProgram, Made, RefusesBy};
-ghost use Rattle.op_tool.specs.Prints.{Prints};
+ghost use Rattle.op_core.specs.Sound.{IsSound, IsSoundNesting};
+ghost use Rattle.op_tool.specs.Compiles.{FailsAs, FailsToCheck, HasNoImage, IsImage, IsTypedProgram, Made, RefusesBy};
 
-use crate::constant_lines::output_of;
-use crate::text_program::text_image;
 use op_base::{Files, NoMemory, Place, Refusal, Rule, Text};
 use op_build::{BuildError, build};
 use op_check_unit::check;
 use op_core::{CheckError, Core};
-use op_link::{LinkError, Settings};
+use op_link::Settings;
 use op_managed::middle;
-use op_units::{Forest, LoadError, load};
+use op_plain::is_plain;
+use op_units::{LoadError, load};
 use std::alloc::Global;
 
 /// The beginning of the file that a command names.
@@ -21,7 +20,7 @@ pub(crate) const MAIN_START: Place = Place {
     col: 1,
 };
 
-/// A program breaks no rule, and its low code names what does not exist.
+/// A program breaks no rule, and is not of the class that is compiled.
 const NOT_COMPILED: Refusal = Refusal {
     rule: Rule {
         number: 13,
@@ -29,9 +28,6 @@ const NOT_COMPILED: Refusal = Refusal {
     },
     place: MAIN_START,
 };
-
-/// The most bytes that code, constants and initial globals may have.
-const MOST_LINKED: usize = 67_108_864;
 
 /// Why a file was not compiled.
 #[derive(Debug, Drop)]
@@ -69,71 +65,50 @@ impl From<LoadError> for CompileError {
     }
 }
 
-/// A program that breaks no rule: the trees of its files, and its typed form.
-#[derive(Drop)]
-pub(crate) struct Program {
-    forest: Forest,
-    core: Core,
-}
-
-/// The image of the program in this file.
+/// The image of the program in this file, which does what the program means.
 ///
-/// `Refused` tells the first rule that the program breaks, as `load` and then `check` have them, or that its low code names what does
-/// not exist. `Limit` comes where code, constants and initial globals would take more than 67,108,864 bytes.
+/// `Refused` tells the first rule that the program breaks, as `load` and then `check` have them, or that it is not of the class that is
+/// compiled. `Limit` comes where code, constants and initial globals would take more than 67,108,864 bytes.
 pub fn compile<F: Files>(alloc: Global, files: &mut F, main: &str) -> Result<Vec<u8>, CompileError>
     ensures made { IfOk result (λ image. Made (F.stored files.old) main.now image.items) }
     ensures failed { IfErr result (FailsAs (F.stored files.old) main.now (F.faults files.old) (F.faults files.new)) }
     ensures counts { F.faults files.old ≤ F.faults files.new }
     ensures unchanged { F.stored files.new ≡ F.stored files.old }
 {
-    let Program { forest, core } = checked(alloc, files, main)?;
-    match output_of(alloc, forest.trees.as_slice(), &core)? {
-        Some(output) => image_of(alloc, output),
-        None => code_image(alloc, main, &core),
-    }
+    let core = checked(alloc, files, main)?;
+    image_of(alloc, main, core)
 }
 
-/// The program in this file, or the first rule that it breaks, as `load` and then `check` have them.
+/// The typed form of the program in this file, or the first rule that it breaks, as `load` and then `check` have them.
 pub(crate) fn checked<F: Files>(
     alloc: Global,
     files: &mut F,
     main: &str,
-) -> Result<Program, CompileError>
-    ensures made { IfOk result (λ program. IsProgram (F.stored files.old) main.now program.forest program.core) }
+) -> Result<Core, CompileError>
+    ensures made { IfOk result (IsTypedProgram (F.stored files.old) main.now) }
     ensures failed { IfErr result (FailsToCheck (F.stored files.old) main.now (F.faults files.old) (F.faults files.new)) }
     ensures counts { F.faults files.old ≤ F.faults files.new }
     ensures unchanged { F.stored files.new ≡ F.stored files.old }
 {
     let forest = load(alloc, files, main)?;
     match check(alloc, forest.trees.as_slice()) {
-        Ok(core) => Ok(Program { forest, core }),
+        Ok(core) => Ok(core),
         Err(CheckError::Refused(refusal)) => Err(refused(alloc, main, refusal)),
         Err(CheckError::NoMemory) => Err(CompileError::NoMemory),
     }
 }
 
-/// The image of a program that writes this text.
-fn image_of(alloc: Global, output: Text) -> Result<Vec<u8>, CompileError>
-    ensures made { IfOk result (λ image. Prints image.items output) }
-    ensures failed { IfErr result (HasNoImage output) }
+/// The image of a typed program, which is in this file.
+fn image_of(alloc: Global, main: &str, core: Core) -> Result<Vec<u8>, CompileError>
+    requires sound { IsSound core × IsSoundNesting core }
+    ensures made { IfOk result (λ image. IsImage core image.items) }
+    ensures failed { IfErr result (HasNoImage core main.now) }
 {
-    if output.as_slice().len() > MOST_LINKED {
-        return Err(CompileError::Limit);
+    if !is_plain(&core) {
+        return Err(refused(alloc, main, NOT_COMPILED));
     }
-    match text_image(alloc, output) {
-        Ok(image) => Ok(image),
-        Err(LinkError::Limit) => Err(CompileError::Limit),
-        Err(LinkError::NoMemory) => Err(CompileError::NoMemory),
-    }
-}
-
-/// The image of the managed code of a program, which is in this file.
-fn code_image(alloc: Global, main: &str, core: &Core) -> Result<Vec<u8>, CompileError>
-    ensures made { IfOk result (λ image. IsCodeImage core.now image.items) }
-    ensures failed { IfErr result (HasNoCodeImage core.now main.now) }
-{
-    let mir = middle(alloc, core)?;
-    match build(alloc, core, &mir, &Settings::DEFAULT) {
+    let mir = middle(alloc, &core)?;
+    match build(alloc, core, mir, &Settings::DEFAULT) {
         Ok(image) => Ok(image),
         Err(BuildError::Limit) => Err(CompileError::Limit),
         Err(BuildError::Unbuildable) => Err(refused(alloc, main, NOT_COMPILED)),

@@ -3,12 +3,10 @@
 
 mod command;
 mod compiler;
-mod constant_lines;
 mod driver;
 mod finish;
 mod image_run;
 mod report;
-mod text_program;
 
 pub use compiler::{CompileError, compile};
 pub use driver::tool;

@@ -1,0 +1,48 @@
+-- In what sense an image agrees with a program: over every input it writes and ends as the program does, step by step and for ever.
+use Rattle.std.specs.Prelude.{◌≡◌, ◌<◌, ℕ, suc, List, Option, None}
+use Rattle.op_image.specs.Means.{AreBytes, image_run}
+use Rattle.op_link.specs.Image.{first_failing}
+use Rattle.op_meaning.specs.Frames.{Program, State}
+use Rattle.op_meaning.specs.Source.{source}
+use Rattle.op_meaning.specs.Start.{start}
+use Rattle.op_meaning.specs.World.{Ending, Running, Ended}
+use Rattle.op_rv.specs.State.{State as ImageState, Ending as ImageEnding, Running as GoesOn, Ended as HasEnded}
+use Rattle.op_select.specs.Going.{IsSafe}
+use Rattle.op_simulation.specs.System.{run}
+
+-- the source machine after so many steps
+abbrev pub source_run : Program → List ℕ → ℕ → State
+source_run p input n = run (source p) n (start p input)
+
+-- both go on, or both have ended with the same status
+abbrev pub EndsAlike : Ending → ImageEnding → Type 0
+EndsAlike Running e = e ≡ GoesOn
+EndsAlike (Ended status) e = e ≡ HasEnded status
+
+-- the same was written, the same is left of the input
+pub record LooksAlike (s : State) (b : ImageState) : Type 0 where
+  pub output : b.output ≡ s.world.output
+  pub errors : b.errors ≡ s.world.errors
+  pub input : b.input ≡ s.world.input
+  pub ending : EndsAlike s.world.ending b.ending
+
+-- After each step of the source machine there is a point in the run of the image at which both look alike. The points rise, so they pass
+-- every step of the image: an image that goes on for ever does so where the program does. The image never faults.
+pub record GoesAlong (p : Program) (image input : List ℕ) : Type 0 where
+  pub point : ℕ → ℕ
+  pub rises : (n : ℕ) → point n < point (suc n)
+  pub alike : (n : ℕ) → LooksAlike (source_run p input n) (image_run image input (point n))
+  pub safe : (m : ℕ) → IsSafe (image_run image input m).ending
+
+-- the image loads, and goes along with the program over every input
+pub record Agrees (p : Program) (image : List ℕ) : Type 0 where
+  pub loads : first_failing image ≡ None
+  pub along : (input : List ℕ) → AreBytes input → GoesAlong p image input
+
+-- the program ends with this status, and has then written this and left this of its input
+pub record EndsAsMeant (p : Program) (input : List ℕ) (status : ℕ) (output errors left : List ℕ) : Type 0 where
+  pub steps : ℕ
+  pub ended : (source_run p input steps).world.ending ≡ Ended status
+  pub writes : (source_run p input steps).world.output ≡ output
+  pub reports : (source_run p input steps).world.errors ≡ errors
+  pub leaves : (source_run p input steps).world.input ≡ left

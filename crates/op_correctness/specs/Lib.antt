@@ -1,0 +1,4 @@
+pub mod Agrees
+pub mod Claims
+pub mod Placed
+pub mod Targets
