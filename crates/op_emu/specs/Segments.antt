@@ -1,5 +1,5 @@
 -- The segments of the code as regions, and what is read from them.
-use Rattle.std.specs.Prelude.{◌≡◌, ℕ, ◌+◌, ◌<◌, ◌≤◌, Bool, true, false, Option, Some, None, List, ◌++◌, map, length, take, drop}
+use Rattle.std.specs.Prelude.{◌≡◌, ℕ, ◌+◌, ◌-◌, ◌<◌, ◌≤◌, Bool, true, false, Option, Some, None, List, ◌++◌, map, length, take, drop}
 use Rattle.op_rv.specs.State.{bytes_from, all_from, with_bytes, word_at}
 use Rattle.op_emu.specs.Region.{Region, range_of, are_apart, region_at, byte_in, readable_in, writable_in, executable_in, rights_in}
 use Rattle.op_emu.specs.declared.memory.Right.{Right}
@@ -70,3 +70,9 @@ abbrev pub WordIs : Right → List Region → ℕ → Option ℕ → Type 0
 WordIs right regions at (Some word) =
     (all_from (right_in right regions) at 4 ≡ true) × (word ≡ word_at (byte_in regions) at)
 WordIs right regions at None = all_from (right_in right regions) at 4 ≡ false
+
+-- a segment that may be written has room for these bytes from an address on, and has them now
+pub record WritesWhole (old new : Segment) (at : ℕ) (bytes : List ℕ) : Type 0 where
+  pub may : old.writable ≡ true
+  pub room : at - old.base + length bytes ≤ length old.bytes.items
+  pub wrote : region_of new ≡ record (region_of old) { bytes = written_over old.bytes.items (at - old.base) bytes }
