@@ -10,11 +10,10 @@ use Rattle.op_rv.specs.Step.{can_access, load_size_of, load_value, extended_byte
 use Rattle.op_rv.specs.declared.instruction.Instr.{Instr}
 use Rattle.op_rv.specs.declared.instruction.LoadOp.{LoadOp}
 use Rattle.op_rv.specs.declared.instruction.LoadOp.TheVariants.{Lb, Lh, Lw, Lbu, Lhu}
-use Rattle.std.specs.List.{position}
-use Rattle.op_emu.specs.Region.{Region, covers, range_of, are_apart, region_at, byte_in, readable_in, writable_in, executable_in}
+use Rattle.op_emu.specs.Region.{Region, range_of, are_apart, region_at, byte_in, readable_in, writable_in, executable_in}
 use Rattle.op_emu.specs.Rows.{instr_of, IsRowOf, Stands, AreDecoded, AllDecoded, HasRows, HoldsStill}
 use Rattle.op_emu.specs.declared.memory.Code.{Code}
-use Rattle.op_emu.specs.Segments.{region_of, regions_of, lie_apart, written_over, has_right, right_in, IsFoundAt, IsWritten, WritesWhole}
+use Rattle.op_emu.specs.Segments.{region_of, regions_of, lie_apart, written_over, has_right, right_in, HasAddress, IsFoundAt, IsWritten, WritesWhole}
 use Rattle.op_emu.specs.declared.memory.Right.TheVariants.{Read, Write, Execute}
 use Rattle.op_emu.specs.declared.memory.Segment.{Segment}
 use Rattle.op_emu.specs.declared.row.Row.{Row}
@@ -174,7 +173,7 @@ all_rows bytes rows within all =
     }
 
 -- bytes were written to the segment at an address, which is at this place
-module _ (ss : List Segment) (at k : ℕ) (s : Segment) (there : position (λ s. covers (range_of (region_of s)) at) ss ≡ Some k) (here : s ≡ get_or ss k s) (lie : IsTrue (lie_apart ss)) where
+module _ (ss : List Segment) (at k : ℕ) (s : Segment) (there : HasAddress ss at k) (here : s ≡ get_or ss k s) (lie : IsTrue (lie_apart ss)) where
   pub still_decoded : (s' : Segment) (bytes : List ℕ) → at - s.base + length bytes ≤ length s.bytes.items → region_of s' ≡ record (region_of s) { bytes = written_over s.bytes.items (at - s.base) bytes } → s.writable ≡ true → (base : ℕ) (rows : List Row) → AreDecoded (regions_of ss) base rows → AreDecoded (regions_of (set ss k s')) base rows
   still_decoded s' bytes fits is may base rows decoded =
       let above = (place_within ss at k s there here).above in

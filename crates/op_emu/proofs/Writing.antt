@@ -11,7 +11,7 @@ use Rattle.std.specs.List.{list_all, position, position_or_len}
 use Rattle.std.specs.Option.{option_map_or}
 use Rattle.op_rv.specs.State.{Rights, with_bytes}
 use Rattle.op_emu.specs.Region.{Region, Range, covers, is_apart, are_apart, range_of, region_at, byte_in, readable_in, writable_in, executable_in, rights_in}
-use Rattle.op_emu.specs.Segments.{region_of, regions_of, lie_apart, written_over, IsWithin, IsFoundAt, IsWritten}
+use Rattle.op_emu.specs.Segments.{region_of, regions_of, lie_apart, written_over, HasAddress, IsWithin, IsFoundAt, IsWritten}
 use Rattle.op_emu.specs.declared.memory.Segment.{Segment}
 use Rattle.op_emu.proofs.Regions.{find-map, apart_covers}
 use Rattle.op_emu.proofs.Stretches.{and_left, and_right}
@@ -220,14 +220,23 @@ pub length-regions_of : (ss : List Segment) → length (regions_of ss) ≡ lengt
 length-regions_of [] = refl
 length-regions_of (s ∷ ss) = ap suc (length-regions_of ss)
 
+-- the first place whose segment has an address
+pub has_address : (ss : List Segment) (at k : ℕ) → position (λ s. covers (range_of (region_of s)) at) ss ≡ Some k → HasAddress ss at k
+has_address [] at k is = cc
+has_address (s ∷ ss) at k is =
+    record {
+      inside = (position-Some (λ s. covers (range_of (region_of s)) at) (s ∷ ss) k s is).0;
+      covered = λ d. (position-Some (λ s. covers (range_of (region_of s)) at) (s ∷ ss) k d is).1;
+    }
+
 -- the segment at an address is the one at a place, and bytes were written to it
-module _ (ss : List Segment) (at k : ℕ) (s : Segment) (there : position (λ s. covers (range_of (region_of s)) at) ss ≡ Some k) (here : s ≡ get_or ss k s) where
+module _ (ss : List Segment) (at k : ℕ) (s : Segment) (there : HasAddress ss at k) (here : s ≡ get_or ss k s) where
   in_list : k < length ss
-  in_list = (position-Some (λ s. covers (range_of (region_of s)) at) ss k s there).0
+  in_list = there.inside
 
   covers_it : covers (range_of (region_of s)) at ≡ true
   covers_it =
-      subst (λ s. covers (range_of (region_of s)) at ≡ true) (sym here) (position-Some (λ s. covers (range_of (region_of s)) at) ss k s there).1
+      subst (λ s. covers (range_of (region_of s)) at ≡ true) (sym here) (there.covered s)
 
   pub place_within : IsWithin (region_of s) at
   place_within =

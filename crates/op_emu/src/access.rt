@@ -3,13 +3,12 @@ ghost use Rattle.std.specs.Prelude.{◌≡◌, ℕ, ◌+◌, ◌-◌, ◌<◌, �
 ghost use Rattle.std.specs.Int.{bytes_low_first};
 ghost use Rattle.op_rv.specs.Step.{can_access, load_size_of, load_value, store_size_of};
 ghost use Rattle.op_rv.specs.State.{all_from};
-ghost use Rattle.std.specs.List.{position};
-ghost use Rattle.op_emu.specs.Region.{byte_in, covers, range_of, readable_in, writable_in};
+ghost use Rattle.op_emu.specs.Region.{byte_in, readable_in, writable_in};
 ghost use Rattle.op_emu.specs.Rows.{AreDecoded};
 ghost use Rattle.op_emu.specs.declared.row.Row.{Row as Flat};
-ghost use Rattle.op_emu.specs.Segments.{region_of, regions_of, lie_apart, right_in, IsWithin, IsWritten};
+ghost use Rattle.op_emu.specs.Segments.{region_of, regions_of, lie_apart, right_in, HasAddress, IsWithin, IsWritten};
 
-use crate::memory::{find_place, find_segment};
+use crate::memory::find_place;
 use crate::{Memory, Right, Segment};
 use op_rv::operation::{extend_byte, extend_half};
 use op_rv::{LoadOp, StoreOp};
@@ -59,10 +58,37 @@ impl Segment {
     }
 }
 
+/// The place of the segment that has an address. The one that was used last with the same base register is tried first, and `lasts` has
+/// its place for each of them: a base mostly points into the segment that it pointed into before.
+#[inline(always)]
+fn place_of(segments: &[Segment], lasts: &mut [u8; 32], rs1: u8, at: u64) -> Option<usize>
+    requires { rs1 < 32 }
+    ensures { IfSome result (HasAddress segments.now at) }
+{
+    let last = lasts[rs1 as usize] as usize;
+    if last < segments.len() && segments[last].contains(at) {
+        return Some(last);
+    }
+    match find_place(segments, at) {
+        Some(k) => {
+            lasts[rs1 as usize] = k.min(255) as u8;
+            Some(k)
+        }
+        None => None,
+    }
+}
+
 /// What a load finds at an address, where one segment has all its bytes and they may be read.
 #[inline(always)]
-pub(crate) fn load_within(segments: &[Segment], op: LoadOp, at: u32) -> Option<u32>
-    requires { IsTrue (lie_apart segments.now) }
+pub(crate) fn load_within(
+    segments: &[Segment],
+    lasts: &mut [u8; 32],
+    op: LoadOp,
+    rs1: u8,
+    at: u32,
+) -> Option<u32>
+    requires rs1 { rs1 < 32 }
+    requires apart { IsTrue (lie_apart segments.now) }
     ensures { IfSome result (λ value. (can_access (readable_in (regions_of segments.now)) at (load_size_of op) ≡ true)
         × (value ≡ load_value op (byte_in (regions_of segments.now)) at)) }
 {
@@ -70,19 +96,32 @@ pub(crate) fn load_within(segments: &[Segment], op: LoadOp, at: u32) -> Option<u
     if at % size != 0 {
         return None;
     }
-    match find_segment(segments, at as u64) {
-        Some(segment) if segment.readable && segment.has(at as u64, size as u64) => {
-            Some(segment.load(op, at as u64))
+    match place_of(segments, lasts, rs1, at as u64) {
+        Some(k) => {
+            let segment = &segments[k];
+            if segment.readable && segment.has(at as u64, size as u64) {
+                Some(segment.load(op, at as u64))
+            } else {
+                None
+            }
         }
-        _ => None,
+        None => None,
     }
 }
 
 /// Stores the low bytes of a value at an address, where one segment has room for them and they may be written. It answers
 /// whether it has.
 #[inline(always)]
-pub(crate) fn store_within(segments: &mut [Segment], op: StoreOp, at: u32, value: u32) -> bool
-    requires { IsTrue (lie_apart segments.old) }
+pub(crate) fn store_within(
+    segments: &mut [Segment],
+    lasts: &mut [u8; 32],
+    op: StoreOp,
+    rs1: u8,
+    at: u32,
+    value: u32,
+) -> bool
+    requires rs1 { rs1 < 32 }
+    requires apart { IsTrue (lie_apart segments.old) }
     ensures done { result ≡ true → (can_access (writable_in (regions_of segments.old)) at (store_size_of op) ≡ true)
         × IsWritten (regions_of segments.old) (regions_of segments.new) at (bytes_low_first 0 (store_size_of op) value) }
     ensures kept { result ≡ false → segments.new ≡ segments.old }
@@ -93,7 +132,7 @@ pub(crate) fn store_within(segments: &mut [Segment], op: StoreOp, at: u32, value
     if at % size != 0 {
         return false;
     }
-    match find_place(segments, at as u64) {
+    match place_of(segments, lasts, rs1, at as u64) {
         Some(k) => {
             let bytes = value.to_le_bytes();
             write_whole(segments, k, at as u64, &bytes[..size as usize])
@@ -106,7 +145,7 @@ pub(crate) fn store_within(segments: &mut [Segment], op: StoreOp, at: u32, value
 /// answers whether it has.
 #[inline(always)]
 fn write_whole(segments: &mut [Segment], k: usize, at: u64, bytes: &[u8]) -> bool
-    requires there { position (λ s. covers (range_of (region_of s)) at) segments.old ≡ Some k }
+    requires there { HasAddress segments.old at k }
     requires apart { IsTrue (lie_apart segments.old) }
     ensures done { result ≡ true → (all_from (writable_in (regions_of segments.old)) at (length bytes.now) ≡ true)
         × IsWritten (regions_of segments.old) (regions_of segments.new) at bytes.now }

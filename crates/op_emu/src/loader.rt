@@ -56,11 +56,11 @@ fn segments(alloc: Global, image: &[u8], header: &Header) -> Result<Vec<Segment>
     Ok(segments)
 }
 
-/// The words of a segment, decoded, and one more row behind them that is none.
-fn rows(alloc: Global, segment: &Segment) -> Result<Vec<Row>, AllocError>
+/// The words of the first `most` bytes of a segment, decoded, and one more row behind them that is none.
+fn rows(alloc: Global, segment: &Segment, most: usize) -> Result<Vec<Row>, AllocError>
     ensures { IfOk result (λ rows. HasRows segment.now.bytes.items rows.items) }
 {
-    let number = segment.bytes.len() / 4;
+    let number = segment.bytes.len().min(most) / 4;
     let mut rows = Vec::with_capacity(alloc, number + 1)?;
     for k in 0..number {
         rows.push(row_of(segment.word(segment.base as u64 + 4 * k as u64)))?;
@@ -79,8 +79,8 @@ fn holds_still(segment: &Segment) -> bool
         && segment.base as u64 + segment.bytes.len() as u64 + 4 < 1 << 32
 }
 
-/// The words of the segment at a place, decoded ahead; none where they may change.
-fn code(alloc: Global, segments: &[Segment], k: usize) -> Result<Code, AllocError>
+/// The words of the first `most` bytes of the segment at a place, decoded ahead; none where they may change.
+fn code(alloc: Global, segments: &[Segment], k: usize, most: usize) -> Result<Code, AllocError>
     requires inside { k < length segments.now }
     requires apart { IsTrue (lie_apart segments.now) }
     ensures { IfOk result (λ code. AreDecoded (regions_of segments.now) code.base code.rows.items) }
@@ -94,29 +94,30 @@ fn code(alloc: Global, segments: &[Segment], k: usize) -> Result<Code, AllocErro
     }
     Ok(Code {
         base: segment.base,
-        rows: rows(alloc, segment)?,
+        rows: rows(alloc, segment, most)?,
     })
 }
 
-/// The words of the segments, decoded ahead.
-fn codes(alloc: Global, segments: &[Segment]) -> Result<Vec<Code>, AllocError>
+/// The words of the first `most` bytes of each segment, decoded ahead.
+fn codes(alloc: Global, segments: &[Segment], most: usize) -> Result<Vec<Code>, AllocError>
     requires { IsTrue (lie_apart segments.now) }
     ensures { IfOk result (λ codes. AllDecoded (regions_of segments.now) codes.items) }
 {
     let mut codes = Vec::with_capacity(alloc, segments.len())?;
     for k in 0..segments.len() {
-        codes.push(code(alloc, segments, k)?)?;
+        codes.push(code(alloc, segments, k, most)?)?;
     }
     Ok(codes)
 }
 
-/// The hart of an image with this header, before its first step.
+/// The hart of an image with this header, before its first step. A segment has no more bytes of the file than the image has, and the
+/// zeros behind these are no instructions, so no more is decoded ahead.
 fn hart(alloc: Global, image: &[u8], header: &Header) -> Result<Hart, AllocError>
     requires { IsHeaderOf image.now header.now }
     ensures { IfOk result (λ hart. BeginsAs image.now hart) }
 {
     let segments = segments(alloc, image, header)?;
-    let codes = codes(alloc, &segments)?;
+    let codes = codes(alloc, &segments, image.len())?;
     Ok(Hart {
         registers: Registers::new(),
         pc: header.entry,

@@ -68,7 +68,7 @@ pub struct Memory {
 impl Segment {
     /// Whether an address lies in the segment.
     #[inline(always)]
-    fn contains(&self, at: u64) -> bool
+    pub(crate) fn contains(&self, at: u64) -> bool
         ensures { result ≡ covers (range_of (region_of self.now)) at }
     {
         let base = self.base as u64;
@@ -186,14 +186,14 @@ impl Segment {
 
 /// The first segment that has an address.
 #[inline(always)]
-pub(crate) fn find_segment(segments: &[Segment], at: u64) -> Option<&Segment>
+fn find_segment(segments: &[Segment], at: u64) -> Option<&Segment>
     ensures { option_copied result ≡ find (λ s. covers (range_of (region_of s)) at) segments.now }
 {
     segments.iter().find(|segment| segment.contains(at))
 }
 
 /// The place of the first segment that has an address.
-#[inline(always)]
+#[inline(never)]
 pub(crate) fn find_place(segments: &[Segment], at: u64) -> Option<usize>
     ensures { result ≡ position (λ s. covers (range_of (region_of s)) at) segments.now }
 {

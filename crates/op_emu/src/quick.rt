@@ -93,14 +93,22 @@ impl Registers {
     /// Does a load, if one segment has all its bytes and they may be read.
     #[inline(always)]
     #[tactic(auto, unfolding(op_rv::specs::Step::act, op_rv::specs::Step::load))]
-    fn load(&mut self, op: LoadOp, rd: u8, rs1: u8, offset: i32, segments: &[Segment]) -> Next
+    fn load(
+        &mut self,
+        op: LoadOp,
+        rd: u8,
+        rs1: u8,
+        offset: i32,
+        lasts: &mut [u8; 32],
+        segments: &[Segment],
+    ) -> Next
         requires rd { rd < 32 }
         requires rs1 { rs1 < 32 }
         requires apart { IsTrue (lie_apart segments.now) }
         ensures { (base many k : ℕ) → NextIs (act (Form.Load op rd rs1 offset)) base many k self.old.words (regions_of segments.now) result self.new.words (regions_of segments.now) }
     {
         let at = address_at(self.get(rs1), offset);
-        match load_within(segments, op, at) {
+        match load_within(segments, lasts, op, rs1, at) {
             Some(value) => {
                 self.set(rd, value);
                 Next::On
@@ -112,7 +120,15 @@ impl Registers {
     /// Does a store, if one segment has room for all its bytes and they may be written.
     #[inline(always)]
     #[tactic(auto, unfolding(op_rv::specs::Step::act, op_rv::specs::Step::store))]
-    fn store(&self, op: StoreOp, rs1: u8, rs2: u8, offset: i32, segments: &mut [Segment]) -> Next
+    fn store(
+        &self,
+        op: StoreOp,
+        rs1: u8,
+        rs2: u8,
+        offset: i32,
+        lasts: &mut [u8; 32],
+        segments: &mut [Segment],
+    ) -> Next
         requires rs1 { rs1 < 32 }
         requires rs2 { rs2 < 32 }
         requires apart { IsTrue (lie_apart segments.old) }
@@ -122,7 +138,7 @@ impl Registers {
     {
         let at = address_at(self.get(rs1), offset);
         let value = self.get(rs2);
-        if store_within(segments, op, at, value) {
+        if store_within(segments, lasts, op, rs1, at, value) {
             Next::On
         } else {
             Next::Stayed
@@ -231,6 +247,7 @@ fn quick(
     many: usize,
     k: usize,
     registers: &mut Registers,
+    lasts: &mut [u8; 32],
     segments: &mut [Segment],
 ) -> Next
     requires fit { RowFits row }
@@ -307,14 +324,49 @@ fn quick(
             many,
             k,
         ),
-        Row::Lb { rd, rs1, offset } => registers.load(LoadOp::Lb, rd, rs1, offset, segments),
-        Row::Lh { rd, rs1, offset } => registers.load(LoadOp::Lh, rd, rs1, offset, segments),
-        Row::Lw { rd, rs1, offset } => registers.load(LoadOp::Lw, rd, rs1, offset, segments),
-        Row::Lbu { rd, rs1, offset } => registers.load(LoadOp::Lbu, rd, rs1, offset, segments),
-        Row::Lhu { rd, rs1, offset } => registers.load(LoadOp::Lhu, rd, rs1, offset, segments),
-        Row::Sb { rs1, rs2, offset } => registers.store(StoreOp::Sb, rs1, rs2, offset, segments),
-        Row::Sh { rs1, rs2, offset } => registers.store(StoreOp::Sh, rs1, rs2, offset, segments),
-        Row::Sw { rs1, rs2, offset } => registers.store(StoreOp::Sw, rs1, rs2, offset, segments),
+        Row::Lb { rd, rs1, offset } => registers.load(LoadOp::Lb, rd, rs1, offset, lasts, segments),
+        Row::Lh { rd, rs1, offset } => registers.load(LoadOp::Lh, rd, rs1, offset, lasts, segments),
+        Row::Lw { rd, rs1, offset } => registers.load(LoadOp::Lw, rd, rs1, offset, lasts, segments),
+        Row::Lbu { rd, rs1, offset } => registers.load(
+            LoadOp::Lbu,
+            rd,
+            rs1,
+            offset,
+            lasts,
+            segments,
+        ),
+        Row::Lhu { rd, rs1, offset } => registers.load(
+            LoadOp::Lhu,
+            rd,
+            rs1,
+            offset,
+            lasts,
+            segments,
+        ),
+        Row::Sb { rs1, rs2, offset } => registers.store(
+            StoreOp::Sb,
+            rs1,
+            rs2,
+            offset,
+            lasts,
+            segments,
+        ),
+        Row::Sh { rs1, rs2, offset } => registers.store(
+            StoreOp::Sh,
+            rs1,
+            rs2,
+            offset,
+            lasts,
+            segments,
+        ),
+        Row::Sw { rs1, rs2, offset } => registers.store(
+            StoreOp::Sw,
+            rs1,
+            rs2,
+            offset,
+            lasts,
+            segments,
+        ),
         Row::Addi { rd, rs1, imm } => {
             registers.imm(ImmOp::Addi, rd, rs1, imm);
             Next::On
@@ -457,10 +509,11 @@ pub(crate) fn glide(
         return (0, from);
     }
     let mut words = *registers;
+    let mut lasts = [0; 32];
     let mut k = from;
     let mut credit = (many - from) as u64;
     'steps: loop {
-        match quick(rows[k], base, many, k, &mut words, segments) {
+        match quick(rows[k], base, many, k, &mut words, &mut lasts, segments) {
             Next::On => k += 1,
             Next::To(place) => {
                 credit = credit + (k + 1) as u64 - place as u64;
