@@ -1,5 +1,5 @@
 -- Words that were decoded ahead: where they stand, and that they still do after a write.
-use Rattle.std.proofs.Common.{◌≡◌, ℕ, zero, suc, ◌+◌, ◌-◌, ◌*◌, ◌%◌, ◌^◌, ◌<◌, ◌≤◌, Bool, true, false, List, [], ◌∷◌, ◌++◌, Some, length, get_or, set, map, IsTrue, refl, ap, sym, ◌∙◌, subst, arith, ⊎_elim, length-append}
+use Rattle.std.proofs.Common.{◌≡◌, ℕ, zero, suc, ◌+◌, ◌-◌, ◌*◌, ◌%◌, ◌<◌, ◌≤◌, Bool, true, false, List, [], ◌∷◌, ◌++◌, Some, length, get_or, set, map, IsTrue, refl, ap, sym, ◌∙◌, subst, arith, ⊎_elim, length-append}
 use Rattle.std.proofs.lemmas.List.{get_or-map, get_or_append_left, get_or-append_right}
 use Rattle.std.proofs.lemmas.Bool.{false≢true, cases_lt}
 use Rattle.std.proofs.lemmas.Bool.Decides.{nat_tests}
@@ -10,10 +10,10 @@ use Rattle.op_rv.specs.Step.{can_access, load_size_of, load_value, extended_byte
 use Rattle.op_rv.specs.declared.instruction.Instr.{Instr}
 use Rattle.op_rv.specs.declared.instruction.LoadOp.{LoadOp}
 use Rattle.op_rv.specs.declared.instruction.LoadOp.TheVariants.{Lb, Lh, Lw, Lbu, Lhu}
-use Rattle.op_emu.specs.Region.{Region, range_of, are_apart, region_at, byte_in, readable_in, writable_in, executable_in}
+use Rattle.op_emu.specs.Region.{Region, range_of, are_apart, byte_in, readable_in, writable_in, executable_in}
 use Rattle.op_emu.specs.Rows.{instr_of, IsRowOf, Stands, AreDecoded, AllDecoded, HasRows, HoldsStill}
 use Rattle.op_emu.specs.declared.memory.Code.{Code}
-use Rattle.op_emu.specs.Segments.{region_of, regions_of, lie_apart, written_over, has_right, right_in, HasAddress, IsFoundAt, IsWritten, WritesWhole}
+use Rattle.op_emu.specs.Segments.{region_of, regions_of, lie_apart, written_over, HasAddress, IsFoundAt, IsWritten, WritesWhole}
 use Rattle.op_emu.specs.declared.memory.Right.TheVariants.{Read, Write, Execute}
 use Rattle.op_emu.specs.declared.memory.Segment.{Segment}
 use Rattle.op_emu.specs.declared.row.Row.{Row}

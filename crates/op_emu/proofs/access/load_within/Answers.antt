@@ -1,4 +1,4 @@
-use Rattle.std.proofs.Common.{◌≡◌, ◌∙◌, ◌+◌, ◌%◌, ◌≤◌, length, ap, sym, arith}
+use Rattle.std.proofs.Common.{◌∙◌, ◌+◌, ◌%◌, ◌≤◌, length, ap, sym, arith}
 use Rattle.op_rv.specs.Step.{load_size_of}
 use Rattle.op_emu.specs.Segments.{region_of, regions_of, IsFoundAt}
 use Rattle.op_emu.proofs.Decoded.{load_found, readable_found}

@@ -1,4 +1,4 @@
-use Rattle.std.proofs.Common.{◌≡◌, ◌+◌, ◌*◌, ◌-◌, ◌%◌, ◌^◌, ◌<◌, suc, length, get_or, refl, subst, arith}
+use Rattle.std.proofs.Common.{◌+◌, ◌*◌, ◌-◌, length, get_or, refl, subst, arith}
 use Rattle.op_rv.specs.Step.{running_step, after}
 use Rattle.op_emu.specs.Quick.{Goes}
 use Rattle.op_emu.specs.Segments.{regions_of}

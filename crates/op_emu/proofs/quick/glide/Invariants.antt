@@ -1,4 +1,4 @@
-use Rattle.std.proofs.Common.{◌≡◌, ℕ, ◌+◌, ◌*◌, ◌-◌, ◌<◌, ◌≤◌, List, IsTrue, length}
+use Rattle.std.proofs.Common.{ℕ, ◌+◌, ◌*◌, ◌-◌, ◌<◌, ◌≤◌, List, IsTrue, length}
 use Rattle.op_rv.specs.Step.{after}
 use Rattle.op_emu.specs.Quick.{Goes}
 use Rattle.op_emu.specs.Rows.{AreDecoded}

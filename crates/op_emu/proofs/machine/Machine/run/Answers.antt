@@ -1,4 +1,4 @@
-use Rattle.std.proofs.Common.{◌≡◌, ◌≢◌, ◌∙◌, sym, arith, ◌<◌, ◌-◌, ◌+◌, ◌^◌}
+use Rattle.std.proofs.Common.{◌≡◌, ◌≢◌, ◌∙◌, sym, arith, ◌+◌}
 use Rattle.std.proofs.lemmas.Bool.{false≢true}
 use Rattle.op_emu.specs.declared.stop.Stepped.TheVariants.{Went}
 use Rattle.op_emu.proofs.RunsLemmas.{does_nothing, glides, goes_on, stops}

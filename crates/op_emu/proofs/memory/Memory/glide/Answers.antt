@@ -1,4 +1,4 @@
-use Rattle.std.proofs.Common.{◌≡◌, ◌∙◌, ap, sym, subst, refl}
+use Rattle.std.proofs.Common.{◌∙◌, ap, sym, subst, refl}
 use Rattle.std.proofs.lemmas.List.{with_items_is}
 use Rattle.op_emu.specs.Rows.{AreDecoded}
 use Rattle.op_emu.specs.Segments.{regions_of, lie_apart}
