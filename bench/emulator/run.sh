@@ -3,9 +3,9 @@
 # installed, on images of at least 300 million steps: interpreter.c looks up segments and rights as opc does, flat.c has one array
 # and tests nothing. Also how many times as fast as each C interpreter opc is, and qemu-riscv32 as opc; the time to load an image
 # with 400 MiB of segments; and that of an image of one instruction. Run at the top of the repository, after ./opc has built the
-# compiler. The programs are those of tests/images; it takes riscv64-unknown-elf-gcc.
+# compiler; OPC names another one. The programs are those of tests/images; it takes riscv64-unknown-elf-gcc.
 set -eu
-opc=crates/opc/out/opc
+opc=${OPC:-crates/opc/out/opc}
 here=$(dirname "$0")
 work=$(mktemp -d)
 trap 'rm -rf "$work"' EXIT
