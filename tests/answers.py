@@ -8,6 +8,9 @@ import tempfile
 TOP = os.path.dirname(os.path.dirname(os.path.abspath(__file__)))
 COMPILER = os.environ.get("OPC") or os.path.join(TOP, "crates", "opc", "out", "opc")
 FREE_PASCAL = shutil.which(os.environ.get("OPC_FPC32", "fpc32"))
+# Thousands of small files are written much faster in memory.
+if os.access("/dev/shm", os.W_OK):
+    tempfile.tempdir = "/dev/shm"
 LINE = re.compile(r"opc: [^\n]*:(\d+:\d+): (V\d+) (.*)\n")
 
 

@@ -53,7 +53,7 @@ Acts-quiet f old new i o e same leads =
       errors = sym (appended-nil e);
     }
 
-Acts-same : (f g : State → State) (old new : Moment) (told : Streams) → ((x o e : List ℕ) → g (state_of old x o e) ≡ f (state_of old x o e)) → Acts f old new told → Acts g old new told
+pub Acts-same : (f g : State → State) (old new : Moment) (told : Streams) → ((x o e : List ℕ) → g (state_of old x o e) ≡ f (state_of old x o e)) → Acts f old new told → Acts g old new told
 Acts-same f g old new told same acts =
     record {
       taken = acts.taken;

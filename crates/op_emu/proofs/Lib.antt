@@ -6,3 +6,5 @@ pub mod ReadLemmas
 pub mod RunsLemmas
 pub mod Stretches
 pub mod Writing
+pub mod Decoded
+pub mod Gliding

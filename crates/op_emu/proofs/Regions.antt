@@ -87,7 +87,7 @@ right_in-none Execute rs a found = ap (λ found. option_map_or (λ region. regio
 
 -- n bytes from an address of a segment on, all within it
 module _ (rs : List Region) (s : Region) (lie : are_apart (map range_of rs) ≡ true) (a : ℕ) (found : region_at rs a ≡ Some s) where
-  within : (b : ℕ) → s.base ≤ b → b < s.base + length s.bytes → region_at rs b ≡ Some s
+  pub within : (b : ℕ) → s.base ≤ b → b < s.base + length s.bytes → region_at rs b ≡ Some s
   within b low high = region_at_apart rs a b s lie found (grind (arith, nat_tests))
 
   pub bytes_from-within : (n b : ℕ) → s.base ≤ b → b + n ≤ s.base + length s.bytes → bytes_from (byte_in rs) b n ≡ take n (drop (b - s.base) s.bytes)
@@ -179,7 +179,7 @@ pub byte_in-none : (rs : List Region) (a : ℕ) → region_at rs a ≡ None → 
 unfolding byte_in
 byte_in-none rs a found = ap (λ found. option_map_or (λ region. get_or region.bytes (a - region.base) 0) found 0) found
 
-same_word : (a a' b b' c c' d d' : ℕ) → a ≡ a' → b ≡ b' → c ≡ c' → d ≡ d' → a + 2 ^ 8 * b + 2 ^ 16 * c + 2 ^ 24 * d ≡ a' + 2 ^ 8 * b' + 2 ^ 16 * c' + 2 ^ 24 * d'
+pub same_word : (a a' b b' c c' d d' : ℕ) → a ≡ a' → b ≡ b' → c ≡ c' → d ≡ d' → a + 2 ^ 8 * b + 2 ^ 16 * c + 2 ^ 24 * d ≡ a' + 2 ^ 8 * b' + 2 ^ 16 * c' + 2 ^ 24 * d'
 same_word a a' b b' c c' d d' p q r s = omega arith
 
 -- the word at an address of a segment that has all of it

@@ -6,8 +6,9 @@ use Rattle.op_emu.specs.declared.machine.Machine.{Machine}
 use Rattle.op_emu.specs.declared.stop.Stepped.{Stepped}
 use Rattle.op_emu.specs.declared.stop.Stepped.TheVariants as stepped
 use Rattle.op_emu.specs.declared.stop.Stop.{Stop}
-use Rattle.op_emu.specs.Acts.{moment, ending_of, streams, faults, Faults, Acts, OutputFailed, StepIs}
+use Rattle.op_emu.specs.Acts.{moment, ending_of, streams, faults, Faults, Acts, Leads, OutputFailed, StepIs}
 use Rattle.op_emu.specs.Runs.{moment_of, one_more, is_done, stop_of, DoesSteps, RunIs}
+use Rattle.op_emu.proofs.Gliding.{Acts-glide}
 use Rattle.op_emu.proofs.Stretches.{Rose-from}
 use Rattle.op_emu.proofs.ActsLemmas.{Acts-quiet, after-step, after-step_in_part}
 
@@ -31,6 +32,17 @@ no_output i i' o o' o'' e e' e'' output errors =
 
 counted_once : (steps m s : ℕ) → s ≡ m → steps ≡ one_more s → s < 2 ^ 64 - 1 → steps ≡ m + 1
 counted_once steps m s is counted below = omega arith
+
+-- steps that touch no stream, within a run that goes on
+pub glides : (m n : ℕ) (old mid new : Machine) (i i' o o' e e' : Option (List ℕ)) → DoesSteps m old mid (streams i i' o o' e e') → mid.last ≡ stepped.Went → new.last ≡ stepped.Went → new.steps ≡ mid.steps + n → Leads (after n) mid.hart (moment new.hart Running) → DoesSteps (m + n) old new (streams i i' o o' e e')
+glides m n old mid new i i' o o' e e' does goes last counted leads =
+    let from : Acts (after m) (moment_of old) (moment mid.hart Running) (streams i i' o o' e e') =
+    subst (λ b. Acts (after m) (moment_of old) b (streams i i' o o' e e')) (moment_of-is mid stepped.Went goes) does.acts
+    in
+    record {
+      acts = subst (λ b. Acts (after (m + n)) (moment_of old) b (streams i i' o o' e e')) (sym (moment_of-is new stepped.Went last)) (Acts-glide m n (moment_of old) mid.hart new.hart i i' o o' e e' from leads);
+      counted = omega (arith, does.counted);
+    }
 
 module _ (m : ℕ) (old mid new : Machine) (i i' i'' o o' o'' e e' e'' : Option (List ℕ)) (does : DoesSteps m old mid (streams i i' o o' e e')) (goes : mid.last ≡ stepped.Went) (below : mid.steps < 2 ^ 64 - 1) where
   first : Acts (after m) (moment_of old) (moment mid.hart Running) (streams i i' o o' e e')

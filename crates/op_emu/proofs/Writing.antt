@@ -11,7 +11,7 @@ use Rattle.std.specs.List.{list_all, position, position_or_len}
 use Rattle.std.specs.Option.{option_map_or}
 use Rattle.op_rv.specs.State.{Rights, with_bytes}
 use Rattle.op_emu.specs.Region.{Region, Range, covers, is_apart, are_apart, range_of, region_at, byte_in, readable_in, writable_in, executable_in, rights_in}
-use Rattle.op_emu.specs.Segments.{region_of, regions_of, lie_apart, written_over, IsWithin, IsWritten}
+use Rattle.op_emu.specs.Segments.{region_of, regions_of, lie_apart, written_over, HasAddress, IsWithin, IsFoundAt, IsWritten}
 use Rattle.op_emu.specs.declared.memory.Segment.{Segment}
 use Rattle.op_emu.proofs.Regions.{find-map, apart_covers}
 use Rattle.op_emu.proofs.Stretches.{and_left, and_right}
@@ -27,11 +27,11 @@ apart_at q (s ∷ rs) (suc k) r in_list at all =
 cond_true : {X : Type 0} (b : Bool) (x y : X) → b ≡ true → cond b x y ≡ x
 cond_true b x y is = ap (λ b. cond b x y) is
 
-cond_false : {X : Type 0} (b : Bool) (x y : X) → b ≡ false → cond b x y ≡ y
+pub cond_false : {X : Type 0} (b : Bool) (x y : X) → b ≡ false → cond b x y ≡ y
 cond_false b x y is = ap (λ b. cond b x y) is
 
 -- the segment at an address that the one at a place covers
-region_at-place : (rs : List Region) (k : ℕ) (r : Region) (x : ℕ) → are_apart (map range_of rs) ≡ true → k < length rs → get_or rs k r ≡ r → covers (range_of r) x ≡ true → region_at rs x ≡ Some r
+pub region_at-place : (rs : List Region) (k : ℕ) (r : Region) (x : ℕ) → are_apart (map range_of rs) ≡ true → k < length rs → get_or rs k r ≡ r → covers (range_of r) x ≡ true → region_at rs x ≡ Some r
 region_at-place [] k r x lie in_list at there = absurd (omega arith)
 region_at-place (s ∷ rs) zero r x lie in_list at there =
     let here : covers (range_of s) x ≡ true = subst (λ s. covers (range_of s) x ≡ true) (sym at) there in
@@ -135,13 +135,13 @@ module _ (old bytes : List ℕ) (offset : ℕ) (fits : offset + length bytes ≤
       ∙ ap (λ i. get_or old i 0) at
 
 -- whether an address lies in a range that was written
-abbrev is_written : ℕ → ℕ → ℕ → Bool
+abbrev pub is_written : ℕ → ℕ → ℕ → Bool
 is_written a n x = nat_le a x && nat_lt x (a + n)
 
-written_from : (a n x : ℕ) → is_written a n x ≡ true → a ≤ x
+pub written_from : (a n x : ℕ) → is_written a n x ≡ true → a ≤ x
 written_from a n x is = grind (arith, nat_tests)
 
-written_up_to : (a n x : ℕ) → is_written a n x ≡ true → x < a + n
+pub written_up_to : (a n x : ℕ) → is_written a n x ≡ true → x < a + n
 written_up_to a n x is = grind (arith, nat_tests)
 
 is_outside : (a n x : ℕ) → is_written a n x ≡ false → a ≤ x → a + n ≤ x
@@ -216,18 +216,27 @@ writable_somewhere ss at may none =
     in
     false≢true (sym (ap (λ found. option_map_or (λ region. region.writable) found false) nothing) ∙ may)
 
-length-regions_of : (ss : List Segment) → length (regions_of ss) ≡ length ss
+pub length-regions_of : (ss : List Segment) → length (regions_of ss) ≡ length ss
 length-regions_of [] = refl
 length-regions_of (s ∷ ss) = ap suc (length-regions_of ss)
 
+-- the first place whose segment has an address
+pub has_address : (ss : List Segment) (at k : ℕ) → position (λ s. covers (range_of (region_of s)) at) ss ≡ Some k → HasAddress ss at k
+has_address [] at k is = cc
+has_address (s ∷ ss) at k is =
+    record {
+      inside = (position-Some (λ s. covers (range_of (region_of s)) at) (s ∷ ss) k s is).0;
+      covered = λ d. (position-Some (λ s. covers (range_of (region_of s)) at) (s ∷ ss) k d is).1;
+    }
+
 -- the segment at an address is the one at a place, and bytes were written to it
-module _ (ss : List Segment) (at k : ℕ) (s : Segment) (there : position (λ s. covers (range_of (region_of s)) at) ss ≡ Some k) (here : s ≡ get_or ss k s) where
+module _ (ss : List Segment) (at k : ℕ) (s : Segment) (there : HasAddress ss at k) (here : s ≡ get_or ss k s) where
   in_list : k < length ss
-  in_list = (position-Some (λ s. covers (range_of (region_of s)) at) ss k s there).0
+  in_list = there.inside
 
   covers_it : covers (range_of (region_of s)) at ≡ true
   covers_it =
-      subst (λ s. covers (range_of (region_of s)) at ≡ true) (sym here) (position-Some (λ s. covers (range_of (region_of s)) at) ss k s there).1
+      subst (λ s. covers (range_of (region_of s)) at ≡ true) (sym here) (there.covered s)
 
   pub place_within : IsWithin (region_of s) at
   place_within =
@@ -239,6 +248,10 @@ module _ (ss : List Segment) (at k : ℕ) (s : Segment) (there : position (λ s.
 
   at_place : get_or (regions_of ss) k (region_of s) ≡ region_of s
   at_place = get_or-map region_of ss k s (region_of s) in_list ∙ ap region_of (sym here)
+
+  pub found_there : IsTrue (lie_apart ss) → IsFoundAt (regions_of ss) at (region_of s)
+  found_there lie =
+      record { found = region_at-place (regions_of ss) k (region_of s) at lie in_regions at_place covers_it; within = place_within }
 
   module _ (lie : IsTrue (lie_apart ss)) (s' : Segment) (bytes : List ℕ) (fits : at - s.base + length bytes ≤ length s.bytes.items) (is : region_of s' ≡ record (region_of s) { bytes = written_over s.bytes.items (at - s.base) bytes }) where
     same_range : range_of (region_of s') ≡ range_of (region_of s)
@@ -261,6 +274,12 @@ module _ (ss : List Segment) (at k : ℕ) (s : Segment) (there : position (λ s.
     pub written_after : IsWritten (regions_of ss) (regions_of (set ss k s')) at bytes
     written_after =
         subst (λ rs. IsWritten (regions_of ss) rs at bytes) (sym (map-set region_of ss k s')) written_set
+
+-- a segment is replaced by itself
+pub set_same : {X : Type 0} (xs : List X) (k : ℕ) (x y : X) → x ≡ get_or xs k x → y ≡ x → set xs k y ≡ xs
+set_same [] k x y at same = refl
+set_same (z ∷ zs) zero x y at same = ap (λ w. w ∷ zs) (same ∙ at)
+set_same (z ∷ zs) (suc k) x y at same = ap (λ ws. z ∷ ws) (set_same zs k x y at same)
 
 -- nothing was written
 pub written_none : (rs : List Region) (at : ℕ) → IsWritten rs rs at []

@@ -1,7 +1,7 @@
 -- The segments of the code as regions, and what is read from them.
-use Rattle.std.specs.Prelude.{◌≡◌, ℕ, ◌+◌, ◌<◌, ◌≤◌, Bool, true, false, Option, Some, None, List, ◌++◌, map, length, take, drop}
+use Rattle.std.specs.Prelude.{◌≡◌, ℕ, ◌+◌, ◌-◌, ◌<◌, ◌≤◌, Bool, true, false, Option, Some, None, List, ◌++◌, map, length, take, drop, slice_index_or}
 use Rattle.op_rv.specs.State.{bytes_from, all_from, with_bytes, word_at}
-use Rattle.op_emu.specs.Region.{Region, range_of, are_apart, region_at, byte_in, readable_in, writable_in, executable_in, rights_in}
+use Rattle.op_emu.specs.Region.{Region, range_of, covers, are_apart, region_at, byte_in, readable_in, writable_in, executable_in, rights_in}
 use Rattle.op_emu.specs.declared.memory.Right.{Right}
 use Rattle.op_emu.specs.declared.memory.Right.TheVariants.{Read, Write, Execute}
 use Rattle.op_emu.specs.declared.memory.Segment.{Segment}
@@ -31,6 +31,11 @@ pub record IsWithin (region : Region) (at : ℕ) : Type 0 where
 pub record IsFoundAt (regions : List Region) (at : ℕ) (region : Region) : Type 0 where
   pub found : region_at regions at ≡ Some region
   pub within : IsWithin region at
+
+-- the segment at a place has an address
+pub record HasAddress (segments : List Segment) (at k : ℕ) : Type 0 where
+  pub inside : k < length segments
+  pub covered : (d : Segment) → covers (range_of (region_of (slice_index_or segments k d))) at ≡ true
 
 -- the longest front of a range that lies in one readable segment
 pub record IsReadableFront (regions : List Region) (at most : ℕ) (front : List ℕ) : Type 0 where
@@ -70,3 +75,9 @@ abbrev pub WordIs : Right → List Region → ℕ → Option ℕ → Type 0
 WordIs right regions at (Some word) =
     (all_from (right_in right regions) at 4 ≡ true) × (word ≡ word_at (byte_in regions) at)
 WordIs right regions at None = all_from (right_in right regions) at 4 ≡ false
+
+-- a segment that may be written has room for these bytes from an address on, and has them now
+pub record WritesWhole (old new : Segment) (at : ℕ) (bytes : List ℕ) : Type 0 where
+  pub may : old.writable ≡ true
+  pub room : at - old.base + length bytes ≤ length old.bytes.items
+  pub wrote : region_of new ≡ record (region_of old) { bytes = written_over old.bytes.items (at - old.base) bytes }

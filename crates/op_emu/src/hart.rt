@@ -1,8 +1,9 @@
 //! The machine without its streams: registers, program counter and memory.
-ghost use Rattle.std.specs.Prelude.{◌≡◌, ◌+◌, ◌%◌, ◌^◌, ◌<◌, IsTrue};
+ghost use Rattle.std.specs.Prelude.{◌≡◌, ◌+◌, ◌%◌, ◌^◌, ◌<◌, ◌≤◌, IsTrue};
 ghost use Rattle.op_rv.specs.Encoding.{fits};
-ghost use Rattle.op_rv.specs.Step.{act, running_step};
-ghost use Rattle.op_emu.specs.Acts.{streams, faults, Fetches, StepIs, Rises};
+ghost use Rattle.op_rv.specs.State.{Running};
+ghost use Rattle.op_rv.specs.Step.{act, running_step, after};
+ghost use Rattle.op_emu.specs.Acts.{streams, faults, moment, Fetches, Leads, StepIs, Rises};
 ghost use Rattle.op_emu.specs.Registers.{with_value};
 
 use crate::{Memory, Registers, Right, Stepped};
@@ -95,6 +96,16 @@ impl Hart {
         } else {
             None
         }
+    }
+
+    /// Does at most so many steps over words that were decoded ahead, and answers how many. They touch no stream.
+    pub(crate) fn glide(&mut self, most: u64) -> u64
+        ensures bounded { result ≤ most }
+        ensures leads { Leads (after result) self.old (moment self.new Running) }
+    {
+        let (done, pc) = self.memory.glide(self.pc, most, &mut self.registers);
+        self.pc = pc;
+        done
     }
 
     /// One step: fetches the word at the pc and does its row of the table.

@@ -13,14 +13,17 @@ mod hart;
 mod loader;
 mod machine;
 mod memory;
+mod quick;
 mod registers;
+mod row;
 mod rows;
 mod stop;
 
 pub use hart::Hart;
 pub use loader::load;
 pub use machine::Machine;
-pub use memory::{Memory, Right, Segment};
+pub use memory::{Code, Memory, Right, Segment};
 pub use op_rv::FaultKind;
 pub use registers::Registers;
+pub use row::Row;
 pub use stop::{MachineError, Stepped, Stop};

@@ -1,7 +1,8 @@
 //! The machine: a hart, how it stands and how many steps it has done.
-ghost use Rattle.std.specs.Prelude.{◌≡◌, ◌≢◌, ℕ, ◌↔◌, IsTrue, if◌then◌else◌};
-ghost use Rattle.op_rv.specs.Step.{step};
-ghost use Rattle.op_emu.specs.Acts.{streams, faults, StepIs, Rises};
+ghost use Rattle.std.specs.Prelude.{◌≡◌, ◌≢◌, ℕ, ◌+◌, ◌-◌, ◌^◌, ◌<◌, ◌≤◌, ◌↔◌, IsTrue, if◌then◌else◌};
+ghost use Rattle.op_rv.specs.State.{Running};
+ghost use Rattle.op_rv.specs.Step.{step, after};
+ghost use Rattle.op_emu.specs.Acts.{streams, faults, moment, Leads, StepIs, Rises};
 ghost use Rattle.op_emu.specs.Runs.{one_more, is_done, stop_of, RunIs};
 
 use crate::{Hart, Stepped, Stop};
@@ -105,15 +106,33 @@ impl Machine {
         if !self.goes_on() {
             return self.last.stop();
         }
-        for _turn in 0..n {
+        let mut done = 0;
+        while done < n {
             if self.steps == u64::MAX {
                 return Stop::Spent;
             }
+            let glided = self.glide(n - 1 - done);
             let stepped = self.step(input, out, err);
             if !self.goes_on() {
                 return stepped.stop();
             }
+            done += glided + 1;
         }
         Stop::Spent
+    }
+
+    /// Does at most so many steps that touch no stream, over words that were decoded ahead, and answers how many. The
+    /// count of steps stays below its greatest value.
+    fn glide(&mut self, most: u64) -> u64
+        requires { self.old.steps < 2 ^ 64 - 1 }
+        ensures bounded { result ≤ most }
+        ensures counted { self.new.steps ≡ self.old.steps + result }
+        ensures below { self.new.steps < 2 ^ 64 - 1 }
+        ensures last { self.new.last ≡ self.old.last }
+        ensures leads { Leads (after result) self.old.hart (moment self.new.hart Running) }
+    {
+        let done = self.hart.glide(most.min(u64::MAX - 1 - self.steps));
+        self.steps += done;
+        done
     }
 }

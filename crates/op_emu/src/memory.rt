@@ -1,12 +1,17 @@
 //! Memory: segments with rights.
-ghost use Rattle.std.specs.Prelude.{◌≡◌, ℕ, ◌+◌, ◌-◌, ◌^◌, ◌<◌, ◌≤◌, ◌&&◌, ◌↔◌, IsTrue, Some, None, true, MatchOption, slice_index, drop, take, find, length, vec_len, if◌then◌else◌};
+ghost use Rattle.std.specs.Prelude.{◌≡◌, ℕ, ◌+◌, ◌-◌, ◌*◌, ◌^◌, ◌<◌, ◌≤◌, ◌&&◌, ◌↔◌, IsTrue, IfSome, Some, None, true, false, MatchOption, slice_index, drop, take, find, length, vec_len, if◌then◌else◌};
 ghost use Rattle.std.specs.Option.{option_copied};
 ghost use Rattle.std.specs.List.{position};
+ghost use Rattle.op_rv.specs.Step.{after};
 ghost use Rattle.op_rv.specs.State.{bytes_from, all_from, half_at, word_at};
 ghost use Rattle.op_base.specs.Outside.{Rose, appended, AppendsFront};
 ghost use Rattle.op_emu.specs.Region.{region_at, covers, range_of, byte_in, readable_in, writable_in};
-ghost use Rattle.op_emu.specs.Segments.{region_of, regions_of, lie_apart, has_right, right_in, written_over, IsWithin, IsFoundAt, WordIs, IsAllowedFront, IsReadableFront, IsWritten};
+ghost use Rattle.op_emu.specs.Rows.{AllDecoded, IsDecodedPlace};
+ghost use Rattle.op_emu.specs.Quick.{Goes};
+ghost use Rattle.op_emu.specs.Segments.{region_of, regions_of, lie_apart, has_right, right_in, written_over, IsWithin, IsFoundAt, WordIs, IsAllowedFront, IsReadableFront, IsWritten, WritesWhole};
 
+use crate::quick::glide;
+use crate::{Registers, Row};
 use op_base::{Put, Sink};
 
 /// What may be done with a byte.
@@ -27,17 +32,43 @@ pub struct Segment {
     pub bytes: Vec<u8>,
 }
 
-/// Segments that lie apart.
+/// The words from an address on, decoded ahead.
+#[derive(Drop)]
+pub struct Code {
+    pub base: u32,
+    pub rows: Vec<Row>,
+}
+
+impl Code {
+    /// The place of an address among the words.
+    fn place(&self, at: u32) -> Option<usize>
+        ensures { IfSome result (λ place. (place < length self.now.rows.items) × (at ≡ self.now.base + 4 * place)) }
+    {
+        if at < self.base || (at - self.base) % 4 != 0 {
+            return None;
+        }
+        let place = ((at - self.base) / 4) as usize;
+        if place < self.rows.len() {
+            Some(place)
+        } else {
+            None
+        }
+    }
+}
+
+/// Segments that lie apart, and the words of those that may be executed and not written.
 #[derive(Drop)]
 pub struct Memory {
     pub segments: Vec<Segment>,
+    pub codes: Vec<Code>,
     ghost apart: { IsTrue (lie_apart segments.items) },
+    ghost decoded: { AllDecoded (regions_of segments.items) codes.items },
 }
 
 impl Segment {
     /// Whether an address lies in the segment.
     #[inline(always)]
-    fn contains(&self, at: u64) -> bool
+    pub(crate) fn contains(&self, at: u64) -> bool
         ensures { result ≡ covers (range_of (region_of self.now)) at }
     {
         let base = self.base as u64;
@@ -58,7 +89,7 @@ impl Segment {
 
     /// The byte at an address of the segment.
     #[inline(always)]
-    fn byte(&self, at: u64) -> u8
+    pub(crate) fn byte(&self, at: u64) -> u8
         requires { IsWithin (region_of self.now) at }
         ensures { result ≡ slice_index self.now.bytes.items (at - self.now.base) }
     {
@@ -74,9 +105,31 @@ impl Segment {
         self.bytes.len() as u64 - (at - self.base as u64) >= 4
     }
 
+    /// Whether the segment has so many bytes from one of its addresses on.
+    #[inline(always)]
+    pub(crate) fn has(&self, at: u64, size: u64) -> bool
+        requires { IsWithin (region_of self.now) at }
+        ensures { IsTrue result ↔ (at + size ≤ self.now.base + length self.now.bytes.items) }
+    {
+        self.bytes.len() as u64 - (at - self.base as u64) >= size
+    }
+
+    /// The two bytes at an address of the segment as a number, the lower one first.
+    #[inline(always)]
+    pub(crate) fn half(&self, at: u64) -> u16
+        requires whole { at + 2 ≤ self.now.base + length self.now.bytes.items }
+        requires above { self.now.base ≤ at }
+        ensures { result ≡ half_at (slice_index self.now.bytes.items) (at - self.now.base) }
+    {
+        let first = (at - self.base as u64) as usize;
+        let byte0 = self.bytes[first] as u16;
+        let byte1 = self.bytes[first + 1] as u16;
+        byte0 + (byte1 << 8)
+    }
+
     /// The word at an address of the segment, its lowest byte first.
     #[inline(always)]
-    fn word(&self, at: u64) -> u32
+    pub(crate) fn word(&self, at: u64) -> u32
         requires whole { at + 4 ≤ self.now.base + length self.now.bytes.items }
         requires above { self.now.base ≤ at }
         ensures { result ≡ word_at (slice_index self.now.bytes.items) (at - self.now.base) }
@@ -114,6 +167,21 @@ impl Segment {
         self.bytes[offset..offset + count].copy_from_slice(&bytes[..count]);
         count
     }
+
+    /// Writes the bytes from an address on, if the segment may be written and has room for all. It answers whether it has.
+    #[inline(always)]
+    pub(crate) fn write_whole(&mut self, at: u64, bytes: &[u8]) -> bool
+        requires { IsWithin (region_of self.old) at }
+        ensures done { result ≡ true → WritesWhole self.old self.new at bytes.now }
+        ensures kept { result ≡ false → self.new ≡ self.old }
+    {
+        if !self.writable || !self.has(at, bytes.len() as u64) {
+            return false;
+        }
+        let offset = (at - self.base as u64) as usize;
+        self.bytes[offset..offset + bytes.len()].copy_from_slice(bytes);
+        true
+    }
 }
 
 /// The first segment that has an address.
@@ -124,7 +192,51 @@ fn find_segment(segments: &[Segment], at: u64) -> Option<&Segment>
     segments.iter().find(|segment| segment.contains(at))
 }
 
+/// The place of the first segment that has an address.
+#[inline(never)]
+pub(crate) fn find_place(segments: &[Segment], at: u64) -> Option<usize>
+    ensures { result ≡ position (λ s. covers (range_of (region_of s)) at) segments.now }
+{
+    segments.iter().position(|segment| segment.contains(at))
+}
+
 impl Memory {
+    /// The place of an address among the words that were decoded ahead: that of the code, and within it.
+    fn decoded_place(&self, at: u32) -> Option<(usize, usize)>
+        ensures { IfSome result (λ place. IsDecodedPlace self.now.codes.items at place.0 place.1) }
+    {
+        for k in 0..self.codes.len() {
+            match self.codes[k].place(at) {
+                Some(place) => return Some((k, place)),
+                None => {}
+            }
+        }
+        None
+    }
+
+    /// Does at most so many steps over words that were decoded ahead, from an address on. It answers how many it did and
+    /// at which address it stopped.
+    pub(crate) fn glide(&mut self, pc: u32, most: u64, registers: &mut Registers) -> (u64, u32)
+        ensures bounded { result.0 ≤ most }
+        ensures goes { Goes (after result.0) registers.old.words pc (regions_of self.old.segments.items) registers.new.words result.1 (regions_of self.new.segments.items) }
+    {
+        match self.decoded_place(pc) {
+            Some((k, from)) => {
+                let code = &self.codes[k];
+                let (done, place) = glide(
+                    &code.rows,
+                    code.base,
+                    from,
+                    most,
+                    registers,
+                    &mut self.segments,
+                );
+                (done, self.codes[k].base + 4 * place as u32)
+            }
+            None => (0, pc),
+        }
+    }
+
     /// The segment at an address.
     #[inline(always)]
     fn segment_at(&self, at: u64) -> Option<&Segment>

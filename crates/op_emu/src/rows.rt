@@ -9,7 +9,7 @@ use op_rv::{AluOp, BranchOp, FaultKind, ImmOp, Instr, LoadOp, ShiftOp, StoreOp};
 
 /// A number with a sign as a word.
 #[inline(always)]
-fn word_of(number: i32) -> u32
+pub(crate) fn word_of(number: i32) -> u32
     ensures { result ≡ word_from number }
 {
     number.cast_unsigned()
@@ -17,7 +17,7 @@ fn word_of(number: i32) -> u32
 
 /// The address at a distance from another; addresses wrap.
 #[inline(always)]
-fn address_at(from: u32, offset: i32) -> u32
+pub(crate) fn address_at(from: u32, offset: i32) -> u32
     ensures { result ≡ offset_from from offset }
 {
     from.wrapping_add(word_of(offset))
@@ -25,7 +25,7 @@ fn address_at(from: u32, offset: i32) -> u32
 
 /// The word whose upper 20 bits are these.
 #[inline(always)]
-fn upper_value(upper: u32) -> u32
+pub(crate) fn upper_value(upper: u32) -> u32
     requires { upper < 2 ^ 20 }
     ensures { result ≡ upper * 2 ^ 12 }
 {
