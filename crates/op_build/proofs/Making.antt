@@ -22,4 +22,4 @@ pub too_large : (core : Core) (mir : Mir) (settings : Settings) (low : Low) (lay
 too_large core mir settings low layout e f l = subst (λ s. most_linked < s) (ap (λ l. linked_size (select_of l) layout settings) e ∙ ap (λ l. linked_size (select_of (program_low core mir settings)) l settings) f) l
 
 pub not_buildable : (core : Core) (mir : Mir) (settings : Settings) (low : Low) (layout : Layout) → low ≡ program_low core mir settings → layout ≡ program_layout core mir → is_buildable low layout ≡ false → is_buildable (program_low core mir settings) (program_layout core mir) ≡ false
-not_buildable core mir settings low layout e f no = subst (λ l. is_buildable l (program_layout core mir) ≡ false) e (subst (λ l. is_buildable low l ≡ false) f no)
+not_buildable core mir settings low layout e f fails = subst (λ l. is_buildable l (program_layout core mir) ≡ false) e (subst (λ l. is_buildable low l ≡ false) f fails)

@@ -24,6 +24,11 @@ program_low core mir settings = low_of core mir (1024 * settings.stack)
 abbrev pub program_layout : Core → Mir → Layout
 program_layout core mir = layout_of (literals_of core mir)
 
+-- this is the low code of the program, and these are its constants
+pub record IsLowCode (core : Core) (mir : Mir) (settings : Settings) (low : Low) (layout : Layout) : Type 0 where
+  pub code : low ≡ program_low core mir settings
+  pub constants : layout ≡ program_layout core mir
+
 -- the image is that of the program's low code, and does what this does
 pub record IsBuilt (core : Core) (mir : Mir) (settings : Settings) (image : List ℕ) : Type 0 where
   pub exact : image ≡ image_of (select_of (program_low core mir settings)) (program_layout core mir) settings

@@ -1,6 +1,8 @@
 //! The image of a program in managed code.
 ghost use Rattle.std.specs.Prelude.{◌≡◌, IfErr, IfOk, IsTrue};
-ghost use Rattle.op_build.specs.Built.{IsBuilt, IsNotBuilt, program_layout, program_low};
+ghost use Rattle.op_build.specs.Built.{IsBuilt, IsLowCode, IsNotBuilt};
+ghost use Rattle.op_core.specs.declared.program.Core.{Core};
+ghost use Rattle.op_mir.specs.declared.code.Mir.{Mir};
 ghost use Rattle.op_link.specs.Memory.{are_in_range};
 
 use op_base::NoMemory;
@@ -35,6 +37,7 @@ impl From<NoMemory> for BuildError {
 }
 
 /// The low code of a program, and its constants.
+#[derive(Drop)]
 struct LowCode {
     low: Low,
     layout: Layout,
@@ -48,12 +51,27 @@ fn low_code_of(
     settings: &Settings,
 ) -> Result<LowCode, NoMemory>
     requires settings { IsTrue (are_in_range settings.now) }
-    ensures low { IfOk result (λ made. made.low ≡ program_low core mir settings.now) }
-    ensures layout { IfOk result (λ made. made.layout ≡ program_layout core mir) }
+    ensures { IfOk result (λ code. IsLowCode core mir settings.now code.low code.layout) }
 {
     let low = expand(alloc, &core, &mir, 1024 * settings.stack)?;
     let layout = layout(alloc, &core, &mir)?;
     Ok(LowCode { low, layout })
+}
+
+/// The image of low code with its constants, which is that of the programs that they are made of.
+fn image_of(alloc: Global, code: &LowCode, settings: &Settings) -> Result<Vec<u8>, BuildError>
+    requires settings { IsTrue (are_in_range settings.now) }
+    ensures made { (core : Core) (mir : Mir) → IsLowCode core mir settings.now code.now.low code.now.layout → IfOk result (λ image. IsBuilt core mir settings.now image.items) }
+    ensures failed { (core : Core) (mir : Mir) → IsLowCode core mir settings.now code.now.low code.now.layout → IfErr result (IsNotBuilt core mir settings.now) }
+{
+    if !buildable(&code.low, &code.layout) {
+        return Err(BuildError::Unbuildable);
+    }
+    match op_image::build(alloc, &code.low, &code.layout, settings) {
+        Ok(image) => Ok(image),
+        Err(LinkError::Limit) => Err(BuildError::Limit),
+        Err(LinkError::NoMemory) => Err(BuildError::NoMemory),
+    }
 }
 
 /// The image of a program in managed code, beside its tables, with a heap and a stack as the settings say.
@@ -70,13 +88,6 @@ pub fn build(
     ensures made { IfOk result (λ image. IsBuilt core mir settings.now image.items) }
     ensures failed { IfErr result (IsNotBuilt core mir settings.now) }
 {
-    let made = low_code_of(alloc, core, mir, settings)?;
-    if !buildable(&made.low, &made.layout) {
-        return Err(BuildError::Unbuildable);
-    }
-    match op_image::build(alloc, &made.low, &made.layout, settings) {
-        Ok(image) => Ok(image),
-        Err(LinkError::Limit) => Err(BuildError::Limit),
-        Err(LinkError::NoMemory) => Err(BuildError::NoMemory),
-    }
+    let code = low_code_of(alloc, core, mir, settings)?;
+    image_of(alloc, &code, settings)
 }

@@ -1,24 +1,22 @@
 -- Instructions of typed code are those that the agreement asks for: their operands are there, at the types that they are used at.
-use Rattle.std.proofs.Common.{◌≡◌, ◌≤◌, ◌<◌, ◌⊎◌, inl, inr, ℕ, ℤ, zero, suc, ◌+◌, ◌-◌, List, [], ◌∷◌, length, Option, Some, None, refl, sym, ap, ap₂, ◌∙◌, subst, arith}
-use Rattle.std.specs.Prelude.{◌^◌, Bool, true, false, ◌&&◌, IsSomeAnd, map, max, nat_lt, slice_get, slice_index}
+use Rattle.std.proofs.Common.{◌≡◌, ◌≤◌, ◌<◌, ℕ, zero, suc, List, [], ◌∷◌, length, refl, sym, ap, ap₂, subst, arith}
+use Rattle.std.specs.Prelude.{Bool, true, false, ◌&&◌, map, max, nat_lt, slice_get}
 use Rattle.std.specs.List.{All, list_all}
 use Rattle.std.proofs.lemmas.Bool.Decides.{nat_tests}
 use Rattle.std.proofs.lemmas.List.Elements.{All-head, All-tail}
 use Rattle.std.proofs.lemmas.Option.{slice_get_within}
 use Rattle.op_constants.specs.Arranged.{IsSmall}
 use Rattle.op_constants.specs.Reaching.{Reaches}
-use Rattle.op_core.specs.Members.{There}
 use Rattle.op_core.specs.Sound.{IsSound}
 use Rattle.op_core.specs.declared.ids.TypeId.{TypeId}
 use Rattle.op_core.specs.declared.program.Core.{Core}
-use Rattle.op_core.specs.declared.routine.Variable.{Variable}
 use Rattle.op_frames.proofs.PlacesFine.{most_each}
 use Rattle.op_frames.specs.Made.{Every}
-use Rattle.op_lower.specs.Temporaries.{in_action, in_computation, in_path, in_step, in_writing, most_of, up_to}
+use Rattle.op_lower.specs.Temporaries.{in_action, in_computation, in_path, in_step, in_writing, up_to}
 use Rattle.op_meaning.specs.Actions.{Action as MeantAction, constant, load, store, copy, look, begin_with, pick, arithmetic, compare, negate, complement, invert, absolute, odd, upper, low_bits, check, neighbour, single, span, combine, contains, check_set, write_number, write_truth, write_char, write_text}
 use Rattle.op_core.specs.Sizes.{type_at}
-use Rattle.op_meaning.specs.Shapes.{part_type, type_of_local, variables_of}
-use Rattle.op_mir.specs.Valid.{action_fits, computation_fits, copied_fits, copy_fits, has, has_three, has_two, load_fits, path_fits, root_fits, step_fits, writing_fits}
+use Rattle.op_meaning.specs.Shapes.{part_type, variables_of}
+use Rattle.op_mir.specs.Valid.{action_fits, computation_fits, copy_fits, has, has_three, has_two, load_fits, path_fits, root_fits, step_fits, writing_fits}
 use Rattle.op_mir.specs.View.{view_action, view_path, view_root, view_step}
 use Rattle.op_mir.specs.declared.action.Action.{Action}
 use Rattle.op_mir.specs.declared.action.Action.TheVariants.{Constant, Load, Store, Copy, Look, BeginWith, Pick, Compute, Write, WriteText}
@@ -35,8 +33,8 @@ use Rattle.op_mir.specs.declared.path.Root.TheVariants.{Global, Local, Through, 
 use Rattle.op_mir.specs.declared.path.Step.{Step}
 use Rattle.op_mir.specs.declared.path.Step.TheVariants.{Field, Element}
 use Rattle.op_typing.proofs.Rows.{some_and}
-use Rattle.op_typing.specs.Typed.{HasVariable, OwnValue, IsShortText, IsTypedAction as TypedAction, PathTo as TypedPath, RootIs as TypedRoot}
-use Rattle.op_agreement.specs.Typed.{AreBytes, AreSmall, IsTypedAction, PathTo}
+use Rattle.op_typing.specs.Typed.{IsTypedAction as TypedAction, PathTo as TypedPath, RootIs as TypedRoot}
+use Rattle.op_agreement.specs.Typed.{AreBytes, AreSmall, IsTypedAction}
 use Rattle.op_correctness.proofs.Places.{path_is, small_steps, variable_is}
 
 -- ---- types
@@ -79,14 +77,14 @@ module _ (core : Core) (sound : IsSound core) (r : ℕ) where
 
 -- ---- what is named is there
 
-both : (a b : Bool) → a ≡ true → b ≡ true → (a && b) ≡ true
+pub both : (a b : Bool) → a ≡ true → b ≡ true → (a && b) ≡ true
 both a b e f = ap₂ (λ x y. x && y) e f
 
 below : (a b : ℕ) → a < b → nat_lt a b ≡ true
 below a b less = grind (arith, nat_tests, less)
 
 module _ (core : Core) (sound : IsSound core) (mir : Mir) (r : ℕ) (x : Routine) (types : mir.counts.types ≡ length core.types) (variables : mir.counts.variables ≡ length core.variables) (locals : x.locals ≡ (variables_of core r).count) where
-  has_it : (t : TemporaryId) → up_to t ≤ x.temporaries → has x t ≡ true
+  pub has_it : (t : TemporaryId) → up_to t ≤ x.temporaries → has x t ≡ true
   has_it t low = below t.0 x.temporaries (omega arith)
 
   two_there : (a b : TemporaryId) → max (up_to a) (up_to b) ≤ x.temporaries → has_two x a b ≡ true
@@ -95,7 +93,7 @@ module _ (core : Core) (sound : IsSound core) (mir : Mir) (r : ℕ) (x : Routine
   three_there : (a b c : TemporaryId) → max (up_to a) (max (up_to b) (up_to c)) ≤ x.temporaries → has_three x a b c ≡ true
   three_there a b c low = both (has_two x a b) (has x c) (two_there a b (omega arith)) (has_it c (omega arith))
 
-  type_there : (of : TypeId) → IsSmall core of → nat_lt of.0 mir.counts.types ≡ true
+  pub type_there : (of : TypeId) → IsSmall core of → nat_lt of.0 mir.counts.types ≡ true
   type_there of small = let there = small.there in below of.0 mir.counts.types (omega arith)
 
   root_there : (root : Root) (of : TypeId) → TypedRoot core r (view_root root) of → IsSmall core of → root_fits mir x root ≡ true
@@ -119,7 +117,7 @@ module _ (core : Core) (sound : IsSound core) (mir : Mir) (r : ℕ) (x : Routine
       (both (nat_lt whole.0 mir.counts.types) (has x t) (subst (λ y. nat_lt y.0 mir.counts.types ≡ true) (sym same) (type_there of first)) (has_it t low))
       (steps_there steps each to reaches (subst (λ y. AreSmall core y (map view_step steps)) (ap (λ o. part_type core o 0) is) small) lows)
 
-  path_there : (path : Path) (of : TypeId) → TypedPath core r (view_path path) of → in_path path ≤ x.temporaries → path_fits mir x path ≡ true
+  pub path_there : (path : Path) (of : TypeId) → TypedPath core r (view_path path) of → in_path path ≤ x.temporaries → path_fits mir x path ≡ true
   unfolding path_fits
   path_there path of typed low =
       both (root_fits mir x path.root) (list_all (step_fits mir x) path.steps) (root_there path.root typed.from typed.root typed.whole)

@@ -1,24 +1,22 @@
 -- The agreements of the passes, one after the other.
-use Rattle.std.proofs.Common.{◌≡◌, ◌≢◌, ◌≤◌, ◌<◌, ℕ, zero, suc, ◌+◌, ◌-◌, List, Option, None, refl, sym, ap, ◌∙◌, subst, arith, inl, inr, ◌⊎◌}
-use Rattle.std.specs.Prelude.{◌*◌}
+use Rattle.std.proofs.Common.{◌≡◌, ◌≢◌, ◌≤◌, ◌<◌, ℕ, zero, suc, ◌+◌, ◌-◌, List, refl, sym, ap, ◌∙◌, subst, arith, inl, inr, ◌⊎◌}
 use Rattle.std.proofs.lemmas.Bool.{cases_lt}
 use Rattle.op_core.specs.declared.program.Core.{Core}
 use Rattle.op_image.specs.Means.{AreBytes, Runs, image_run, low_start}
 use Rattle.op_low.specs.Machine.{NeverBad, low_machine}
 use Rattle.op_low.specs.State.{State as LowState, Ending as LowEnding, Running as LowRunning, Ended as LowEnded, Bad}
 use Rattle.op_managed.specs.Managed.{Manages, goes_along}
-use Rattle.op_meaning.specs.Frames.{State, program_of}
+use Rattle.op_meaning.specs.Frames.{program_of}
 use Rattle.op_meaning.specs.Start.{start}
 use Rattle.op_meaning.specs.World.{Ending, Running, Ended, World}
-use Rattle.op_mir.specs.Going.{Goes as ManagedGoes}
 use Rattle.op_mir.specs.Machine.{MirState, mir_machine, mir_start}
 use Rattle.op_mir.specs.Plain.{IsPlain}
 use Rattle.op_mir.specs.declared.code.Mir.{Mir}
 use Rattle.op_rv.specs.State.{State as ImageState, Running as GoesOn, Ended as HasEnded}
 use Rattle.op_select.specs.Going.{Setting as Placed, placement_of}
 use Rattle.op_select.specs.RiscvMachine.{riscv_machine}
-use Rattle.op_select.specs.Selected.{Finished, Matches, MatchesBy, selected}
-use Rattle.op_simulation.proofs.Points.{point_passes, point_rises}
+use Rattle.op_select.specs.Selected.{Matches, MatchesBy, selected}
+use Rattle.op_simulation.proofs.Points.{point_rises}
 use Rattle.op_simulation.proofs.Runs.{run_add}
 use Rattle.op_simulation.specs.Matching.{Agreement, Follows}
 use Rattle.op_simulation.specs.System.{System, run}
@@ -28,8 +26,8 @@ use Rattle.op_agreement.specs.Claims.{lowered, uncounted}
 use Rattle.op_agreement.specs.Fitting.{IsFitting}
 use Rattle.op_agreement.specs.Settings.{Setting, managed}
 use Rattle.op_agreement.specs.Stands.{Stands}
-use Rattle.op_agreement.specs.Starting.{IsLoaded, Starts, low_begins}
-use Rattle.op_correctness.specs.Agrees.{Agrees, EndsAlike, GoesAlong, LooksAlike, source_run}
+use Rattle.op_agreement.specs.Starting.{IsLoaded, Starts}
+use Rattle.op_correctness.specs.Agrees.{EndsAlike, GoesAlong, LooksAlike, source_run}
 use Rattle.op_correctness.specs.Placed.{setting_by}
 
 -- ---- two states, by way of those between

@@ -1,17 +1,107 @@
 -- The image of a program that passes the test does what the program means.
-use Rattle.std.proofs.Common.{◌≡◌, ℕ, ◌*◌, true, false, List, sym, ◌∙◌}
-use Rattle.op_build.specs.Built.{IsBuilt}
+use Rattle.std.proofs.Common.{◌≡◌, ◌≤◌, ℕ, ◌+◌, ◌*◌, true, List, length, None, refl, ap, arith}
+use Rattle.std.proofs.lemmas.Bool.Decides.{nat_tests}
+use Rattle.op_build.specs.Built.{IsBuilt, program_low}
 use Rattle.op_core.specs.Sound.{IsSound, IsSoundNesting}
 use Rattle.op_core.specs.declared.program.Core.{Core}
+use Rattle.op_expand.specs.Calls.{runtime}
+use Rattle.op_expand.specs.Programs.{low_of}
+use Rattle.op_expand.specs.Routines.{most_charge}
+use Rattle.op_constants.specs.Literals.{literals_of}
+use Rattle.op_image.specs.Building.{is_buildable}
+use Rattle.op_layout.specs.Places.{layout_of}
+use Rattle.op_image.specs.Means.{AreBytes, HasRoom, Runs, low_start}
+use Rattle.op_link.specs.Image.{first_failing}
 use Rattle.op_link.specs.Memory.{are_in_range}
 use Rattle.op_link.specs.declared.memory_map.Settings.{Settings}
+use Rattle.op_low.specs.Machine.{NeverBad}
+use Rattle.op_low.specs.State.{space}
 use Rattle.op_lower.specs.Lowers.{Lowers}
 use Rattle.op_managed.specs.Managed.{Manages}
 use Rattle.op_meaning.specs.Frames.{program_of}
 use Rattle.op_mir.specs.declared.code.Mir.{Mir}
+use Rattle.op_plain.proofs.PlainLemmas.{plain_by_test}
+use Rattle.op_plain.specs.Claims.{IsPlainCore}
 use Rattle.op_plain.specs.Plain.{is_plain_program}
+use Rattle.op_select.specs.Going.{Setting as Placed, placement_of}
+use Rattle.op_agreement.proofs.Driver.{low_code_follows}
+use Rattle.op_agreement.proofs.Expanding.{entry}
+use Rattle.op_agreement.specs.Fitting.{IsFitting, IsPlacedProgram}
+use Rattle.op_agreement.specs.Starting.{IsLoaded}
+use Rattle.op_correctness.proofs.Composing.{along}
+use Rattle.op_correctness.proofs.Fits.{program_fits}
+use Rattle.op_correctness.proofs.Fitting.{low_is_buildable}
+use Rattle.op_correctness.proofs.Loaded.{bottom_is, loaded, placed}
+use Rattle.op_correctness.proofs.PlainItems.{program_plain}
+use Rattle.op_correctness.proofs.Space.{is_spacious, program_space}
 use Rattle.op_correctness.specs.Agrees.{Agrees}
+use Rattle.op_correctness.specs.Charges.{HaveCharges}
+use Rattle.op_correctness.specs.Placed.{placed_in, setting_by, setting_in}
+use Rattle.op_correctness.specs.SimpleCore.{IsSimpleCore}
 
-pub correct : (core : Core) (mir : Mir) (settings : Settings) (image : List ℕ) → is_plain_program core ≡ true → IsSound core → IsSoundNesting core → are_in_range settings ≡ true → Lowers core mir → Manages core mir → IsBuilt core mir settings image → Agrees (program_of core (1024 * settings.stack)) image
-unfolding is_plain_program
-correct core mir settings image plain sound nesting range lowers manages built = absurd (let clash : false ≡ true = plain in cc)
+-- ---- what the test gives
+
+simple_core : (core : Core) → IsPlainCore core → IsSimpleCore core
+simple_core core class = record { simple = class.simple; counted = class.counted; exceptions = class.exceptions; finalizations = class.finalizations }
+
+core_charges : (core : Core) → IsPlainCore core → HaveCharges core
+core_charges core class r low = record { variables = class.charged r; parameters = class.parameters r; statements = class.works 0 r }
+
+-- a stack has at most 64 MiB
+stack_few : (settings : Settings) → are_in_range settings ≡ true → settings.stack ≤ 65536
+stack_few settings range = grind (arith, nat_tests, range)
+
+-- ---- over any place of the program
+
+module _ (core : Core) (mir : Mir) (stack : ℕ) (w : Placed) (image : List ℕ) (class : IsPlainCore core) (sound : IsSound core) (nesting : IsSoundNesting core) (lowers : Lowers core mir) (manages : Manages core mir) (low : w.low ≡ low_of core mir stack) where
+  fits : stack ≤ most_charge → IsPlacedProgram (setting_by core mir stack w image) → IsFitting (setting_by core mir stack w image)
+  fits few is_placed =
+      program_fits (setting_by core mir stack w image) sound nesting (simple_core core class) lowers low
+      (is_spacious core mir stack sound nesting (simple_core core class) (core_charges core class) lowers w low image) few is_placed
+
+  agrees_by : first_failing image ≡ None → ((input : List ℕ) → AreBytes input → NeverBad w.low (placement_of w) (low_start w image input) → Runs w image input) → stack ≤ most_charge → IsPlacedProgram (setting_by core mir stack w image) → IsLoaded (setting_by core mir stack w image) → Agrees (program_of core stack) image
+  agrees_by loads does few is_placed is_loaded = record {
+    loads = loads;
+    along = λ input bytes.
+        along core mir stack w image does (fits few is_placed) is_loaded (low_code_follows (setting_by core mir stack w image) (fits few is_placed)) manages
+        (program_plain core stack sound nesting (simple_core core class) class.endings class.globals) input bytes;
+  }
+
+-- ---- in its image
+
+module _ (core : Core) (mir : Mir) (settings : Settings) (image : List ℕ) (plain : is_plain_program core ≡ true) (sound : IsSound core) (nesting : IsSoundNesting core) (range : are_in_range settings ≡ true) (lowers : Lowers core mir) (manages : Manages core mir) (built : IsBuilt core mir settings image) where
+  class : IsPlainCore core
+  class = plain_by_test core plain
+
+  few : settings.stack ≤ 65536
+  few = stack_few settings range
+
+  -- the program's own code takes less than what the stack has beside the charges
+  own_space : space (placed_in core mir settings image).low (placement_of (placed_in core mir settings image)) (runtime + length core.routines) ≤ 1024
+  own_space = program_space core mir (1024 * settings.stack) sound nesting (simple_core core class) (core_charges core class) lowers (placed_in core mir settings image) refl
+
+  has_room : HasRoom (placed_in core mir settings image)
+  has_room =
+      let number : (program_low core mir settings).entry.0 ≡ runtime + length core.routines = entry (setting_in core mir settings image) refl lowers.number in
+      let bottom = bottom_is settings in
+      let less = few in
+      let own = own_space in
+      let same : space (placed_in core mir settings image).low (placement_of (placed_in core mir settings image)) (program_low core mir settings).entry.0 ≡ space (placed_in core mir settings image).low (placement_of (placed_in core mir settings image)) (runtime + length core.routines) = ap (space (placed_in core mir settings image).low (placement_of (placed_in core mir settings image))) number in
+      omega arith
+
+  pub correct : Agrees (program_of core (1024 * settings.stack)) image
+  correct =
+      let bottom = bottom_is settings in
+      let less = few in
+      let own = own_space in
+      agrees_by core mir (1024 * settings.stack) (placed_in core mir settings image) image class sound nesting lowers manages refl built.means.loads
+      (λ input bytes good. built.means.runs has_room input bytes good) (omega arith)
+      (placed core mir settings image built.means sound few)
+      (loaded core mir settings image built.means sound few lowers class.globals (omega arith))
+
+-- ---- low code may be built
+
+pub buildable : (core : Core) (mir : Mir) (stack : ℕ) → is_plain_program core ≡ true → IsSound core → IsSoundNesting core → Lowers core mir → length core.globals ≤ 2446676 → is_buildable (low_of core mir stack) (layout_of (literals_of core mir)) ≡ true
+buildable core mir stack plain sound nesting lowers few =
+    let class = plain_by_test core plain in
+    low_is_buildable core mir sound nesting (simple_core core class) (core_charges core class) lowers stack few

@@ -1,14 +1,14 @@
 -- Where an image ends, the program that it agrees with ends, with the same status.
-use Rattle.std.proofs.Common.{◌≡◌, ◌≤◌, ◌<◌, ℕ, zero, suc, ◌+◌, List, refl, sym, ap, ◌∙◌, subst, arith}
+use Rattle.std.proofs.Common.{◌≡◌, ◌≤◌, ◌<◌, ℕ, zero, suc, List, sym, ap, ◌∙◌, subst, arith}
 use Rattle.op_image.specs.Means.{image_run}
 use Rattle.op_link.specs.Image.{start}
-use Rattle.op_meaning.specs.Frames.{Program, State}
+use Rattle.op_meaning.specs.Frames.{Program}
 use Rattle.op_meaning.specs.World.{Ending, Running, Ended}
-use Rattle.op_rv.specs.State.{State as ImageState, Ending as ImageEnding, Running as GoesOn, Ended as HasEnded}
+use Rattle.op_rv.specs.State.{State as ImageState, Running as GoesOn, Ended as HasEnded}
 use Rattle.op_rv.specs.Step.{step, step_by_ending}
 use Rattle.op_select.specs.RiscvMachine.{riscv_machine, riscv_shows}
 use Rattle.op_simulation.proofs.Runs.{run_past_end}
-use Rattle.op_simulation.specs.System.{Halted, run}
+use Rattle.op_simulation.specs.System.{Halted}
 use Rattle.op_correctness.specs.Agrees.{EndsAlike, EndsAsMeant, GoesAlong, LooksAlike, source_run}
 
 -- the points are not behind the steps that they stand for

@@ -1,6 +1,6 @@
 -- What the agreement asks of where a program is placed, of an image that was built.
-use Rattle.std.proofs.Common.{◌≡◌, ◌≢◌, ◌≤◌, ◌<◌, ◌⊎◌, inl, inr, ℕ, zero, suc, ◌+◌, ◌-◌, ◌*◌, List, [], ◌∷◌, ◌++◌, length, Option, Some, None, refl, sym, ap, ◌∙◌, subst, arith}
-use Rattle.std.specs.Prelude.{◌^◌, ◌%◌, Box, IfSome, IsSomeAnd, slice_get}
+use Rattle.std.proofs.Common.{◌≡◌, ◌≤◌, ◌<◌, ℕ, zero, suc, ◌+◌, ◌-◌, ◌*◌, List, [], ◌∷◌, ◌++◌, length, Option, Some, None, refl, sym, ap, ◌∙◌, subst, arith}
+use Rattle.std.specs.Prelude.{Box, IfSome, IsSomeAnd, slice_get}
 use Rattle.std.specs.declared.alloc.Global.{Global}
 use Rattle.std.specs.Option.{option_map}
 use Rattle.std.proofs.lemmas.Option.{slice_get_within}
@@ -17,10 +17,10 @@ use Rattle.op_core.specs.declared.program.Core.{Core}
 use Rattle.op_core.specs.declared.routine.Variable.{Variable}
 use Rattle.op_core.specs.declared.types.CoreType.{CoreType}
 use Rattle.op_expand.specs.Calls.{runtime}
-use Rattle.op_expand.specs.Programs.{global_of, low_of, stack_global}
+use Rattle.op_expand.specs.Programs.{global_of, low_of}
 use Rattle.op_image.proofs.Started.{bytes_small}
 use Rattle.op_image.specs.Means.{Means}
-use Rattle.op_link.specs.Memory.{stack_address, stack_size, stack_top}
+use Rattle.op_link.specs.Memory.{stack_address}
 use Rattle.op_link.specs.declared.memory_map.Settings.{Settings}
 use Rattle.op_low.specs.State.{routine_or, space}
 use Rattle.op_low.specs.declared.code.Routine.{Routine as LowRoutine}
@@ -33,16 +33,16 @@ use Rattle.op_rt_text.specs.Runtime.{runtime_routines}
 use Rattle.op_select.specs.Frames.{frame_of}
 use Rattle.op_agreement.proofs.Expanding.{entry, has_runtime}
 use Rattle.op_agreement.proofs.LowGlobals.{global_made, stack_made}
-use Rattle.op_agreement.specs.Fitting.{GlobalStands, IsPlacedProgram}
-use Rattle.op_agreement.specs.Settings.{Apart, Setting}
+use Rattle.op_agreement.specs.Fitting.{IsPlacedProgram}
+use Rattle.op_agreement.specs.Settings.{Setting}
 use Rattle.op_agreement.specs.Starting.{IsLoaded}
 use Rattle.op_agreement.specs.Typed.{IsGlobal}
 use Rattle.op_correctness.proofs.Placing.{global_stands, globals_apart, literal_stands, stack_word, values_loaded, zeros_loaded}
-use Rattle.op_correctness.specs.Placed.{placed_in, setting_in}
+use Rattle.op_correctness.specs.Placed.{setting_in}
 
 -- ---- the stack
 
-bottom_is : (settings : Settings) → stack_address settings ≡ 1879048192 - (1024 * settings.stack + 2048)
+pub bottom_is : (settings : Settings) → stack_address settings ≡ 1879048192 - (1024 * settings.stack + 2048)
 unfolding stack_address
 bottom_is settings = refl
 

@@ -1,6 +1,6 @@
 -- Places of typed code are those that the agreement asks for.
-use Rattle.std.proofs.Common.{◌≡◌, ◌≤◌, ◌<◌, ◌⊎◌, inl, inr, ℕ, ℤ, zero, suc, ◌+◌, ◌-◌, ◌*◌, List, [], ◌∷◌, length, Option, Some, None, refl, sym, ap, ◌∙◌, subst, arith}
-use Rattle.std.specs.Prelude.{◌^◌, ◌≤ℤ◌, ◌-ℤ◌, pos, Bool, true, false, ◌||◌, IsSomeAnd, int_lt, nat_eq, slice_get, slice_index_or}
+use Rattle.std.proofs.Common.{◌≡◌, ◌<◌, ℕ, ℤ, zero, suc, ◌+◌, List, [], ◌∷◌, Option, Some, None, refl, sym, ap, ◌∙◌, subst, arith}
+use Rattle.std.specs.Prelude.{◌≤ℤ◌, ◌-ℤ◌, pos, Bool, true, false, ◌||◌, int_lt, nat_eq, slice_get}
 use Rattle.std.specs.List.{Contains, list_any}
 use Rattle.std.proofs.lemmas.Bool.Decides.{nat_tests}
 use Rattle.std.proofs.lemmas.Int.{ints}
@@ -9,25 +9,22 @@ use Rattle.op_constants.proofs.Reaching.{field_before}
 use Rattle.op_constants.proofs.SoundFirst.{first_type}
 use Rattle.op_constants.specs.Arranged.{IsSmall}
 use Rattle.op_constants.specs.Reaching.{Reaches}
-use Rattle.op_core.specs.Members.{There}
 use Rattle.op_core.specs.Sizes.{integer_range, range_of, type_at}
 use Rattle.op_core.specs.Sound.{IsSound}
 use Rattle.op_core.specs.declared.ids.TypeId.{TypeId}
 use Rattle.op_core.specs.declared.ids.VariableId.{VariableId}
 use Rattle.op_core.specs.declared.program.Core.{Core}
-use Rattle.op_core.specs.declared.routine.Variable.{Variable}
 use Rattle.op_core.specs.declared.types.CoreType.{CoreType}
-use Rattle.op_core.specs.declared.types.CoreType.TheVariants.{Integer, Boolean, Char, Enumeration, Subrange, Array, Record}
+use Rattle.op_core.specs.declared.types.CoreType.TheVariants.{Integer, Boolean, Char, Enumeration, Subrange, Array}
 use Rattle.op_core.specs.declared.types.IntegerKind.TheVariants.{Signed8, Unsigned8, Signed16, Unsigned16, Signed32}
 use Rattle.op_core.specs.declared.types.IntegerKind.{IntegerKind}
-use Rattle.op_meaning.specs.Numbers.{fits_word}
 use Rattle.op_meaning.specs.Paths.{Path, Root, Step, in_global, in_local, through, in_temporary, field, element}
-use Rattle.op_meaning.specs.Shapes.{is_reference, part_type, refers, type_of_local, type_of_row, type_of_variable, variables_of}
+use Rattle.op_meaning.specs.Shapes.{is_reference, part_type, refers, type_of_local, type_of_row, variables_of}
 use Rattle.op_frames.proofs.SoundSizes.{sizes_small}
 use Rattle.op_typing.proofs.Rows.{none_some, some_and, some_is}
 use Rattle.op_typing.proofs.Types.{fits, range_words}
-use Rattle.op_typing.specs.Typed.{HasVariable, OwnValue, StandsFor, PathTo as TypedPath, RootIs as TypedRoot}
-use Rattle.op_agreement.specs.Typed.{AreSmall, HaveWords, IsGlobal, IsVariable, PathTo, RootIs}
+use Rattle.op_typing.specs.Typed.{HasVariable, PathTo as TypedPath, RootIs as TypedRoot}
+use Rattle.op_agreement.specs.Typed.{AreSmall, HaveWords, IsVariable, PathTo, RootIs}
 
 -- ---- roots
 

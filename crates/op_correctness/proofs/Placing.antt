@@ -1,6 +1,6 @@
 -- The image has the program where the agreement asks for it: run-time routines, literals, global variables, and the stack.
-use Rattle.std.proofs.Common.{◌≡◌, ◌≢◌, ◌≤◌, ◌<◌, ◌⊎◌, inl, inr, ℕ, zero, suc, ◌+◌, ◌-◌, ◌*◌, List, [], ◌∷◌, ◌++◌, length, Option, Some, None, refl, sym, ap, ap₂, ◌∙◌, subst, arith, get_or, append_assoc, length-append}
-use Rattle.std.specs.Prelude.{◌^◌, ◌%◌, ◌&&◌, Bool, true, false, IsTrue, drop, nat_eq, nat_le, nat_lt, take, slice_get}
+use Rattle.std.proofs.Common.{◌≡◌, ◌≢◌, ◌≤◌, ◌<◌, ℕ, zero, suc, ◌+◌, ◌-◌, ◌*◌, List, [], ◌∷◌, ◌++◌, length, Option, Some, None, refl, sym, ap, ◌∙◌, subst, arith, get_or, append_assoc, length-append}
+use Rattle.std.specs.Prelude.{◌^◌, drop, take, slice_get}
 use Rattle.std.specs.List.{flat_map}
 use Rattle.std.proofs.lemmas.List.Concat.{flat_map-cons}
 use Rattle.std.specs.Int.{bytes_low_first}
@@ -16,11 +16,11 @@ use Rattle.op_core.specs.Initial.{FirstValue, first_value_of}
 use Rattle.op_core.specs.declared.program.Core.{Core}
 use Rattle.op_core.specs.declared.routine.Variable.{Variable}
 use Rattle.op_core.specs.declared.types.IntegerKind.TheVariants.{Signed32}
-use Rattle.op_expand.specs.Programs.{global_of, low_of, stack_global}
-use Rattle.op_image.specs.Means.{Means, StandsGlobal, StandsText, literal_bytes}
-use Rattle.op_layout.specs.Places.{layout_of, places_from}
+use Rattle.op_expand.specs.Programs.{global_of, stack_global}
+use Rattle.op_image.specs.Means.{Means, StandsGlobal, StandsText}
+use Rattle.op_layout.specs.Places.{places_from}
 use Rattle.op_layout.specs.declared.layout.LiteralPlace.{LiteralPlace}
-use Rattle.op_link.specs.Memory.{are_in_range, stack_address, stack_size, stack_top, variable_size}
+use Rattle.op_link.specs.Memory.{variable_size}
 use Rattle.op_link.specs.declared.memory_map.Settings.{Settings}
 use Rattle.op_meaning.specs.Shapes.{type_of_row, type_of_variable}
 use Rattle.op_mir.specs.declared.code.Mir.{Mir}

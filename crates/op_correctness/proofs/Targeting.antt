@@ -1,5 +1,5 @@
 -- The branches of code that is made of items lead to its blocks.
-use Rattle.std.proofs.Common.{◌≡◌, ◌<◌, ℕ, zero, suc, ◌+◌, pos, Bool, true, false, List, [], ◌∷◌, length, None, refl, arith}
+use Rattle.std.proofs.Common.{◌<◌, ℕ, Bool, true, false, List, [], ◌∷◌, length}
 use Rattle.op_core.specs.declared.program.Core.{Core}
 use Rattle.op_frames.proofs.Lowered.{code_is}
 use Rattle.op_frames.specs.Made.{AreMade, AreMadeCases, AreMadeTurns, ArmsOf, Every, IsCode, IsMade}
@@ -7,7 +7,7 @@ use Rattle.op_lower.specs.Lowers.{IsRoutine}
 use Rattle.op_lower.specs.Seen.{seen_blocks}
 use Rattle.op_meaning.specs.Frames.{program_of}
 use Rattle.op_meaning.specs.Items.{Item, act, also, choose, select, loop, body_first, protect, leave, enter, finish, attempt, throw, rethrow, halt, construct, free, Items, none, then_do, Turns, turns, Cases, no_cases, cases}
-use Rattle.op_mir.specs.Code.{Arm, Instr, branch_if, branch_unless, items_of, jump, ret, switch}
+use Rattle.op_mir.specs.Code.{Arm, Instr, branch_if, branch_unless, items_of}
 use Rattle.op_mir.specs.declared.code.Routine.{Routine}
 use Rattle.op_correctness.specs.Targets.{IsTargetNumber, IsTargeted}
 

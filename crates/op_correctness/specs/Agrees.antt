@@ -1,5 +1,5 @@
 -- In what sense an image agrees with a program: over every input it writes and ends as the program does, step by step and for ever.
-use Rattle.std.specs.Prelude.{◌≡◌, ◌<◌, ℕ, suc, List, Option, None}
+use Rattle.std.specs.Prelude.{◌≡◌, ◌<◌, ℕ, suc, List, None}
 use Rattle.op_image.specs.Means.{AreBytes, image_run}
 use Rattle.op_link.specs.Image.{first_failing}
 use Rattle.op_meaning.specs.Frames.{Program, State}

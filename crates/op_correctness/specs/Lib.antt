@@ -1,4 +1,7 @@
 pub mod Agrees
+pub mod Charges
 pub mod Claims
 pub mod Placed
+pub mod SimpleCore
+pub mod Spacious
 pub mod Targets

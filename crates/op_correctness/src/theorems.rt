@@ -1,7 +1,10 @@
 //! What is proved of the image of a program, as the contract of a function without code.
-ghost use Rattle.op_correctness.specs.Claims.{Nothing};
+ghost use Rattle.op_correctness.specs.Claims.{EndsAreMeant, ImageAgrees, LowCodeIsBuildable};
 
-/// The image of a sound program.
+/// The image of a sound program of the class that is compiled does what the program means: `agrees` says it of each step, over every input
+/// and for ever, `ends` of where the image ends, and `buildable` that low code may be built.
 pub fn image_agrees()
-    ensures { Nothing }
+    ensures agrees { ImageAgrees }
+    ensures ends { EndsAreMeant }
+    ensures buildable { LowCodeIsBuildable }
 {}

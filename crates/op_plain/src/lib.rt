@@ -1,15 +1,14 @@
-//! Stand-in.
+//! Whether a typed program is of the class that the theorems of the compiler are about.
+//!
+//! `is_plain` walks once through the tables and the trees of a typed program, takes no memory, and answers what `specs/Plain.antt` says.
+//! `program_is_plain` says what a program has that passes: all that the theorems of op_typing, op_frames and op_mir ask of it.
 #![tactic(auto)]
 
-ghost use Rattle.std.specs.Prelude.{◌≡◌};
-ghost use Rattle.op_plain.specs.Plain.{is_plain_program};
+mod expression;
+mod statement;
+mod tables;
+mod theorems;
+mod types;
 
-use op_core::Core;
-
-/// Stand-in.
-#[tactic(auto, unfolding(crate::specs::Plain::is_plain_program))]
-pub fn is_plain(_core: &Core) -> bool
-    ensures { result ≡ is_plain_program _core.now }
-{
-    false
-}
+pub use tables::is_plain;
+pub use theorems::program_is_plain;

@@ -42,7 +42,7 @@ const NO_INPUT: Outside = Outside {
 const LATER: Outside = Outside {
     files: &[1],
     input: &[0],
-    out: &[1],
+    out: &[2],
     err: &[0],
     room: 6,
 };

@@ -50,7 +50,7 @@ module _ (words : List (List ℕ)) (stored : Option (List NamedFile)) (before no
         is_end = tt;
         owes = (few, (meets, (ended, left, (out, err))));
       })
-  exec_owes (finish.Faulted kind pc) done bytes (few, (meets, (faulted, others))) =
+  exec_owes (finish.Faulted kind pc) done bytes (few, (meets, (faulted, left, written))) =
       absurd (never_faults (image_run image done.input done.steps).ending kind pc (ap (λ (s : State). s.ending) (runs_so done.steps (start image done.input)) ∙ faulted) ((along done bytes).safe done.steps))
   exec_owes finish.Spent done bytes owes = inr (record { made = made; means = tt; is_end = tt; owes = owes })
   exec_owes finish.ReadFault done bytes owes = inr (record { made = made; means = tt; is_end = tt; owes = owes })

@@ -13,3 +13,15 @@ pub returns-in_err-forest-clause-failed : goal.returns-in_err-forest-clause-fail
 returns-in_err-forest-clause-failed g c =
     let p = err_from_is_err_and c.from_residual.result c.from_residual.ensures.1 in
     rw (p.1, p.2) (not_loaded (g.F.Files.stored c.args.files.now) c.args.main.now (g.F.Files.faults c.args.files.now) (g.F.Files.faults c.load.new.files) c.in_err-forest.field-0.0 c.in_err-forest.ensures.failed)
+
+pub returns-in-Ok-clause-made : goal.returns-in-Ok-clause-made
+returns-in-Ok-clause-made g c =
+    let forest = c.in_ok-forest.forest in (
+      forest,
+      record {
+        loads = c.in_ok-forest.ensures.loaded;
+        checks = (checked_so forest c.as_slice.result.now _ c.as_slice.ensures c.in-Ok.ensures.means c.in-Ok.ensures.law);
+        sound = c.in-Ok.ensures.sound.0;
+        nesting = c.in-Ok.ensures.sound.1;
+      },
+    )

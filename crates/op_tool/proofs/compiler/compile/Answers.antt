@@ -2,8 +2,8 @@ use Rattle.std.proofs.lemmas.Result.{err_from_is_err_and}
 use Rattle.op_tool.proofs.Compiling.{err_also, fails_as, made_of, not_compiled_by, ok_also}
 use Rattle.op_tool.proofs.compiler.compile.Goals as goal
 
-pub image_of-requires-clause-sound : goal.image_of-requires-clause-sound
-image_of-requires-clause-sound g c = let is = c.in_ok-core.ensures.made.1 in (is.sound, is.nesting)
+pub image_of-requires : goal.image_of-requires
+image_of-requires g c = let is = c.in_ok-core.ensures.made.1 in record { sound = (is.sound, is.nesting) }
 
 pub returns-in_err-core-clause-failed : goal.returns-in_err-core-clause-failed
 returns-in_err-core-clause-failed g c =

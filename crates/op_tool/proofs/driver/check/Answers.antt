@@ -7,13 +7,11 @@ use Rattle.op_tool.proofs.driver.check.Goals as goal
 
 pub returns-in-Done-clause-says : goal.returns-in-Done-clause-says
 returns-in-Done-clause-says g c words left count =
-    let program = c.in-Ok.field-0 in
-    says_written _ (Ended 0) _ left (g.W.Sink.written c.args.out.now) (g.W.Sink.written c.put.new.self) (g.E.Sink.written c.args.err.now) _ (λ same. cc) (λ input. (refl, (refl, (program.forest, program.core, c.in-Ok.ensures.made), (refl, refl, refl)))) (c.in-Done.ensures.done refl)
+    says_written _ (Ended 0) _ left (g.W.Sink.written c.args.out.now) (g.W.Sink.written c.put.new.self) (g.E.Sink.written c.args.err.now) _ (λ same. cc) (λ input. (refl, (refl, (c.in-Ok.field-0, c.in-Ok.ensures.made), (refl, refl, refl)))) (c.in-Done.ensures.done refl)
 
 pub returns-in-Ok-clause-says : goal.returns-in-Ok-clause-says
 returns-in-Ok-clause-says g c words left count =
-    let program = c.in-Ok.field-0 in
-    says_written_in_part _ (Ended 0) _ left (g.W.Sink.written c.args.out.now) (g.W.Sink.written c.put.new.self) (g.E.Sink.written c.args.err.now) _ (λ input. (refl, (refl, (program.forest, program.core, c.in-Ok.ensures.made), (refl, refl, refl)))) (c.in-Failed.ensures.front refl) (inl (c.in-Failed.ensures.failed refl))
+    says_written_in_part _ (Ended 0) _ left (g.W.Sink.written c.args.out.now) (g.W.Sink.written c.put.new.self) (g.E.Sink.written c.args.err.now) _ (λ input. (refl, (refl, (c.in-Ok.field-0, c.in-Ok.ensures.made), (refl, refl, refl)))) (c.in-Failed.ensures.front refl) (inl (c.in-Failed.ensures.failed refl))
 
 pub returns-clause-says : goal.returns-clause-says
 returns-clause-says g c words left count =

@@ -1,0 +1,151 @@
+-- Activations of low code take no more of the stack than they are charged.
+use Rattle.std.proofs.Common.{◌≡◌, ◌<◌, ◌≤◌, ℕ, suc, ◌+◌, ◌*◌, ◌++◌, List, [], ◌∷◌, length, replicate, nat_eq, nat_lt, Bool, true, false, Some, slice_get, refl, sym, ap, ◌∙◌, subst, arith, append_assoc, if◌then◌else◌}
+use Rattle.std.proofs.lemmas.Bool.{ne_eqb}
+use Rattle.std.proofs.lemmas.Bool.Decides.{nat_tests}
+use Rattle.std.proofs.lemmas.List.{length-replicate}
+use Rattle.std.proofs.lemmas.Option.{slice_get_within}
+use Rattle.op_constants.proofs.TypesArranged.{some_at}
+use Rattle.op_core.specs.Sound.{IsSound, IsSoundNesting}
+use Rattle.op_core.specs.declared.program.Core.{Core}
+use Rattle.op_expand.specs.Calls.{runtime}
+use Rattle.op_expand.specs.Frames.{frame_of, parameters_of}
+use Rattle.op_expand.specs.Homes.{parameter}
+use Rattle.op_expand.specs.Programs.{first_literal, low_of, no_bytes, program_literal, routines_from}
+use Rattle.op_expand.specs.Routines.{behind_blocks, low_parameters, low_routine, most_charge}
+use Rattle.op_frames.proofs.ProgramFine.{low_frame}
+use Rattle.op_frames.proofs.SoundSizes.{sizes_small}
+use Rattle.op_frames.specs.Fitting.{IsFitting, registers_of_routine}
+use Rattle.op_low.specs.State.{routine_of, routine_or, space}
+use Rattle.op_low.specs.Valid.{takes}
+use Rattle.op_low.specs.declared.code.Low.{Low}
+use Rattle.op_low.specs.declared.code.Routine.{Routine as LowRoutine}
+use Rattle.op_lower.specs.Lowers.{Lowers}
+use Rattle.op_mir.specs.View.{routine_at}
+use Rattle.op_mir.specs.declared.code.Mir.{Mir}
+use Rattle.op_mir.specs.declared.code.Routine.{Routine}
+use Rattle.op_rt_text.specs.Runtime.{runtime_routines}
+use Rattle.op_select.specs.Frames.{frame_of as frame_bytes}
+use Rattle.op_select.specs.Going.{Setting as Placed, placement_of}
+use Rattle.op_agreement.proofs.Expanding.{low_found}
+use Rattle.op_agreement.specs.Settings.{Setting}
+use Rattle.op_correctness.proofs.Fitting.{each_fits, frame_charged, row_of}
+use Rattle.op_correctness.proofs.ProgramCode.{program_fits, program_locals, program_registers}
+use Rattle.op_correctness.specs.Charges.{HaveCharges}
+use Rattle.op_correctness.specs.Placed.{setting_by}
+use Rattle.op_correctness.specs.SimpleCore.{IsSimpleCore}
+use Rattle.op_correctness.specs.Spacious.{IsSpacious}
+
+-- ---- what is called takes its parameters
+
+-- low code of a routine has its parameters, also where it is charged more than a stack may have
+parameters_by : (over : Bool) (core : Core) (mir : Mir) (r id : ℕ) (x : Routine) → nat_lt most_charge x.charge ≡ over → (low_routine core mir r id x).parameters ≡ low_parameters core r
+parameters_by true core mir r id x e = rw e refl
+parameters_by false core mir r id x e = rw e refl
+
+-- a routine takes the charge that is left, the address of a result, and its parameters
+own_parameters : (core : Core) (f k : ℕ) → f < length core.routines → k ≡ parameters_of core f → low_parameters core f ≡ suc (suc k)
+own_parameters core f k less e =
+    let other : nat_eq f (length core.routines) ≡ false = ne_eqb f (length core.routines) (λ x. omega arith) in
+    let same : 2 + parameters_of core f ≡ suc (suc k) = omega (arith, e) in
+    ap (λ b. if b then 0 else parameter (parameters_of core f)) other ∙ same
+
+-- it is called with as many arguments
+takes_parameters : (routine : LowRoutine) (n : ℕ) → routine.parameters ≡ n → takes (Some routine) n ≡ true
+takes_parameters routine n e = grind (arith, nat_tests, e)
+
+-- the number of a routine is not that of the program
+at_row : (mir : Mir) (r : ℕ) (x : Routine) → slice_get mir.routines r ≡ Some x → routine_at mir r ≡ Some x
+at_row mir r x at =
+    let low = slice_get_within mir.routines r x at in
+    let other : nat_eq r (length mir.routines) ≡ false = ne_eqb r (length mir.routines) (λ e. omega (arith, low, e)) in
+    ap (λ b. if b then Some mir.program else slice_get mir.routines r) other ∙ at
+
+-- the next number is
+at_program : (mir : Mir) → routine_at mir (length mir.routines) ≡ Some mir.program
+at_program mir =
+    let same : nat_eq (length mir.routines) (length mir.routines) ≡ true = grind (arith, nat_tests) in
+    ap (λ b. if b then Some mir.program else slice_get mir.routines (length mir.routines)) same
+
+-- what has another number is a routine
+at_other : (mir : Mir) (r : ℕ) (x : Routine) → r < length mir.routines → routine_at mir r ≡ Some x → slice_get mir.routines r ≡ Some x
+at_other mir r x low found =
+    let other : nat_eq r (length mir.routines) ≡ false = ne_eqb r (length mir.routines) (λ e. omega (arith, low, e)) in
+    sym (ap (λ b. if b then Some mir.program else slice_get mir.routines r) other) ∙ found
+
+module _ (core : Core) (mir : Mir) (stack : ℕ) (sound : IsSound core) (nesting : IsSoundNesting core) (is : IsSimpleCore core) (charges : HaveCharges core) (lowers : Lowers core mir) (w : Placed) (low : w.low ≡ low_of core mir stack) where
+  abbrev g : Setting
+  g = setting_by core mir stack w []
+
+  -- ---- the frame of a routine, beside code that has as many literals as the routine names
+
+  -- behind the run-time routines stand those of the program, and the program itself
+  others : List LowRoutine
+  others = routines_from core mir 0 first_literal mir.routines ++ low_routine core mir (length mir.routines) (program_literal core mir) mir.program ∷ []
+
+  -- the same routines with as many literals and global variables as are asked for: registers and locals of a routine do not depend on them
+  enough_for : (literals : ℕ) → Low
+  enough_for literals = record {
+    routines = w.low.routines;
+    entry = w.low.entry;
+    counts = record { literals = 7 + literals; tables = 0; descriptors = 0 };
+    globals = replicate (suc (length core.variables)) no_bytes;
+  }
+
+  routines_are : w.low.routines ≡ runtime_routines ++ others
+  unfolding others
+  routines_are = ap (λ l. l.routines) low ∙ append_assoc runtime_routines (routines_from core mir 0 first_literal mir.routines) (low_routine core mir (length mir.routines) (program_literal core mir) mir.program ∷ [])
+
+  -- each routine of the program is called with its parameters
+  calls : (f k : ℕ) → f < length core.routines → k ≡ parameters_of core f → takes (slice_get w.low.routines (runtime + f)) (suc (suc k)) ≡ true
+  calls f k less e =
+      let number = lowers.number in
+      let (x, at) = some_at mir.routines f (omega (arith, less, number)) in
+      let found = low_found g low f x (at_row mir f x at) in
+      let parameters : (low_routine core mir f found.id x).parameters ≡ suc (suc k) = parameters_by (nat_lt most_charge x.charge) core mir f found.id x refl ∙ own_parameters core f k less e in
+      subst (λ o. takes o (suc (suc k)) ≡ true) (sym found.at) (takes_parameters (low_routine core mir f found.id x) (suc (suc k)) parameters)
+
+  -- a routine of low code that fits has no more registers than are counted, and the locals of its frame
+  routine_small : (r id : ℕ) (x : Routine) → IsFitting core r x → x.charge ≤ most_charge → ((low_routine core mir r id x).registers ≤ registers_of_routine core r x) × ((low_routine core mir r id x).locals ≡ (frame_of core r x).locals)
+  unfolding enough_for
+  routine_small r id x fits charge =
+      let literals = behind_blocks core r id x.blocks in
+      let many : length (replicate (suc (length core.variables)) no_bytes) ≡ suc (length core.variables) = length-replicate (suc (length core.variables)) no_bytes in
+      low_frame (enough_for literals) core mir (sizes_small core sound) others routines_are (omega (arith, many)) (omega arith) calls r id x fits (omega arith) charge
+
+  -- what an activation of it takes
+  space_of : (r : ℕ) (x : Routine) → routine_at mir r ≡ Some x → IsFitting core r x → x.charge ≤ most_charge → space w.low (placement_of w) (runtime + r) ≤ (frame_of core r x).locals + 4 * (registers_of_routine core r x + 1)
+  unfolding frame_bytes
+  space_of r x found fits charge =
+      let stands = low_found g low r x found in
+      let same : routine_of w.low (runtime + r) ≡ low_routine core mir r stands.id x = ap routine_or stands.at in
+      let (registers, locals) = routine_small r stands.id x fits charge in
+      let taken : space w.low (placement_of w) (runtime + r) ≡ (low_routine core mir r stands.id x).locals + 4 * ((low_routine core mir r stands.id x).registers + 1) = ap (λ (y : LowRoutine). y.locals + 4 * (y.registers + 1)) same in
+      omega (arith, taken, registers, locals)
+
+  -- ---- what is proved
+
+  -- An activation of a routine takes no more than it is charged.
+  pub space_charged : (r : ℕ) (x : Routine) → slice_get mir.routines r ≡ Some x → x.charge ≤ most_charge → space w.low (placement_of w) (runtime + r) ≤ x.charge
+  space_charged r x at charge =
+      let (row, there) = row_of core mir sound nesting is charges lowers r x at in
+      let fits = each_fits core mir sound nesting is charges lowers r x at in
+      let taken = space_of r x (at_row mir r x at) fits charge in
+      let within = frame_charged core sound nesting is r (charges r (slice_get_within core.routines r row there)) row there x (lowers.routines r x at) charge in
+      omega (arith, taken, within)
+
+  -- So it does wherever the image is.
+  pub is_spacious : (image : List ℕ) → IsSpacious (setting_by core mir stack w image)
+  is_spacious image r x found charge low_number = space_charged r x (at_other mir r x low_number found) charge
+
+  -- The program itself takes a few words.
+  pub program_space : space w.low (placement_of w) (runtime + length core.routines) ≤ 1024
+  program_space =
+      let program = lowers.program in
+      let number = lowers.number in
+      let found : routine_at mir (length core.routines) ≡ Some mir.program = subst (λ n. routine_at mir n ≡ Some mir.program) number (at_program mir) in
+      let fits = program_fits core sound nesting is.simple mir.program program in
+      let charge = program.charge in
+      let taken = space_of (length core.routines) mir.program found fits (omega (arith, charge)) in
+      let locals = program_locals core sound nesting is.simple mir.program program in
+      let registers = program_registers core sound nesting is.simple mir.program program in
+      omega (arith, taken, locals, registers)

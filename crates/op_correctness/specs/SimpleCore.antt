@@ -1,0 +1,17 @@
+-- What is asked of a program beside soundness, which a test at run time finds.
+use Rattle.std.specs.Prelude.{◌≡◌, ℕ, None}
+use Rattle.std.specs.List.{All}
+use Rattle.op_core.specs.declared.program.Core.{Core}
+use Rattle.op_frames.specs.Counted.{AreCountedStatements}
+use Rattle.op_meaning.specs.Frames.{program_of}
+use Rattle.op_typing.specs.Simple.{IsSimpleProgram}
+
+pub record IsSimpleCore (core : Core) : Type 0 where
+  -- what it works on are numbers, sets, records and arrays with bounds
+  pub simple : IsSimpleProgram core
+  -- its bodies handle no exceptions and make no instances, and their constants are charged
+  pub counted : (stack r : ℕ) → AreCountedStatements ((program_of core stack).body r)
+  -- errors end it
+  pub exceptions : core.exceptions ≡ None
+  -- nothing is due when it ends
+  pub finalizations : All (λ u. u.finalization ≡ None) core.units

@@ -1,0 +1,186 @@
+//! The test of statements.
+ghost use Rattle.std.specs.Prelude.{◌≡◌, map};
+ghost use Rattle.std.specs.List.{list_all};
+ghost use Rattle.op_core.specs.Expression.{expr_of, root_of};
+ghost use Rattle.op_core.specs.Nodes.{branches_of};
+ghost use Rattle.op_core.specs.Statement.{built_in_of, item_of, stmt_of, stmts_of};
+ghost use Rattle.op_plain.specs.Plain.{are_plain_branches, are_plain_statements, has_work, is_plain_amount, is_plain_bare, is_plain_built_in, is_plain_item, is_plain_statement, is_work};
+
+use crate::expression::{is_plain_expression, is_plain_root};
+use crate::types::is_plain_constant;
+use op_core::{Core, CoreAction, CoreBranch, CoreExpr, CoreItem, CoreStmt, Root, TypeId};
+
+#[cycle(statement)]
+pub fn are_plain_statements(core: &Core, list: &[CoreStmt]) -> bool
+    ensures { result ≡ are_plain_statements core.now (stmts_of list.now) }
+{
+    for each in list {
+        if !is_plain_statement(core, each) {
+            return false;
+        }
+    }
+    true
+}
+
+#[cycle(statement)]
+fn is_plain_statement(core: &Core, stmt: &CoreStmt) -> bool
+    ensures { result ≡ is_plain_statement core.now (stmt_of stmt.now) }
+{
+    match stmt {
+        CoreStmt::Empty => true,
+        CoreStmt::Block(body) => are_plain_statements(core, body),
+        CoreStmt::If { condition, then } => {
+            is_plain_expression(core, condition) && is_plain_statement(core, then)
+        }
+        CoreStmt::IfElse {
+            condition,
+            then,
+            otherwise,
+        } => {
+            is_plain_expression(core, condition)
+                && is_plain_statement(core, then)
+                && is_plain_statement(core, otherwise)
+        }
+        CoreStmt::Case {
+            selector,
+            branches,
+            otherwise,
+        } => {
+            is_plain_expression(core, selector)
+                && are_plain_branches(core, branches)
+                && are_plain_statements(core, otherwise)
+        }
+        CoreStmt::While { condition, body } => {
+            is_plain_expression(core, condition) && is_plain_statement(core, body)
+        }
+        CoreStmt::Repeat { body, condition } => {
+            is_plain_expression(core, condition) && are_plain_statements(core, body)
+        }
+        CoreStmt::For {
+            first,
+            last,
+            body,
+            ..
+        } => {
+            is_plain_expression(core, first)
+                && is_plain_expression(core, last)
+                && is_plain_statement(core, body)
+        }
+        CoreStmt::ForIn {
+            collection,
+            body,
+            ..
+        } => is_plain_expression(core, collection) && is_plain_statement(core, body),
+        CoreStmt::TryFinally { body, finalization } => {
+            are_plain_statements(core, body) && are_plain_statements(core, finalization)
+        }
+        CoreStmt::TryOn { .. } => false,
+        CoreStmt::TryOnElse { .. } => false,
+        CoreStmt::Raise(_) => false,
+        CoreStmt::Reraise => false,
+        CoreStmt::Call(call) => is_plain_expression(core, call),
+        CoreStmt::Assign { target, value } => {
+            is_plain_expression(core, target) && is_plain_expression(core, value)
+        }
+        CoreStmt::Exit => true,
+        CoreStmt::ExitWith(value) => is_plain_expression(core, value),
+        CoreStmt::Break => true,
+        CoreStmt::Continue => true,
+        CoreStmt::Halt(status) => is_plain_expression(core, status),
+        CoreStmt::Do(action) => is_plain_built_in(core, action),
+    }
+}
+
+#[cycle(statement)]
+fn are_plain_branches(core: &Core, list: &[CoreBranch]) -> bool
+    ensures { result ≡ are_plain_branches core.now (branches_of list.now) }
+{
+    for each in list {
+        if !is_plain_statement(core, &each.body) {
+            return false;
+        }
+    }
+    true
+}
+
+fn is_plain_built_in(core: &Core, action: &CoreAction) -> bool
+    ensures { result ≡ is_plain_built_in core.now (built_in_of action.now) }
+{
+    match action {
+        CoreAction::Write { items, .. } => are_plain_items(core, items),
+        CoreAction::Count { target, amount, .. } => {
+            is_plain_expression(core, &target.place) && is_plain_amount(core, amount)
+        }
+        CoreAction::Include { set, element } => {
+            is_plain_expression(core, set) && is_plain_expression(core, element)
+        }
+        CoreAction::Exclude { set, element } => {
+            is_plain_expression(core, set) && is_plain_expression(core, element)
+        }
+        CoreAction::Free { .. } => false,
+        CoreAction::Destroy(_) => false,
+        _ => true,
+    }
+}
+
+fn are_plain_items(core: &Core, list: &[CoreItem]) -> bool
+    ensures { result ≡ list_all (is_plain_item core.now) (map item_of list.now) }
+{
+    for each in list {
+        if !is_plain_item(core, each) {
+            return false;
+        }
+    }
+    true
+}
+
+fn is_plain_item(core: &Core, item: &CoreItem) -> bool
+    ensures { result ≡ is_plain_item core.now (item_of item.now) }
+{
+    match item {
+        CoreItem::Plain(value) => is_plain_expression(core, value),
+        CoreItem::Padded(value, width) => {
+            is_plain_expression(core, value) && is_plain_expression(core, width)
+        }
+    }
+}
+
+fn is_plain_amount(core: &Core, amount: &CoreExpr) -> bool
+    ensures { result ≡ is_plain_amount core.now (expr_of amount.now) }
+{
+    match amount.steps.split_first() {
+        None => is_plain_bare(core, &amount.root, amount.of),
+        Some(_) => is_plain_expression(core, amount),
+    }
+}
+
+/// An amount that is not written is a constant that stands for no node.
+fn is_plain_bare(core: &Core, root: &Root, of: TypeId) -> bool
+    ensures { result ≡ is_plain_bare core.now (root_of root.now) of }
+{
+    match root {
+        Root::Constant { value, .. } => is_plain_constant(core, value, of),
+        _ => is_plain_root(core, root, of),
+    }
+}
+
+/// Whether one of the statements is not empty.
+pub fn has_work(list: &[CoreStmt]) -> bool
+    ensures { result ≡ has_work (stmts_of list.now) }
+{
+    for each in list {
+        if is_work(each) {
+            return true;
+        }
+    }
+    false
+}
+
+fn is_work(stmt: &CoreStmt) -> bool
+    ensures { result ≡ is_work (stmt_of stmt.now) }
+{
+    match stmt {
+        CoreStmt::Empty => false,
+        _ => true,
+    }
+}
