@@ -2,5 +2,6 @@ pub mod CountedLemmas
 mod Nodes
 mod Parts
 pub mod PlainLemmas
+mod PlainRuns
 pub mod SimpleLemmas
 mod Texts

@@ -1,5 +1,5 @@
 -- A program that passes the test is of the class.
-use Rattle.std.proofs.Common.{◌≡◌, ◌<◌, ◌≤◌, ◌⊎◌, inl, inr, ℕ, zero, suc, ◌+◌, Bool, true, false, ◌&&◌, ◌||◌, not, if◌then◌else◌, nat_eq, nat_lt, Option, Some, None, List, [], ◌∷◌, length, slice_get, filter, flat_map, map, reverse, take, drop, refl, ap, subst, arith}
+use Rattle.std.proofs.Common.{◌≡◌, ◌<◌, ◌≤◌, ◌⊎◌, inl, inr, ℕ, zero, suc, ◌+◌, Bool, true, false, ◌&&◌, if◌then◌else◌, nat_eq, nat_lt, Option, Some, None, List, [], ◌∷◌, length, slice_get, filter, flat_map, map, reverse, take, drop, refl, ap, subst, arith}
 use Rattle.std.proofs.lemmas.Bool.{and_parts, not-true, or_cases}
 use Rattle.std.proofs.lemmas.Bool.Decides.{nat_tests}
 use Rattle.std.proofs.lemmas.List.Elements.{All-cons, All-nil}
@@ -28,10 +28,9 @@ use Rattle.op_frames.specs.Made.{Every}
 use Rattle.op_meaning.specs.Calls.{ended_variables, ending_of}
 use Rattle.op_meaning.specs.Charge.{nodes_of, statements_weight}
 use Rattle.op_meaning.specs.Frames.{empty_global, program_of}
-use Rattle.op_meaning.specs.Shapes.{is_managed, no_type, type_of_variable, variables_of}
+use Rattle.op_meaning.specs.Shapes.{is_managed, type_of_variable, variables_of}
 use Rattle.op_meaning.specs.Start.{first_pending}
-use Rattle.op_mir.specs.Code.{items_of}
-use Rattle.op_mir.specs.Plain.{ArePlain, ArePlainUnits, IfExists, IsPlain}
+use Rattle.op_mir.specs.Plain.{ArePlainUnits, IfExists}
 use Rattle.op_plain.proofs.CountedLemmas.{statements_counted, statements_some}
 use Rattle.op_plain.proofs.Parts.{Tests, below, failed, tests_of}
 use Rattle.op_plain.proofs.SimpleLemmas.{simple_test}

@@ -1,7 +1,7 @@
 -- A test of whether a program is of the class that the theorems of the compiler are about: it works on numbers, sets, records and arrays
 -- with bounds, and on texts only as they are written in it; its routines stand in no other one, and nothing is raised. Each node of a tree
 -- is asked once for all of it. (Free Pascal Reference Guide, "Types", "Expressions" and "Statements".)
-use Rattle.std.specs.Prelude.{ℕ, Bool, true, false, not, ◌&&◌, ◌||◌, List, Option, Some, None, nat_eq, nat_lt}
+use Rattle.std.specs.Prelude.{ℕ, Bool, true, false, not, ◌&&◌, ◌||◌, Option, Some, None, nat_eq, nat_lt}
 use Rattle.std.specs.List.{list_all}
 use Rattle.op_core.specs.Expression.{Expression, expression, Root, constant, object, call, construct, set, Steps, no_steps, steps, Action, bracket, index, method, operate, apply, Elements, no_elements, elements, Element, one, range, Arguments, no_arguments, arguments, Argument, value, place, array, listed}
 use Rattle.op_core.specs.Statement.{Item, plain, padded, BuiltIn, write, count, include, exclude, free, destroy, Statement, empty, block, if_then, if_else, case_of, while_do, repeat_until, for_to, for_in, try_finally, try_on, try_on_else, raise, reraise, call as call_statement, assign, exit_with, halt, built_in, Statements, no_statements, statements, Branches, no_branches, branches, stmts_of}
