@@ -1,5 +1,5 @@
 -- What the image of a program in managed code is, and when there is none.
-use Rattle.std.specs.Prelude.{◌≡◌, ◌<◌, ℕ, ◌*◌, List, false, ⊤}
+use Rattle.std.specs.Prelude.{◌≡◌, ◌<◌, ◌≤◌, ℕ, ◌*◌, List, false, ⊤}
 use Rattle.op_build.specs.declared.building.BuildError.{BuildError}
 use Rattle.op_build.specs.declared.building.BuildError.TheVariants.{Limit, Unbuildable, NoMemory}
 use Rattle.op_constants.specs.Literals.{literals_of}
@@ -29,9 +29,10 @@ pub record IsLowCode (core : Core) (mir : Mir) (settings : Settings) (low : Low)
   pub code : low ≡ program_low core mir settings
   pub constants : layout ≡ program_layout core mir
 
--- the image is that of the program's low code, and does what this does
+-- the image is that of the program's low code, is not too large, and does what the low code does
 pub record IsBuilt (core : Core) (mir : Mir) (settings : Settings) (image : List ℕ) : Type 0 where
   pub exact : image ≡ image_of (select_of (program_low core mir settings)) (program_layout core mir) settings
+  pub within : linked_size (select_of (program_low core mir settings)) (program_layout core mir) settings ≤ most_linked
   pub means : Means (program_low core mir settings) (program_layout core mir) settings image
 
 -- why there is none

@@ -77,7 +77,7 @@ fn image_of(alloc: Global, code: &LowCode, settings: &Settings) -> Result<Vec<u8
 /// The image of a program in managed code, beside its tables, with a heap and a stack as the settings say.
 ///
 /// `Limit` comes only where code, constants and initial globals take more than 67,108,864 bytes, `Unbuildable` only where the low code of
-/// the program names what does not exist, and `NoMemory` only where the allocator has no room.
+/// the program names what does not exist or its globals take too much room, and `NoMemory` only where the allocator has no room.
 pub fn build(
     alloc: Global,
     core: Core,

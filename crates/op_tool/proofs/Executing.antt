@@ -55,7 +55,7 @@ module _ (words : List (List ℕ)) (stored : Option (List NamedFile)) (before no
   exec_owes finish.Spent done bytes owes = inr (record { made = made; means = tt; is_end = tt; owes = owes })
   exec_owes finish.ReadFault done bytes owes = inr (record { made = made; means = tt; is_end = tt; owes = owes })
   exec_owes (finish.BadImage condition) done bytes (fails, reports) = absurd (passes_none condition (sym made.is_image.agrees.loads ∙ fails))
-  exec_owes finish.NoMemory done bytes reports = inl reports
+  exec_owes finish.NoMemory done bytes owes = inr (record { made = made; means = tt; is_end = tt; owes = owes })
   exec_owes finish.Usage done bytes owes = absurd owes
   exec_owes (finish.Refused rule place) done bytes owes = absurd owes
   exec_owes finish.WriteFault done bytes owes = absurd owes

@@ -22,7 +22,6 @@ use Rattle.op_meaning.specs.Frames.{Program, program_of}
 use Rattle.op_mir.specs.declared.code.Mir.{Mir}
 use Rattle.op_plain.specs.Plain.{is_plain_program}
 use Rattle.op_tool.specs.declared.compiler.CompileError.{CompileError}
-use Rattle.op_plain.specs.Plain.{is_plain_program}
 use Rattle.op_tool.specs.declared.compiler.CompileError.TheVariants.{Refused, ReadFault, Limit, NoMemory}
 use Rattle.op_tree.specs.File.{file_of}
 use Rattle.op_units.specs.declared.error.LoadError.{LoadError}
@@ -98,7 +97,7 @@ pub record FailsToBuild (core : Core) (error : BuildError) : Type 0 where
   pub lowers : Lowers core mir
   pub why : IsNotBuilt core mir default error
 
--- it is not of the class that is compiled, or its low code names what does not exist
+-- it is not of the class that is compiled, or its low code may not be built
 abbrev pub IsNotCompiled : Core → Type 0
 IsNotCompiled core = (is_plain_program core ≡ false) ⊎ FailsToBuild core build.Unbuildable
 

@@ -92,7 +92,7 @@ OwesError now name (Refused rule place) done =
     IsRefused now.stored name (record { rule = rule; place = place }) × (now.image ≡ []) × OnlyRefuses name place rule done
 OwesError now name ReadFault done = (now.image ≡ []) × OnlyFailsToRead now done
 OwesError now name Limit done = IsTooLarge now.stored name × (now.image ≡ []) × OnlyReports (line (codes "opc: image too large")) done
-OwesError now name NoMemory done = OnlyReports (line (codes "opc: out of memory")) done
+OwesError now name NoMemory done = (now.image ≡ []) × OnlyReports (line (codes "opc: out of memory")) done
 OwesError now name _ done = ⊥
 
 -- the program has ended with that status, and this is what it has written and left
@@ -105,6 +105,7 @@ abbrev pub IsEndOfRun : Finish → Type 0
 IsEndOfRun (Ended status) = Unit {0}
 IsEndOfRun Spent = Unit {0}
 IsEndOfRun ReadFault = Unit {0}
+IsEndOfRun NoMemory = Unit {0}
 IsEndOfRun _ = ⊥
 
 -- What a program did that was compiled and run: its image agrees with it, and this is what the run of the image owes. Where that has ended, so has the

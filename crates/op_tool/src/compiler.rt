@@ -68,7 +68,7 @@ impl From<LoadError> for CompileError {
 /// The image of the program in this file, which does what the program means.
 ///
 /// `Refused` tells the first rule that the program breaks, as `load` and then `check` have them, or that it is not of the class that is
-/// compiled. `Limit` comes where code, constants and initial globals would take more than 67,108,864 bytes.
+/// compiled or that its low code may not be built. `Limit` comes where code, constants and initial globals would take more than 67,108,864 bytes.
 pub fn compile<F: Files>(alloc: Global, files: &mut F, main: &str) -> Result<Vec<u8>, CompileError>
     ensures made { IfOk result (λ image. Made (F.stored files.old) main.now image.items) }
     ensures failed { IfErr result (FailsAs (F.stored files.old) main.now (F.faults files.old) (F.faults files.new)) }

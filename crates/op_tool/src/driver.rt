@@ -142,7 +142,7 @@ fn run<F: Files, R: Source, W: Sink, E: Sink>(
 /// from `input`. All other words are `Usage`.
 ///
 /// An answer but `Ended` and `WriteFault` writes one line to `err` as its last act. `image` gets the image that was made
-/// or found, and is empty where there was none.
+/// or found, and is empty where none was made.
 pub fn tool<F: Files, R: Source, W: Sink, E: Sink>(
     alloc: Global,
     words: &[String],

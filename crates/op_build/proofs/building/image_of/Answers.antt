@@ -8,7 +8,7 @@ returns-then-not-buildable-clause-failed c core mir is =
 
 pub returns-in-Ok-clause-made : goal.returns-in-Ok-clause-made
 returns-in-Ok-clause-made c core mir is =
-    made core mir c.args.settings.now c.in-Ok.image.items c.args.code.now.low c.args.code.now.layout is.code is.constants c.in-Ok.ensures.image c.in-Ok.ensures.means
+    made core mir c.args.settings.now c.in-Ok.image.items c.args.code.now.low c.args.code.now.layout is.code is.constants c.in-Ok.ensures.image c.in-Ok.ensures.within c.in-Ok.ensures.means
 
 pub returns-in-Err-Limit-clause-failed : goal.returns-in-Err-Limit-clause-failed
 returns-in-Err-Limit-clause-failed c core mir is =
