@@ -1,5 +1,5 @@
 -- Values with parts are copied from one place to another.
-use Rattle.std.proofs.Common.{◌≡◌, ◌≤◌, ◌<◌, ◌⊎◌, inl, inr, ℕ, ◌+◌, List, [], ◌∷◌, ◌++◌, Option, Some, None, refl, sym, ap, ap₂, ◌∙◌, subst, arith, append_assoc}
+use Rattle.std.proofs.Common.{◌≡◌, ◌≤◌, ◌<◌, ◌⊎◌, inl, inr, ℕ, ◌+◌, List, [], ◌∷◌, ◌++◌, Option, Some, None, refl, sym, ap, ap₂, ◌∙◌, subst, arith, append_assoc, ◌*◌}
 use Rattle.std.specs.Prelude.{◌^◌, ◌&&◌, map, Bool, false, if◌then◌else◌}
 use Rattle.std.proofs.lemmas.Bool.{cases_lt}
 use Rattle.op_compute.proofs.Registers.{put_lower}
@@ -23,7 +23,7 @@ use Rattle.op_meaning.specs.Shapes.{composite, shape_of}
 use Rattle.op_meaning.specs.Values.{Place, number_in}
 use Rattle.op_meaning.specs.World.{value_at, with_value}
 use Rattle.op_mir.proofs.PlainLemmas.{plain_perform}
-use Rattle.op_mir.specs.Machine.{MirState, execute, mir_step}
+use Rattle.op_mir.specs.Machine.{MirState, execute, mir_step, mir_cost}
 use Rattle.op_mir.specs.Plain.{IsPlainWorld}
 use Rattle.op_mir.specs.Valid.{action_fits, copy_fits, has_type, path_fits}
 use Rattle.op_mir.specs.View.{view_action, view_path, view_step}
@@ -39,13 +39,14 @@ use Rattle.op_agreement.proofs.Branching.{begins_here, both_true, step_here}
 use Rattle.op_agreement.proofs.Cases.{behind_act}
 use Rattle.op_agreement.proofs.Computing.{rest_above, rest_below, rest_stands}
 use Rattle.op_agreement.proofs.Copied.{all_whole, copyable, stays_copied, stays_nothing}
-use Rattle.op_agreement.proofs.Copying.{having, none_goes, some_go}
+use Rattle.op_agreement.proofs.Copying.{having, none_goes, some_go, copy_most}
 use Rattle.op_agreement.proofs.Elements.{KeptBelow}
 use Rattle.op_agreement.proofs.Following.{Comes}
-use Rattle.op_agreement.proofs.Going.{Goes, goes_then}
+use Rattle.op_agreement.proofs.Going.{Goes, goes_then, goes_within}
 use Rattle.op_agreement.proofs.Loading.{index_fails, indices_in, placed_part}
-use Rattle.op_agreement.proofs.Paths.{Failed, PlaceTo, Reached, home_goes, place_goes, spot_fits}
+use Rattle.op_agreement.proofs.Paths.{Failed, PlaceTo, Reached, home_goes, place_goes, spot_fits, place_most}
 use Rattle.op_agreement.proofs.Places.{HaveIndices, small_last}
+use Rattle.op_agreement.proofs.Pricing.{afford}
 use Rattle.op_agreement.proofs.Standing.{Next, SameVariables, Temporaries, here, stands_on}
 use Rattle.op_agreement.proofs.Updating.{limit_here}
 use Rattle.op_agreement.proofs.Writing.{room_there}
@@ -54,6 +55,7 @@ use Rattle.op_agreement.specs.Coding.{code_for}
 use Rattle.op_agreement.specs.Fitting.{IsFitting}
 use Rattle.op_agreement.specs.Settings.{IsPlaced, IsRooted, Setting, managed}
 use Rattle.op_agreement.specs.Stands.{Stands, Stays}
+use Rattle.op_agreement.specs.Steps.{most_for_one}
 use Rattle.op_agreement.specs.Typed.{PathTo}
 
 regroup : (a b c d : List LowInstruction) → (a ++ b ++ c) ++ d ≡ a ++ (b ++ (c ++ d))
@@ -166,10 +168,10 @@ module _ (g : Setting) (fit : IsFitting g) (m : MirState) (l : State) (floors : 
 
     module _ (q p : Place) (e : place_meant m.world (view_path from) ≡ Some q) (f : place_meant m.world (view_path to) ≡ Some p) where
       -- the state to which the code comes stands for the one in which the value is copied
-      behind_copies : (h memory : ℕ → ℕ) → Goes g 1 l (having l h rest memory) → Stays g floors (copied (Some q) (Some p)) (having l h rest memory) → Comes g m l
+      behind_copies : (h memory : ℕ → ℕ) → Goes g 1 (place_most from + place_most to + copy_most (size_in g.core of)) l (having l h rest memory) → Stays g floors (copied (Some q) (Some p)) (having l h rest memory) → Comes g m l
       behind_copies h memory goes stays = record {
         to = having l h rest memory;
-        goes = goes;
+        goes = goes_within g 1 (most_for_one * mir_cost (managed g) m) l (having l h rest memory) goes (afford g fit m l floors (Act (Copy of to from) landing) is id next (λ light. light) (place_most from + place_most to + copy_most (size_in g.core of)) (omega arith));
         stands = subst (λ x. Stands g x (having l h rest memory)) (sym (copy_step (Some q) (Some p) e f)) (stands_on g (copied (Some q) (Some p)) (having l h rest memory) next.ending next.frames (record {
           floors = floors;
           stays = stays;
@@ -190,11 +192,11 @@ module _ (g : Setting) (fit : IsFitting g) (m : MirState) (l : State) (floors : 
       variables_kept n kept r low = let scratch = next.stays.activation.floor.fits.scratch in kept r (omega arith)
 
       -- the bytes are copied, if there are any
-      both_reached : (least : ℕ) (first : Reached g fit m l floors next.stays least l l.top.registers free source behind_source q of) (more : ℕ) (second : Reached g fit m l floors next.stays more (at l first.h behind_source) first.h source.free target (copies ++ rest) p of) → Comes g m l
+      both_reached : (least : ℕ) (first : Reached g fit m l floors next.stays least (place_most from) l l.top.registers free source behind_source q of) (more : ℕ) (second : Reached g fit m l floors next.stays more (place_most to) (at l first.h behind_source) first.h source.free target (copies ++ rest) p of) → Comes g m l
       both_reached least first more second =
           by (cases_lt 0 (size_in g.core of))
         where
-          before : Goes g 0 l (at l second.h (copies ++ rest))
+          before : Goes g 0 (place_most from + place_most to) l (at l second.h (copies ++ rest))
           before = goes_then g least more 0 l (at l first.h behind_source) (at l second.h (copies ++ rest)) (omega arith) first.goes second.goes
 
           low : l.limit ≤ 2 ^ 32
@@ -212,7 +214,8 @@ module _ (g : Setting) (fit : IsFitting g) (m : MirState) (l : State) (floors : 
               let h = put second.h target.free 0 in
               let kept = kept_all first.h second.h h first.kept second.kept (λ r under. put_lower second.h target.free 0 r under) in
               behind_copies h l.memory
-              (goes_then g 0 1 1 l (at l second.h (copies ++ rest)) (at l h rest) (omega arith) before (none_goes g l low words (size_in g.core of) source target second.h rest none))
+              (goes_within g 1 (place_most from + place_most to + copy_most (size_in g.core of)) l (at l h rest)
+              (goes_then g 0 1 1 l (at l second.h (copies ++ rest)) (at l h rest) (omega arith) before (none_goes g l low words (size_in g.core of) source target second.h rest none)) (omega arith))
               (stays_nothing g fit m l floors next.stays of small p b second.is none (value_at m.world q) (rest_above g m l floors (Act (Copy of to from) landing) is id next) h rest (copy_plain (Some q) (Some p) e f) (variables_kept h kept) (temporaries_kept h kept))
           by (inl some) =
               let (source_base, source_more, source_near) = source_fits in
@@ -232,15 +235,15 @@ module _ (g : Setting) (fit : IsFitting g) (m : MirState) (l : State) (floors : 
     -- ---- one after the other
 
     -- the target, behind the source
-    target_by : (q : Place) → place_meant m.world (view_path from) ≡ Some q → (least : ℕ) → (first : Reached g fit m l floors next.stays least l l.top.registers free source behind_source q of) → (p : Option Place) → place_meant m.world (view_path to) ≡ p → (more : ℕ) → PlaceTo g fit m l floors next.stays more (at l first.h behind_source) first.h source.free target (copies ++ rest) of p → Comes g m l
+    target_by : (q : Place) → place_meant m.world (view_path from) ≡ Some q → (least : ℕ) → (first : Reached g fit m l floors next.stays least (place_most from) l l.top.registers free source behind_source q of) → (p : Option Place) → place_meant m.world (view_path to) ≡ p → (more : ℕ) → PlaceTo g fit m l floors next.stays more (place_most to) (at l first.h behind_source) first.h source.free target (copies ++ rest) of p → Comes g m l
     target_by q e least first None f more fails =
-        let all : Failed g fit m l floors next.stays 0 l = record { h = fails.h; goes = goes_then g least more 0 l (at l first.h behind_source) (at l fails.h (block_of g.low l.top.routine (error_block_of (here m floors).frame.bank RangeCheck).0)) (omega arith) first.goes fails.goes } in
-        index_fails g fit m l floors is id (Act (Copy of to from) landing) next 0 l refl all (copy_step (Some q) None e f)
+        let all : Failed g fit m l floors next.stays 0 (place_most from + place_most to) l = record { h = fails.h; goes = goes_then g least more 0 l (at l first.h behind_source) (at l fails.h (block_of g.low l.top.routine (error_block_of (here m floors).frame.bank RangeCheck).0)) (omega arith) first.goes fails.goes } in
+        index_fails g fit m l floors is id (Act (Copy of to from) landing) next 0 (place_most from + place_most to) l refl all (afford g fit m l floors (Act (Copy of to from) landing) is id next (λ light. light) (place_most from + place_most to + 5) (omega arith)) (copy_step (Some q) None e f)
     target_by q e least first (Some p) f more second = both_reached q p e f least first more second
 
     -- the source
-    source_by : (o : Option Place) → place_meant m.world (view_path from) ≡ o → (least : ℕ) → PlaceTo g fit m l floors next.stays least l l.top.registers free source behind_source of o → Comes g m l
-    source_by None e least fails = index_fails g fit m l floors is id (Act (Copy of to from) landing) next least l refl fails (copy_step None (place_meant m.world (view_path to)) e refl)
+    source_by : (o : Option Place) → place_meant m.world (view_path from) ≡ o → (least : ℕ) → PlaceTo g fit m l floors next.stays least (place_most from) l l.top.registers free source behind_source of o → Comes g m l
+    source_by None e least fails = index_fails g fit m l floors is id (Act (Copy of to from) landing) next least (place_most from) l refl fails (afford g fit m l floors (Act (Copy of to from) landing) is id next (λ light. light) (place_most from + 5) (omega arith)) (copy_step None (place_meant m.world (view_path to)) e refl)
     source_by (Some q) e least first =
         let (base, more, offset) = source_fits in
         target_by q e least first (place_meant m.world (view_path to)) refl (fewest_steps target_code)
@@ -252,5 +255,5 @@ module _ (g : Setting) (fit : IsFitting g) (m : MirState) (l : State) (floors : 
     copy_comes =
         let begins : l ≡ at l l.top.registers (source_code ++ behind_source) = begins_here g fit m l floors (Act (Copy of to from) landing) is id next (source_code ++ target_code ++ copies) refl ∙ ap (at l l.top.registers) (regroup source_code target_code copies rest) in
         source_by (place_meant m.world (view_path from)) refl (fewest_steps source_code)
-        (subst (λ x. PlaceTo g fit m l floors next.stays (fewest_steps source_code) x l.top.registers free source behind_source of (place_meant m.world (view_path from))) (sym begins)
+        (subst (λ x. PlaceTo g fit m l floors next.stays (fewest_steps source_code) (place_most from) x l.top.registers free source behind_source of (place_meant m.world (view_path from))) (sym begins)
         (place_goes g fit m l floors next.stays from of limit free l.top.registers behind_source from_typed from_placed indices.1 (omega arith) (λ r low. refl)))

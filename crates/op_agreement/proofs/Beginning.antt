@@ -1,5 +1,5 @@
 -- A local variable begins with its first value: a number, or the bytes of a literal.
-use Rattle.std.proofs.Common.{◌≡◌, ◌≤◌, ◌<◌, ◌⊎◌, ℕ, ℤ, ◌+◌, List, [], ◌∷◌, ◌++◌, length, Option, Some, None, refl, sym, ap, ◌∙◌, subst, arith, get_or}
+use Rattle.std.proofs.Common.{◌≡◌, ◌≤◌, ◌<◌, ◌⊎◌, ℕ, ℤ, ◌+◌, List, [], ◌∷◌, ◌++◌, length, Option, Some, None, refl, sym, ap, ◌∙◌, subst, arith, get_or, ◌*◌, suc}
 use Rattle.std.specs.Prelude.{pos, false, slice_get, if◌then◌else◌}
 use Rattle.op_compute.proofs.ConversionLemmas.{low_bits}
 use Rattle.op_compute.proofs.Registers.{put_lower, put_other, put_same}
@@ -43,7 +43,7 @@ use Rattle.op_meaning.specs.Statements.{kind_by}
 use Rattle.op_meaning.specs.Values.{Value, all_of, local, number}
 use Rattle.op_meaning.specs.World.{World, with_value}
 use Rattle.op_mir.proofs.PlainLemmas.{plain_perform}
-use Rattle.op_mir.specs.Machine.{MirState, execute, mir_step}
+use Rattle.op_mir.specs.Machine.{MirState, execute, mir_step, mir_cost}
 use Rattle.op_mir.specs.Plain.{IsPlainWorld}
 use Rattle.op_mir.specs.View.{first_at}
 use Rattle.op_mir.specs.declared.action.Action.TheVariants.{BeginWith}
@@ -61,12 +61,14 @@ use Rattle.op_agreement.proofs.Cases.{behind_act}
 use Rattle.op_agreement.proofs.Computing.{rest_above, rest_below, rest_stands}
 use Rattle.op_agreement.proofs.FirstNumbers.{first_fits, first_is, number_fits, number_kept}
 use Rattle.op_agreement.proofs.Following.{Comes}
-use Rattle.op_agreement.proofs.Going.{Goes, GoesTo, goes_from, goes_one, goes_straight, goes_then}
+use Rattle.op_agreement.proofs.Going.{Goes, GoesTo, goes_from, goes_one, goes_straight, goes_then, goes_within}
+use Rattle.op_agreement.proofs.Lengths.{low_bits_short}
+use Rattle.op_agreement.proofs.Pricing.{afford}
 use Rattle.op_agreement.proofs.Putting.{variable_puts}
 use Rattle.op_agreement.proofs.Sparing.{spare_fits}
 use Rattle.op_agreement.proofs.Standing.{Next, here, stands_on}
 use Rattle.op_agreement.proofs.Storing.{stays_variable}
-use Rattle.op_agreement.proofs.Taking.{CanTake, taken_goes}
+use Rattle.op_agreement.proofs.Taking.{CanTake, taken_goes, take_most}
 use Rattle.op_agreement.proofs.Updating.{floors_here}
 use Rattle.op_agreement.proofs.Writing.{text_there}
 use Rattle.op_agreement.specs.Chart.{Floor, address_of}
@@ -74,6 +76,7 @@ use Rattle.op_agreement.specs.Coding.{code_for}
 use Rattle.op_agreement.specs.Fitting.{IsFitting}
 use Rattle.op_agreement.specs.Settings.{AreLiterals, HomeFits, Setting, managed}
 use Rattle.op_agreement.specs.Stands.{Position, Stands, Stays}
+use Rattle.op_agreement.specs.Steps.{most_for_one}
 use Rattle.op_agreement.specs.Typed.{IsVariable}
 
 module _ (g : Setting) (fit : IsFitting g) (m : MirState) (l : State) (floors : ℕ → Floor) (is : List Instruction) (id : ℕ) (v : LocalId) (landing : Option BlockId) (next : Next g m l floors (Act (BeginWith v) landing) is id) where
@@ -142,10 +145,10 @@ module _ (g : Setting) (fit : IsFitting g) (m : MirState) (l : State) (floors : 
       ∙ ap (λ s. code_by_shape s value) shape
 
   -- the state that is reached stands for the one above
-  reached_stands : (k : State) → Goes g 1 l k → Stays g floors (begun x) k → k.top.now ≡ rest → Comes g m l
-  reached_stands k goes stays now = record {
+  reached_stands : (k : State) (most : ℕ) → most ≤ 256 + 6 * size_in g.core of → Goes g 1 most l k → Stays g floors (begun x) k → k.top.now ≡ rest → Comes g m l
+  reached_stands k most few goes stays now = record {
     to = k;
-    goes = goes;
+    goes = goes_within g 1 (most_for_one * mir_cost (managed g) m) l k goes (afford g fit m l floors begin is id next (λ light. light) most (omega arith));
     stands = subst (λ y. Stands g y k) (sym step_above) (stands_on g (begun x) k next.ending next.frames (record {
       floors = floors;
       stays = stays;
@@ -216,13 +219,13 @@ module _ (g : Setting) (fit : IsFitting g) (m : MirState) (l : State) (floors : 
         operands : Operands
         operands = record { to = q; left = via; right = via }
 
-        by : (o : Outcome) → GoesTo g 1 l (at l l.top.registers (Const via word ∷ low_bits_code q kind via ++ rest)) rest o → Answers work q given (gives (low_bits_of kind n)) o → Comes g m l
+        by : (o : Outcome) → GoesTo g 1 (suc (length (low_bits_code q kind via))) l (at l l.top.registers (Const via word ∷ low_bits_code q kind via ++ rest)) rest o → Answers work q given (gives (low_bits_of kind n)) o → Comes g m l
         by (Behind h) goes answers =
             let scratch = next.stays.activation.floor.fits.scratch in
             let begins = begins_here g fit m l floors begin is id next (Const via word ∷ low_bits_code q kind via) (number_code (Held q) at_) in
             let stays = stays_variable g floors m l next.stays v.0 q.0 (low_bits_of kind n) variable at_ (rest_above g m l floors begin is id next) h rest answers.result
             (λ r low differs. answers.others r (omega arith) differs ∙ put_lower l.top.registers via word r (omega arith)) (plain_with (constant (Ordinal (low_bits_of kind n)))) in
-            reached_stands (at l h rest) (goes_from g 1 l (at l l.top.registers (Const via word ∷ low_bits_code q kind via ++ rest)) (at l h rest) begins goes)
+            reached_stands (at l h rest) (suc (length (low_bits_code q kind via))) (let short = low_bits_short q kind via in omega arith) (goes_from g 1 l (at l l.top.registers (Const via word ∷ low_bits_code q kind via ++ rest)) (at l h rest) begins goes)
             (stays_number g floors m v q at_ x (number (low_bits_of kind n)) (kept_number ∙ sym (first-number g.core of value)) (rest_above g m l floors begin is id next) (at l h rest) stays (plain_with value)) refl
         by (Away block h) goes answers = absurd answers
         by Crooked goes answers = absurd answers
@@ -235,10 +238,10 @@ module _ (g : Setting) (fit : IsFitting g) (m : MirState) (l : State) (floors : 
         let code = place_code g.core frame near (Local v) [] free ++ StoreWord (store_op kind) via (place_of g.core frame near (Local v) [] free).base (pos (place_of g.core frame near (Local v) [] free).offset) ∷ [] in
         let start = at l l.top.registers (Const via word ∷ (code ++ rest)) in
         let begins : l ≡ start = begins_here g fit m l floors begin is id next (Const via word ∷ code) (number_code (Stored offset) at_) in
-        let one : Goes g 1 start (at l given (code ++ rest)) = goes_one g l l.top.registers (Const via word) (code ++ rest) in
+        let one : Goes g 1 1 start (at l given (code ++ rest)) = goes_one g l l.top.registers (Const via word) (code ++ rest) in
         let puts = variable_puts g fit m l floors next.stays v offset variable at_ small (rest_above g m l floors begin is id next) rest sh shape whole x n (first-number g.core of value ∙ sym kept_number) (plain_with value) given via free (omega arith) (omega arith)
         (λ r low. put_lower l.top.registers via word r (omega arith)) given_is in
-        reached_stands puts.to (goes_from g 1 l start puts.to begins (goes_then g 1 1 1 start (at l given (code ++ rest)) puts.to (omega arith) one puts.goes)) puts.stays puts.now
+        reached_stands puts.to 5 (omega arith) (goes_from g 1 l start puts.to begins (goes_then g 1 1 1 start (at l given (code ++ rest)) puts.to (omega arith) one puts.goes)) puts.stays puts.now
 
     -- where it is kept
     begun_number : (home : Home) → home_at frame.homes v ≡ home → HomeFits frame home → Comes g m l
@@ -279,7 +282,7 @@ module _ (g : Setting) (fit : IsFitting g) (m : MirState) (l : State) (floors : 
       let with_address = put l.top.registers spare source in
       let l1 = at l with_address (code ++ rest) in
       let begins : l ≡ start = begins_here g fit m l floors begin is id next (Address spare (literal id) ∷ code) (code_is composite shape) in
-      let one : Goes g 1 start l1 = goes_one g l l.top.registers (Address spare (literal id)) (code ++ rest) in
+      let one : Goes g 1 1 start l1 = goes_one g l l.top.registers (Address spare (literal id)) (code ++ rest) in
       let can : CanTake g f l1 spare v offset source size = record {
         floor = a.floor;
         running = refl;
@@ -303,7 +306,7 @@ module _ (g : Setting) (fit : IsFitting g) (m : MirState) (l : State) (floors : 
       let place_is : address_of g floors (local level v.0) ≡ f.base + offset = ap (λ n. f.base + n) (offset_is g fit floors m l s v offset variable at_) in
       let there : (y : ℕ) → y < size → taken.memory (f.base + offset + y) ≡ get_or bytes y 0 = λ y low. taken.copied y low ∙ sym (byte_from l.memory source (length bytes) y (omega arith)) ∙ ap (λ b. get_or b y 0) stands.stands in
       let lies : Lies (arrangement_of g.core of) x taken.memory (f.base + offset) = first_lies g.core fit.program.extents of value taken.memory (f.base + offset) small fits_first there in
-      reached_stands k (goes_from g 1 l start k begins (goes_then g 1 0 1 start l1 k (omega arith) one taken.goes))
+      reached_stands k (1 + take_most size) (omega arith) (goes_from g 1 l start k begins (goes_then g 1 0 1 start l1 k (omega arith) one taken.goes))
       (stays_begun g fit floors m l s v offset variable at_ x taken.memory
       (λ y low far. taken.others y low (subst (λ p. (y < p) ⊎ (p + rounded size ≤ y)) place_is far))
       (rest_above g m l floors begin is id next) taken.registers rest (plain_with value) taken.bytes

@@ -1,5 +1,5 @@
 -- Instructions that are straight code: constants and computations, jumps, branches, switches and what stands behind a finally part.
-use Rattle.std.proofs.Common.{◌≡◌, ◌<◌, ℕ, zero, suc, ◌+◌, List, [], ◌∷◌, ◌++◌, Option, Some, None, refl, sym, ap, ap₂, ◌∙◌, subst, arith}
+use Rattle.std.proofs.Common.{◌≡◌, ◌<◌, ◌≤◌, ℕ, zero, suc, ◌+◌, ◌*◌, List, [], ◌∷◌, ◌++◌, length, Option, Some, None, refl, sym, ap, ap₂, ◌∙◌, subst, arith}
 use Rattle.std.specs.Prelude.{Bool, true, false, ◌&&◌}
 use Rattle.std.specs.Option.{option_map}
 use Rattle.std.proofs.lemmas.Bool.Decides.{nat_tests}
@@ -16,7 +16,7 @@ use Rattle.op_constants.proofs.TypesArranged.{some_at}
 use Rattle.op_expand.specs.Calls.{runtime}
 use Rattle.op_low.specs.State.{State, block_of}
 use Rattle.op_low.specs.declared.instruction.Instruction.{Instruction as LowInstruction}
-use Rattle.op_mir.specs.Machine.{MirState, block_at, block_or, execute, go_if, mir_step}
+use Rattle.op_mir.specs.Machine.{MirState, block_at, block_or, execute, go_if, mir_cost, mir_step}
 use Rattle.op_mir.specs.Valid.{computation_fits, has, has_three, has_two}
 use Rattle.op_mir.specs.View.{view_block, view_computation, view_instruction, view_routine}
 use Rattle.op_mir.specs.declared.action.Computation.TheVariants.{Arithmetic, Compare, Negate, Complement, Invert, Absolute, Odd, Upper, LowBits, Check, Neighbour, Single, Span, Combine, Contains, CheckSet}
@@ -28,7 +28,8 @@ use Rattle.op_mir.specs.declared.instruction.Instruction.{Instruction}
 use Rattle.op_agreement.proofs.Computing.{all_variables_kept, nothing_stands, number_stands, rest_above, rest_below, temporaries_kept}
 use Rattle.op_agreement.proofs.ErrorsEnd.{error_ends}
 use Rattle.op_agreement.proofs.Following.{Comes}
-use Rattle.op_agreement.proofs.Going.{GoesTo, goes_from, goes_straight, goes_then, standing}
+use Rattle.op_agreement.proofs.Going.{GoesTo, goes_from, goes_straight, goes_then, goes_within, standing}
+use Rattle.op_agreement.proofs.Pricing.{afford}
 use Rattle.op_agreement.proofs.Standing.{Next, here, stands_on, stays_registers, step_is}
 use Rattle.op_agreement.specs.Chart.{Floor}
 use Rattle.op_agreement.specs.Coding.{code_for, front_of}
@@ -36,7 +37,8 @@ use Rattle.op_expand.specs.Routines.{code_of}
 use Rattle.op_agreement.specs.Fitting.{IsFitting}
 use Rattle.op_agreement.specs.Settings.{HaveHomes, Setting, managed}
 use Rattle.op_agreement.specs.Stands.{IsFloor, Position, Stands}
-use Rattle.op_agreement.specs.Typed.{AreFine, IsTarget, IsTypedAction}
+use Rattle.op_agreement.specs.Steps.{most_for_one}
+use Rattle.op_agreement.specs.Typed.{AreFine, IsLight, IsTarget, IsTypedAction}
 
 -- ---- code
 
@@ -166,27 +168,32 @@ module _ (g : Setting) (fit : IsFitting g) (m : MirState) (l : State) (floors : 
   pub begins_here : (code : List LowInstruction) → code_for g.core g.mir (here m floors).frame id i ≡ code → l ≡ at l l.top.registers (code ++ rest_below g m l floors i is id next)
   begins_here code is_code = standing g l (code ++ rest_below g m l floors i is id next) next.stays.running (next.below ∙ ap (λ c. c ++ rest_below g m l floors i is id next) is_code)
 
-  runs_here : (code : List LowInstruction) → code_for g.core g.mir (here m floors).frame id i ≡ code → fewest_steps code ≡ 1 → GoesTo g 1 l l (rest_below g m l floors i is id next) (outcome code l.top.registers)
+  runs_here : (code : List LowInstruction) → code_for g.core g.mir (here m floors).frame id i ≡ code → fewest_steps code ≡ 1 → GoesTo g 1 (length code) l l (rest_below g m l floors i is id next) (outcome code l.top.registers)
   runs_here code is_code some =
-      subst (λ x. GoesTo g 1 l x (rest_below g m l floors i is id next) (outcome code l.top.registers)) (sym (begins_here code is_code))
-      (subst (λ n. GoesTo g n l (at l l.top.registers (code ++ rest_below g m l floors i is id next)) (rest_below g m l floors i is id next) (outcome code l.top.registers)) some
+      subst (λ x. GoesTo g 1 (length code) l x (rest_below g m l floors i is id next) (outcome code l.top.registers)) (sym (begins_here code is_code))
+      (subst (λ n. GoesTo g n (length code) l (at l l.top.registers (code ++ rest_below g m l floors i is id next)) (rest_below g m l floors i is id next) (outcome code l.top.registers)) some
       (goes_straight g l code (rest_below g m l floors i is id next) l.top.registers))
 
   -- a temporary becomes a number, or an error ends the program
-  pub answered : (code : List LowInstruction) (to : TemporaryId) (x : Meant) → code_for g.core g.mir (here m floors).frame id i ≡ code → fewest_steps code ≡ 1 → AreFine g.core g.mir (here m floors).number (here m floors).routine is → Answers (work_of bank_here) (register_of bank_here to) l.top.registers x (outcome code l.top.registers) → mir_step (managed g) m ≡ record m { world = settled g.core to.0 x m.world; rest = rest_above g m l floors i is id next } → Comes g m l
-  answered code to x is_code some fine answers step = by x (outcome code l.top.registers) (runs_here code is_code some) answers step
+  pub answered : (code : List LowInstruction) (to : TemporaryId) (x : Meant) → code_for g.core g.mir (here m floors).frame id i ≡ code → fewest_steps code ≡ 1 → length code ≤ 16 → (IsLight i → ⊥) → AreFine g.core g.mir (here m floors).number (here m floors).routine is → Answers (work_of bank_here) (register_of bank_here to) l.top.registers x (outcome code l.top.registers) → mir_step (managed g) m ≡ record m { world = settled g.core to.0 x m.world; rest = rest_above g m l floors i is id next } → Comes g m l
+  answered code to x is_code some short heavy fine answers step = by x (outcome code l.top.registers) (runs_here code is_code some) answers step
     where
-      by : (x : Meant) (o : Outcome) → GoesTo g 1 l l (rest_below g m l floors i is id next) o → Answers (work_of bank_here) (register_of bank_here to) l.top.registers x o → mir_step (managed g) m ≡ record m { world = settled g.core to.0 x m.world; rest = rest_above g m l floors i is id next } → Comes g m l
+      affords : (n : ℕ) → n ≤ 32 → n ≤ most_for_one * mir_cost (managed g) m
+      affords n few = afford g fit m l floors i is id next heavy n (omega arith)
+
+      by : (x : Meant) (o : Outcome) → GoesTo g 1 (length code) l l (rest_below g m l floors i is id next) o → Answers (work_of bank_here) (register_of bank_here to) l.top.registers x o → mir_step (managed g) m ≡ record m { world = settled g.core to.0 x m.world; rest = rest_above g m l floors i is id next } → Comes g m l
       by (gives n) (Behind h) goes answers step = record {
         to = at l h (rest_below g m l floors i is id next);
-        goes = goes;
+        goes = goes_within g 1 (most_for_one * mir_cost (managed g) m) l (at l h (rest_below g m l floors i is id next)) goes (affords (length code) (omega arith));
         stands = subst (λ k. Stands g k (at l h (rest_below g m l floors i is id next))) (sym step) (number_stands g m l floors i is id next to n h fine answers);
       }
       by (fails e) (Away block h) goes answers step =
           let (k, ends, stands) = error_ends g fit floors m l next.stays e h (rest_above g m l floors i is id next) in
           record {
             to = k;
-            goes = goes_then g 1 5 1 l (at l h (block_of g.low l.top.routine block.0)) k (omega arith) goes (goes_from g 5 (at l h (block_of g.low l.top.routine block.0)) (at l h (block_of g.low l.top.routine (error_block_of bank_here e).0)) k (ap (λ (b : Rattle.op_rv.specs.declared.symbol.BlockId.BlockId). at l h (block_of g.low l.top.routine b.0)) (answers.leads ∙ block_for_is bank_here e)) ends);
+            goes = goes_within g 1 (most_for_one * mir_cost (managed g) m) l k
+                (goes_then g 1 5 1 l (at l h (block_of g.low l.top.routine block.0)) k (omega arith) goes (goes_from g 5 (at l h (block_of g.low l.top.routine block.0)) (at l h (block_of g.low l.top.routine (error_block_of bank_here e).0)) k (ap (λ (b : Rattle.op_rv.specs.declared.symbol.BlockId.BlockId). at l h (block_of g.low l.top.routine b.0)) (answers.leads ∙ block_for_is bank_here e)) ends))
+                (affords (length code + 5) (omega arith));
             stands = subst (λ x. Stands g x k) (sym step) stands;
           }
       by (gives n) (Away block h) goes answers step = absurd answers
@@ -196,13 +203,13 @@ module _ (g : Setting) (fit : IsFitting g) (m : MirState) (l : State) (floors : 
 
   -- ---- code that goes to a block, or on
 
-  pub turned : (code : List LowInstruction) (target : Option ℕ) → code_for g.core g.mir (here m floors).frame id i ≡ code → fewest_steps code ≡ 1 → (target ≡ None → AreFine g.core g.mir (here m floors).number (here m floors).routine is) → ((k : ℕ) → target ≡ Some k → IsTarget (here m floors).routine (record { 0 = k })) → Turns (work_of bank_here) l.top.registers target (outcome code l.top.registers) → mir_step (managed g) m ≡ go_if (managed g) target (record m { rest = rest_above g m l floors i is id next }) → Comes g m l
-  turned code target is_code some fine there turns step = by target (outcome code l.top.registers) (runs_here code is_code some) fine there turns step
+  pub turned : (code : List LowInstruction) (target : Option ℕ) → code_for g.core g.mir (here m floors).frame id i ≡ code → fewest_steps code ≡ 1 → length code ≤ most_for_one * mir_cost (managed g) m → (target ≡ None → AreFine g.core g.mir (here m floors).number (here m floors).routine is) → ((k : ℕ) → target ≡ Some k → IsTarget (here m floors).routine (record { 0 = k })) → Turns (work_of bank_here) l.top.registers target (outcome code l.top.registers) → mir_step (managed g) m ≡ go_if (managed g) target (record m { rest = rest_above g m l floors i is id next }) → Comes g m l
+  turned code target is_code some few fine there turns step = by target (outcome code l.top.registers) (runs_here code is_code some) fine there turns step
     where
-      by : (target : Option ℕ) (o : Outcome) → GoesTo g 1 l l (rest_below g m l floors i is id next) o → (target ≡ None → AreFine g.core g.mir (here m floors).number (here m floors).routine is) → ((k : ℕ) → target ≡ Some k → IsTarget (here m floors).routine (record { 0 = k })) → Turns (work_of bank_here) l.top.registers target o → mir_step (managed g) m ≡ go_if (managed g) target (record m { rest = rest_above g m l floors i is id next }) → Comes g m l
+      by : (target : Option ℕ) (o : Outcome) → GoesTo g 1 (length code) l l (rest_below g m l floors i is id next) o → (target ≡ None → AreFine g.core g.mir (here m floors).number (here m floors).routine is) → ((k : ℕ) → target ≡ Some k → IsTarget (here m floors).routine (record { 0 = k })) → Turns (work_of bank_here) l.top.registers target o → mir_step (managed g) m ≡ go_if (managed g) target (record m { rest = rest_above g m l floors i is id next }) → Comes g m l
       by None (Behind h) goes fine there turns step = record {
         to = at l h (rest_below g m l floors i is id next);
-        goes = goes;
+        goes = goes_within g 1 (most_for_one * mir_cost (managed g) m) l (at l h (rest_below g m l floors i is id next)) goes few;
         stands = subst (λ k. Stands g k (at l h (rest_below g m l floors i is id next))) (sym step) (nothing_stands g m l floors i is id next h (fine refl) turns);
       }
       by (Some k) (Away block h) goes fine there (same, kept) step =
@@ -213,7 +220,7 @@ module _ (g : Setting) (fit : IsFitting g) (m : MirState) (l : State) (floors : 
           let low : block_of g.low (runtime + (here m floors).number) k ≡ block_of g.low l.top.routine block.0 = ap₂ (block_of g.low) (sym a.same) (sym same) in
           record {
             to = at l h (block_of g.low l.top.routine block.0);
-            goes = goes;
+            goes = goes_within g 1 (most_for_one * mir_cost (managed g) m) l (at l h (block_of g.low l.top.routine block.0)) goes few;
             stands = subst (λ x. Stands g x (at l h (block_of g.low l.top.routine block.0))) (sym step)
                 (stands_on g (record m { rest = block_at ((managed g).blocks m.routine) k }) (at l h (block_of g.low l.top.routine block.0)) next.ending next.frames (record {
                   floors = floors;

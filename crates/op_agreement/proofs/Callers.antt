@@ -94,7 +94,7 @@ module _ (g : Setting) (fit : IsFitting g) (m : MirState) (l : State) (floors : 
   gone_below v = record l { top = with_value lc.to v lc.activation; callers = lcs; limit = w.below; room = w.spare; ending = Running }
 
   -- a routine of low code returns a value, with other registers and memory than it had
-  pub low_returns : (f memory : ℕ → ℕ) (r : VirtualRegister) (rest : List LowInstruction) → Goes g 1 (having l f (LowReturn r ∷ rest) memory) (record (gone_below (f r.0)) { memory = memory })
+  pub low_returns : (f memory : ℕ → ℕ) (r : VirtualRegister) (rest : List LowInstruction) → Goes g 1 1 (having l f (LowReturn r ∷ rest) memory) (record (gone_below (f r.0)) { memory = memory })
   unfolding act
   low_returns f memory r rest =
       let a = s.activation in

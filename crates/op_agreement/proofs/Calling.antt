@@ -1,6 +1,6 @@
 -- A call, up to where the routine begins: the address of a result and the arguments are handed over, the stack is charged, and the low
 -- machine enters the routine; or an error ends the program.
-use Rattle.std.proofs.Common.{◌≡◌, ◌≢◌, ◌≤◌, ◌<◌, ◌⊎◌, inl, inr, ℕ, suc, ◌+◌, ◌-◌, List, [], ◌∷◌, ◌++◌, length, Option, Some, None, refl, sym, ap, ap₂, ◌∙◌, subst, arith, append_assoc}
+use Rattle.std.proofs.Common.{◌≡◌, ◌≢◌, ◌≤◌, ◌<◌, ◌⊎◌, inl, inr, ℕ, suc, ◌+◌, ◌-◌, List, [], ◌∷◌, ◌++◌, length, Option, Some, None, refl, sym, ap, ap₂, ◌∙◌, subst, arith, append_assoc, ◌*◌}
 use Rattle.std.specs.Prelude.{map, Bool, true, false, ◌&&◌, nat_eq, nat_le, nat_lt, slice_get, if◌then◌else◌}
 use Rattle.std.proofs.lemmas.Bool.Decides.{nat_tests}
 use Rattle.op_compute.specs.Bank.{error_block_of, scratch_of}
@@ -8,7 +8,7 @@ use Rattle.op_compute.specs.Straight.{at, put}
 use Rattle.op_compute.specs.declared.bank.RuntimeError.TheVariants.{StackOverflow}
 use Rattle.op_constants.proofs.TypesArranged.{some_at}
 use Rattle.op_core.specs.declared.ids.RoutineId.{RoutineId}
-use Rattle.op_expand.specs.Calls.{call_code, charge_of, charging_code, givens_code, givens_in, receiver_code, receiver_of, receiver_spot, runtime}
+use Rattle.op_expand.specs.Calls.{call_code, charge_of, charging_code, givens_code, givens_in, receiver_code, receiver_of, receiver_spot, runtime, given_spot}
 use Rattle.op_expand.specs.Frames.{parameters_of}
 use Rattle.op_expand.specs.declared.frame.Frame.{Frame}
 use Rattle.op_expand.specs.declared.spot.Spot.{Spot}
@@ -18,11 +18,12 @@ use Rattle.op_low.specs.declared.ids.VirtualRegister.{VirtualRegister}
 use Rattle.op_low.specs.declared.instruction.Instruction.{Instruction as LowInstruction}
 use Rattle.op_meaning.specs.Calls.{Handed, all_handed}
 use Rattle.op_meaning.specs.Expressions.{result_of}
-use Rattle.op_mir.specs.Machine.{MirState, execute, mir_called_with, mir_step}
+use Rattle.op_mir.specs.Machine.{MirState, execute, mir_called_with, mir_step, mir_cost}
 use Rattle.op_mir.specs.Valid.{all_given_fit}
 use Rattle.op_mir.specs.View.{view_given, view_receiver}
 use Rattle.op_mir.specs.declared.code.Routine.{Routine}
 use Rattle.op_mir.specs.declared.instruction.Call.{Call as Operands}
+use Rattle.op_mir.specs.declared.instruction.Given.{Given}
 use Rattle.op_mir.specs.declared.instruction.Instruction.TheVariants.{Call}
 use Rattle.op_mir.specs.declared.instruction.Instruction.{Instruction}
 use Rattle.op_rt_text.specs.Names.{call as low_call}
@@ -31,19 +32,20 @@ use Rattle.op_agreement.proofs.Charging.{HasRoomFor, begun_above, begun_over, be
 use Rattle.op_agreement.proofs.Computing.{rest_above, rest_below}
 use Rattle.op_agreement.proofs.Elements.{KeptBelow}
 use Rattle.op_agreement.proofs.ErrorsEnd.{error_ends}
-use Rattle.op_agreement.proofs.Giving.{AllGivenTo, AreGiven, all_given, given_length}
-use Rattle.op_agreement.proofs.Going.{Goes, GoesTo, goes_from, goes_one, goes_straight, goes_then, goes_to}
+use Rattle.op_agreement.proofs.Giving.{AllGivenTo, AreGiven, all_given, given_length, all_most}
+use Rattle.op_agreement.proofs.Going.{Goes, GoesTo, goes_from, goes_one, goes_straight, goes_then, goes_to, goes_within}
 use Rattle.op_agreement.proofs.Loading.{index_fails}
 use Rattle.op_agreement.proofs.Paths.{Failed}
+use Rattle.op_agreement.proofs.Pricing.{charged, heavy, least}
 use Rattle.op_agreement.proofs.Results.{ResultGiven, result_given}
 use Rattle.op_agreement.proofs.Standing.{Next, here}
 use Rattle.op_agreement.specs.Chart.{Floor}
 use Rattle.op_agreement.specs.Coding.{code_for}
 use Rattle.op_agreement.specs.Fitting.{IsFitting}
-use Rattle.op_agreement.specs.Handing.{Begins, begun_below}
+use Rattle.op_agreement.specs.Handing.{Begins, begun_below, begins_most, bytes_given}
 use Rattle.op_agreement.specs.Settings.{Setting, managed}
 use Rattle.op_agreement.specs.Stands.{ResultGoes, Stands}
-use Rattle.op_agreement.specs.Steps.{Comes}
+use Rattle.op_agreement.specs.Steps.{Comes, most_for_one}
 use Rattle.op_agreement.specs.Typed.{parameter_rows}
 
 -- the parts of the code of a call, one behind the other
@@ -135,14 +137,49 @@ module _ (g : Setting) (fit : IsFitting g) (m : MirState) (l : State) (floors : 
       all_three : (a b c : Bool) → a ≡ true → b ≡ true → c ≡ true → (a && b && c) ≡ true
       all_three a b c p q r = rw (p, q, r) refl
 
+  -- what the code in front of the charge costs at most
+  abbrev front_most : ℕ
+  front_most = 3 + all_most g fit m l floors (Call callee call) js id next call.given
+
+  -- as many registers as arguments
+  givens_count : (xs : List Given) (free : VirtualRegister) → length (givens_in g.core (here m floors).frame xs free) ≡ length xs
+  givens_count [] free = refl
+  givens_count (x ∷ xs) free = ap suc (givens_count xs (given_spot g.core (here m floors).frame x free).free)
+
+  -- no call passes more than 64, and the program itself none
+  pub few_given : length call.given ≤ 64
+  few_given =
+      let low = next.fine.0 in
+      let many = fit.program.number in
+      let few = fit.program.few callee.0 (omega arith) in
+      let rows = fit.program.parameters callee.0 (omega arith) in
+      let given = given_length g fit m l floors (Call callee call) js id next call.given (parameter_rows g.core callee.0) spot.free next.fine.3.gives in
+      let count = givens_count call.given spot.free in
+      omega arith
+
+  -- so the activation under way has been charged where something is given
+  pub given_paid : (length call.given ≡ 0) ⊎ (256 ≤ charged g fit m l floors (Call callee call) js id next)
+  given_paid = by call.given refl
+    where
+      by : (xs : List Given) → call.given ≡ xs → (length call.given ≡ 0) ⊎ (256 ≤ charged g fit m l floors (Call callee call) js id next)
+      by [] none = inl (ap length none)
+      by (x ∷ xs) some = inr (heavy g fit m l floors (Call callee call) js id next (λ light. let clash = sym (ap length some) ∙ ap length light.0 in absurd (omega arith))).least
+
+  front_costs : (n : ℕ) → n ≤ 16 → front_most + n ≤ most_for_one * mir_cost (managed g) m
+  front_costs n less = by given_paid
+    where
+      by : (length call.given ≡ 0) ⊎ (256 ≤ charged g fit m l floors (Call callee call) js id next) → front_most + n ≤ most_for_one * mir_cost (managed g) m
+      by (inl none) = let cost = least g fit m l floors (Call callee call) js id next in omega arith
+      by (inr some) = let cost = least g fit m l floors (Call callee call) js id next in let few = few_given in omega arith
+
   -- ---- behind the arguments: error 202, or the routine begins
 
-  module _ (given : List Handed) (handed : all_handed m.world (map view_given call.given) ≡ Some given) (result : ResultGiven g fit m l floors next.stays before spot (all_given_code ++ (charging ++ (entering ∷ rest))) call.receiver) (args : AreGiven g fit m l floors (Call callee call) js id next (at l result.h (all_given_code ++ (charging ++ (entering ∷ rest)))) result.h spot.free bases (charging ++ (entering ∷ rest)) (parameter_rows g.core callee.0) given) where
+  module _ (given : List Handed) (handed : all_handed m.world (map view_given call.given) ≡ Some given) (result : ResultGiven g fit m l floors next.stays before spot (all_given_code ++ (charging ++ (entering ∷ rest))) call.receiver) (args : AreGiven g fit m l floors (Call callee call) js id next (all_most g fit m l floors (Call callee call) js id next call.given) (at l result.h (all_given_code ++ (charging ++ (entering ∷ rest)))) result.h spot.free bases (charging ++ (entering ∷ rest)) (parameter_rows g.core callee.0) given) where
     abbrev at_charging : State
     at_charging = at l args.h (charging ++ (entering ∷ rest))
 
     -- the code in front of the charge is done
-    front_goes : Goes g 0 l at_charging
+    front_goes : Goes g 0 front_most l at_charging
     front_goes =
         goes_from g 0 l before at_charging stands_before
         (goes_then g 0 0 0 before (at l result.h (all_given_code ++ (charging ++ (entering ∷ rest)))) at_charging (omega arith) result.goes args.goes)
@@ -176,11 +213,11 @@ module _ (g : Setting) (fit : IsFitting g) (m : MirState) (l : State) (floors : 
         ∙ charge_over (l.top.registers 0) m.charged g.stack x.charge a.left fit.program.stack (ap (λ c. nat_lt g.stack (m.charged + c)) (sym (charge_above g fit callee.0 x next.fine.0 there)) ∙ over) in
         let h = put args.h bytes_left n in
         let error_state = at l h (block_of g.low l.top.routine (error_block_of (here m floors).frame.bank StackOverflow).0) in
-        let away : Goes g 1 at_charging error_state = subst (GoesTo g 1 l at_charging (entering ∷ rest)) (over_charged frame_here bytes_left n args.h behind test) (goes_straight g l charging (entering ∷ rest) args.h) in
+        let away : Goes g 1 3 at_charging error_state = subst (GoesTo g 1 3 l at_charging (entering ∷ rest)) (over_charged frame_here bytes_left n args.h behind test) (goes_straight g l charging (entering ∷ rest) args.h) in
         let (k, ends, stands) = error_ends g fit floors m l next.stays StackOverflow h (rest_above g m l floors (Call callee call) js id next) in
         record {
           to = k;
-          goes = goes_then g 0 1 1 l at_charging k (omega arith) front_goes (goes_then g 1 5 1 at_charging error_state k (omega arith) away ends);
+          goes = goes_within g 1 (most_for_one * mir_cost (managed g) m) l k (goes_then g 0 1 1 l at_charging k (omega arith) front_goes (goes_then g 1 5 1 at_charging error_state k (omega arith) away ends)) (front_costs 8 (omega arith));
           stands = subst (λ y. Stands g y k) (sym (stepped (Some given) handed ∙ begun_over (managed g) callee.0 (view_receiver call.receiver) given behind_call over)) stands;
         }
 
@@ -196,7 +233,7 @@ module _ (g : Setting) (fit : IsFitting g) (m : MirState) (l : State) (floors : 
         let h = charged_registers frame_here bytes_left n args.h behind in
         let test : nat_lt (args.h 0) n ≡ false = ap (λ b. nat_lt b n) bytes_there ∙ room.test in
         let entering_state = at l h (entering ∷ rest) in
-        let on : Goes g 1 at_charging entering_state = subst (GoesTo g 1 l at_charging (entering ∷ rest)) (has_charge frame_here bytes_left n args.h behind test) (goes_straight g l charging (entering ∷ rest) args.h) in
+        let on : Goes g 1 3 at_charging entering_state = subst (GoesTo g 1 3 l at_charging (entering ∷ rest)) (has_charge frame_here bytes_left n args.h behind test) (goes_straight g l charging (entering ∷ rest) args.h) in
         let other : (r : ℕ) → r ≢ bytes_left.0 → h r ≡ args.h r = charged_other frame_here bytes_left n args.h behind in
         let zeroth : h 0 ≡ args.h 0 = other 0 (λ e. omega arith) in
         let charge_is : n ≡ (managed g).charge callee.0 = room.whole ∙ sym (charge_above g fit callee.0 x next.fine.0 there) in
@@ -225,10 +262,10 @@ module _ (g : Setting) (fit : IsFitting g) (m : MirState) (l : State) (floors : 
           are = args.are h (λ r far. other r (outside r far more));
           to = receives_in;
           gets = refl;
-          goes = goes_then g 0 1 1 l at_charging begun_state (omega arith) front_goes
+          goes = goes_within g 1 (begins_most g callee.0 call) l begun_state (goes_then g 0 1 1 l at_charging begun_state (omega arith) front_goes
               (goes_then g 1 1 1 at_charging entering_state begun_state (omega arith) on
               (goes_to g 1 entering_state entered_state begun_state words_are
-              (goes_to g 1 entering_state (act g.low g.placement entering (at l h rest)) entered_state (enters h may) (goes_one g l h entering rest))));
+              (goes_to g 1 entering_state (act g.low g.placement entering (at l h rest)) entered_state (enters h may) (goes_one g l h entering rest))))) (let many = givens_count call.given spot.free in omega arith);
           receives = subst (ResultGoes g floors (length m.callers) call.receiver (view_receiver call.receiver) _) (sym base_is) (result.receives _);
         }
       where
@@ -256,8 +293,8 @@ module _ (g : Setting) (fit : IsFitting g) (m : MirState) (l : State) (floors : 
       by result (all_handed m.world (map view_given call.given)) refl
       (all_given g fit m l floors (Call callee call) js id next call.given (parameter_rows g.core callee.0) spot.free result.h (charging ++ (entering ∷ rest)) fits typed.gives homes (omega arith) result.kept)
     where
-      by : (result : ResultGiven g fit m l floors next.stays before spot (all_given_code ++ (charging ++ (entering ∷ rest))) call.receiver) (o : Option (List Handed)) → all_handed m.world (map view_given call.given) ≡ o → AllGivenTo g fit m l floors (Call callee call) js id next (at l result.h (all_given_code ++ (charging ++ (entering ∷ rest)))) result.h spot.free bases (charging ++ (entering ∷ rest)) (parameter_rows g.core callee.0) o → Comes g m l ⊎ Begins g m l floors callee.0 call rest
+      by : (result : ResultGiven g fit m l floors next.stays before spot (all_given_code ++ (charging ++ (entering ∷ rest))) call.receiver) (o : Option (List Handed)) → all_handed m.world (map view_given call.given) ≡ o → AllGivenTo g fit m l floors (Call callee call) js id next (all_most g fit m l floors (Call callee call) js id next call.given) (at l result.h (all_given_code ++ (charging ++ (entering ∷ rest)))) result.h spot.free bases (charging ++ (entering ∷ rest)) (parameter_rows g.core callee.0) o → Comes g m l ⊎ Begins g m l floors callee.0 call rest
       by result (Some given) e args = charged_by given e result args rows (nat_lt g.stack (m.charged + (managed g).charge callee.0)) refl
       by result None e fails =
-          let failed_from : Failed g fit m l floors next.stays 0 before = record { h = fails.h; goes = goes_then g 0 0 0 before (at l result.h (all_given_code ++ (charging ++ (entering ∷ rest)))) _ (omega arith) result.goes fails.goes } in
-          inl (index_fails g fit m l floors js id (Call callee call) next 0 before stands_before failed_from (stepped None e))
+          let failed_from : Failed g fit m l floors next.stays 0 front_most before = record { h = fails.h; goes = goes_then g 0 0 0 before (at l result.h (all_given_code ++ (charging ++ (entering ∷ rest)))) _ (omega arith) result.goes fails.goes } in
+          inl (index_fails g fit m l floors js id (Call callee call) next 0 front_most before stands_before failed_from (front_costs 5 (omega arith)) (stepped None e))

@@ -1,5 +1,5 @@
 -- The end of the program: the main part returns, then the program ends, and it stays so.
-use Rattle.std.proofs.Common.{◌≡◌, ◌≤◌, ◌<◌, ◌⊎◌, inl, inr, ℕ, ℤ, suc, ◌-◌, List, [], ◌∷◌, length, None, refl, sym, ap, ◌∙◌, subst, arith}
+use Rattle.std.proofs.Common.{◌≡◌, ◌≤◌, ◌<◌, ◌⊎◌, inl, inr, ℕ, ℤ, suc, ◌-◌, ◌*◌, List, [], ◌∷◌, length, None, refl, sym, ap, ◌∙◌, subst, arith}
 use Rattle.std.specs.Prelude.{◌^◌, ◌%◌, pos, negsuc, true, false, nat_eq, nat_lt, unsigned_abs, if◌then◌else◌}
 use Rattle.std.specs.Int.{w32, int_rem_euclid}
 use Rattle.std.proofs.lemmas.Bool.{cases_lt}
@@ -18,22 +18,23 @@ use Rattle.op_low.specs.declared.instruction.Instruction.TheVariants.{Const, Exi
 use Rattle.op_meaning.specs.Frames.{closing}
 use Rattle.op_meaning.specs.Machine.{low_eight}
 use Rattle.op_meaning.specs.World.{number_at, Running as GoingOn, Ended as HasEnded}
-use Rattle.op_mir.specs.Machine.{MirCaller, MirState, execute, mir_acted, mir_closed, mir_closes, mir_returned, mir_step, mir_step_by, mir_stepped}
+use Rattle.op_mir.specs.Machine.{MirCaller, MirState, execute, mir_cost, mir_cost_by, mir_effort, mir_acted, mir_closed, mir_closes, mir_returned, mir_step, mir_step_by, mir_stepped}
 use Rattle.op_mir.specs.declared.ids.TemporaryId.{TemporaryId}
 use Rattle.op_mir.specs.declared.instruction.Instruction.TheVariants.{Return, Stop}
 use Rattle.op_mir.specs.declared.instruction.Instruction.{Instruction}
-use Rattle.op_simulation.specs.System.{run}
+use Rattle.op_simulation.specs.System.{run, spent}
 use Rattle.op_rv.specs.Operation.{signed}
 use Rattle.op_agreement.proofs.Branching.{begins_here, has_of, step_here}
 use Rattle.op_agreement.proofs.Computing.{rest_above, rest_below}
 use Rattle.op_agreement.proofs.Following.{Comes}
-use Rattle.op_agreement.proofs.Going.{goes_from, goes_one, standing}
+use Rattle.op_agreement.proofs.Going.{goes_from, goes_one, goes_within, standing}
 use Rattle.op_agreement.proofs.Standing.{Next, here}
 use Rattle.op_agreement.specs.Chart.{Floor}
 use Rattle.op_agreement.specs.Coding.{code_for}
 use Rattle.op_agreement.specs.Fitting.{IsFitting}
 use Rattle.op_agreement.specs.Settings.{Setting, managed}
 use Rattle.op_agreement.specs.Stands.{CallersStand, Closes, HaveEnded, Stands, StandsBy}
+use Rattle.op_agreement.specs.Steps.{cost_going, counted, most_for_one}
 
 module _ (g : Setting) where
   -- ---- what has ended stays
@@ -46,14 +47,22 @@ module _ (g : Setting) where
   unfolding run step step_by_ending
   stays_below l status e = ap (λ x. step_by_ending g.low g.placement x l) e
 
+  stays_free : (m : MirState) (l : State) (status : ℕ) → l.ending ≡ Ended status → spent (counted g) 1 l ≤ most_for_one * mir_cost (managed g) m
+  unfolding spent
+  stays_free m l status e = let none : cost_going g l l.ending ≡ 0 = ap (cost_going g l) e in omega arith
+
   pub ended_comes : (m : MirState) (l : State) (status : ℕ) → m.world.ending ≡ HasEnded status → HaveEnded status m l → Comes g m l
   ended_comes m l status e s = record {
     to = l;
-    goes = record { steps = 1; enough = omega arith; ends = stays_below l status s.ending };
+    goes = record { steps = 1; enough = omega arith; within = stays_free m l status s.ending; ends = stays_below l status s.ending };
     stands = subst (λ x. Stands g x l) (sym (stays_above m status e)) (subst (λ x. StandsBy g x m.frames m l) (sym e) s);
   }
 
   -- ---- the program ends with the status that was told
+
+  -- a step costs one at least
+  pub running_costs : (m : MirState) → m.world.ending ≡ GoingOn → 1 ≤ most_for_one * mir_cost (managed g) m
+  running_costs m ending = let cost : mir_cost (managed g) m ≡ mir_effort (managed g) m (mir_step (managed g) m) = ap (λ e. mir_cost_by (managed g) m e) ending in omega arith
 
   closes_above : (m : MirState) (status : ℕ) → m.world.ending ≡ GoingOn → m.frames ≡ closing status ∷ [] → m.world.raised ≡ None → m.pending ≡ [] → mir_step (managed g) m ≡ record m { world = record m.world { ending = HasEnded status } }
   unfolding mir_step mir_step_by mir_stepped mir_acted
@@ -66,7 +75,8 @@ module _ (g : Setting) where
       let k = exit (l.top.registers 0) (at l l.top.registers s.rest) in
       record {
         to = k;
-        goes = goes_from g 1 l (at l l.top.registers (Exit left ∷ s.rest)) k (standing g l (Exit left ∷ s.rest) s.running s.now) (goes_one g l l.top.registers (Exit left) s.rest);
+        goes = goes_within g 1 (most_for_one * mir_cost (managed g) m) l k
+            (goes_from g 1 l (at l l.top.registers (Exit left ∷ s.rest)) k (standing g l (Exit left ∷ s.rest) s.running s.now) (goes_one g l l.top.registers (Exit left) s.rest)) (running_costs m ending);
         stands = subst (λ x. Stands g x k) (sym (closes_above m status ending frames s.raised s.pending)) (record { ending = ap (λ x. Ended x) s.told; output = s.output; errors = s.errors; input = s.input });
       }
 
@@ -95,7 +105,7 @@ module _ (g : Setting) (fit : IsFitting g) (m : MirState) (l : State) (floors : 
       let step : mir_step (managed g) m ≡ record m1 { frames = closing 0 ∷ [] } = step_here g fit m l floors Return is id next ∙ ap (λ cs. mir_returned (managed g) cs m1) none ∙ ap (λ fs. mir_closes 0 fs m1) next.frames in
       record {
         to = k;
-        goes = goes_from g 1 l (at l l.top.registers (Const left 0 ∷ Exit left ∷ rest)) k (begins_here g fit m l floors Return is id next (Const left 0 ∷ Exit left ∷ []) code) (goes_one g l l.top.registers (Const left 0) (Exit left ∷ rest));
+        goes = goes_from g 1 l (at l l.top.registers (Const left 0 ∷ Exit left ∷ rest)) k (begins_here g fit m l floors Return is id next (Const left 0 ∷ Exit left ∷ []) code) (goes_within g 1 (most_for_one * mir_cost (managed g) m) (at l l.top.registers (Const left 0 ∷ Exit left ∷ rest)) k (goes_one g l l.top.registers (Const left 0) (Exit left ∷ rest)) (running_costs g m next.ending));
         stands = subst (λ x. Stands g x k) (sym step) (subst (λ e. StandsBy g e (closing 0 ∷ []) (record m1 { frames = closing 0 ∷ [] }) k) (sym next.ending) (record {
           running = refl;
           raised = s.plain.raised;
@@ -140,7 +150,7 @@ module _ (g : Setting) (fit : IsFitting g) (m : MirState) (l : State) (floors : 
       let step : mir_step (managed g) m ≡ record m1 { frames = closing status ∷ [] } = step_here g fit m l floors (Stop t) is id next ∙ ap (λ fs. mir_closes status fs m1) next.frames in
       record {
         to = k;
-        goes = goes_from g 1 l (at l l.top.registers (Move left r ∷ Exit left ∷ rest)) k (begins_here g fit m l floors (Stop t) is id next (Move left r ∷ Exit left ∷ []) refl) (goes_one g l l.top.registers (Move left r) (Exit left ∷ rest));
+        goes = goes_from g 1 l (at l l.top.registers (Move left r ∷ Exit left ∷ rest)) k (begins_here g fit m l floors (Stop t) is id next (Move left r ∷ Exit left ∷ []) refl) (goes_within g 1 (most_for_one * mir_cost (managed g) m) (at l l.top.registers (Move left r ∷ Exit left ∷ rest)) k (goes_one g l l.top.registers (Move left r) (Exit left ∷ rest)) (running_costs g m next.ending));
         stands = subst (λ x. Stands g x k) (sym step) (subst (λ e. StandsBy g e (closing status ∷ []) (record m1 { frames = closing status ∷ [] }) k) (sym next.ending) (record {
           running = refl;
           raised = s.plain.raised;

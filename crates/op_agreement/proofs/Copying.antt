@@ -22,7 +22,7 @@ use Rattle.op_rv.proofs.Memory.{with_bytes-outside, with_bytes-within}
 use Rattle.op_rv.specs.State.{bytes_from, with_bytes}
 use Rattle.op_rv.specs.Step.{can_access, load_size_of, load_value, offset_from, store_size_of}
 use Rattle.op_agreement.proofs.Elements.{KeptBelow}
-use Rattle.op_agreement.proofs.Going.{Goes, goes_fewer, goes_from, goes_none, goes_one, goes_then, goes_to}
+use Rattle.op_agreement.proofs.Going.{Goes, goes_fewer, goes_from, goes_none, goes_one, goes_then, goes_to, goes_within, goes_path}
 use Rattle.op_agreement.proofs.Memory.{may_access}
 use Rattle.op_agreement.specs.Settings.{Setting}
 
@@ -110,7 +110,7 @@ kept_on h f to v kept r differs = put_other h to v r differs ∙ kept r differs
 
 module _ (g : Setting) (l : State) (limit : l.limit ≤ 2 ^ 32) (words : Bool) (source target : Spot) (base : target.base.0 < target.free.0) where
   -- one unit is loaded and stored
-  unit_goes : (k : ℕ) (h memory : ℕ → ℕ) (rest : List Instruction) (a b : ℕ) → h source.base.0 + (source.offset + k * unit_of words) ≡ a → h target.base.0 + (target.offset + k * unit_of words) ≡ b → Allowed g.placement.rights.readable l.limit a (unit_of words) → Allowed g.placement.rights.writable l.limit b (unit_of words) → a % unit_of words ≡ 0 → b % unit_of words ≡ 0 → ((x : ℕ) → a ≤ x → x < a + unit_of words → memory x < 2 ^ 8) → Goes g 2 (having l h (unit_code words k source target ++ rest) memory) (having l (put h target.free (load_value (unit_load words) memory a)) rest (with_bytes memory b (bytes_from memory a (unit_of words))))
+  unit_goes : (k : ℕ) (h memory : ℕ → ℕ) (rest : List Instruction) (a b : ℕ) → h source.base.0 + (source.offset + k * unit_of words) ≡ a → h target.base.0 + (target.offset + k * unit_of words) ≡ b → Allowed g.placement.rights.readable l.limit a (unit_of words) → Allowed g.placement.rights.writable l.limit b (unit_of words) → a % unit_of words ≡ 0 → b % unit_of words ≡ 0 → ((x : ℕ) → a ≤ x → x < a + unit_of words → memory x < 2 ^ 8) → Goes g 2 2 (having l h (unit_code words k source target ++ rest) memory) (having l (put h target.free (load_value (unit_load words) memory a)) rest (with_bytes memory b (bytes_from memory a (unit_of words))))
   unfolding act load store put
   unit_goes k h memory rest a b from_is to_is readable writable from_whole to_whole bytes =
       let m = record l { memory = memory } in
@@ -129,10 +129,10 @@ module _ (g : Setting) (l : State) (limit : l.limit ≤ 2 ^ 32) (words : Bool) (
       let can_store : can_access (usable g.placement.rights.writable (at m h1 rest)) b (store_size_of (unit_store words)) ≡ true =
       subst (λ n. can_access (λ x. g.placement.rights.writable x && nat_lt x l.limit) b n ≡ true) (sym (unit_stored words)) (may_access g.placement.rights.writable l.limit b (unit_of words) to_whole writable.may to_below) in
       let loaded : h1 target.free.0 ≡ v = put_same h target.free v in
-      let first : Goes g 1 (at m h (loads ∷ stores ∷ rest)) (at m h1 (stores ∷ rest)) = goes_to g 1 (at m h (loads ∷ stores ∷ rest)) (act g.low g.placement loads (at m h (stores ∷ rest))) (at m h1 (stores ∷ rest))
+      let first : Goes g 1 1 (at m h (loads ∷ stores ∷ rest)) (at m h1 (stores ∷ rest)) = goes_to g 1 (at m h (loads ∷ stores ∷ rest)) (act g.low g.placement loads (at m h (stores ∷ rest))) (at m h1 (stores ∷ rest))
       (ap (λ x. load g.placement (unit_load words) target.free x (at m h (stores ∷ rest))) from_at ∙ cond-true (can_access (usable g.placement.rights.readable (at m h (stores ∷ rest))) a (load_size_of (unit_load words))) (keep target.free v (at m h (stores ∷ rest))) (bad (at m h (stores ∷ rest))) can_load)
       (goes_one g m h loads (stores ∷ rest)) in
-      let second : Goes g 1 (at m h1 (stores ∷ rest)) (having l h1 rest (with_bytes memory b (bytes_from memory a (unit_of words)))) = goes_to g 1 (at m h1 (stores ∷ rest)) (act g.low g.placement stores (at m h1 rest)) (having l h1 rest (with_bytes memory b (bytes_from memory a (unit_of words))))
+      let second : Goes g 1 1 (at m h1 (stores ∷ rest)) (having l h1 rest (with_bytes memory b (bytes_from memory a (unit_of words)))) = goes_to g 1 (at m h1 (stores ∷ rest)) (act g.low g.placement stores (at m h1 rest)) (having l h1 rest (with_bytes memory b (bytes_from memory a (unit_of words))))
       (ap₂ (λ w x. store g.placement (unit_store words) w x (at m h1 rest)) loaded to_at
       ∙ cond-true (can_access (usable g.placement.rights.writable (at m h1 rest)) b (store_size_of (unit_store words))) (having l h1 rest (with_bytes memory b (bytes_low_first 0 (store_size_of (unit_store words)) v))) (bad (at m h1 rest)) can_store
       ∙ ap (λ bs. having l h1 rest (with_bytes memory b bs)) (unit_is words memory a bytes))
@@ -143,7 +143,7 @@ module _ (g : Setting) (l : State) (limit : l.limit ≤ 2 ^ 32) (words : Bool) (
   pub record UnitsGo (n : ℕ) (f : ℕ → ℕ) (rest : List Instruction) (a b : ℕ) : Type 0 where
     pub h : ℕ → ℕ
     pub memory : ℕ → ℕ
-    pub goes : Goes g n (at l f (units_code words n source target ++ rest)) (having l h rest memory)
+    pub goes : Goes g n (2 * n) (at l f (units_code words n source target ++ rest)) (having l h rest memory)
     pub kept : (r : ℕ) → r ≢ target.free.0 → h r ≡ f r
     pub moved : Moved l.memory memory b a (n * unit_of words)
 
@@ -167,9 +167,9 @@ module _ (g : Setting) (l : State) (limit : l.limit ≤ 2 ^ 32) (words : Bool) (
       record {
         h = put first.h target.free v;
         memory = after;
-        goes = goes_from g (suc n) (at l f ((units_code words n source target ++ unit_code words n source target) ++ rest)) (at l f (units_code words n source target ++ (unit_code words n source target ++ rest))) (having l (put first.h target.free v) rest after)
+        goes = goes_within g (suc n) (2 * suc n) (at l f ((units_code words n source target ++ unit_code words n source target) ++ rest)) (having l (put first.h target.free v) rest after) (goes_from g (suc n) (at l f ((units_code words n source target ++ unit_code words n source target) ++ rest)) (at l f (units_code words n source target ++ (unit_code words n source target ++ rest))) (having l (put first.h target.free v) rest after)
             (ap (at l f) (append_assoc (units_code words n source target) (unit_code words n source target) rest))
-            (goes_then g n 2 (suc n) (at l f (units_code words n source target ++ (unit_code words n source target ++ rest))) (having l first.h (unit_code words n source target ++ rest) first.memory) (having l (put first.h target.free v) rest after) (omega arith) first.goes second);
+            (goes_then g n 2 (suc n) (at l f (units_code words n source target ++ (unit_code words n source target ++ rest))) (having l first.h (unit_code words n source target ++ rest) first.memory) (having l (put first.h target.free v) rest after) (omega arith) first.goes second)) (omega arith);
         kept = kept_on first.h f target.free v first.kept;
         moved = subst (Moved l.memory after b a) (sym more) (moved_on l.memory first.memory after b a (n * u) u apart_all first.moved (moved_unit first.memory (b + n * u) (a + n * u) u));
       }
@@ -184,11 +184,15 @@ module _ (g : Setting) (l : State) (limit : l.limit ≤ 2 ^ 32) (words : Bool) (
 
 -- ---- all of the code
 
+-- what a copy of so many bytes costs at most
+abbrev pub copy_most : ℕ → ℕ
+copy_most size = 193 + 6 * size
+
 -- The code comes to what stands behind it: the bytes of the target are those of the source, and nothing else below the limit has changed.
 pub record BytesGo (g : Setting) (l : State) (words : Bool) (size : ℕ) (source target : Spot) (f : ℕ → ℕ) (rest : List Instruction) (a b : ℕ) : Type 0 where
   pub h : ℕ → ℕ
   pub memory : ℕ → ℕ
-  pub goes : Goes g 1 (at l f (bytes_code words size source target ++ rest)) (having l h rest memory)
+  pub goes : Goes g 1 (copy_most size) (at l f (bytes_code words size source target ++ rest)) (having l h rest memory)
   pub kept : KeptBelow target.free.0 f h
   pub copied : (x : ℕ) → x < l.limit → memory x ≡ with_bytes l.memory b (bytes_from l.memory a size) x
 
@@ -211,25 +215,26 @@ units_some words (suc n) size all some = omega arith
 
 module _ (g : Setting) (l : State) (limit : l.limit ≤ 2 ^ 32) (words : Bool) (size : ℕ) (source target : Spot) (f : ℕ → ℕ) (rest : List Instruction) where
   -- nothing at all
-  pub none_goes : size ≡ 0 → Goes g 1 (at l f (bytes_code words size source target ++ rest)) (at l (put f target.free 0) rest)
+  pub none_goes : size ≡ 0 → Goes g 1 1 (at l f (bytes_code words size source target ++ rest)) (at l (put f target.free 0) rest)
   unfolding act put
   none_goes none =
-      subst (λ n. Goes g 1 (at l f (bytes_code words n source target ++ rest)) (at l (put f target.free 0) rest)) (sym none)
+      subst (λ n. Goes g 1 1 (at l f (bytes_code words n source target ++ rest)) (at l (put f target.free 0) rest)) (sym none)
       (goes_one g l f (Const target.free 0) rest)
 
   module _ (a b : ℕ) (some : 0 < size) (source_base : source.base.0 < target.free.0) (target_base : target.base.0 < target.free.0) (from_is : f source.base.0 + source.offset ≡ a) (to_is : f target.base.0 + target.offset ≡ b) (can : Copyable g.placement l b a size) (whole : words ≡ true → (a % 4 ≡ 0) × (b % 4 ≡ 0) × (size % 4 ≡ 0)) where
     abbrev Copied : List Instruction → Type 0
-    Copied code = (h : ℕ → ℕ) × (memory : ℕ → ℕ) × Goes g 1 (at l f (code ++ rest)) (having l h rest memory) × KeptBelow target.free.0 f h × ((x : ℕ) → x < l.limit → memory x ≡ with_bytes l.memory b (bytes_from l.memory a size) x)
+    Copied code = (h : ℕ → ℕ) × (memory : ℕ → ℕ) × Goes g 1 (copy_most size) (at l f (code ++ rest)) (having l h rest memory) × KeptBelow target.free.0 f h × ((x : ℕ) → x < l.limit → memory x ≡ with_bytes l.memory b (bytes_from l.memory a size) x)
 
     -- one by one
-    few_go : Copied (units_code words (units_in words size) source target)
-    few_go =
+    few_go : is_short words size ≡ true → Copied (units_code words (units_in words size) source target)
+    few_go short =
+        let eight : units_in words size ≤ 8 = grind (arith, nat_tests) in
         let (from_whole, to_whole, all_whole) = multiples words a b size whole in
         let all = units_all words size all_whole in
         let u = unit_of words in
         let n = units_in words size in
         let it = units_go g l limit words source target target_base n f rest a b source_base from_is to_is (subst (Allowed g.placement.rights.readable l.limit a) (sym all) can.source) (subst (Allowed g.placement.rights.writable l.limit b) (sym all) can.target) from_whole to_whole (λ x from before. can.bytes x from (omega arith)) (subst (λ z. (a + z ≤ b) ⊎ (b ≤ a)) (sym all) can.apart) in
-        (it.h, it.memory, goes_fewer g n 1 (at l f (units_code words n source target ++ rest)) (having l it.h rest it.memory) (units_some words n size all some) it.goes, λ r low. it.kept r (λ same. omega arith), λ x low. moved_is l.memory it.memory b a size (subst (Moved l.memory it.memory b a) all it.moved) x)
+        (it.h, it.memory, goes_within g 1 (copy_most size) (at l f (units_code words n source target ++ rest)) (having l it.h rest it.memory) (goes_fewer g n 1 (at l f (units_code words n source target ++ rest)) (having l it.h rest it.memory) (units_some words n size all some) it.goes) (omega arith), λ r low. it.kept r (λ same. omega arith), λ x low. moved_is l.memory it.memory b a size (subst (Moved l.memory it.memory b a) all it.moved) x)
 
     module _ (runtime : HasRuntime g.low g.placement) (room : HasRoom g.placement l 256) (word : size < 2 ^ 32) (from_near : source.offset ≡ 0) (to_near : target.offset ≡ 0) where
       abbrev arguments : List VirtualRegister
@@ -273,10 +278,11 @@ module _ (g : Setting) (l : State) (limit : l.limit ≤ 2 ^ 32) (words : Bool) (
           let it = copied_by g words before_call operands rest b a size (record { target = can.target; source = can.source; bytes = can.bytes; apart = can.apart }) whole call_stands in
           let h = put counted target.free it.value in
           let code = Const target.free size ∷ call (copy_number words) arguments target.free ∷ [] in
-          let second : Goes g 0 before_call (having l h rest it.memory) = record { steps = it.steps; enough = omega arith; ends = it.path.ends } in (
+          let second : Goes g 0 (192 + 6 * size) before_call (having l h rest it.memory) = goes_path g it.steps 0 (192 + 6 * size) before_call (having l h rest it.memory) (omega arith) it.path in (
             h,
             it.memory,
-            goes_then g 1 0 1 (at l f (code ++ rest)) before_call (having l h rest it.memory) (omega arith) (goes_one g l f (Const target.free size) (call (copy_number words) arguments target.free ∷ rest)) second,
+            goes_within g 1 (copy_most size) (at l f (code ++ rest)) (having l h rest it.memory)
+                (goes_then g 1 0 1 (at l f (code ++ rest)) before_call (having l h rest it.memory) (omega arith) (goes_one g l f (Const target.free size) (call (copy_number words) arguments target.free ∷ rest)) second) (omega arith),
             λ r low. put_lower counted target.free it.value r low ∙ put_lower f target.free size r low,
             it.copied,
           )
@@ -285,9 +291,9 @@ module _ (g : Setting) (l : State) (limit : l.limit ≤ 2 ^ 32) (words : Bool) (
     pub some_go : HasRuntime g.low g.placement → HasRoom g.placement l 256 → size < 2 ^ 32 → (is_short words size ≡ false → (source.offset ≡ 0) × (target.offset ≡ 0)) → BytesGo g l words size source target f rest a b
     some_go runtime room word near =
         let t : nat_eq size 0 ≡ false = grind (arith, nat_tests) in
-        let (h, memory, goes, kept, copied) = subst (λ c. Copied (if c then Const target.free 0 ∷ [] else (if is_short words size then units_code words (units_in words size) source target else (Const target.free size ∷ call (copy_number words) (target.base ∷ source.base ∷ target.free ∷ []) target.free ∷ [])))) (sym t) (by (is_short words size) near) in
+        let (h, memory, goes, kept, copied) = subst (λ c. Copied (if c then Const target.free 0 ∷ [] else (if is_short words size then units_code words (units_in words size) source target else (Const target.free size ∷ call (copy_number words) (target.base ∷ source.base ∷ target.free ∷ []) target.free ∷ [])))) (sym t) (by (is_short words size) refl near) in
         record { h = h; memory = memory; goes = goes; kept = kept; copied = copied }
       where
-        by : (short : Bool) → (short ≡ false → (source.offset ≡ 0) × (target.offset ≡ 0)) → Copied (if short then units_code words (units_in words size) source target else (Const target.free size ∷ call (copy_number words) (target.base ∷ source.base ∷ target.free ∷ []) target.free ∷ []))
-        by true near = few_go
-        by false near = let (from_near, to_near) = near refl in many_go runtime room word from_near to_near
+        by : (short : Bool) → is_short words size ≡ short → (short ≡ false → (source.offset ≡ 0) × (target.offset ≡ 0)) → Copied (if short then units_code words (units_in words size) source target else (Const target.free size ∷ call (copy_number words) (target.base ∷ source.base ∷ target.free ∷ []) target.free ∷ []))
+        by true e near = few_go e
+        by false e near = let (from_near, to_near) = near refl in many_go runtime room word from_near to_near

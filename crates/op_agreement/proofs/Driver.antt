@@ -49,7 +49,7 @@ module _ (g : Setting) (fit : IsFitting g) (m : MirState) (l : State) (ending : 
   unfolding code_for
   next_of i is id above below literals fine homes =
       let (first, others) = literals_split (literals_of g.core g.mir) id (instruction_literals g.core (here m floors).number i) (flat_map (instruction_literals g.core (here m floors).number) is) (subst (AreLiterals (literals_of g.core g.mir) id) (flat_map-cons (instruction_literals g.core (here m floors).number) i is) literals) in
-      record { stays = s; ending = ending; frames = frames; above = above; below = below; literals = first; others = others; fine = fine.0; on = fine.1; homes = homes.0; more = homes.1 }
+      record { stays = s; ending = ending; frames = frames; above = above; below = below; literals = first; others = others; fine = fine.0; paid = fine.1; on = fine.2; homes = homes.0; more = homes.1 }
 
   action_comes : (a : Action) (landing : Option BlockId) (is : List Instruction) (id : ℕ) → Next g m l floors (Act a landing) is id → Comes g m l
   action_comes (Constant to n) landing is id next = constant_comes g fit m l floors is id to n landing next

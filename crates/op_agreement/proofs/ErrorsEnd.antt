@@ -12,7 +12,7 @@ use Rattle.op_constants.specs.Literals.{literals_of}
 use Rattle.op_core.specs.declared.program.Core.{Core}
 use Rattle.op_expand.specs.Calls.{left, result_address}
 use Rattle.op_expand.specs.Routines.{error_code}
-use Rattle.op_low.specs.Machine.{act, done, step, step_by_ending, write}
+use Rattle.op_low.specs.Machine.{act, cost, cost_by, done, step, step_by_ending, write}
 use Rattle.op_low.specs.State.{Caller, State, Ended, bad, block_of, usable}
 use Rattle.op_low.specs.declared.instruction.Instruction.{Instruction}
 use Rattle.op_low.specs.declared.instruction.Instruction.TheVariants.{Const, Exit, Write}
@@ -26,7 +26,7 @@ use Rattle.op_mir.specs.Machine.{MirCaller, MirState}
 use Rattle.op_rt_text.specs.Names.{literal}
 use Rattle.op_rv.proofs.Memory.{all_of, bytes_from-same}
 use Rattle.op_rv.specs.State.{all_from, bytes_from}
-use Rattle.op_simulation.specs.System.{run}
+use Rattle.op_simulation.specs.System.{run, spent}
 use Rattle.op_agreement.proofs.Going.{Goes, goes_from, goes_one, goes_then, goes_to}
 use Rattle.op_agreement.proofs.Standing.{here}
 use Rattle.op_agreement.specs.Chart.{Floor}
@@ -79,11 +79,11 @@ module _ (g : Setting) where
   abbrev over : State → (ℕ → ℕ) → List ℕ → (n : ℕ) → State
   over l f text n = record (said l (λ r. if Rattle.std.specs.Prelude.nat_eq r 0 then n else f r) [] text) { ending = Ended (n % 2 ^ 8) }
 
-  begins : (l : State) (f : ℕ → ℕ) (n id : ℕ) → Goes g 2 (at l f (error_code n id)) (at l (after_two l f id) (Write Errors left result_address ∷ Const left n ∷ Exit left ∷ []))
-  unfolding run step step_by_ending done act
-  begins l f n id = record { steps = 2; enough = omega arith; ends = refl }
+  begins : (l : State) (f : ℕ → ℕ) (n id : ℕ) → Goes g 2 2 (at l f (error_code n id)) (at l (after_two l f id) (Write Errors left result_address ∷ Const left n ∷ Exit left ∷ []))
+  unfolding run spent step step_by_ending done act cost cost_by
+  begins l f n id = record { steps = 2; enough = omega arith; within = omega arith; ends = refl }
 
-  writes : (l : State) (f : ℕ → ℕ) (now : List Instruction) (at_ : ℕ) (text : List ℕ) → f 0 ≡ at_ → f 1 ≡ length text → all_from (usable g.placement.rights.readable l) at_ (length text) ≡ true → bytes_from l.memory at_ (length text) ≡ text → Goes g 1 (at l f (Write Errors left result_address ∷ now)) (said l f now text)
+  writes : (l : State) (f : ℕ → ℕ) (now : List Instruction) (at_ : ℕ) (text : List ℕ) → f 0 ≡ at_ → f 1 ≡ length text → all_from (usable g.placement.rights.readable l) at_ (length text) ≡ true → bytes_from l.memory at_ (length text) ≡ text → Goes g 1 1 (at l f (Write Errors left result_address ∷ now)) (said l f now text)
   unfolding act write
   writes l f now at_ text zeroth first may is =
       goes_to g 1 (at l f (Write Errors left result_address ∷ now)) _ (said l f now text)
@@ -92,9 +92,9 @@ module _ (g : Setting) where
       ∙ ap (said l f now) (ap (λ x. bytes_from l.memory x (f 1)) zeroth ∙ ap (bytes_from l.memory at_) first ∙ is))
       (goes_one g l f (Write Errors left result_address) now)
 
-  ends : (l : State) (f : ℕ → ℕ) (text : List ℕ) (n : ℕ) → Goes g 2 (said l f (Const left n ∷ Exit left ∷ []) text) (over l f text n)
-  unfolding run step step_by_ending done act
-  ends l f text n = record { steps = 2; enough = omega arith; ends = refl }
+  ends : (l : State) (f : ℕ → ℕ) (text : List ℕ) (n : ℕ) → Goes g 2 2 (said l f (Const left n ∷ Exit left ∷ []) text) (over l f text n)
+  unfolding run spent step step_by_ending done act cost cost_by
+  ends l f text n = record { steps = 2; enough = omega arith; within = omega arith; ends = refl }
 
   -- a literal stands where it was loaded
   pub literal_there : (l : State) (at_ : ℕ) (text : List ℕ) → LiteralStands g at_ text → g.bottom ≤ l.limit → Rattle.op_agreement.specs.Stands.IsFixed g l.memory → (all_from (usable g.placement.rights.readable l) at_ (length text) ≡ true) × (bytes_from l.memory at_ (length text) ≡ text)
@@ -107,7 +107,7 @@ module _ (g : Setting) where
       may : (x : ℕ) → g.placement.rights.readable x ≡ true → x < l.limit → (g.placement.rights.readable x && nat_lt x l.limit) ≡ true
       may x right low = let t : nat_lt x l.limit ≡ true = grind (arith, nat_tests) in ap₂ (λ a b. a && b) right t
 
-  pub error_ends : IsFitting g → (floors : ℕ → Floor) (m : MirState) (l : State) → Stays g floors m l → (e : RuntimeError) (f : ℕ → ℕ) (rest : List Instr) → (k : State) × Goes g 5 (at l f (block_of g.low l.top.routine (error_block_of (here m floors).frame.bank e).0)) k × Stands g (record m { world = failed g.core (number_of_error e) m.world; rest = rest }) k
+  pub error_ends : IsFitting g → (floors : ℕ → Floor) (m : MirState) (l : State) → Stays g floors m l → (e : RuntimeError) (f : ℕ → ℕ) (rest : List Instr) → (k : State) × Goes g 5 5 (at l f (block_of g.low l.top.routine (error_block_of (here m floors).frame.bank e).0)) k × Stands g (record m { world = failed g.core (number_of_error e) m.world; rest = rest }) k
   error_ends fit floors m l s e f rest =
       let a = s.activation in
       let n = number_of_error e in

@@ -1,19 +1,21 @@
 -- From steps of low code that lead to a state that stands for the next one of managed code to the simulation.
-use Rattle.std.proofs.Common.{◌≡◌, ◌≢◌, ◌≤◌, ℕ, zero, suc, List, [], ◌∷◌, ◌++◌, refl, sym, ap, ◌∙◌, subst, arith}
+use Rattle.std.proofs.Common.{◌≡◌, ◌≢◌, ◌≤◌, ◌*◌, ℕ, zero, suc, List, [], ◌∷◌, ◌++◌, refl, sym, ap, ◌∙◌, subst, arith}
 use Rattle.op_low.proofs.MachineLemmas.{stopped_halts}
 use Rattle.op_low.specs.Machine.{low_machine}
 use Rattle.op_low.specs.State.{State, Ending, Running, Ended, Bad, goes_on}
 use Rattle.op_meaning.specs.Frames.{Frame, walk, destruction, construction, closing}
 use Rattle.op_meaning.specs.World.{Running as GoingOn, Ended as HasEnded, Ending as EndingAbove}
-use Rattle.op_mir.specs.Machine.{MirState, looks_on, mir_step, mir_shows}
+use Rattle.op_mir.specs.Machine.{MirState, looks_on, mir_cost, mir_step, mir_shows}
 use Rattle.op_simulation.proofs.Points.{agreement, always_below}
 use Rattle.op_simulation.proofs.Runs.{run_past_end}
 use Rattle.op_simulation.specs.Matching.{Agreement, Follows, Stretch}
 use Rattle.op_simulation.specs.System.{run, spent, trace}
+use Rattle.op_agreement.proofs.Going.{run_counted}
 use Rattle.op_agreement.proofs.Streams.{Grows, joins_bytes, run_grows, same_bytes}
-use Rattle.op_agreement.specs.Claims.{NeverBecomesBad, SameBytes, lowered, uncounted}
+use Rattle.op_agreement.specs.Claims.{NeverBecomesBad, SameBytes, lowered}
 use Rattle.op_agreement.specs.Settings.{Setting, managed}
 use Rattle.op_agreement.specs.Stands.{Stands, StandsBy}
+use Rattle.op_agreement.specs.Steps.{counted, most_for_one}
 pub use Rattle.op_agreement.specs.Steps.{Comes}
 
 -- ---- what is equal where states stand for one another, and that low code is not bad there
@@ -49,22 +51,12 @@ module _ (g : Setting) where
   pub same_states : (m : MirState) (l : State) → Stands g m l → Same m l
   same_states m l s = same_by m.world.ending m.frames m l refl s
 
-  -- ---- runs of the machine whose steps cost nothing are runs
+  -- ---- the machine that counts shows the same
 
-  pub run_uncounted : (n : ℕ) (l : State) → run (uncounted g) n l ≡ run (low_machine g.low g.placement) n l
-  unfolding run
-  run_uncounted zero l = refl
-  run_uncounted (suc n) l = run_uncounted n ((low_machine g.low g.placement).step l)
-
-  trace_uncounted : (n : ℕ) (l : State) → trace (uncounted g) n l ≡ trace (low_machine g.low g.placement) n l
+  trace_counted : (n : ℕ) (l : State) → trace (counted g) n l ≡ trace (low_machine g.low g.placement) n l
   unfolding trace
-  trace_uncounted zero l = refl
-  trace_uncounted (suc n) l = ap (λ xs. (low_machine g.low g.placement).shows l ++ xs) (trace_uncounted n ((low_machine g.low g.placement).step l))
-
-  spent_uncounted : (n : ℕ) (l : State) → spent (uncounted g) n l ≡ 0
-  unfolding spent
-  spent_uncounted zero l = refl
-  spent_uncounted (suc n) l = let rest = spent_uncounted n ((low_machine g.low g.placement).step l) in omega arith
+  trace_counted zero l = refl
+  trace_counted (suc n) l = ap (λ xs. (low_machine g.low g.placement).shows l ++ xs) (trace_counted n ((low_machine g.low g.placement).step l))
 
   -- what is bad stays so
   pub fine_before : (j n : ℕ) (l k : State) → j ≤ n → run (low_machine g.low g.placement) n l ≡ k → k.ending ≢ Bad → (run (low_machine g.low g.placement) j l).ending ≢ Bad
@@ -80,12 +72,12 @@ module _ (g : Setting) where
       let ends : run (low_machine g.low g.placement) (suc more) l ≡ c.to = ap (λ n. run (low_machine g.low g.placement) n l) (sym steps) ∙ c.goes.ends in
       record {
         more = more;
-        states = subst (Stands g (mir_step (managed g) m)) (sym (run_uncounted (suc more) l ∙ ends)) c.stands;
-        traces = subst (SameBytes (mir_shows (managed g) m)) (sym (trace_uncounted (suc more) l))
+        states = subst (Stands g (mir_step (managed g) m)) (sym (run_counted g (suc more) l ∙ ends)) c.stands;
+        traces = subst (SameBytes (mir_shows (managed g) m)) (sym (trace_counted (suc more) l))
             (same_bytes g.core (looks_on m.rest m.frames) m.world (mir_step (managed g) m).world l c.to (trace (low_machine g.low g.placement) (suc more) l) same.output same.errors after.output after.errors
             (subst (λ k. Grows l k (trace (low_machine g.low g.placement) (suc more) l)) ends (run_grows g.low g.placement (suc more) l)));
-        within = let none = spent_uncounted (suc more) l in omega arith;
-        moments = λ j less. subst (λ (k : State). k.ending ≢ Bad) (sym (run_uncounted j l)) (fine_before j (suc more) l c.to (omega arith) ends after.fine);
+        within = subst (λ n. spent (counted g) n l ≤ most_for_one * mir_cost (managed g) m) steps c.goes.within;
+        moments = λ j less. subst (λ (k : State). k.ending ≢ Bad) (sym (run_counted g j l)) (fine_before j (suc more) l c.to (omega arith) ends after.fine);
       }
 
   stretch_some : (m : MirState) (l : State) → Stands g m l → (c : Comes g m l) → (n : ℕ) → c.goes.steps ≡ n → Stretch (lowered g) m l
@@ -103,4 +95,4 @@ agrees g follows m l stands = agreement (lowered g) follows joins_bytes m l stan
 
 pub never_bad : NeverBecomesBad
 never_bad g m l agrees n =
-    subst (λ (k : State). k.ending ≢ Bad) (run_uncounted g n l) (always_below (lowered g) (λ (k : State). k.ending ≢ Bad) (λ a b fine. fine) m l agrees n)
+    subst (λ (k : State). k.ending ≢ Bad) (run_counted g n l) (always_below (lowered g) (λ (k : State). k.ending ≢ Bad) (λ a b fine. fine) m l agrees n)

@@ -1,10 +1,11 @@
 -- The arguments of a call: the code of each comes to a register that has what is handed over, or to error 201 of an index.
-use Rattle.std.proofs.Common.{◌≡◌, ◌≤◌, ◌<◌, ◌⊎◌, inl, inr, ℕ, ℤ, suc, ◌+◌, ◌-◌, List, [], ◌∷◌, ◌++◌, length, Option, Some, None, refl, sym, ap, ◌∙◌, subst, arith, append_assoc}
+use Rattle.std.proofs.Common.{◌≡◌, ◌≤◌, ◌<◌, ◌⊎◌, inl, inr, ℕ, ℤ, suc, ◌+◌, ◌-◌, List, [], ◌∷◌, ◌++◌, length, Option, Some, None, refl, sym, ap, ◌∙◌, subst, arith, append_assoc, ◌*◌}
 use Rattle.std.specs.Prelude.{◌^◌, ◌%◌, map, pos, negsuc, true, false}
 use Rattle.std.specs.Int.{w32, w16, w8, int_wrap, int_rem_euclid}
-use Rattle.std.specs.List.{list_all}
+use Rattle.std.specs.List.{list_all, sum_by}
 use Rattle.std.specs.Option.{option_map}
 use Rattle.std.proofs.lemmas.Int.{SFits-int_wrap, int_wrap_fits}
+use Rattle.std.proofs.lemmas.List.Sums.{sum_by-cons}
 use Rattle.op_compute.proofs.ConversionLemmas.{low_bits}
 use Rattle.op_compute.proofs.Words.{word_wraps}
 use Rattle.op_compute.specs.Bank.{register_of}
@@ -25,6 +26,7 @@ use Rattle.op_low.specs.State.{State, value_in}
 use Rattle.op_low.specs.declared.ids.VirtualRegister.{VirtualRegister}
 use Rattle.op_low.specs.declared.instruction.Instruction.{Instruction as LowInstruction}
 use Rattle.op_meaning.specs.Calls.{Handed, a_place, a_value, all_handed, handed, with_handed}
+use Rattle.op_meaning.specs.Costs.{given_bytes}
 use Rattle.op_meaning.specs.Numbers.{low_bits_of}
 use Rattle.op_meaning.specs.Paths.{place_of as place_meant}
 use Rattle.op_meaning.specs.Shapes.{composite, is_reference, shape_of, single}
@@ -44,9 +46,10 @@ use Rattle.op_mir.specs.declared.path.Step.{Step}
 use Rattle.op_rt_text.specs.Names.{block_id}
 use Rattle.op_agreement.proofs.Branching.{both_true, has_of}
 use Rattle.op_agreement.proofs.Elements.{KeptBelow}
-use Rattle.op_agreement.proofs.Going.{Goes, GoesTo, goes_fewer, goes_from, goes_none, goes_straight, goes_then}
+use Rattle.op_agreement.proofs.Going.{Goes, GoesTo, goes_fewer, goes_from, goes_none, goes_straight, goes_then, goes_within}
+use Rattle.op_agreement.proofs.Lengths.{low_bits_short}
 use Rattle.op_agreement.proofs.Loading.{indices_in, placed_part}
-use Rattle.op_agreement.proofs.Paths.{Failed, PlaceTo, place_goes, spot_fits}
+use Rattle.op_agreement.proofs.Paths.{Failed, PlaceTo, place_goes, spot_fits, place_most}
 use Rattle.op_agreement.proofs.Places.{HaveIndices}
 use Rattle.op_agreement.proofs.Spots.{SpotFits, begin_fits, fits_register, fits_scratch, place_fits}
 use Rattle.op_agreement.proofs.Standing.{Next, here}
@@ -89,15 +92,19 @@ module _ (g : Setting) (fit : IsFitting g) (m : MirState) (l : State) (floors : 
   -- ---- one argument
 
   -- the register of the spot has what is handed over, or the error has come
-  pub record IsGiven (from : State) (f : ℕ → ℕ) (free : VirtualRegister) (spot : Spot) (rest : List LowInstruction) (p : Variable) (x : Handed) : Type 0 where
+  pub record IsGiven (most : ℕ) (from : State) (f : ℕ → ℕ) (free : VirtualRegister) (spot : Spot) (rest : List LowInstruction) (p : Variable) (x : Handed) : Type 0 where
     pub h : ℕ → ℕ
-    pub goes : Goes g 0 from (at l h rest)
+    pub goes : Goes g 0 most from (at l h rest)
     pub kept : KeptBelow free.0 f h
     pub is : IsHanded g floors (length m.callers) m.world x p (h spot.base.0)
 
-  abbrev pub GivenTo : State → (ℕ → ℕ) → VirtualRegister → Spot → List LowInstruction → Variable → Option Handed → Type 0
-  GivenTo from f free spot rest p None = Failed g fit m l floors next.stays 0 from
-  GivenTo from f free spot rest p (Some x) = IsGiven from f free spot rest p x
+  abbrev pub GivenTo : (most : ℕ) → State → (ℕ → ℕ) → VirtualRegister → Spot → List LowInstruction → Variable → Option Handed → Type 0
+  GivenTo most from f free spot rest p None = Failed g fit m l floors next.stays 0 most from
+  GivenTo most from f free spot rest p (Some x) = IsGiven most from f free spot rest p x
+
+  -- what an argument costs at most
+  abbrev pub given_most : Given → ℕ
+  given_most x = 3 + 2 * given_bytes g.core (view_given x)
 
   -- a number that its type has narrowed
   abbrev narrow_work : VirtualRegister → Work
@@ -114,7 +121,7 @@ module _ (g : Setting) (fit : IsFitting g) (m : MirState) (l : State) (floors : 
       let there : f ((here m floors).frame.bank.temporaries + t.0) ≡ l.top.registers ((here m floors).frame.bank.temporaries + t.0) = kept ((here m floors).frame.bank.temporaries + t.0) (omega arith) in
       subst (λ v. IsWordOf v (number_at m.world t.0)) (sym there) (a.kept.temporaries t.0 low)
 
-  narrowed : (kind : IntegerKind) (t : TemporaryId) (p : Variable) (free : VirtualRegister) (f : ℕ → ℕ) (rest : List LowInstruction) → t.0 < (here m floors).routine.temporaries → is_reference p.role ≡ false → shape_of g.core p.of ≡ single kind → scratch_here ≤ free.0 → Kept f → IsGiven (at l f (low_bits_code free kind (register_of (here m floors).frame.bank t) ++ rest)) f free (at_scratch free) rest p (a_value (number (low_bits_of kind (number_at m.world t.0))))
+  narrowed : (kind : IntegerKind) (t : TemporaryId) (p : Variable) (free : VirtualRegister) (f : ℕ → ℕ) (rest : List LowInstruction) → t.0 < (here m floors).routine.temporaries → is_reference p.role ≡ false → shape_of g.core p.of ≡ single kind → scratch_here ≤ free.0 → Kept f → IsGiven 3 (at l f (low_bits_code free kind (register_of (here m floors).frame.bank t) ++ rest)) f free (at_scratch free) rest p (a_value (number (low_bits_of kind (number_at m.world t.0))))
   narrowed kind t p free f rest low value shape less kept =
       let behind = next.stays.activation.floor.fits.scratch in
       let apart : IsApart (narrow_work free) (narrow_operands t free) = record { to = omega arith; left = omega arith; right = omega arith; second = omega arith; third = omega arith } in
@@ -125,10 +132,10 @@ module _ (g : Setting) (fit : IsFitting g) (m : MirState) (l : State) (floors : 
       code : List LowInstruction
       code = low_bits_code free kind (register_of (here m floors).frame.bank t)
 
-      by : (o : Outcome) → Answers (narrow_work free) free f (gives (low_bits_of kind (number_at m.world t.0))) o → GoesTo g (fewest_steps code) l (at l f (code ++ rest)) rest o → IsGiven (at l f (code ++ rest)) f free (at_scratch free) rest p (a_value (number (low_bits_of kind (number_at m.world t.0))))
+      by : (o : Outcome) → Answers (narrow_work free) free f (gives (low_bits_of kind (number_at m.world t.0))) o → GoesTo g (fewest_steps code) (length code) l (at l f (code ++ rest)) rest o → IsGiven 3 (at l f (code ++ rest)) f free (at_scratch free) rest p (a_value (number (low_bits_of kind (number_at m.world t.0))))
       by (Behind h) given goes = record {
         h = h;
-        goes = goes_fewer g (fewest_steps code) 0 (at l f (code ++ rest)) (at l h rest) (omega arith) goes;
+        goes = goes_within g 0 3 (at l f (code ++ rest)) (at l h rest) (goes_fewer g (fewest_steps code) 0 (at l f (code ++ rest)) (at l h rest) (omega arith) goes) (let short = low_bits_short free kind (register_of (here m floors).frame.bank t) in omega arith);
         kept = λ r below. given.others r (omega arith) (λ same. omega arith);
         is = (value, inl (kind, shape, refl, low_bits_again kind (number_at m.world t.0), given.result));
       }
@@ -136,7 +143,7 @@ module _ (g : Setting) (fit : IsFitting g) (m : MirState) (l : State) (floors : 
       by Crooked given goes = absurd given
 
   -- of each kind, of which the words need no code
-  value_given : (kind : IntegerKind) (t : TemporaryId) (p : Variable) (free : VirtualRegister) (f : ℕ → ℕ) (rest : List LowInstruction) → t.0 < (here m floors).routine.temporaries → is_reference p.role ≡ false → shape_of g.core p.of ≡ single kind → scratch_here ≤ free.0 → Kept f → IsGiven (at l f (given_code g.core frame (ByValue kind t) free ++ rest)) f free (given_spot g.core frame (ByValue kind t) free) rest p (a_value (number (low_bits_of kind (number_at m.world t.0))))
+  value_given : (kind : IntegerKind) (t : TemporaryId) (p : Variable) (free : VirtualRegister) (f : ℕ → ℕ) (rest : List LowInstruction) → t.0 < (here m floors).routine.temporaries → is_reference p.role ≡ false → shape_of g.core p.of ≡ single kind → scratch_here ≤ free.0 → Kept f → IsGiven 3 (at l f (given_code g.core frame (ByValue kind t) free ++ rest)) f free (given_spot g.core frame (ByValue kind t) free) rest p (a_value (number (low_bits_of kind (number_at m.world t.0))))
   value_given Signed8 t p free f rest low value shape less kept = narrowed Signed8 t p free f rest low value shape less kept
   value_given Unsigned8 t p free f rest low value shape less kept = narrowed Unsigned8 t p free f rest low value shape less kept
   value_given Signed16 t p free f rest low value shape less kept = narrowed Signed16 t p free f rest low value shape less kept
@@ -146,13 +153,13 @@ module _ (g : Setting) (fit : IsFitting g) (m : MirState) (l : State) (floors : 
       let word = word_of t f low kept in
       record {
         h = f;
-        goes = goes_none g (at l f rest);
+        goes = goes_within g 0 3 (at l f rest) (at l f rest) (goes_none g (at l f rest)) (omega arith);
         kept = λ r below. refl;
         is = (value, inl (Signed32, shape, refl, low_bits_again Signed32 x, subst (IsWordOf (f (register_of (here m floors).frame.bank t).0)) (sym (word_wraps (f (register_of (here m floors).frame.bank t).0) x word)) word));
       }
 
   -- a place, or what stands there
-  path_given : (path : Path) (of : TypeId) (p : Variable) (passed : Place → Handed) (free : VirtualRegister) (f : ℕ → ℕ) (rest : List LowInstruction) → ((q : Place) (a : ℕ) → IsAt g floors (length m.callers) q of a → a < 2 ^ 32 → IsHanded g floors (length m.callers) m.world (passed q) p a) → PathTo g.core (here m floors).number (view_path path) of → IsPlaced g.core (here m floors).number (here m floors).frame path.root → HaveIndices (here m floors).routine path.steps → scratch_here ≤ free.0 → Kept f → GivenTo (at l f (place_code g.core (here m floors).frame 0 path.root path.steps free ++ rest)) f free (place_of g.core (here m floors).frame 0 path.root path.steps free) rest p (option_map passed (place_meant m.world (view_path path)))
+  path_given : (path : Path) (of : TypeId) (p : Variable) (passed : Place → Handed) (free : VirtualRegister) (f : ℕ → ℕ) (rest : List LowInstruction) → ((q : Place) (a : ℕ) → IsAt g floors (length m.callers) q of a → a < 2 ^ 32 → IsHanded g floors (length m.callers) m.world (passed q) p a) → PathTo g.core (here m floors).number (view_path path) of → IsPlaced g.core (here m floors).number (here m floors).frame path.root → HaveIndices (here m floors).routine path.steps → scratch_here ≤ free.0 → Kept f → GivenTo (place_most path) (at l f (place_code g.core (here m floors).frame 0 path.root path.steps free ++ rest)) f free (place_of g.core (here m floors).frame 0 path.root path.steps free) rest p (option_map passed (place_meant m.world (view_path path)))
   path_given path of p passed free f rest holds typed placed indices less kept =
       let begins = begin_fits g m l floors next.stays path.root typed.from free typed.root placed less in
       let (base, more, offset) = spot_fits g fit m l floors next.stays path of 0 free f rest typed placed indices less kept begins.base begins.more in
@@ -164,7 +171,7 @@ module _ (g : Setting) (fit : IsFitting g) (m : MirState) (l : State) (floors : 
       spot : Spot
       spot = place_of g.core (here m floors).frame 0 path.root path.steps free
 
-      by : spot.offset ≡ 0 → (o : Option Place) → PlaceTo g fit m l floors next.stays (fewest_steps code) (at l f (code ++ rest)) f free spot rest of o → GivenTo (at l f (code ++ rest)) f free spot rest p (option_map passed o)
+      by : spot.offset ≡ 0 → (o : Option Place) → PlaceTo g fit m l floors next.stays (fewest_steps code) (place_most path) (at l f (code ++ rest)) f free spot rest of o → GivenTo (place_most path) (at l f (code ++ rest)) f free spot rest p (option_map passed o)
       by none None fails = record { h = fails.h; goes = goes_fewer g (fewest_steps code) 0 (at l f (code ++ rest)) _ (omega arith) fails.goes }
       by none (Some q) reached =
           let here_is : reached.h spot.base.0 + spot.offset ≡ reached.h spot.base.0 = omega arith in
@@ -201,17 +208,24 @@ module _ (g : Setting) (fit : IsFitting g) (m : MirState) (l : State) (floors : 
   given_fits_spot (ByPlace path) p free fits typed homes less = place_fits g m l floors next.stays path p.of free typed.1 homes less
   given_fits_spot (ByCopy of path) p free fits (value, same, shape, typed) homes less = place_fits g m l floors next.stays path of free typed (copied_placed of path.root path.steps typed shape homes) less
 
+  -- at no more than more
+  given_within : (p q : ℕ) (from : State) (f : ℕ → ℕ) (free : VirtualRegister) (spot : Spot) (rest : List LowInstruction) (v : Variable) (o : Option Handed) → p ≤ q → GivenTo p from f free spot rest v o → GivenTo q from f free spot rest v o
+  given_within p q from f free spot rest v None less fails = record { h = fails.h; goes = goes_within g 0 q from _ fails.goes less }
+  given_within p q from f free spot rest v (Some x) less given = record { h = given.h; goes = goes_within g 0 q from _ given.goes less; kept = given.kept; is = given.is }
+
   -- the code of an argument hands it over, or comes to the error
-  pub one_given : (x : Given) (p : Variable) (free : VirtualRegister) (f : ℕ → ℕ) (rest : List LowInstruction) → given_fits g.mir (here m floors).routine x ≡ true → IsTypedGiven g.core (here m floors).number (view_given x) p → HasGiven g.core (here m floors).number (here m floors).frame x → scratch_here ≤ free.0 → Kept f → GivenTo (at l f (given_code g.core (here m floors).frame x free ++ rest)) f free (given_spot g.core (here m floors).frame x free) rest p (handed m.world (view_given x))
+  pub one_given : (x : Given) (p : Variable) (free : VirtualRegister) (f : ℕ → ℕ) (rest : List LowInstruction) → given_fits g.mir (here m floors).routine x ≡ true → IsTypedGiven g.core (here m floors).number (view_given x) p → HasGiven g.core (here m floors).number (here m floors).frame x → scratch_here ≤ free.0 → Kept f → GivenTo (given_most x) (at l f (given_code g.core (here m floors).frame x free ++ rest)) f free (given_spot g.core (here m floors).frame x free) rest p (handed m.world (view_given x))
   unfolding given_fits copied_fits
-  one_given (ByValue kind t) p free f rest fits (value, shape) homes less kept = value_given kind t p free f rest (has_of (here m floors).routine t fits) value shape less kept
+  one_given (ByValue kind t) p free f rest fits (value, shape) homes less kept = given_within 3 (given_most (ByValue kind t)) _ f free _ rest p (Some _) (omega arith) (value_given kind t p free f rest (has_of (here m floors).routine t fits) value shape less kept)
   one_given (ByReference t) p free f rest fits typed homes less kept = absurd typed
   one_given (ByPlace path) p free f rest fits (reference, typed) homes less kept =
-      path_given path p.of p (λ q. a_place q) free f rest (λ q a is low. (reference, is, low)) typed homes (indices_in g.mir (here m floors).routine path fits) less kept
+      given_within (place_most path) (given_most (ByPlace path)) _ f free _ rest p _ (omega arith)
+      (path_given path p.of p (λ q. a_place q) free f rest (λ q a is low. (reference, is, low)) typed homes (indices_in g.mir (here m floors).routine path fits) less kept)
   one_given (ByCopy of path) p free f rest fits (value, same, shape, typed) homes less kept =
-      path_given path of p (λ q. a_value (value_at m.world q)) free f rest
+      given_within (place_most path) (given_most (ByCopy of path)) _ f free _ rest p _ (omega arith)
+      (path_given path of p (λ q. a_value (value_at m.world q)) free f rest
       (λ q a is low. (value, inr (ap (shape_of g.core) same ∙ shape, q, subst (λ t. IsAt g floors (length m.callers) q t a) (sym same) is, refl, low)))
-      typed (copied_placed of path.root path.steps typed shape homes) (indices_in g.mir (here m floors).routine path (both_true (has_type g.mir of) (path_fits g.mir (here m floors).routine path) fits).1) less kept
+      typed (copied_placed of path.root path.steps typed shape homes) (indices_in g.mir (here m floors).routine path (both_true (has_type g.mir of) (path_fits g.mir (here m floors).routine path) fits).1) less kept)
 
   -- ---- all arguments
 
@@ -220,28 +234,36 @@ module _ (g : Setting) (fit : IsFitting g) (m : MirState) (l : State) (floors : 
   KeptOutside free f k = (r : ℕ) → (r < scratch_here) ⊎ (free ≤ r) → k r ≡ f r
 
   -- The registers have what is handed over, and still do where scratch registers in front of the free one have changed.
-  pub record AreGiven (from : State) (f : ℕ → ℕ) (free : VirtualRegister) (bases : List VirtualRegister) (rest : List LowInstruction) (ps : List Variable) (xs : List Handed) : Type 0 where
+  pub record AreGiven (most : ℕ) (from : State) (f : ℕ → ℕ) (free : VirtualRegister) (bases : List VirtualRegister) (rest : List LowInstruction) (ps : List Variable) (xs : List Handed) : Type 0 where
     pub h : ℕ → ℕ
-    pub goes : Goes g 0 from (at l h rest)
+    pub goes : Goes g 0 most from (at l h rest)
     pub kept : KeptBelow free.0 f h
     pub are : (k : ℕ → ℕ) → KeptOutside free.0 h k → AreHanded g floors (length m.callers) m.world xs ps (map (value_in k) bases)
 
-  abbrev pub AllGivenTo : State → (ℕ → ℕ) → VirtualRegister → List VirtualRegister → List LowInstruction → List Variable → Option (List Handed) → Type 0
-  AllGivenTo from f free bases rest ps None = Failed g fit m l floors next.stays 0 from
-  AllGivenTo from f free bases rest ps (Some xs) = AreGiven from f free bases rest ps xs
+  abbrev pub AllGivenTo : (most : ℕ) → State → (ℕ → ℕ) → VirtualRegister → List VirtualRegister → List LowInstruction → List Variable → Option (List Handed) → Type 0
+  AllGivenTo most from f free bases rest ps None = Failed g fit m l floors next.stays 0 most from
+  AllGivenTo most from f free bases rest ps (Some xs) = AreGiven most from f free bases rest ps xs
+
+  -- what arguments cost at most
+  abbrev pub all_most : List Given → ℕ
+  all_most xs = 3 * length xs + 2 * sum_by (given_bytes g.core) (map view_given xs)
+
+  all_within : (p q : ℕ) (from : State) (f : ℕ → ℕ) (free : VirtualRegister) (bases : List VirtualRegister) (rest : List LowInstruction) (ps : List Variable) (o : Option (List Handed)) → p ≤ q → AllGivenTo p from f free bases rest ps o → AllGivenTo q from f free bases rest ps o
+  all_within p q from f free bases rest ps None less fails = record { h = fails.h; goes = goes_within g 0 q from _ fails.goes less }
+  all_within p q from f free bases rest ps (Some xs) less given = record { h = given.h; goes = goes_within g 0 q from _ given.goes less; kept = given.kept; are = given.are }
 
   -- one argument, and others behind it
-  given_then : (first : List LowInstruction) (others rest : List LowInstruction) (free : VirtualRegister) (spot : Spot) (bases : List VirtualRegister) (f : ℕ → ℕ) (p : Variable) (ps : List Variable) (o : Option Handed) (os : Option (List Handed)) → scratch_here ≤ free.0 → SpotFits scratch_here free spot → GivenTo (at l f (first ++ (others ++ rest))) f free spot (others ++ rest) p o → ((h : ℕ → ℕ) → KeptBelow free.0 f h → AllGivenTo (at l h (others ++ rest)) h spot.free bases rest ps os) → AllGivenTo (at l f ((first ++ others) ++ rest)) f free (spot.base ∷ bases) rest (p ∷ ps) (with_handed o os)
-  given_then first others rest free spot bases f p ps None os less fits fails behind =
-      record { h = fails.h; goes = goes_from g 0 (at l f ((first ++ others) ++ rest)) (at l f (first ++ (others ++ rest))) _ (ap (at l f) (append_assoc first others rest)) fails.goes }
-  given_then first others rest free spot bases f p ps (Some x) None less fits given behind =
+  given_then : (one many : ℕ) (first : List LowInstruction) (others rest : List LowInstruction) (free : VirtualRegister) (spot : Spot) (bases : List VirtualRegister) (f : ℕ → ℕ) (p : Variable) (ps : List Variable) (o : Option Handed) (os : Option (List Handed)) → scratch_here ≤ free.0 → SpotFits scratch_here free spot → GivenTo one (at l f (first ++ (others ++ rest))) f free spot (others ++ rest) p o → ((h : ℕ → ℕ) → KeptBelow free.0 f h → AllGivenTo many (at l h (others ++ rest)) h spot.free bases rest ps os) → AllGivenTo (one + many) (at l f ((first ++ others) ++ rest)) f free (spot.base ∷ bases) rest (p ∷ ps) (with_handed o os)
+  given_then one many first others rest free spot bases f p ps None os less fits fails behind =
+      record { h = fails.h; goes = goes_within g 0 (one + many) (at l f ((first ++ others) ++ rest)) _ (goes_from g 0 (at l f ((first ++ others) ++ rest)) (at l f (first ++ (others ++ rest))) _ (ap (at l f) (append_assoc first others rest)) fails.goes) (omega arith) }
+  given_then one many first others rest free spot bases f p ps (Some x) None less fits given behind =
       let fails = behind given.h given.kept in
       record {
         h = fails.h;
         goes = goes_from g 0 (at l f ((first ++ others) ++ rest)) (at l f (first ++ (others ++ rest))) _ (ap (at l f) (append_assoc first others rest))
             (goes_then g 0 0 0 (at l f (first ++ (others ++ rest))) (at l given.h (others ++ rest)) _ (omega arith) given.goes fails.goes);
       }
-  given_then first others rest free spot bases f p ps (Some x) (Some xs) less fits given behind =
+  given_then one many first others rest free spot bases f p ps (Some x) (Some xs) less fits given behind =
       let later = behind given.h given.kept in
       let base = fits.base in
       let more = fits.more in
@@ -261,8 +283,8 @@ module _ (g : Setting) (fit : IsFitting g) (m : MirState) (l : State) (floors : 
       nearer r (inr high) = let more = fits.more in inr (omega arith)
 
   -- the code of all arguments hands them over, or comes to the error of the first index that is out of its range
-  pub all_given : (xs : List Given) (ps : List Variable) (free : VirtualRegister) (f : ℕ → ℕ) (rest : List LowInstruction) → list_all (given_fits g.mir (here m floors).routine) xs ≡ true → AreTypedGiven g.core (here m floors).number (map view_given xs) ps → HaveGiven g.core (here m floors).number (here m floors).frame xs → scratch_here ≤ free.0 → Kept f → AllGivenTo (at l f (givens_code g.core (here m floors).frame xs free ++ rest)) f free (givens_in g.core (here m floors).frame xs free) rest ps (all_handed m.world (map view_given xs))
-  all_given [] [] free f rest fits typed homes less kept = record { h = f; goes = goes_none g (at l f rest); kept = λ r below. refl; are = λ k same. tt }
+  pub all_given : (xs : List Given) (ps : List Variable) (free : VirtualRegister) (f : ℕ → ℕ) (rest : List LowInstruction) → list_all (given_fits g.mir (here m floors).routine) xs ≡ true → AreTypedGiven g.core (here m floors).number (map view_given xs) ps → HaveGiven g.core (here m floors).number (here m floors).frame xs → scratch_here ≤ free.0 → Kept f → AllGivenTo (all_most xs) (at l f (givens_code g.core (here m floors).frame xs free ++ rest)) f free (givens_in g.core (here m floors).frame xs free) rest ps (all_handed m.world (map view_given xs))
+  all_given [] [] free f rest fits typed homes less kept = record { h = f; goes = goes_within g 0 (all_most []) (at l f rest) (at l f rest) (goes_none g (at l f rest)) (omega arith); kept = λ r below. refl; are = λ k same. tt }
   all_given [] (p ∷ ps) free f rest fits typed homes less kept = absurd typed
   all_given (x ∷ xs) [] free f rest fits typed homes less kept = absurd typed
   all_given (x ∷ xs) (p ∷ ps) free f rest fits (typed, others_typed) (homes, others_homes) less kept =
@@ -271,9 +293,11 @@ module _ (g : Setting) (fit : IsFitting g) (m : MirState) (l : State) (floors : 
       let stands = given_fits_spot x p free fits_first typed homes less in
       let more = stands.more in
       let others = givens_code g.core (here m floors).frame xs spot.free in
-      given_then (given_code g.core (here m floors).frame x free) others rest free spot (givens_in g.core (here m floors).frame xs spot.free) f p ps (handed m.world (view_given x)) (all_handed m.world (map view_given xs)) less stands
+      let sum = sum_by-cons (given_bytes g.core) (view_given x) (map view_given xs) in
+      all_within (given_most x + all_most xs) (all_most (x ∷ xs)) _ f free _ rest (p ∷ ps) _ (omega arith)
+      (given_then (given_most x) (all_most xs) (given_code g.core (here m floors).frame x free) others rest free spot (givens_in g.core (here m floors).frame xs spot.free) f p ps (handed m.world (view_given x)) (all_handed m.world (map view_given xs)) less stands
       (one_given x p free f (others ++ rest) fits_first typed homes less kept)
-      (λ h after. all_given xs ps spot.free h rest fits_others others_typed others_homes (omega arith) (λ r low. after r (omega arith) ∙ kept r low))
+      (λ h after. all_given xs ps spot.free h rest fits_others others_typed others_homes (omega arith) (λ r low. after r (omega arith) ∙ kept r low)))
 
   -- so many registers as rows
   pub given_length : (xs : List Given) (ps : List Variable) (free : VirtualRegister) → AreTypedGiven g.core (here m floors).number (map view_given xs) ps → length (givens_in g.core (here m floors).frame xs free) ≡ length ps

@@ -25,6 +25,7 @@ pub mod Giving
 pub mod Going
 pub mod Homes
 pub mod Keeping
+pub mod Lengths
 pub mod Loading
 pub mod Looking
 pub mod LowGlobals
@@ -38,6 +39,7 @@ pub mod Paths
 pub mod Picking
 pub mod Places
 pub mod Placing
+pub mod Pricing
 pub mod Prologue
 pub mod Putting
 pub mod Receiving

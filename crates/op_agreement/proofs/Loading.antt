@@ -1,5 +1,5 @@
 -- Loads, stores and looks.
-use Rattle.std.proofs.Common.{◌≡◌, ℕ, ℤ, ◌+◌, List, [], ◌∷◌, ◌++◌, Option, Some, None, refl, sym, ap, ◌∙◌, subst, arith, append_assoc}
+use Rattle.std.proofs.Common.{◌≡◌, ◌≤◌, ℕ, ℤ, ◌+◌, ◌*◌, List, [], ◌∷◌, ◌++◌, Option, Some, None, refl, sym, ap, ◌∙◌, subst, arith, append_assoc}
 use Rattle.std.specs.Prelude.{map, pos, true, false, nat_eq, if◌then◌else◌}
 use Rattle.std.specs.List.{list_all}
 use Rattle.std.proofs.lemmas.Bool.Decides.{nat_tests}
@@ -26,7 +26,7 @@ use Rattle.op_meaning.specs.Paths.{place_of as place_meant}
 use Rattle.op_meaning.specs.Shapes.{composite, shape_by, shape_of}
 use Rattle.op_meaning.specs.Values.{Place, local, number_in}
 use Rattle.op_meaning.specs.World.{value_at, with_number}
-use Rattle.op_mir.specs.Machine.{MirState, execute, mir_step}
+use Rattle.op_mir.specs.Machine.{MirState, execute, mir_cost, mir_step}
 use Rattle.op_mir.specs.Valid.{action_fits, has, load_fits, path_fits, root_fits, step_fits}
 use Rattle.op_mir.specs.View.{view_path, view_step}
 use Rattle.op_mir.specs.declared.action.Action.TheVariants.{Load}
@@ -48,16 +48,18 @@ use Rattle.op_agreement.proofs.Computing.{number_stands, rest_above, rest_below}
 use Rattle.op_agreement.proofs.Elements.{KeptBelow}
 use Rattle.op_agreement.proofs.ErrorsEnd.{error_ends}
 use Rattle.op_agreement.proofs.Following.{Comes}
-use Rattle.op_agreement.proofs.Going.{goes_from, goes_then}
+use Rattle.op_agreement.proofs.Going.{goes_from, goes_then, goes_within}
 use Rattle.op_agreement.proofs.Memory.{number_loads}
-use Rattle.op_agreement.proofs.Paths.{Failed, PlaceTo, place_goes}
+use Rattle.op_agreement.proofs.Paths.{Failed, PlaceTo, place_goes, place_most}
 use Rattle.op_agreement.proofs.Places.{HaveIndices, indices_of, small_last}
+use Rattle.op_agreement.proofs.Pricing.{afford}
 use Rattle.op_agreement.proofs.Standing.{Next, here}
 use Rattle.op_agreement.specs.Chart.{Floor}
 use Rattle.op_agreement.specs.Coding.{code_for}
 use Rattle.op_agreement.specs.Fitting.{IsFitting}
 use Rattle.op_agreement.specs.Settings.{HomeFits, IsPlaced, Setting, managed}
 use Rattle.op_agreement.specs.Stands.{Stands}
+use Rattle.op_agreement.specs.Steps.{most_for_one}
 use Rattle.op_agreement.specs.Typed.{PathTo}
 
 step_composite : (core : _) (from to : TypeId) (st : Step) (ss : List Step) → Reaches core from (view_step st ∷ map view_step ss) to → shape_of core from ≡ composite
@@ -83,12 +85,12 @@ module _ (g : Setting) (fit : IsFitting g) (m : MirState) (l : State) (floors : 
       fits.composites v variable (ap (shape_of g.core) type ∙ step_composite g.core typed.from of st ss typed.reaches)
 
   -- an error of an index
-  pub index_fails : (i : Instruction) (next : NextIs i) (least : ℕ) (from : State) → l ≡ from → Failed g fit m l floors next.stays least from → mir_step (managed g) m ≡ record m { world = failed g.core 201 m.world; rest = rest_above g m l floors i is id next } → Comes g m l
-  index_fails i next least from same fails step =
+  pub index_fails : (i : Instruction) (next : NextIs i) (least most : ℕ) (from : State) → l ≡ from → Failed g fit m l floors next.stays least most from → most + 5 ≤ most_for_one * mir_cost (managed g) m → mir_step (managed g) m ≡ record m { world = failed g.core 201 m.world; rest = rest_above g m l floors i is id next } → Comes g m l
+  index_fails i next least most from same fails few step =
       let (k, ends, stands) = error_ends g fit floors m l next.stays RangeCheck fails.h (rest_above g m l floors i is id next) in
       record {
         to = k;
-        goes = goes_from g 1 l from k same (goes_then g least 5 1 from (at l fails.h (block_of g.low l.top.routine (error_block_of frame.bank RangeCheck).0)) k (omega arith) fails.goes ends);
+        goes = goes_within g 1 (most_for_one * mir_cost (managed g) m) l k (goes_from g 1 l from k same (goes_then g least 5 1 from (at l fails.h (block_of g.low l.top.routine (error_block_of frame.bank RangeCheck).0)) k (omega arith) fails.goes ends)) few;
         stands = subst (λ x. Stands g x k) (sym step) stands;
       }
 
@@ -105,7 +107,7 @@ module _ (g : Setting) (fit : IsFitting g) (m : MirState) (l : State) (floors : 
         let word : IsWordOf (l.top.registers r.0) n = subst (λ d. IsWordOf (l.top.registers r.0) (number_in (m.world.memory (local d v.0)))) (sym next.stays.depth) (a.kept.variables v.0 r.0 variable home) in
         let bank = frame.bank in
         let code : code_for g.core g.mir frame id (Act (Load to kind (record { root = Local v; steps = [] })) landing) ≡ Move (register_of bank to) r ∷ [] = rw home refl in
-        answered g fit m l floors (Act (Load to kind (record { root = Local v; steps = [] })) landing) is id next (Move (register_of bank to) r ∷ []) to (gives n) code refl (behind_act next.on)
+        answered g fit m l floors (Act (Load to kind (record { root = Local v; steps = [] })) landing) is id next (Move (register_of bank to) r ∷ []) to (gives n) code refl (omega arith) (λ light. light) (behind_act next.on)
         (result_set (work_of bank) (register_of bank to) l.top.registers l.top.registers (l.top.registers r.0) n (kept_none (work_of bank) (register_of bank to) l.top.registers) word)
         (step_here g fit m l floors (Act (Load to kind (record { root = Local v; steps = [] })) landing) is id next)
 
@@ -124,9 +126,9 @@ module _ (g : Setting) (fit : IsFitting g) (m : MirState) (l : State) (floors : 
         let begins : l ≡ at l l.top.registers (pc ++ (lw ∷ rest)) = begins_here g fit m l floors i is id next (pc ++ lw ∷ []) code ∙ ap (at l l.top.registers) (append_assoc pc (lw ∷ []) rest) in
         by (place_meant m.world (view_path path)) refl begins (place_goes g fit m l floors next.stays path of near free l.top.registers (lw ∷ rest) typed placed indices (omega arith) (λ r below. refl))
       where
-        by : (o : Option Place) → place_meant m.world (view_path path) ≡ o → l ≡ at l l.top.registers (place_code g.core frame near path.root path.steps (scratch_of frame.bank 0) ++ (LoadWord (load_op kind) (register_of frame.bank to) (place_of g.core frame near path.root path.steps (scratch_of frame.bank 0)).base (pos (place_of g.core frame near path.root path.steps (scratch_of frame.bank 0)).offset) ∷ rest_below g m l floors (Act (Load to kind path) landing) is id next)) → PlaceTo g fit m l floors next.stays (fewest_steps (place_code g.core frame near path.root path.steps (scratch_of frame.bank 0))) (at l l.top.registers (place_code g.core frame near path.root path.steps (scratch_of frame.bank 0) ++ (LoadWord (load_op kind) (register_of frame.bank to) (place_of g.core frame near path.root path.steps (scratch_of frame.bank 0)).base (pos (place_of g.core frame near path.root path.steps (scratch_of frame.bank 0)).offset) ∷ rest_below g m l floors (Act (Load to kind path) landing) is id next))) l.top.registers (scratch_of frame.bank 0) (place_of g.core frame near path.root path.steps (scratch_of frame.bank 0)) (LoadWord (load_op kind) (register_of frame.bank to) (place_of g.core frame near path.root path.steps (scratch_of frame.bank 0)).base (pos (place_of g.core frame near path.root path.steps (scratch_of frame.bank 0)).offset) ∷ rest_below g m l floors (Act (Load to kind path) landing) is id next) next.fine.1.0 o → Comes g m l
+        by : (o : Option Place) → place_meant m.world (view_path path) ≡ o → l ≡ at l l.top.registers (place_code g.core frame near path.root path.steps (scratch_of frame.bank 0) ++ (LoadWord (load_op kind) (register_of frame.bank to) (place_of g.core frame near path.root path.steps (scratch_of frame.bank 0)).base (pos (place_of g.core frame near path.root path.steps (scratch_of frame.bank 0)).offset) ∷ rest_below g m l floors (Act (Load to kind path) landing) is id next)) → PlaceTo g fit m l floors next.stays (fewest_steps (place_code g.core frame near path.root path.steps (scratch_of frame.bank 0))) (place_most path) (at l l.top.registers (place_code g.core frame near path.root path.steps (scratch_of frame.bank 0) ++ (LoadWord (load_op kind) (register_of frame.bank to) (place_of g.core frame near path.root path.steps (scratch_of frame.bank 0)).base (pos (place_of g.core frame near path.root path.steps (scratch_of frame.bank 0)).offset) ∷ rest_below g m l floors (Act (Load to kind path) landing) is id next))) l.top.registers (scratch_of frame.bank 0) (place_of g.core frame near path.root path.steps (scratch_of frame.bank 0)) (LoadWord (load_op kind) (register_of frame.bank to) (place_of g.core frame near path.root path.steps (scratch_of frame.bank 0)).base (pos (place_of g.core frame near path.root path.steps (scratch_of frame.bank 0)).offset) ∷ rest_below g m l floors (Act (Load to kind path) landing) is id next) next.fine.1.0 o → Comes g m l
         by None e begins fails =
-            index_fails (Act (Load to kind path) landing) next _ _ begins fails
+            index_fails (Act (Load to kind path) landing) next _ (place_most path) _ begins fails (afford g fit m l floors (Act (Load to kind path) landing) is id next (λ light. light) (place_most path + 5) (omega arith))
             (step_here g fit m l floors (Act (Load to kind path) landing) is id next ∙ ap (λ o. record m { world = at_place g.core o (λ p. with_number to.0 (number_in (value_at m.world p)) m.world) m.world; rest = rest_above g m l floors (Act (Load to kind path) landing) is id next }) e)
         by (Some q) e begins reached =
             let typed = next.fine.1.2 in
@@ -139,7 +141,9 @@ module _ (g : Setting) (fit : IsFitting g) (m : MirState) (l : State) (floors : 
             let h2 = λ (r : ℕ). if nat_eq r (register_of frame.bank to).0 then v else reached.h r in
             record {
               to = at l h2 rest;
-              goes = goes_from g 1 l _ (at l h2 rest) begins (goes_then g _ 1 1 _ (at l reached.h (LoadWord (load_op kind) (register_of frame.bank to) spot.base (pos spot.offset) ∷ rest)) (at l h2 rest) (omega arith) reached.goes loads);
+              goes = goes_within g 1 (most_for_one * mir_cost (managed g) m) l (at l h2 rest)
+                  (goes_from g 1 l _ (at l h2 rest) begins (goes_then g _ 1 1 _ (at l reached.h (LoadWord (load_op kind) (register_of frame.bank to) spot.base (pos spot.offset) ∷ rest)) (at l h2 rest) (omega arith) reached.goes loads))
+                  (afford g fit m l floors (Act (Load to kind path) landing) is id next (λ light. light) (place_most path + 1) (omega arith));
               stands = subst (λ k. Stands g k (at l h2 rest)) (sym (step_here g fit m l floors (Act (Load to kind path) landing) is id next ∙ ap (λ o. record m { world = at_place g.core o (λ p. with_number to.0 (number_in (value_at m.world p)) m.world) m.world; rest = rest_above g m l floors (Act (Load to kind path) landing) is id next }) e))
                   (number_stands g m l floors (Act (Load to kind path) landing) is id next to n h2 (behind_act next.on) (set_gives reached.h v n word reached.kept));
             }

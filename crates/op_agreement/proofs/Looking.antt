@@ -1,5 +1,5 @@
 -- Looks: a place is found, and nothing is done there.
-use Rattle.std.proofs.Common.{◌≡◌, ℕ, List, [], ◌∷◌, ◌++◌, Option, Some, None, refl, sym, ap, ◌∙◌, subst, arith, append_assoc}
+use Rattle.std.proofs.Common.{◌≡◌, ℕ, List, [], ◌∷◌, ◌++◌, Option, Some, None, refl, sym, ap, ◌∙◌, subst, arith, append_assoc, ◌≤◌, ◌*◌, ◌+◌}
 use Rattle.op_compute.proofs.Registers.{put_lower}
 use Rattle.op_compute.specs.Bank.{scratch_of}
 use Rattle.op_compute.specs.Straight.{at, fewest_steps, put}
@@ -17,7 +17,7 @@ use Rattle.op_low.specs.declared.instruction.Instruction.{Instruction as LowInst
 use Rattle.op_meaning.specs.Actions.{at_place, perform}
 use Rattle.op_meaning.specs.Paths.{place_of as place_meant}
 use Rattle.op_meaning.specs.Values.{Place, all_of, local}
-use Rattle.op_mir.specs.Machine.{MirState, execute, mir_step}
+use Rattle.op_mir.specs.Machine.{MirState, execute, mir_step, mir_cost}
 use Rattle.op_mir.specs.Valid.{action_fits}
 use Rattle.op_mir.specs.View.{view_path}
 use Rattle.op_mir.specs.declared.action.Action.TheVariants.{Look}
@@ -32,9 +32,10 @@ use Rattle.op_mir.specs.declared.path.Step.{Step}
 use Rattle.op_agreement.proofs.Branching.{begins_here, step_here}
 use Rattle.op_agreement.proofs.Cases.{behind_act}
 use Rattle.op_agreement.proofs.Computing.{nothing_stands, rest_above, rest_below}
-use Rattle.op_agreement.proofs.Going.{goes_from, goes_one, goes_then}
+use Rattle.op_agreement.proofs.Going.{goes_from, goes_one, goes_then, goes_within}
 use Rattle.op_agreement.proofs.Loading.{index_fails, indices_in, placed_part}
-use Rattle.op_agreement.proofs.Paths.{PlaceTo, place_goes}
+use Rattle.op_agreement.proofs.Paths.{PlaceTo, place_goes, place_most}
+use Rattle.op_agreement.proofs.Pricing.{afford}
 use Rattle.op_agreement.proofs.Standing.{Next, here}
 use Rattle.op_agreement.proofs.Storing.{look_empty}
 use Rattle.op_agreement.specs.Chart.{Floor}
@@ -42,7 +43,7 @@ use Rattle.op_agreement.specs.Coding.{code_for}
 use Rattle.op_agreement.specs.Fitting.{IsFitting}
 use Rattle.op_agreement.specs.Settings.{HomeFits, IsPlaced, Setting, managed}
 use Rattle.op_agreement.specs.Stands.{Stands}
-use Rattle.op_agreement.specs.Steps.{Comes}
+use Rattle.op_agreement.specs.Steps.{Comes, most_for_one}
 
 module _ (g : Setting) (fit : IsFitting g) (m : MirState) (l : State) (floors : ℕ → Floor) (is : List Instruction) (id : ℕ) where
   abbrev frame : Frame
@@ -65,15 +66,17 @@ module _ (g : Setting) (fit : IsFitting g) (m : MirState) (l : State) (floors : 
     unfolding execute perform
     look_step o e = step_here g fit m l floors (Act (Look path) landing) is id next ∙ ap looked e
 
-    look_code : (o : Option Place) → place_meant m.world (view_path path) ≡ o → l ≡ at l l.top.registers (code_at path ++ (Const free 0 ∷ rest_low)) → PlaceTo g fit m l floors next.stays (fewest_steps (code_at path)) (at l l.top.registers (code_at path ++ (Const free 0 ∷ rest_low))) l.top.registers free (place_of g.core frame near path.root path.steps free) (Const free 0 ∷ rest_low) next.fine.1.0 o → Comes g m l
+    look_code : (o : Option Place) → place_meant m.world (view_path path) ≡ o → l ≡ at l l.top.registers (code_at path ++ (Const free 0 ∷ rest_low)) → PlaceTo g fit m l floors next.stays (fewest_steps (code_at path)) (place_most path) (at l l.top.registers (code_at path ++ (Const free 0 ∷ rest_low))) l.top.registers free (place_of g.core frame near path.root path.steps free) (Const free 0 ∷ rest_low) next.fine.1.0 o → Comes g m l
     unfolding act put
-    look_code None e begins fails = index_fails g fit m l floors is id (Act (Look path) landing) next (fewest_steps (code_at path)) (at l l.top.registers (code_at path ++ (Const free 0 ∷ rest_low))) begins fails (look_step None e)
+    look_code None e begins fails = index_fails g fit m l floors is id (Act (Look path) landing) next (fewest_steps (code_at path)) (place_most path) (at l l.top.registers (code_at path ++ (Const free 0 ∷ rest_low))) begins fails (afford g fit m l floors (Act (Look path) landing) is id next (λ light. light) (place_most path + 5) (omega arith)) (look_step None e)
     look_code (Some q) e begins reached =
         let h = put reached.h free 0 in
         record {
           to = at l h rest_low;
-          goes = goes_from g 1 l (at l l.top.registers (code_at path ++ (Const free 0 ∷ rest_low))) (at l h rest_low) begins
-              (goes_then g (fewest_steps (code_at path)) 1 1 (at l l.top.registers (code_at path ++ (Const free 0 ∷ rest_low))) (at l reached.h (Const free 0 ∷ rest_low)) (at l h rest_low) (omega arith) reached.goes (goes_one g l reached.h (Const free 0) rest_low));
+          goes = goes_within g 1 (most_for_one * mir_cost (managed g) m) l (at l h rest_low)
+              (goes_from g 1 l (at l l.top.registers (code_at path ++ (Const free 0 ∷ rest_low))) (at l h rest_low) begins
+              (goes_then g (fewest_steps (code_at path)) 1 1 (at l l.top.registers (code_at path ++ (Const free 0 ∷ rest_low))) (at l reached.h (Const free 0 ∷ rest_low)) (at l h rest_low) (omega arith) reached.goes (goes_one g l reached.h (Const free 0) rest_low)))
+              (afford g fit m l floors (Act (Look path) landing) is id next (λ light. light) (place_most path + 1) (omega arith));
           stands = subst (λ k. Stands g k (at l h rest_low)) (sym (look_step (Some q) e)) (nothing_stands g m l floors (Act (Look path) landing) is id next h (behind_act next.on) (λ r low. put_lower reached.h free 0 r low ∙ reached.kept r low));
         }
 

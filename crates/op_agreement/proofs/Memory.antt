@@ -215,7 +215,7 @@ module _ (g : Setting) (fit : IsFitting g) (m : MirState) (l : State) (floors : 
   size_of_number of kind shape small = sym (type_is_arranged g.core fit.program.extents of small).size ∙ ap bytes_in (number_arranged g.core of kind shape)
 
   -- a load of a number
-  pub number_loads : (q : Place) (of : TypeId) (kind : IntegerKind) (h : ℕ → ℕ) (to base : VirtualRegister) (off : ℕ) (rest : List Instruction) → shape_of g.core of ≡ single kind → IsSmall g.core of → IsAt g floors (length m.callers) q of (h base.0 + off) → h base.0 + off < 2 ^ 32 → Goes g 1 (at l h (Load (load_op kind) to base (pos off) ∷ rest)) (at l (λ r. if nat_eq r to.0 then load_value (load_op kind) l.memory (h base.0 + off) else h r) rest) × IsWordOf (load_value (load_op kind) l.memory (h base.0 + off)) (number_in (value_at m.world q))
+  pub number_loads : (q : Place) (of : TypeId) (kind : IntegerKind) (h : ℕ → ℕ) (to base : VirtualRegister) (off : ℕ) (rest : List Instruction) → shape_of g.core of ≡ single kind → IsSmall g.core of → IsAt g floors (length m.callers) q of (h base.0 + off) → h base.0 + off < 2 ^ 32 → Goes g 1 1 (at l h (Load (load_op kind) to base (pos off) ∷ rest)) (at l (λ r. if nat_eq r to.0 then load_value (load_op kind) l.memory (h base.0 + off) else h r) rest) × IsWordOf (load_value (load_op kind) l.memory (h base.0 + off)) (number_in (value_at m.world q))
   unfolding act load
   number_loads q of kind h to base off rest shape small is low =
       let size = size_of_number of kind shape small in
@@ -239,7 +239,7 @@ module _ (g : Setting) (fit : IsFitting g) (m : MirState) (l : State) (floors : 
   -- a store of a number
   pub record Stored (q : Place) (of : TypeId) (kind : IntegerKind) (h : ℕ → ℕ) (from base : VirtualRegister) (off : ℕ) (rest : List Instruction) (z : ℤ) : Type 0 where
     pub memory : ℕ → ℕ
-    pub goes : Goes g 1 (at l h (Store (store_op kind) from base (pos off) ∷ rest)) (record (at l h rest) { memory = memory })
+    pub goes : Goes g 1 1 (at l h (Store (store_op kind) from base (pos off) ∷ rest)) (record (at l h rest) { memory = memory })
     pub changed : Changed g fit floors m l s memory (h base.0 + off) (size_in g.core of)
     pub bytes : (x : ℕ) → x < l.limit → memory x < 2 ^ 8
     pub lies : Lies (arrangement_of g.core of) (number (low_bits_of kind z)) memory (h base.0 + off)

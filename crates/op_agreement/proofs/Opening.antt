@@ -1,8 +1,12 @@
 -- A call has handed over its arguments: the routine begins, and states stand for one another again.
-use Rattle.std.proofs.Common.{◌≡◌, ◌≤◌, ◌<◌, ℕ, suc, ◌+◌, ◌-◌, List, [], ◌∷◌, length, Some, None, refl, sym, ap, ◌∙◌, subst, arith}
-use Rattle.std.specs.Prelude.{map, true, false, nat_eq, slice_get, if◌then◌else◌}
+use Rattle.std.proofs.Common.{◌≡◌, ◌≤◌, ◌<◌, ℕ, suc, ◌+◌, ◌-◌, List, [], ◌∷◌, length, Some, None, refl, sym, ap, ◌∙◌, subst, arith, ◌*◌, ap₂, ◌⊎◌, inl, inr}
+use Rattle.std.specs.Prelude.{map, true, false, nat_eq, slice_get, if◌then◌else◌, nat_lt}
 use Rattle.std.proofs.lemmas.Bool.Decides.{nat_tests}
+use Rattle.std.proofs.lemmas.List.Sums.{sum_by-cons}
+use Rattle.std.specs.List.{sum_by}
 use Rattle.op_constants.proofs.TypesArranged.{some_at}
+use Rattle.op_constants.specs.Offsets.{size_in}
+use Rattle.op_constants.specs.Shapes.{is_composite}
 use Rattle.op_expand.specs.Calls.{runtime}
 use Rattle.op_expand.specs.Frames.{frame_of}
 use Rattle.op_expand.specs.Routines.{most_charge}
@@ -11,26 +15,57 @@ use Rattle.op_meaning.specs.Calls.{entered}
 use Rattle.op_meaning.specs.Values.{Value, Holder, Place, local}
 use Rattle.op_meaning.specs.World.{World}
 use Rattle.op_mir.proofs.PlainLemmas.{IfNameless, nameless_all}
-use Rattle.op_mir.specs.Machine.{MirCaller, MirState, block_at, execute, mir_called_with, mir_caller_of, mir_fails, mir_step, tables}
+use Rattle.op_mir.specs.Machine.{MirCaller, MirState, block_at, execute, mir_called_with, mir_caller_of, mir_fails, mir_step, tables, charge_between, mir_cost, mir_effort}
 use Rattle.op_mir.specs.View.{routine_at, view_given, view_receiver}
 use Rattle.op_mir.specs.declared.code.Routine.{Routine}
 use Rattle.op_core.specs.declared.ids.RoutineId.{RoutineId}
+use Rattle.op_core.specs.declared.program.Core.{Core}
+use Rattle.op_core.specs.declared.routine.Variable.{Variable}
+use Rattle.op_meaning.specs.Costs.{given_bytes}
+use Rattle.op_meaning.specs.Shapes.{is_reference, shape_of}
 use Rattle.op_mir.specs.declared.instruction.Call.{Call as Operands}
+use Rattle.op_mir.specs.declared.instruction.Given.{Given}
+use Rattle.op_mir.specs.declared.instruction.Given.TheVariants.{ByValue, ByReference, ByPlace, ByCopy}
 use Rattle.op_mir.specs.declared.instruction.Instruction.TheVariants.{Call}
 use Rattle.op_mir.specs.declared.instruction.Instruction.{Instruction}
 use Rattle.op_agreement.proofs.Branching.{step_here}
+use Rattle.op_agreement.proofs.Calling.{few_given, given_paid}
 use Rattle.op_agreement.proofs.Computing.{rest_above, rest_below}
 use Rattle.op_agreement.proofs.Entering.{Enters, entered_is, world_begun, charge_in}
-use Rattle.op_agreement.proofs.Going.{goes_then}
-use Rattle.op_agreement.proofs.Standing.{Next}
+use Rattle.op_agreement.proofs.Going.{goes_then, goes_within}
+use Rattle.op_agreement.proofs.Pricing.{bytes_are, charged, cost_is}
+use Rattle.op_agreement.proofs.Standing.{Next, here}
 use Rattle.op_agreement.proofs.Prologue.{begun_stands}
+use Rattle.op_agreement.proofs.Receiving.{Receives, copied_bytes, receive_most}
 use Rattle.op_agreement.proofs.Updating.{SameFloors}
 use Rattle.op_agreement.specs.Chart.{Floor}
 use Rattle.op_agreement.specs.Fitting.{IsFitting}
-use Rattle.op_agreement.specs.Handing.{Begins, begun_below}
+use Rattle.op_agreement.specs.Handing.{Begins, begun_below, begins_most, bytes_given}
 use Rattle.op_agreement.specs.Settings.{Setting, managed}
 use Rattle.op_agreement.specs.Stands.{CallersStand, IsFloor, Stands}
-use Rattle.op_agreement.specs.Steps.{Comes}
+use Rattle.op_agreement.specs.Steps.{Comes, most_for_one}
+use Rattle.op_agreement.specs.Typed.{AreTypedGiven, IsTypedGiven, parameter_rows}
+
+-- ---- what is received has been given
+
+row_costs : (core : Core) (r : ℕ) (x : Given) (p : Variable) → IsTypedGiven core r (view_given x) p → copied_bytes core p ≤ given_bytes core (view_given x)
+row_costs core r (ByValue kind t) p (value, shape) = let none : copied_bytes core p ≡ 0 = ap₂ (λ a b. if a then 0 else if is_composite b then size_in core p.of else 0) value shape in omega arith
+row_costs core r (ByReference t) p typed = absurd typed
+row_costs core r (ByPlace path) p (reference, typed) = let none : copied_bytes core p ≡ 0 = ap (λ a. if a then 0 else if is_composite (shape_of core p.of) then size_in core p.of else 0) reference in omega arith
+row_costs core r (ByCopy of path) p (value, same, shape, typed) =
+    let all : copied_bytes core p ≡ size_in core of = ap₂ (λ a b. if a then 0 else if is_composite b then size_in core p.of else 0) value (ap (shape_of core) same ∙ shape) ∙ ap (size_in core) same in
+    omega arith
+
+rows_cost : (core : Core) (r : ℕ) (xs : List Given) (ps : List Variable) → AreTypedGiven core r (map view_given xs) ps → sum_by (receive_most core) ps ≤ 195 * length xs + 6 * sum_by (given_bytes core) (map view_given xs)
+rows_cost core r [] [] typed = omega arith
+rows_cost core r [] (p ∷ ps) typed = absurd typed
+rows_cost core r (x ∷ xs) [] typed = absurd typed
+rows_cost core r (x ∷ xs) (p ∷ ps) (typed, others) =
+    let received = sum_by-cons (receive_most core) p ps in
+    let given = sum_by-cons (given_bytes core) (view_given x) (map view_given xs) in
+    let one = row_costs core r x p typed in
+    let more = rows_cost core r xs ps others in
+    omega arith
 
 -- ---- one floor more
 
@@ -155,15 +190,45 @@ module _ (g : Setting) (fit : IsFitting g) (m : MirState) (l : State) (floors : 
           waits = λ values bound variables places. waits floors_new values bound same variables places (ap (λ f. f.frame.locals) there_new ∙ sym floor_stands.expanded.locals);
         }
 
+    -- what the call costs at least
+    call_costs : 1 + bytes_given g call + charged g fit m l floors (Call callee call) is id next + (managed g).charge callee.0 ≤ mir_cost (managed g) m
+    call_costs =
+        let deeper : nat_lt (length m.callers) (length (caller_above ∷ m.callers)) ≡ true = grind (arith, nat_tests) in
+        let entered : charge_between (managed g).charge (length m.callers) callee.0 (length (caller_above ∷ m.callers)) ≡ (managed g).charge callee.0 = ap (λ b. if b then (managed g).charge callee.0 else 0) deeper in
+        let cost : mir_cost (managed g) m ≡ mir_effort (managed g) m begun_above = cost_is g fit m l floors (Call callee call) is id next ∙ ap (mir_effort (managed g) m) begun_step in
+        let bytes = bytes_are g fit m l floors (Call callee call) is id next in
+        omega arith
+
+    -- all that it costs low code is paid by that
+    begun_costs : begins_most g callee.0 call + sum_by (receive_most g.core) (parameter_rows g.core (floors_new (suc (length m.callers))).number) ≤ most_for_one * mir_cost (managed g) m
+    begun_costs = by (given_paid g fit m l floors callee call is id next)
+      where
+        by : (length call.given ≡ 0) ⊎ (256 ≤ charged g fit m l floors (Call callee call) is id next) → begins_most g callee.0 call + sum_by (receive_most g.core) (parameter_rows g.core (floors_new (suc (length m.callers))).number) ≤ most_for_one * mir_cost (managed g) m
+        by paid =
+            let rows : sum_by (receive_most g.core) (parameter_rows g.core (floors_new (suc (length m.callers))).number) ≡ sum_by (receive_most g.core) (parameter_rows g.core callee.0) = ap (λ (f : Floor). sum_by (receive_most g.core) (parameter_rows g.core f.number)) there_new in
+            let received = rows_cost g.core (here m floors).number call.given (parameter_rows g.core callee.0) next.fine.3.gives in
+            let fits = fit.routines callee.0 x found charge_small in
+            let low : callee.0 < length g.mir.routines = next.fine.0 in
+            let takes = fits.space low in
+            let some = fits.charged low in
+            let charge : (managed g).charge callee.0 ≡ x.charge = ap charge_in found in
+            let cost = call_costs in
+            let few = few_given g fit m l floors callee call is id next in
+            either paid (begins_most g callee.0 call + sum_by (receive_most g.core) (parameter_rows g.core (floors_new (suc (length m.callers))).number)) (length call.given) (bytes_given g call) (charged g fit m l floors (Call callee call) is id next) x.charge (mir_cost (managed g) m) (omega arith) few some (omega arith) refl refl
+          where
+            either : (length call.given ≡ 0) ⊎ (256 ≤ charged g fit m l floors (Call callee call) is id next) → (n many bytes under entered cost : ℕ) → n ≤ 9 + 199 * many + 8 * bytes + entered → many ≤ 64 → 256 ≤ entered → 1 + bytes + under + entered ≤ cost → (many ≡ length call.given) → (under ≡ charged g fit m l floors (Call callee call) is id next) → n ≤ most_for_one * cost
+            either (inl none) n many bytes under entered cost most few some paid same own = omega arith
+            either (inr more) n many bytes under entered cost most few some paid same own = omega arith
+
     -- and goes on to behind its parameters
     comes_by : CallerWaits → Comes g m l
     comes_by waits =
         let first = b.registers 0 - (managed g).charge callee.0 in
         let begun = begun_below g callee.0 b.registers (rest_below g m l floors (Call callee call) is id next) b.to (first ∷ b.result ∷ b.words) l in
-        let receives = begun_stands g fit m l floors floors_new callee.0 b.given caller_above caller_below first b.result b.words (enters waits) next.ending in
+        let receives : Receives g (Stands g begun_above) (sum_by (receive_most g.core) (parameter_rows g.core (floors_new (suc (length m.callers))).number)) begun = begun_stands g fit m l floors floors_new callee.0 b.given caller_above caller_below first b.result b.words (enters waits) next.ending in
         record {
           to = receives.to;
-          goes = goes_then g 1 0 1 l begun receives.to (omega arith) b.goes receives.goes;
+          goes = goes_within g 1 (most_for_one * mir_cost (managed g) m) l receives.to (goes_then g 1 0 1 l begun receives.to (omega arith) b.goes receives.goes) begun_costs;
           stands = subst (λ y. Stands g y receives.to) (sym begun_step) receives.holds;
         }
 

@@ -1,5 +1,5 @@
 -- A function whose result has parts returns: it is copied to a temporary of the caller, which then goes on.
-use Rattle.std.proofs.Common.{◌≡◌, ◌≤◌, ◌<◌, ◌⊎◌, inl, inr, ℕ, suc, ◌+◌, ◌-◌, List, [], ◌∷◌, ◌++◌, length, Option, Some, None, refl, sym, ap, ap₂, ◌∙◌, subst, arith, append_assoc, append-nil}
+use Rattle.std.proofs.Common.{◌≡◌, ◌≤◌, ◌<◌, ◌⊎◌, inl, inr, ℕ, suc, ◌+◌, ◌-◌, List, [], ◌∷◌, ◌++◌, length, Option, Some, None, refl, sym, ap, ap₂, ◌∙◌, subst, arith, append_assoc, append-nil, ◌*◌}
 use Rattle.std.specs.Prelude.{pos, Bool, true, false, nat_le, nat_lt, slice_get, if◌then◌else◌}
 use Rattle.std.proofs.lemmas.Bool.{cases_lt}
 use Rattle.std.proofs.lemmas.Bool.Decides.{nat_tests}
@@ -10,6 +10,7 @@ use Rattle.op_compute.specs.Straight.{at, put}
 use Rattle.op_constants.specs.Offsets.{size_in}
 use Rattle.op_constants.specs.Shapes.{is_composite}
 use Rattle.op_core.specs.declared.ids.TypeId.{TypeId}
+use Rattle.op_core.specs.declared.program.Core.{Core}
 use Rattle.op_expand.specs.Calls.{left, number_code, parts_code, result_address}
 use Rattle.op_expand.specs.Homes.{home_at, parameter}
 use Rattle.op_expand.specs.Moves.{by_words, bytes_code, limit_of}
@@ -28,7 +29,8 @@ use Rattle.op_meaning.specs.Shapes.{composite, result_of_routine, shape_of}
 use Rattle.op_meaning.specs.Statements.{kind_of}
 use Rattle.op_meaning.specs.Values.{Holder, Place, Value, all_of, local, same_holder, temporary}
 use Rattle.op_meaning.specs.World.{with_value}
-use Rattle.op_mir.specs.Machine.{MirCaller, MirState, mir_step}
+use Rattle.op_mir.specs.Code.{ret}
+use Rattle.op_mir.specs.Machine.{MirCaller, MirState, mir_step, mir_cost, instr_bytes}
 use Rattle.op_mir.specs.Plain.{IsNameless, IsPlainWorld}
 use Rattle.op_mir.specs.declared.ids.LocalId.{LocalId}
 use Rattle.op_mir.specs.declared.instruction.Instruction.TheVariants.{Return}
@@ -39,7 +41,7 @@ use Rattle.op_agreement.proofs.Closing.{main_comes}
 use Rattle.op_agreement.proofs.Copied.{all_whole, copyable, stays_copied, stays_nothing}
 use Rattle.op_agreement.proofs.Copying.{having, none_goes, some_go}
 use Rattle.op_agreement.proofs.Following.{Comes}
-use Rattle.op_agreement.proofs.Going.{Goes, goes_fewer, goes_from, goes_one, goes_then, goes_to}
+use Rattle.op_agreement.proofs.Going.{Goes, goes_fewer, goes_from, goes_one, goes_then, goes_to, goes_within}
 use Rattle.op_agreement.proofs.Resulting.{WordGoes, caller, caller_gets, local_address, number_result_comes, result_at, result_code_is, result_small, result_within, return_step, returned}
 use Rattle.op_agreement.proofs.Returning.{live_deeper, procedure_comes}
 use Rattle.op_agreement.proofs.Standing.{Next, here}
@@ -47,16 +49,23 @@ use Rattle.op_agreement.proofs.Updating.{limit_here}
 use Rattle.op_agreement.proofs.Callers.{Waits, gone_above, gone_below, gone_scratch, low_returns, waits}
 use Rattle.op_agreement.proofs.Writing.{room_there}
 use Rattle.op_agreement.proofs.Computing.{rest_below}
+use Rattle.op_agreement.proofs.Pricing.{charge_of_floor, least}
 use Rattle.op_agreement.specs.Chart.{Floor, IsAt}
 use Rattle.op_agreement.specs.Coding.{code_for}
 use Rattle.op_agreement.specs.Fitting.{IsFitting}
 use Rattle.op_agreement.specs.Settings.{Setting, managed}
 use Rattle.op_agreement.specs.Stands.{CallersStand, ResultGoes, Stands, Stays}
+use Rattle.op_agreement.specs.Steps.{most_for_one}
 use Rattle.op_agreement.specs.Typed.{IsTypedReceiver, HasResult}
 
 regroup : (x b r rest : List LowInstruction) → ((x ++ [] ++ []) ++ b ++ r) ++ rest ≡ x ++ (b ++ (r ++ rest))
 regroup x b r rest =
     ap (λ y. (y ++ b ++ r) ++ rest) (append-nil (x ++ []) ∙ append-nil x) ∙ append_assoc (x ++ b) r rest ∙ append_assoc x b (r ++ rest)
+
+-- the bytes of a result
+abbrev result_size : Core → Option TypeId → ℕ
+result_size core None = 0
+result_size core (Some of) = size_in core of
 
 module _ (g : Setting) (fit : IsFitting g) (m : MirState) (l : State) (floors : ℕ → Floor) (is : List Instruction) (id : ℕ) (next : Next g m l floors Return is id) (c : MirCaller) (cs : List MirCaller) (lc : Caller) (lcs : List Caller) (above : m.callers ≡ c ∷ cs) (lows : l.callers ≡ lc ∷ lcs) (of : TypeId) (some : result_of (slice_get g.core.routines (here m floors).number) ≡ Some of) (has : HasResult g.core (here m floors).number of) (type : TypeId) (n : ℕ) (receives : c.receiver ≡ to_place type (record { root = in_temporary type n; steps = [] })) (same_type : of ≡ type) (parts : shape_of g.core of ≡ composite) (receiver_is : IsAt g floors (length cs) (all_of (temporary (length cs) type n)) type (l.top.registers result_address.0)) where
   abbrev rest : List LowInstruction
@@ -119,8 +128,22 @@ module _ (g : Setting) (fit : IsFitting g) (m : MirState) (l : State) (floors : 
       either true h = next.stays.plain.memory (local (length m.callers) (result_of_routine g.core (here m floors).number))
       either false h = next.stays.plain.memory h
 
+  -- the activation has been charged, since it has a caller
+  result_paid : 200 + 6 * size_in g.core of + 1 ≤ most_for_one * mir_cost (managed g) m
+  result_paid =
+      let a = next.stays.activation in
+      let number = a.number in
+      let many = fit.program.number in
+      let low = the_caller.low in
+      let few : (here m floors).number < length g.mir.routines = omega arith in
+      let charged_some = (fit.routines (here m floors).number (here m floors).routine a.floor.found a.floor.charge).charged few in
+      let charge = charge_of_floor g fit m l floors Return is id next c cs above in
+      let cost = least g fit m l floors Return is id next in
+      let bytes : instr_bytes g.core (here m floors).number ret ≡ size_in g.core of = ap (result_size g.core) some in
+      omega arith
+
   -- the code has come to the return, and the memory is that of the value that was put
-  done : (memory : ℕ → ℕ) → Stays g floors put_above (put_below memory) → (f : ℕ → ℕ) → Goes g 0 l (having l f (LowReturn left ∷ rest) memory) → Comes g m l
+  done : (memory : ℕ → ℕ) → Stays g floors put_above (put_below memory) → (f : ℕ → ℕ) → Goes g 0 (200 + 6 * size_in g.core of) l (having l f (LowReturn left ∷ rest) memory) → Comes g m l
   done memory s f goes =
       let w = waits g floors put_above (put_below memory) s c cs lc lcs above lows in
       let k = gone_below g fit put_above (put_below memory) floors s c cs lc lcs above lows w (f 0) in
@@ -136,7 +159,7 @@ module _ (g : Setting) (fit : IsFitting g) (m : MirState) (l : State) (floors : 
       ∙ ap₂ (λ (d u : ℕ). let x : MirState = record { world = with_value (all_of (temporary d type n)) value (record m.world { temps = c.temps; made = c.made; depth = m.world.depth - 1 }); routine = c.routine; rest = c.rest; frames = c.frames; callers = cs; pending = m.pending; charged = u } in x) depth under in
       record {
         to = k;
-        goes = goes_then g 0 1 1 l (having l f (LowReturn left ∷ rest) memory) k (omega arith) goes (low_returns g fit put_above (put_below memory) floors s c cs lc lcs above lows w f memory left rest);
+        goes = goes_within g 1 (most_for_one * mir_cost (managed g) m) l k (goes_then g 0 1 1 l (having l f (LowReturn left ∷ rest) memory) k (omega arith) goes (low_returns g fit put_above (put_below memory) floors s c cs lc lcs above lows w f memory left rest)) result_paid;
         stands = subst (λ x. Stands g x k) (sym step) (gone_scratch g fit put_above (put_below memory) floors s c cs lc lcs above lows w next.ending (omega arith) (f 0));
       }
 
@@ -164,7 +187,7 @@ module _ (g : Setting) (fit : IsFitting g) (m : MirState) (l : State) (floors : 
     -- the first register has the address of the result
     record SourceReady : Type 0 where
       h : ℕ → ℕ
-      goes : Goes g 0 l (at l h (copies ++ (LowReturn left ∷ rest)))
+      goes : Goes g 0 1 l (at l h (copies ++ (LowReturn left ∷ rest)))
       there : (size ≡ 0) ⊎ (h 0 ≡ (here m floors).base + offset)
       address : h 1 ≡ l.top.registers 1
 
@@ -213,8 +236,8 @@ module _ (g : Setting) (fit : IsFitting g) (m : MirState) (l : State) (floors : 
         done l.memory
         (stays_nothing g fit m l floors s of small place (l.top.registers result_address.0) place_is none value m.rest l.top.registers l.top.now put_plain (λ r low. refl) s.activation.kept.temporaries)
         h
-        (goes_then g 0 1 0 l (at l ready.h (copies ++ (LowReturn left ∷ rest))) (at l h (LowReturn left ∷ rest)) (omega arith) ready.goes
-        (none_goes g l (omega arith) words size source target ready.h (LowReturn left ∷ rest) none))
+        (goes_within g 0 (200 + 6 * size_in g.core of) l (at l h (LowReturn left ∷ rest)) (goes_then g 0 1 0 l (at l ready.h (copies ++ (LowReturn left ∷ rest))) (at l h (LowReturn left ∷ rest)) (omega arith) ready.goes
+        (none_goes g l (omega arith) words size source target ready.h (LowReturn left ∷ rest) none)) (omega arith))
     parts_by ready (inl more) =
         let s = next.stays in
         let small = result_small g fit m l floors is id next c cs lc lcs above lows of some has offset home in
@@ -233,7 +256,7 @@ module _ (g : Setting) (fit : IsFitting g) (m : MirState) (l : State) (floors : 
         done it.memory
         (stays_copied g fit m l floors s of small q place a b one place_is more it.memory it.copied m.rest l.top.registers l.top.now put_plain (λ r low. refl) s.activation.kept.temporaries)
         it.h
-        (goes_then g 0 1 0 l (at l ready.h (copies ++ (LowReturn left ∷ rest))) (having l it.h (LowReturn left ∷ rest) it.memory) (omega arith) ready.goes it.goes)
+        (goes_within g 0 (200 + 6 * size_in g.core of) l (having l it.h (LowReturn left ∷ rest) it.memory) (goes_then g 0 1 0 l (at l ready.h (copies ++ (LowReturn left ∷ rest))) (having l it.h (LowReturn left ∷ rest) it.memory) (omega arith) ready.goes it.goes) (omega arith))
       where
         there : (size ≡ 0) ⊎ (ready.h 0 ≡ (here m floors).base + offset) → ready.h 0 + 0 ≡ (here m floors).base + offset
         there (inl none) = absurd (omega arith)

@@ -1,5 +1,5 @@
 -- Where paths lead: the place of the root, and then the place itself.
-use Rattle.std.proofs.Common.{◌≡◌, ◌≤◌, ◌<◌, ◌⊎◌, inl, inr, ℕ, ◌+◌, ◌-◌, List, [], ◌∷◌, ◌++◌, length, Option, Some, None, refl, sym, ap, ◌∙◌, subst, arith, append_assoc}
+use Rattle.std.proofs.Common.{◌≡◌, ◌≤◌, ◌<◌, ◌⊎◌, inl, inr, ℕ, ◌+◌, ◌-◌, ◌*◌, List, [], ◌∷◌, ◌++◌, length, Option, Some, None, refl, sym, ap, ◌∙◌, subst, arith, append_assoc}
 use Rattle.std.specs.Prelude.{◌^◌, map, Bool, true, false, nat_lt, if◌then◌else◌}
 use Rattle.std.proofs.lemmas.Bool.Decides.{nat_tests}
 use Rattle.op_compute.proofs.Registers.{put_lower, put_same}
@@ -25,6 +25,7 @@ use Rattle.op_low.specs.State.{State, block_of, routine_of}
 use Rattle.op_low.specs.declared.ids.VirtualRegister.{VirtualRegister}
 use Rattle.op_low.specs.declared.instruction.Instruction.TheVariants.{Address, Const, Local as LocalAddress}
 use Rattle.op_low.specs.declared.instruction.Instruction.{Instruction}
+use Rattle.op_meaning.specs.Costs.{indices}
 use Rattle.op_meaning.specs.Paths.{place_of as place_meant, place_of_root}
 use Rattle.op_meaning.specs.Values.{Place, Holder, all_of, local, temporary}
 use Rattle.op_mir.specs.Machine.{MirState}
@@ -36,7 +37,8 @@ use Rattle.op_rt_text.specs.Names.{register}
 use Rattle.op_rv.specs.declared.symbol.Symbol.TheVariants.{Global as GlobalSymbol}
 use Rattle.op_agreement.proofs.Charting.{live_stands}
 use Rattle.op_agreement.proofs.Elements.{KeptBelow}
-use Rattle.op_agreement.proofs.Going.{Goes, GoesTo, goes_from, goes_none, goes_one, goes_straight, goes_then, goes_to}
+use Rattle.op_agreement.proofs.Going.{Goes, GoesTo, cost_of, goes_from, goes_none, goes_one, goes_straight, goes_then, goes_to, goes_within}
+use Rattle.op_agreement.proofs.Lengths.{tail_short}
 use Rattle.op_agreement.proofs.Places.{HaveIndices, Kept, reach_then, reached_behind, small_first, small_last, spot_behind, steps_then}
 use Rattle.op_agreement.proofs.Standing.{here}
 use Rattle.op_agreement.proofs.Updating.{floors_here, limit_here}
@@ -45,6 +47,10 @@ use Rattle.op_agreement.specs.Fitting.{IsFitting}
 use Rattle.op_agreement.specs.Settings.{IsPlaced, IsRooted, Setting, StoredAt}
 use Rattle.op_agreement.specs.Stands.{Stays}
 use Rattle.op_agreement.specs.Typed.{PathTo, RootIs}
+
+-- what it costs at most to come to a place
+abbrev pub place_most : Path → ℕ
+place_most path = 3 + 2 * indices (view_path path)
 
 regroup : (a b c d : List Instruction) → (a ++ b ++ c) ++ d ≡ a ++ ((b ++ c) ++ d)
 regroup a b c d = simp append_assoc refl
@@ -78,7 +84,7 @@ module _ (g : Setting) (fit : IsFitting g) (m : MirState) (l : State) (floors : 
 
   pub record HomeGoes (f : ℕ → ℕ) (free : VirtualRegister) (home : Home) (q : Place) (from : TypeId) (code : List Instruction) : Type 0 where
     pub h : ℕ → ℕ
-    pub goes : Goes g (fewest_steps (home_code frame_here free home)) (at l f (home_code frame_here free home ++ code)) (at l h code)
+    pub goes : Goes g (fewest_steps (home_code frame_here free home)) 1 (at l f (home_code frame_here free home ++ code)) (at l h code)
     pub kept : KeptBelow free.0 f h
     pub is : At q from (h (home_spot free home).base.0 + (home_spot free home).offset)
     pub low : h (home_spot free home).base.0 + (home_spot free home).offset < 2 ^ 32
@@ -86,7 +92,7 @@ module _ (g : Setting) (fit : IsFitting g) (m : MirState) (l : State) (floors : 
     pub more : free.0 ≤ (home_spot free home).free.0
 
   -- a register has become the address
-  address_goes : (f : ℕ → ℕ) (free : VirtualRegister) (i : Instruction) (code : List Instruction) (v : ℕ) → act g.low g.placement i (at l f code) ≡ at l (put f free v) code → Goes g 1 (at l f (i ∷ code)) (at l (put f free v) code)
+  address_goes : (f : ℕ → ℕ) (free : VirtualRegister) (i : Instruction) (code : List Instruction) (v : ℕ) → act g.low g.placement i (at l f code) ≡ at l (put f free v) code → Goes g 1 (cost_of g (at l f (i ∷ code)) i) (at l f (i ∷ code)) (at l (put f free v) code)
   address_goes f free i code v does = (goes_to g 1 (at l f (i ∷ code)) (act g.low g.placement i (at l f code)) (at l (put f free v) code) does (goes_one g l f i code))
 
   plus_none : (a : ℕ) → a ≡ a + 0
@@ -122,7 +128,7 @@ module _ (g : Setting) (fit : IsFitting g) (m : MirState) (l : State) (floors : 
       by : (b : Bool) → nat_lt offset frame_here.locals ≡ b → HomeGoes f free (Stored offset) (all_of h) from code
       by true e = record {
         h = put f free ((here m floors).base + offset);
-        goes = subst (λ c. Goes g (fewest_steps c) (at l f (c ++ code)) (at l (put f free ((here m floors).base + offset)) code)) (sym (ap (λ b. if b then LocalAddress free offset ∷ [] else Const free 0 ∷ []) e))
+        goes = subst (λ c. Goes g (fewest_steps c) 1 (at l f (c ++ code)) (at l (put f free ((here m floors).base + offset)) code)) (sym (ap (λ b. if b then LocalAddress free offset ∷ [] else Const free 0 ∷ []) e))
             (address_goes f free (LocalAddress free offset) code ((here m floors).base + offset) (ap (λ v. at l (put f free v) code) locals));
         kept = λ r below. put_lower f free ((here m floors).base + offset) r below;
         is = holds (put f free ((here m floors).base + offset) free.0) (inr (put_same f free ((here m floors).base + offset)));
@@ -132,7 +138,7 @@ module _ (g : Setting) (fit : IsFitting g) (m : MirState) (l : State) (floors : 
       }
       by false e = record {
         h = put f free 0;
-        goes = subst (λ c. Goes g (fewest_steps c) (at l f (c ++ code)) (at l (put f free 0) code)) (sym (ap (λ b. if b then LocalAddress free offset ∷ [] else Const free 0 ∷ []) e))
+        goes = subst (λ c. Goes g (fewest_steps c) 1 (at l f (c ++ code)) (at l (put f free 0) code)) (sym (ap (λ b. if b then LocalAddress free offset ∷ [] else Const free 0 ∷ []) e))
             (address_goes f free (Const free 0) code 0 refl);
         kept = λ r below. put_lower f free 0 r below;
         is = holds (put f free 0 free.0) (inl (let more : frame_here.locals ≤ offset = grind (arith, nat_tests) in omega arith));
@@ -187,7 +193,7 @@ module _ (g : Setting) (fit : IsFitting g) (m : MirState) (l : State) (floors : 
       (subst (λ d. HomeGoes f free (Held (register (parameter v.0))) (m.world.bound d v.0) from code) (sym s.depth)
       (record {
         h = f;
-        goes = goes_none g (at l f code);
+        goes = goes_within g 0 1 (at l f code) (at l f code) (goes_none g (at l f code)) (omega arith);
         kept = λ r below. refl;
         is = subst (At (m.world.bound (length m.callers) v.0) from) from_register is_at;
         low = omega arith;
@@ -198,20 +204,20 @@ module _ (g : Setting) (fit : IsFitting g) (m : MirState) (l : State) (floors : 
   -- ---- the place where it leads
 
   -- the registers of a spot have the address of the place, or the error has come
-  pub record Reached (least : ℕ) (from : State) (f : ℕ → ℕ) (free : VirtualRegister) (spot : Spot) (rest : List Instruction) (q : Place) (of : TypeId) : Type 0 where
+  pub record Reached (least most : ℕ) (from : State) (f : ℕ → ℕ) (free : VirtualRegister) (spot : Spot) (rest : List Instruction) (q : Place) (of : TypeId) : Type 0 where
     pub h : ℕ → ℕ
-    pub goes : Goes g least from (at l h rest)
+    pub goes : Goes g least most from (at l h rest)
     pub kept : KeptBelow free.0 f h
     pub is : At q of (h spot.base.0 + spot.offset)
     pub low : h spot.base.0 + spot.offset + size_in g.core of < 2 ^ 32
 
-  pub record Failed (least : ℕ) (from : State) : Type 0 where
+  pub record Failed (least most : ℕ) (from : State) : Type 0 where
     pub h : ℕ → ℕ
-    pub goes : Goes g least from (at l h (block_of g.low l.top.routine (error_block_of (here m floors).frame.bank RangeCheck).0))
+    pub goes : Goes g least most from (at l h (block_of g.low l.top.routine (error_block_of (here m floors).frame.bank RangeCheck).0))
 
-  abbrev pub PlaceTo : ℕ → State → (ℕ → ℕ) → VirtualRegister → Spot → List Instruction → TypeId → Option Place → Type 0
-  PlaceTo least from f free spot rest of None = Failed least from
-  PlaceTo least from f free spot rest of (Some q) = Reached least from f free spot rest q of
+  abbrev pub PlaceTo : (least most : ℕ) → State → (ℕ → ℕ) → VirtualRegister → Spot → List Instruction → TypeId → Option Place → Type 0
+  PlaceTo least most from f free spot rest of None = Failed least most from
+  PlaceTo least most from f free spot rest of (Some q) = Reached least most from f free spot rest q of
 
   module _ (path : Path) (of : TypeId) (limit : ℕ) (free : VirtualRegister) (f : ℕ → ℕ) (rest : List Instruction) (typed : PathTo g.core (here m floors).number (view_path path) of) (placed : IsPlaced g.core (here m floors).number (here m floors).frame path.root) (indices : HaveIndices (here m floors).routine path.steps) (scratch : (here m floors).frame.bank.scratch ≤ free.0) (kept : Kept g fit m l floors s f) where
     abbrev spot_here : Spot
@@ -232,11 +238,18 @@ module _ (g : Setting) (fit : IsFitting g) (m : MirState) (l : State) (floors : 
     abbrev least : ℕ
     least = fewest_steps (place_code g.core frame_here limit path.root path.steps free)
 
+    abbrev most : ℕ
+    most = 1 + length tail
+
+    -- the indices are paid for by their bytes
+    few : most ≤ place_most path
+    few = let less = tail_short g.core frame_here path.root limit path.steps begin (steps_spot g.core path.steps begin) in omega arith
+
     fewest_of : (xs ys zs : List Instruction) → fewest_steps (xs ++ ys ++ zs) ≤ fewest_steps xs + fewest_steps (ys ++ zs)
     fewest_of [] ys zs = omega arith
     fewest_of (x ∷ xs) ys zs = omega arith
 
-    pub place_goes : PlaceTo least (at l f (place_code g.core frame_here limit path.root path.steps free ++ rest)) f free spot_here rest of (place_meant m.world (view_path path))
+    pub place_goes : PlaceTo least (place_most path) (at l f (place_code g.core frame_here limit path.root path.steps free ++ rest)) f free spot_here rest of (place_meant m.world (view_path path))
     place_goes =
         let home = home_goes path.root typed.from free f (tail ++ rest) typed.root placed scratch kept in
         let small = small_first g.core typed.from (map view_step path.steps) typed.small in
@@ -249,7 +262,7 @@ module _ (g : Setting) (fit : IsFitting g) (m : MirState) (l : State) (floors : 
         let first = fewest_steps (home_code frame_here free (home_of g.core frame_here path.root)) in
         let before = goes_from g first (at l f (place_code g.core frame_here limit path.root path.steps free ++ rest)) (at l f (home_code frame_here free (home_of g.core frame_here path.root) ++ (tail ++ rest))) (at l home.h (tail ++ rest)) (ap (at l f) (regroup (home_code frame_here free (home_of g.core frame_here path.root)) (steps_code g.core frame_here path.steps begin) (reach_code limit (steps_spot g.core path.steps begin)) rest)) home.goes in
         steps_then g fit m l floors s path.steps begin home.h (place_of_root m.world (view_root path.root)) typed.from of (home.h begin.base.0 + begin.offset) (reach_code limit (steps_spot g.core path.steps begin))
-        (λ o. GoesTo g (fewest_steps tail) l (at l home.h (tail ++ rest)) rest o → PlaceTo least (at l f (place_code g.core frame_here limit path.root path.steps free ++ rest)) f free spot_here rest of (place_meant m.world (view_path path)))
+        (λ o. GoesTo g (fewest_steps tail) (length tail) l (at l home.h (tail ++ rest)) rest o → PlaceTo least (place_most path) (at l f (place_code g.core frame_here limit path.root path.steps free ++ rest)) f free spot_here rest of (place_meant m.world (view_path path)))
         indices typed.words typed.reaches typed.small (omega arith) home.base kept_home refl room
         (λ q e h after value.
         let (ks, place_is, leads) = steps_lead g.core fit.program.extents fit.program.first_type m.world typed.from of (map view_step path.steps) (place_of_root m.world (view_root path.root)) q small.there typed.reaches e in
@@ -260,17 +273,19 @@ module _ (g : Setting) (fit : IsFitting g) (m : MirState) (l : State) (floors : 
         let b_size = part.size in
         let d = distance g.core m.world (map view_step path.steps) in
         let spot1 = steps_spot g.core path.steps begin in
-        reach_then limit spot1 h (λ o. GoesTo g (fewest_steps tail) l (at l home.h (tail ++ rest)) rest o → PlaceTo least (at l f (place_code g.core frame_here limit path.root path.steps free ++ rest)) f free spot_here rest of (place_meant m.world (view_path path))) far (omega arith)
-        (λ k later same goes. subst (λ o. PlaceTo least (at l f (place_code g.core frame_here limit path.root path.steps free ++ rest)) f free spot_here rest of o) (sym e) (record {
+        reach_then limit spot1 h (λ o. GoesTo g (fewest_steps tail) (length tail) l (at l home.h (tail ++ rest)) rest o → PlaceTo least (place_most path) (at l f (place_code g.core frame_here limit path.root path.steps free ++ rest)) f free spot_here rest of (place_meant m.world (view_path path))) far (omega arith)
+        (λ k later same goes. subst (λ o. PlaceTo least (place_most path) (at l f (place_code g.core frame_here limit path.root path.steps free ++ rest)) f free spot_here rest of o) (sym e) (record {
           h = k;
-          goes = goes_then g first (fewest_steps tail) least (at l f (place_code g.core frame_here limit path.root path.steps free ++ rest)) (at l home.h (tail ++ rest)) (at l k rest) many before goes;
+          goes = goes_within g least (place_most path) (at l f (place_code g.core frame_here limit path.root path.steps free ++ rest)) (at l k rest)
+              (goes_then g first (fewest_steps tail) least (at l f (place_code g.core frame_here limit path.root path.steps free ++ rest)) (at l home.h (tail ++ rest)) (at l k rest) many before goes) few;
           kept = λ r below. later r (omega arith) ∙ after r (omega arith) ∙ home.kept r below;
           is = at_further (place_of_root m.world (view_root path.root)) q typed.from of ks (home.h begin.base.0 + begin.offset) d (k spot_here.base.0 + spot_here.offset) home.is place_is leads (same ∙ value) (omega arith);
           low = omega arith;
         })))
-        (λ e h goes. subst (λ o. PlaceTo least (at l f (place_code g.core frame_here limit path.root path.steps free ++ rest)) f free spot_here rest of o) (sym e) (record {
+        (λ e h goes. subst (λ o. PlaceTo least (place_most path) (at l f (place_code g.core frame_here limit path.root path.steps free ++ rest)) f free spot_here rest of o) (sym e) (record {
           h = h;
-          goes = goes_then g first (fewest_steps tail) least (at l f (place_code g.core frame_here limit path.root path.steps free ++ rest)) (at l home.h (tail ++ rest)) (at l h (block_of g.low l.top.routine (error_block_of (here m floors).frame.bank RangeCheck).0)) many before goes;
+          goes = goes_within g least (place_most path) (at l f (place_code g.core frame_here limit path.root path.steps free ++ rest)) (at l h (block_of g.low l.top.routine (error_block_of (here m floors).frame.bank RangeCheck).0))
+              (goes_then g first (fewest_steps tail) least (at l f (place_code g.core frame_here limit path.root path.steps free ++ rest)) (at l home.h (tail ++ rest)) (at l h (block_of g.low l.top.routine (error_block_of (here m floors).frame.bank RangeCheck).0)) many before goes) few;
         }))
         straight
       where

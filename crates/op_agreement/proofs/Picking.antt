@@ -1,5 +1,5 @@
 -- A Char of a literal, by its index from 1, or error 201.
-use Rattle.std.proofs.Common.{◌≡◌, ◌<◌, ℕ, ℤ, ◌+◌, List, [], ◌∷◌, ◌++◌, length, Option, refl, sym, ap, ap₂, ◌∙◌, subst, arith, get_or}
+use Rattle.std.proofs.Common.{◌≡◌, ◌<◌, ℕ, ℤ, ◌+◌, List, [], ◌∷◌, ◌++◌, length, Option, refl, sym, ap, ap₂, ◌∙◌, subst, arith, get_or, ◌≤◌, ◌*◌}
 use Rattle.std.specs.Prelude.{◌^◌, ◌%◌, ◌-ℤ◌, pos, negsuc, Bool, true, false, not, nat_abs, nat_lt, slice_index, if◌then◌else◌}
 use Rattle.std.proofs.lemmas.Bool.Decides.{nat_tests}
 use Rattle.std.proofs.lemmas.Bool.{cond-true}
@@ -11,7 +11,7 @@ use Rattle.op_compute.specs.Meaning.{Gives, IsWordOf}
 use Rattle.op_compute.specs.Straight.{Away, Behind, at, imm_of, outcome, put, takes}
 use Rattle.op_compute.specs.declared.bank.Bank.{Bank}
 use Rattle.op_compute.specs.declared.bank.RuntimeError.TheVariants.{RangeCheck}
-use Rattle.op_low.specs.Machine.{act, load}
+use Rattle.op_low.specs.Machine.{act, load, cost, cost_by}
 use Rattle.op_low.specs.State.{State, bad, keep, usable}
 use Rattle.op_low.specs.declared.ids.VirtualRegister.{VirtualRegister}
 use Rattle.op_low.specs.declared.instruction.Instruction.TheVariants.{Address, Alu, AluImm, Branch, Const, Load as LoadWord}
@@ -20,7 +20,7 @@ use Rattle.op_meaning.specs.Actions.{perform}
 use Rattle.op_meaning.specs.Errors.{failed}
 use Rattle.op_meaning.specs.Numbers.{between}
 use Rattle.op_meaning.specs.World.{number_at, with_number}
-use Rattle.op_mir.specs.Machine.{MirState, execute, mir_step}
+use Rattle.op_mir.specs.Machine.{MirState, execute, mir_step, mir_cost}
 use Rattle.op_mir.specs.Valid.{action_fits}
 use Rattle.op_mir.specs.declared.action.Action.TheVariants.{Pick}
 use Rattle.op_mir.specs.declared.ids.BlockId.{BlockId}
@@ -35,15 +35,16 @@ use Rattle.op_rv.specs.declared.instruction.AluOp.TheVariants.{Add}
 use Rattle.op_rv.specs.declared.instruction.BranchOp.TheVariants.{Bgeu}
 use Rattle.op_rv.specs.declared.instruction.ImmOp.TheVariants.{Addi}
 use Rattle.op_rv.specs.declared.instruction.LoadOp.TheVariants.{Lbu}
-use Rattle.op_simulation.specs.System.{run}
+use Rattle.op_simulation.specs.System.{run, spent}
 use Rattle.op_agreement.proofs.Branching.{begins_here, step_here, two_of}
 use Rattle.op_agreement.proofs.Cases.{behind_act}
 use Rattle.op_agreement.proofs.Computing.{number_stands, rest_above, rest_below}
 use Rattle.op_agreement.proofs.Elements.{KeptBelow}
 use Rattle.op_agreement.proofs.Following.{Comes}
-use Rattle.op_agreement.proofs.Going.{Goes, GoesTo, goes_from, goes_one, goes_straight, goes_then, goes_to}
+use Rattle.op_agreement.proofs.Going.{Goes, GoesTo, goes_from, goes_one, goes_straight, goes_then, goes_to, goes_within}
 use Rattle.op_agreement.proofs.Loading.{index_fails}
 use Rattle.op_agreement.proofs.Memory.{may_access}
+use Rattle.op_agreement.proofs.Pricing.{afford}
 use Rattle.op_agreement.proofs.Standing.{Next, here}
 use Rattle.op_agreement.proofs.Updating.{limit_here}
 use Rattle.op_agreement.proofs.Writing.{text_there}
@@ -52,6 +53,7 @@ use Rattle.op_agreement.specs.Coding.{code_for}
 use Rattle.op_agreement.specs.Fitting.{IsFitting}
 use Rattle.op_agreement.specs.Settings.{Setting, managed}
 use Rattle.op_agreement.specs.Stands.{Stands}
+use Rattle.op_agreement.specs.Steps.{most_for_one}
 
 -- ---- the index
 
@@ -78,7 +80,7 @@ index_far x size n word short inside =
 -- ---- the Char
 
 -- a byte of a literal is loaded
-byte_goes : (g : Setting) (l : State) (h : ℕ → ℕ) (to place : VirtualRegister) (rest : List LowInstruction) (a b : ℕ) → h place.0 ≡ a → a < 2 ^ 32 → a < l.limit → g.placement.rights.readable a ≡ true → l.memory a ≡ b → Goes g 1 (at l h (LoadWord Lbu to place (pos 0) ∷ rest)) (at l (put h to b) rest)
+byte_goes : (g : Setting) (l : State) (h : ℕ → ℕ) (to place : VirtualRegister) (rest : List LowInstruction) (a b : ℕ) → h place.0 ≡ a → a < 2 ^ 32 → a < l.limit → g.placement.rights.readable a ≡ true → l.memory a ≡ b → Goes g 1 1 (at l h (LoadWord Lbu to place (pos 0) ∷ rest)) (at l (put h to b) rest)
 unfolding act load put
 byte_goes g l h to place rest a b there word below may is =
     let can : can_access (usable g.placement.rights.readable (at l h rest)) a (load_size_of Lbu) ≡ true =
@@ -143,8 +145,8 @@ module _ (g : Setting) (fit : IsFitting g) (m : MirState) (l : State) (floors : 
   step_above = step_here g fit m l floors pick is id next
 
   -- the literal's Char is the number of the temporary
-  char_stands : (x : ℕ) → x < length text → far ≡ x → Goes g 1 l (at l tested tail) → mir_step (managed g) m ≡ record m { world = with_number to.0 (pos (slice_index text x)) m.world; rest = rest_above g m l floors pick is id next } → Comes g m l
-  unfolding action_fits act put run Rattle.op_low.specs.Machine.step Rattle.op_low.specs.Machine.step_by_ending Rattle.op_low.specs.Machine.done
+  char_stands : (x : ℕ) → x < length text → far ≡ x → Goes g 1 3 l (at l tested tail) → mir_step (managed g) m ≡ record m { world = with_number to.0 (pos (slice_index text x)) m.world; rest = rest_above g m l floors pick is id next } → Comes g m l
+  unfolding action_fits act put run Rattle.op_low.specs.Machine.step Rattle.op_low.specs.Machine.step_by_ending Rattle.op_low.specs.Machine.done spent cost cost_by
   char_stands x inside far_is goes step =
       let s = next.stays in
       let a = s.activation in
@@ -161,7 +163,7 @@ module _ (g : Setting) (fit : IsFitting g) (m : MirState) (l : State) (floors : 
       let via_is : put tested via start via.0 ≡ start = put_same tested via start in
       let place_is : put tested via start place.0 ≡ far = put_lower tested via start place.0 (omega arith) ∙ put_lower (put l.top.registers place far) via (length text) place.0 (omega arith) ∙ put_same l.top.registers place far in
       let sum : (put tested via start via.0 + put tested via start place.0) % 2 ^ 32 ≡ start + far = omega arith in
-      let two : Goes g 2 (at l tested tail) (at l (put (put tested via start) place ((put tested via start via.0 + put tested via start place.0) % 2 ^ 32)) (LoadWord Lbu (register_of bank to) place (pos 0) ∷ rest)) = record { steps = 2; enough = omega arith; ends = refl } in
+      let two : Goes g 2 2 (at l tested tail) (at l (put (put tested via start) place ((put tested via start via.0 + put tested via start place.0) % 2 ^ 32)) (LoadWord Lbu (register_of bank to) place (pos 0) ∷ rest)) = record { steps = 2; enough = omega arith; within = omega arith; ends = refl } in
       let there : found place.0 ≡ start + x = put_same (put tested via start) place (start + far) ∙ ap (λ y. start + y) far_is in
       let load = byte_goes g l found (register_of bank to) place rest (start + x) byte there (omega arith) (omega arith) (stands.readable (start + x) (omega arith) (omega arith)) is_there in
       let kept : KeptBelow bank.scratch l.top.registers found = λ r low. put_lower (put tested via start) place (start + far) r (omega arith) ∙ put_lower tested via start r (omega arith) ∙ put_lower (put l.top.registers place far) via (length text) r (omega arith) ∙ put_lower l.top.registers place far r (omega arith) in
@@ -171,10 +173,10 @@ module _ (g : Setting) (fit : IsFitting g) (m : MirState) (l : State) (floors : 
       } in
       record {
         to = at l k rest;
-        goes = goes_then g 1 3 1 l (at l tested tail) (at l k rest) (omega arith) goes
+        goes = goes_within g 1 (most_for_one * mir_cost (managed g) m) l (at l k rest) (goes_then g 1 3 1 l (at l tested tail) (at l k rest) (omega arith) goes
             (goes_then g 2 1 3 (at l tested tail) (at l found (LoadWord Lbu (register_of bank to) place (pos 0) ∷ rest)) (at l k rest) (omega arith)
             (goes_to g 2 (at l tested tail) (at l (put (put tested via start) place ((put tested via start via.0 + put tested via start place.0) % 2 ^ 32)) (LoadWord Lbu (register_of bank to) place (pos 0) ∷ rest)) (at l found (LoadWord Lbu (register_of bank to) place (pos 0) ∷ rest)) (ap (λ v. at l (put (put tested via start) place v) (LoadWord Lbu (register_of bank to) place (pos 0) ∷ rest)) sum) two)
-            load);
+            load)) (afford g fit m l floors pick is id next (λ light. light) 6 (omega arith));
         stands = subst (λ y. Stands g y (at l k rest)) (sym step) (number_stands g m l floors pick is id next to (pos byte) k (behind_act next.on) gives);
       }
 
@@ -191,10 +193,10 @@ module _ (g : Setting) (fit : IsFitting g) (m : MirState) (l : State) (floors : 
       let test : takes Bgeu (tested place.0) (tested via.0) ≡ not (between (pos 1) (pos (length text)) n) = ap₂ (takes Bgeu) place_is via_is ∙ index_test (l.top.registers (register_of bank index).0) (length text) n word short in
       by (takes Bgeu (tested place.0) (tested via.0)) (between (pos 1) (pos (length text)) n) test refl (goes_straight g l front tail l.top.registers) step_above
     where
-      by : (t b : Bool) → t ≡ not b → between (pos 1) (pos (length text)) n ≡ b → GoesTo g 1 l (at l l.top.registers (front ++ tail)) tail (if t then Away (error_block_of bank RangeCheck) tested else Behind tested) → mir_step (managed g) m ≡ picked_by b → Comes g m l
+      by : (t b : Bool) → t ≡ not b → between (pos 1) (pos (length text)) n ≡ b → GoesTo g 1 3 l (at l l.top.registers (front ++ tail)) tail (if t then Away (error_block_of bank RangeCheck) tested else Behind tested) → mir_step (managed g) m ≡ picked_by b → Comes g m l
       by true true e inside goes step = absurd cc
       by false false e inside goes step = absurd cc
-      by true false e inside goes step = index_fails g fit m l floors is id pick next 1 (at l l.top.registers (front ++ tail)) begins (record { h = tested; goes = goes }) step
+      by true false e inside goes step = index_fails g fit m l floors is id pick next 1 3 (at l l.top.registers (front ++ tail)) begins (record { h = tested; goes = goes }) (afford g fit m l floors pick is id next (λ light. light) 8 (omega arith)) step
       by false true e inside goes step =
           let (low_to, low_index) = two_of (here m floors).routine to index next.fine.0 in
           let word = next.stays.activation.kept.temporaries index.0 low_index in

@@ -1,10 +1,12 @@
 -- A routine begins: low code comes to where its parameters are received, and states stand for one another again.
-use Rattle.std.proofs.Common.{◌≡◌, ◌≤◌, ◌<◌, inl, inr, ℕ, suc, ◌+◌, List, [], ◌∷◌, ◌++◌, length, Option, Some, None, refl, sym, ap, ◌∙◌, subst, arith, append_assoc}
+use Rattle.std.proofs.Common.{◌≡◌, ◌≤◌, ◌<◌, inl, inr, ℕ, suc, ◌+◌, List, [], ◌∷◌, ◌++◌, length, Option, Some, None, refl, sym, ap, ◌∙◌, subst, arith, append_assoc, ◌*◌}
 use Rattle.std.specs.Prelude.{Bool, true, false, ◌&&◌, nat_eq, nat_le, slice_get, if◌then◌else◌}
 use Rattle.std.proofs.Math.Path.{fun_ext}
 use Rattle.std.specs.Option.{option_map}
 use Rattle.std.proofs.lemmas.Bool.Decides.{nat_tests}
 use Rattle.std.proofs.lemmas.Option.{slice_get-map}
+use Rattle.std.proofs.lemmas.List.Sums.{sum_by-cons}
+use Rattle.std.specs.List.{sum_by}
 use Rattle.op_constants.proofs.TypesArranged.{some_at}
 use Rattle.op_core.specs.Rows.{rows}
 use Rattle.op_core.specs.declared.ids.TypeId.{TypeId}
@@ -32,11 +34,11 @@ use Rattle.op_rt_text.specs.Names.{register}
 use Rattle.op_agreement.proofs.Charting.{same_is}
 use Rattle.op_agreement.proofs.Entered.{memory_below, stays_begun}
 use Rattle.op_agreement.proofs.Entering.{Enters, below_begun, fits_here, is_stored, parameter_is, registers_begun, rows_are, value_held, value_unset, values_at, world_after}
-use Rattle.op_agreement.proofs.Going.{goes_none, goes_then}
+use Rattle.op_agreement.proofs.Going.{goes_none, goes_then, goes_within}
 use Rattle.op_agreement.proofs.Keeping.{get_take, row_found}
 use Rattle.op_agreement.proofs.Parameters.{IsParameter, as_many}
 use Rattle.op_agreement.proofs.Placing.{Received, value_other}
-use Rattle.op_agreement.proofs.Receiving.{Receives, stored_received, received_by}
+use Rattle.op_agreement.proofs.Receiving.{Receives, stored_received, received_by, receive_most}
 use Rattle.op_agreement.proofs.Standing.{stands_on}
 use Rattle.op_agreement.specs.Chart.{Floor}
 use Rattle.op_agreement.specs.Fitting.{IsFitting}
@@ -107,7 +109,7 @@ module _ (g : Setting) (fit : IsFitting g) (m : MirState) (l : State) (floors ne
     charged = m.charged + (managed g).charge r;
   }
 
-  kept_received : (k : ℕ) (code rest : List LowInstruction) (lk : State) → code ≡ [] → is_stored (home_at floor_here.frame.homes (record { 0 = k })) ≡ false → HasReceived k (code ++ rest) lk → Receives g (HasReceived (k + 1) rest) lk
+  kept_received : (k : ℕ) (code rest : List LowInstruction) (lk : State) → code ≡ [] → is_stored (home_at floor_here.frame.homes (record { 0 = k })) ≡ false → HasReceived k (code ++ rest) lk → Receives g (HasReceived (k + 1) rest) 0 lk
   kept_received k code rest lk none held was = record {
     to = lk;
     goes = goes_none g lk;
@@ -120,18 +122,21 @@ module _ (g : Setting) (fit : IsFitting g) (m : MirState) (l : State) (floors ne
   }
 
   -- by its home
-  one_received : (k : ℕ) (p : Variable) (rest : List LowInstruction) (lk : State) → slice_get rows_here k ≡ Some p → HasReceived k (received g.core floor_here.frame k p ++ rest) lk → Receives g (HasReceived (k + 1) rest) lk
+  one_received : (k : ℕ) (p : Variable) (rest : List LowInstruction) (lk : State) → slice_get rows_here k ≡ Some p → HasReceived k (received g.core floor_here.frame k p ++ rest) lk → Receives g (HasReceived (k + 1) rest) (receive_most g.core p) lk
   one_received k p rest lk found was = by (home_at floor_here.frame.homes (record { 0 = k })) refl
     where
-      by : (home : Home) → home_at floor_here.frame.homes (record { 0 = k }) ≡ home → Receives g (HasReceived (k + 1) rest) lk
-      by (Held q) home = kept_received k (received g.core floor_here.frame k p) rest lk (ap (received_by g.core floor_here.frame k p) home) (ap is_stored home) was
-      by (Shared id) home = kept_received k (received g.core floor_here.frame k p) rest lk (ap (received_by g.core floor_here.frame k p) home) (ap is_stored home) was
+      more_time : Receives g (HasReceived (k + 1) rest) 0 lk → Receives g (HasReceived (k + 1) rest) (receive_most g.core p) lk
+      more_time done = record { to = done.to; goes = goes_within g 0 (receive_most g.core p) lk done.to done.goes (omega arith); holds = done.holds }
+
+      by : (home : Home) → home_at floor_here.frame.homes (record { 0 = k }) ≡ home → Receives g (HasReceived (k + 1) rest) (receive_most g.core p) lk
+      by (Held q) home = more_time (kept_received k (received g.core floor_here.frame k p) rest lk (ap (received_by g.core floor_here.frame k p) home) (ap is_stored home) was)
+      by (Shared id) home = more_time (kept_received k (received g.core floor_here.frame k p) rest lk (ap (received_by g.core floor_here.frame k p) home) (ap is_stored home) was)
       by (StoredHome offset) home =
           let (few, there) = get_take (parameters_of g.core floor_here.number) (rows g.core.variables (variables_of g.core floor_here.number)) k p found in
           let (low, row) = row_found g.core.variables (variables_of g.core floor_here.number) k p there in
           handed few low row (parameter_is g fit m l floors new r given c lc first result words e k p found)
         where
-          handed : k < parameters_of g.core floor_here.number → k < (variables_of g.core floor_here.number).count → slice_get g.core.variables ((variables_of g.core floor_here.number).first + k) ≡ Some p → IsParameter g floors (length m.callers) m.world world deep k p (registers_begun g fit m l floors new r given c lc first result words e (parameter k)) → Receives g (HasReceived (k + 1) rest) lk
+          handed : k < parameters_of g.core floor_here.number → k < (variables_of g.core floor_here.number).count → slice_get g.core.variables ((variables_of g.core floor_here.number).first + k) ≡ Some p → IsParameter g floors (length m.callers) m.world world deep k p (registers_begun g fit m l floors new r given c lc first result words e (parameter k)) → Receives g (HasReceived (k + 1) rest) (receive_most g.core p) lk
           handed few low row (inl (value, is)) = stored_received g fit m l floors new r given c lc first result words e k p offset (record { few = few; low = low; row = row; value = value; home = home }) lk rest was is
           handed few low row (inr (reference, at_, small)) =
               let variable : IsVariable g.core floor_here.number k true = (low, ap refers row ∙ reference) in
@@ -141,7 +146,7 @@ module _ (g : Setting) (fit : IsFitting g) (m : MirState) (l : State) (floors ne
   -- ---- all parameters
 
   -- those from a number on, one after the other
-  all_from : (k : ℕ) (ps : List Variable) → ((j : ℕ) (p : Variable) → slice_get ps j ≡ Some p → slice_get rows_here (k + j) ≡ Some p) → (rest : List LowInstruction) (lk : State) → HasReceived k (all_received g.core floor_here.frame k ps ++ rest) lk → Receives g (HasReceived (k + length ps) rest) lk
+  all_from : (k : ℕ) (ps : List Variable) → ((j : ℕ) (p : Variable) → slice_get ps j ≡ Some p → slice_get rows_here (k + j) ≡ Some p) → (rest : List LowInstruction) (lk : State) → HasReceived k (all_received g.core floor_here.frame k ps ++ rest) lk → Receives g (HasReceived (k + length ps) rest) (sum_by (receive_most g.core) ps) lk
   all_from k [] found rest lk was = let none : k ≡ k + 0 = omega arith in record { to = lk; goes = goes_none g lk; holds = subst (λ i. HasReceived i rest lk) none was }
   all_from k (p ∷ ps) found rest lk was =
       let one_code = received g.core floor_here.frame k p in
@@ -152,7 +157,7 @@ module _ (g : Setting) (fit : IsFitting g) (m : MirState) (l : State) (floors ne
       let many : k + 1 + length ps ≡ k + suc (length ps) = omega arith in
       record {
         to = more.to;
-        goes = goes_then g 0 0 0 lk one.to more.to (omega arith) one.goes more.goes;
+        goes = goes_within g 0 (sum_by (receive_most g.core) (p ∷ ps)) lk more.to (goes_then g 0 0 0 lk one.to more.to (omega arith) one.goes more.goes) (let sum = sum_by-cons (receive_most g.core) p ps in omega arith);
         holds = subst (λ i. HasReceived i rest more.to) many more.holds;
       }
 
@@ -190,7 +195,7 @@ module _ (g : Setting) (fit : IsFitting g) (m : MirState) (l : State) (floors ne
   -- ---- the first block
 
   -- Behind the parameters both go on at the first block of the routine, and states stand for one another.
-  pub begun_stands : m.world.ending ≡ GoingOn → Receives g (Stands g (above_with world.memory)) (below_begun g fit m l floors new r given c lc first result words e)
+  pub begun_stands : m.world.ending ≡ GoingOn → Receives g (Stands g (above_with world.memory)) (sum_by (receive_most g.core) rows_here) (below_begun g fit m l floors new r given c lc first result words e)
   begun_stands ending =
       let fits = fits_here g fit m l floors new r given c lc first result words e in
       let (block, found) = some_at floor_here.routine.blocks 0 fits.some in

@@ -55,7 +55,7 @@ module _ (g : Setting) (fit : IsFitting g) (m : MirState) (l : State) (floors : 
   -- a number of a kind has been stored where the value lies
   pub record Put (kind : IntegerKind) (h : ℕ → ℕ) (from base : VirtualRegister) (off : ℕ) : Type 0 where
     pub memory : ℕ → ℕ
-    pub goes : Goes g 1 (at l h (StoreWord (store_op kind) from base (pos off) ∷ rest)) (record (at l h rest) { memory = memory })
+    pub goes : Goes g 1 1 (at l h (StoreWord (store_op kind) from base (pos off) ∷ rest)) (record (at l h rest) { memory = memory })
     pub changed : Changed g fit floors m l s memory (h base.0 + off) (size_in g.core of)
     pub bytes : (y : ℕ) → y < l.limit → memory y < 2 ^ 8
     pub lies : Lies (arrangement_of g.core of) x memory (h base.0 + off)
@@ -142,7 +142,7 @@ module _ (g : Setting) (fit : IsFitting g) (m : MirState) (l : State) (floors : 
   -- low code comes from a state to where the variable has the value
   pub record Puts (x : Value) (from : State) : Type 0 where
     pub to : State
-    pub goes : Goes g 1 from to
+    pub goes : Goes g 1 4 from to
     pub stays : Stays g floors (record m { world = with_value whole_place x m.world; rest = above }) to
     pub now : to.top.now ≡ rest
 
@@ -156,8 +156,8 @@ module _ (g : Setting) (fit : IsFitting g) (m : MirState) (l : State) (floors : 
       let store = sw (kind_by sh) from free in
       let start = at l f (code ++ (store ∷ rest)) in
       let typed : PathTo g.core (here m floors).number (view_path path) type = record { from = type; root = (variable, refl); reaches = refl; words = tt; small = small } in
-      let reached : Reached g fit m l floors s (fewest_steps code) start f free (spot free) (store ∷ rest) whole_place type =
-      subst (λ d. Reached g fit m l floors s (fewest_steps code) start f free (spot free) (store ∷ rest) (all_of (local d v.0)) type) s.depth
+      let reached : Reached g fit m l floors s (fewest_steps code) 3 start f free (spot free) (store ∷ rest) whole_place type =
+      subst (λ d. Reached g fit m l floors s (fewest_steps code) 3 start f free (spot free) (store ∷ rest) (all_of (local d v.0)) type) s.depth
       (place_goes g fit m l floors s path type near free f (store ∷ rest) typed (offset, home) tt behind kept_f) in
       let kept : KeptBelow frame.bank.scratch l.top.registers reached.h = λ r less. reached.kept r (omega arith) ∙ kept_f r less in
       let there : IsWordOf (reached.h from.0) n = subst (λ w. IsWordOf w n) (sym (reached.kept from.0 low)) word in

@@ -1,5 +1,5 @@
 -- The beginning of a routine: its parameters by value that have an address come from their registers.
-use Rattle.std.proofs.Common.{◌≡◌, ◌≤◌, ◌<◌, ◌⊎◌, inl, inr, ℕ, suc, ◌+◌, List, [], ◌∷◌, ◌++◌, length, Option, Some, None, refl, sym, ap, ◌∙◌, subst, arith, append_assoc}
+use Rattle.std.proofs.Common.{◌≡◌, ◌≤◌, ◌<◌, ◌⊎◌, inl, inr, ℕ, suc, ◌+◌, List, [], ◌∷◌, ◌++◌, length, Option, Some, None, refl, sym, ap, ◌∙◌, subst, arith, append_assoc, ◌*◌, ap₂}
 use Rattle.std.specs.Prelude.{pos, if◌then◌else◌}
 use Rattle.op_compute.specs.Bank.{scratch_of}
 use Rattle.op_compute.specs.Conversions.{low_bits_code}
@@ -27,7 +27,7 @@ use Rattle.op_low.specs.declared.instruction.Instruction.{Instruction as LowInst
 use Rattle.op_low.specs.declared.instruction.Instruction.TheVariants.{Store as StoreWord}
 use Rattle.op_meaning.specs.Calls.{Handed}
 use Rattle.op_meaning.specs.Numbers.{low_bits_of}
-use Rattle.op_meaning.specs.Shapes.{Shape, shape_of, single}
+use Rattle.op_meaning.specs.Shapes.{Shape, shape_of, single, is_reference}
 use Rattle.op_meaning.specs.Statements.{kind_by}
 use Rattle.op_meaning.specs.Values.{Value, Holder, Place, all_of, local, number, number_in}
 use Rattle.op_meaning.specs.World.{World, value_at}
@@ -38,7 +38,7 @@ use Rattle.op_mir.specs.declared.path.Path.{Path}
 use Rattle.op_mir.specs.declared.path.Root.TheVariants.{Local}
 use Rattle.op_rt_text.specs.Names.{register}
 use Rattle.op_agreement.proofs.Entering.{Enters, above_at, registers_begun, values_at, world_after}
-use Rattle.op_agreement.proofs.Going.{Goes, goes_from, goes_then, standing}
+use Rattle.op_agreement.proofs.Going.{Goes, goes_from, goes_then, standing, goes_within}
 use Rattle.op_agreement.proofs.Memory.{PlaceStands, number_stores, place_stands, size_of_number, some_size}
 use Rattle.op_agreement.proofs.Paths.{place_goes}
 use Rattle.op_agreement.proofs.Placing.{IsStoredValue, Received, received_on, register_low, small_here, type_here, variable_here}
@@ -51,10 +51,18 @@ use Rattle.op_agreement.specs.Handing.{ArePartsHanded, IsNumberHanded}
 use Rattle.op_agreement.specs.Settings.{Setting}
 use Rattle.op_agreement.specs.Typed.{PathTo}
 
+-- the bytes of a value that is copied
+abbrev pub copied_bytes : Core → Variable → ℕ
+copied_bytes core p = if is_reference p.role then 0 else if is_composite (shape_of core p.of) then size_in core p.of else 0
+
+-- what it costs at most to receive a parameter
+abbrev pub receive_most : Core → Variable → ℕ
+receive_most core p = 195 + 6 * copied_bytes core p
+
 -- low code that has come to where so many parameters are received
-pub record Receives (g : Setting) (Holds : State → Type 0) (from : State) : Type 0 where
+pub record Receives (g : Setting) (Holds : State → Type 0) (most : ℕ) (from : State) : Type 0 where
   pub to : State
-  pub goes : Goes g 0 from to
+  pub goes : Goes g 0 most from to
   pub holds : Holds to
 
 -- ---- the code that receives a parameter, by where it is kept
@@ -127,7 +135,7 @@ module _ (g : Setting) (fit : IsFitting g) (m : MirState) (l : State) (floors ne
     number_code_is kind shape = ap (λ s. store_for (kind_by s) (held_by (Local variable) [] (home_at floor_here.frame.homes variable))) shape ∙ ap (λ h. store_for kind (held_by (Local variable) [] h)) i.home
 
     -- a number
-    number_received : (was : HasReceived k (received_number g.core floor_here.frame k p.of ++ rest) lk) → IsNumberHanded g (world.memory (local deep k)) p (registers (parameter k)) → Receives g (HasReceived (k + 1) rest) lk
+    number_received : (was : HasReceived k (received_number g.core floor_here.frame k p.of ++ rest) lk) → IsNumberHanded g (world.memory (local deep k)) p (registers (parameter k)) → Receives g (HasReceived (k + 1) rest) (receive_most g.core p) lk
     number_received was (kind, shape, value, fits, word) =
         let s = was.stays in
         let scratch = e.floor.fits.scratch in
@@ -156,8 +164,8 @@ module _ (g : Setting) (fit : IsFitting g) (m : MirState) (l : State) (floors ne
         let least = fewest_steps place_before in
         record {
           to = to;
-          goes = goes_from g 0 lk (at lk lk.top.registers (place_before ++ (stored_by kind ∷ rest))) to begins
-              (goes_then g least 1 0 (at lk lk.top.registers (place_before ++ (stored_by kind ∷ rest))) (at lk reached.h (stored_by kind ∷ rest)) to (omega arith) reached.goes stores.goes);
+          goes = goes_within g 0 (receive_most g.core p) lk to (goes_from g 0 lk (at lk lk.top.registers (place_before ++ (stored_by kind ∷ rest))) to begins
+              (goes_then g least 1 0 (at lk lk.top.registers (place_before ++ (stored_by kind ∷ rest))) (at lk reached.h (stored_by kind ∷ rest)) to (omega arith) reached.goes stores.goes)) (omega arith);
           holds = received_on g fit m l floors new r given c lc first result words e k p offset i lk (received_number g.core floor_here.frame k p.of ++ rest) rest was reached.h stores.memory
               (λ x low other. reached.kept x (omega arith))
               (λ x low far. stores.changed x low (outside x a (size_in g.core p.of) at_ full far))
@@ -208,7 +216,7 @@ module _ (g : Setting) (fit : IsFitting g) (m : MirState) (l : State) (floors ne
     source_stands q is some = place_stands g fit m l floors e.stays q p.of source is (small_here g fit m l floors new r given c lc first result words e k p offset i) some
 
     -- it takes its bytes from there
-    parts_received : (was : HasReceived k (taking ++ rest) lk) → ArePartsHanded g floors (length m.callers) m.world (world.memory (local deep k)) p source → Receives g (HasReceived (k + 1) rest) lk
+    parts_received : (was : HasReceived k (taking ++ rest) lk) → ArePartsHanded g floors (length m.callers) m.world (world.memory (local deep k)) p source → Receives g (HasReceived (k + 1) rest) (receive_most g.core p) lk
     parts_received was (shape, q, is, value, small_word) =
         let s = was.stays in
         let a = s.activation in
@@ -240,12 +248,12 @@ module _ (g : Setting) (fit : IsFitting g) (m : MirState) (l : State) (floors ne
         let lies = parts_lie taken.memory q is value (λ x low. let ends = below (omega arith) in taken.copied x low ∙ was.below (source + x) (omega arith)) in
         record {
           to = record (at lk taken.registers rest) { memory = taken.memory };
-          goes = taken.goes;
+          goes = goes_within g 0 (receive_most g.core p) lk (record (at lk taken.registers rest) { memory = taken.memory }) taken.goes (let same : copied_bytes g.core p ≡ size = ap₂ (λ a b. if a then 0 else if is_composite b then size else 0) i.value shape in omega arith);
           holds = received_on g fit m l floors new r given c lc first result words e k p offset i lk (taking ++ rest) rest was taken.registers taken.memory taken.kept taken.others taken.bytes lies;
         }
 
     -- by its type
-    pub stored_received : (was : HasReceived k (received g.core floor_here.frame k p ++ rest) lk) → IsNumberHanded g (world.memory (local deep k)) p (registers (parameter k)) ⊎ ArePartsHanded g floors (length m.callers) m.world (world.memory (local deep k)) p (registers (parameter k)) → Receives g (HasReceived (k + 1) rest) lk
+    pub stored_received : (was : HasReceived k (received g.core floor_here.frame k p ++ rest) lk) → IsNumberHanded g (world.memory (local deep k)) p (registers (parameter k)) ⊎ ArePartsHanded g floors (length m.callers) m.world (world.memory (local deep k)) p (registers (parameter k)) → Receives g (HasReceived (k + 1) rest) (receive_most g.core p) lk
     stored_received was (inl handed) =
         let code : received g.core floor_here.frame k p ≡ received_number g.core floor_here.frame k p.of = ap (received_by g.core floor_here.frame k p) i.home ∙ ap (received_stored g.core floor_here.frame k p) handed.1 in
         number_received (subst (λ x. HasReceived k (x ++ rest) lk) code was) handed

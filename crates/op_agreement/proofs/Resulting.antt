@@ -1,5 +1,5 @@
 -- A function whose result is one value returns.
-use Rattle.std.proofs.Common.{◌≡◌, ◌≤◌, ◌<◌, ◌⊎◌, inl, inr, ℕ, ◌+◌, ◌-◌, List, [], ◌∷◌, ◌++◌, length, Option, Some, None, refl, sym, ap, ap₂, ◌∙◌, subst, arith}
+use Rattle.std.proofs.Common.{◌≡◌, ◌≤◌, ◌<◌, ◌⊎◌, inl, inr, ℕ, ◌+◌, ◌-◌, List, [], ◌∷◌, ◌++◌, length, Option, Some, None, refl, sym, ap, ap₂, ◌∙◌, subst, arith, ◌*◌}
 use Rattle.std.specs.Prelude.{pos, true, false, nat_eq, nat_lt, slice_get, if◌then◌else◌}
 use Rattle.std.proofs.lemmas.Bool.Decides.{nat_tests}
 use Rattle.op_compute.proofs.Registers.{put_same}
@@ -31,7 +31,7 @@ use Rattle.op_meaning.specs.Expressions.{result_of}
 use Rattle.op_meaning.specs.Items.{Receiver, nowhere, to_temp, to_place}
 use Rattle.op_meaning.specs.Shapes.{composite, result_of_routine, shape_of, single}
 use Rattle.op_meaning.specs.Values.{Value, all_of, local, number_in}
-use Rattle.op_mir.specs.Machine.{MirCaller, MirState, execute, mir_returned, mir_step, tables}
+use Rattle.op_mir.specs.Machine.{MirCaller, MirState, execute, mir_returned, mir_step, tables, mir_cost}
 use Rattle.op_mir.specs.View.{view_receiver}
 use Rattle.op_mir.specs.declared.ids.LocalId.{LocalId}
 use Rattle.op_mir.specs.declared.instruction.Instruction.TheVariants.{Return}
@@ -44,16 +44,18 @@ use Rattle.op_rv.specs.Step.{load_value}
 use Rattle.op_agreement.proofs.Branching.{begins_here, step_here}
 use Rattle.op_agreement.proofs.Computing.{rest_above, rest_below}
 use Rattle.op_agreement.proofs.Following.{Comes}
-use Rattle.op_agreement.proofs.Going.{Goes, goes_from, goes_none, goes_one, goes_then, goes_to}
+use Rattle.op_agreement.proofs.Going.{Goes, goes_from, goes_none, goes_one, goes_then, goes_to, goes_within}
 use Rattle.op_agreement.proofs.Memory.{number_loads, size_of_number, some_size}
 use Rattle.op_agreement.proofs.Standing.{Next, here}
 use Rattle.op_agreement.proofs.Updating.{limit_here}
 use Rattle.op_agreement.proofs.Callers.{Waits, gone_below, gone_scratch, gone_temporary, low_returns, waits}
+use Rattle.op_agreement.proofs.Pricing.{afford_light}
 use Rattle.op_agreement.specs.Chart.{Floor, IsAt, address_of, stored_offset}
 use Rattle.op_agreement.specs.Coding.{code_for}
 use Rattle.op_agreement.specs.Fitting.{IsFitting}
 use Rattle.op_agreement.specs.Settings.{HomeFits, Setting, StoredAt, managed}
 use Rattle.op_agreement.specs.Stands.{Stands}
+use Rattle.op_agreement.specs.Steps.{most_for_one}
 use Rattle.op_agreement.specs.Typed.{IsTypedReceiver, HasResult}
 
 -- ---- a function
@@ -170,7 +172,7 @@ module _ (g : Setting) (fit : IsFitting g) (m : MirState) (l : State) (floors : 
     record NumberReady : Type 0 where
       f : ℕ → ℕ
       r : VirtualRegister
-      goes : Goes g 0 l (at l f (LowReturn r ∷ rest))
+      goes : Goes g 0 2 l (at l f (LowReturn r ∷ rest))
       word : IsWordOf (f r.0) (number_in value)
 
     number_code_is : code_for g.core g.mir frame id Return ≡ number_code g.core frame kind variable
@@ -195,7 +197,7 @@ module _ (g : Setting) (fit : IsFitting g) (m : MirState) (l : State) (floors : 
         record {
           f = l.top.registers;
           r = r;
-          goes = goes_from g 0 l (at l l.top.registers (LowReturn r ∷ rest)) (at l l.top.registers (LowReturn r ∷ rest)) (begins_here g fit m l floors Return is id next (LowReturn r ∷ []) code) (goes_none g (at l l.top.registers (LowReturn r ∷ rest)));
+          goes = goes_from g 0 l (at l l.top.registers (LowReturn r ∷ rest)) (at l l.top.registers (LowReturn r ∷ rest)) (begins_here g fit m l floors Return is id next (LowReturn r ∷ []) code) (goes_within g 0 2 (at l l.top.registers (LowReturn r ∷ rest)) (at l l.top.registers (LowReturn r ∷ rest)) (goes_none g (at l l.top.registers (LowReturn r ∷ rest))) (omega arith));
           word = next.stays.activation.kept.variables v r.0 has.0 home;
         }
 
@@ -218,7 +220,7 @@ module _ (g : Setting) (fit : IsFitting g) (m : MirState) (l : State) (floors : 
         let (loads, word) = number_loads g fit m l floors s (all_of (local (length m.callers) v)) of kind h left left 0 (LowReturn left ∷ rest) shape small (result_at offset home (h 0 + 0) (inr same)) (omega arith) in
         let n = load_value (load_op kind) l.memory (h 0 + 0) in
         let f = λ (r : ℕ). if nat_eq r 0 then n else h r in
-        let first : Goes g 1 (at l l.top.registers (LocalAddress left offset ∷ Load (load_op kind) left left (pos 0) ∷ LowReturn left ∷ rest)) (at l h (Load (load_op kind) left left (pos 0) ∷ LowReturn left ∷ rest)) =
+        let first : Goes g 1 1 (at l l.top.registers (LocalAddress left offset ∷ Load (load_op kind) left left (pos 0) ∷ LowReturn left ∷ rest)) (at l h (Load (load_op kind) left left (pos 0) ∷ LowReturn left ∷ rest)) =
         goes_to g 1 (at l l.top.registers (LocalAddress left offset ∷ Load (load_op kind) left left (pos 0) ∷ LowReturn left ∷ rest)) (act g.low g.placement (LocalAddress left offset) (at l l.top.registers (Load (load_op kind) left left (pos 0) ∷ LowReturn left ∷ rest))) (at l h (Load (load_op kind) left left (pos 0) ∷ LowReturn left ∷ rest))
         (ap (λ x. at l (put l.top.registers left x) (Load (load_op kind) left left (pos 0) ∷ LowReturn left ∷ rest)) (local_address offset home))
         (goes_one g l l.top.registers (LocalAddress left offset) (Load (load_op kind) left left (pos 0) ∷ LowReturn left ∷ rest)) in
@@ -254,7 +256,7 @@ module _ (g : Setting) (fit : IsFitting g) (m : MirState) (l : State) (floors : 
         let k = gone_below g fit m l floors next.stays c cs lc lcs above lows caller (ready.f ready.r.0) in
         record {
           to = k;
-          goes = goes_then g 0 1 1 l (at l ready.f (LowReturn ready.r ∷ rest)) k (omega arith) ready.goes (low_returns g fit m l floors next.stays c cs lc lcs above lows caller ready.f l.memory ready.r rest);
+          goes = goes_within g 1 (most_for_one * mir_cost (managed g) m) l k (goes_then g 0 1 1 l (at l ready.f (LowReturn ready.r ∷ rest)) k (omega arith) ready.goes (low_returns g fit m l floors next.stays c cs lc lcs above lows caller ready.f l.memory ready.r rest)) (afford_light g fit m l floors Return is id next 3 (omega arith));
           stands = subst (λ x. Stands g x k) (sym return_step) (by (ready.f ready.r.0) ready.word c.receiver refl caller_gets);
         }
       where

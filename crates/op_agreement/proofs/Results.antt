@@ -1,5 +1,5 @@
 -- Where the result of a call goes: the code of its receiver comes to a register with the address, if it has one.
-use Rattle.std.proofs.Common.{◌≡◌, ℕ, ◌+◌, List, [], ◌∷◌, ◌++◌, length, Option, Some, None, refl, sym, ap, ap₂, subst, arith}
+use Rattle.std.proofs.Common.{◌≡◌, ℕ, ◌+◌, List, [], ◌∷◌, ◌++◌, length, Option, Some, None, refl, sym, ap, ap₂, subst, arith, ◌*◌, ◌≤◌}
 use Rattle.std.specs.Prelude.{map, true}
 use Rattle.op_compute.specs.Bank.{scratch_of}
 use Rattle.op_compute.specs.Straight.{at, fewest_steps}
@@ -14,6 +14,7 @@ use Rattle.op_expand.specs.declared.spot.Spot.{Spot}
 use Rattle.op_low.specs.State.{Caller, State}
 use Rattle.op_low.specs.declared.ids.VirtualRegister.{VirtualRegister}
 use Rattle.op_low.specs.declared.instruction.Instruction.{Instruction as LowInstruction}
+use Rattle.op_meaning.specs.Costs.{indices}
 use Rattle.op_meaning.specs.Items.{to_place}
 use Rattle.op_meaning.specs.Paths.{Path as MeantPath, in_temporary, place_of as place_meant}
 use Rattle.op_meaning.specs.Values.{all_of, temporary}
@@ -29,9 +30,9 @@ use Rattle.op_mir.specs.declared.path.Step.{Step}
 use Rattle.op_agreement.proofs.Branching.{both_true, has_of}
 use Rattle.op_agreement.proofs.Elements.{KeptBelow}
 use Rattle.op_agreement.proofs.Spots.{SpotFits, fits_register, fits_scratch}
-use Rattle.op_agreement.proofs.Going.{Goes, goes_fewer, goes_none}
+use Rattle.op_agreement.proofs.Going.{Goes, goes_fewer, goes_none, goes_within}
 use Rattle.op_agreement.proofs.Loading.{indices_in}
-use Rattle.op_agreement.proofs.Paths.{PlaceTo, Reached, place_goes}
+use Rattle.op_agreement.proofs.Paths.{PlaceTo, Reached, place_goes, place_most}
 use Rattle.op_agreement.proofs.Standing.{here}
 use Rattle.op_agreement.specs.Chart.{Floor, IsAt}
 use Rattle.op_agreement.specs.Fitting.{IsFitting}
@@ -70,7 +71,7 @@ module _ (g : Setting) (fit : IsFitting g) (m : MirState) (l : State) (floors : 
   -- the register of the spot has the address where the result goes, if it has one
   pub record ResultGiven (from : State) (spot : Spot) (code : List LowInstruction) (receiver : DeclaredReceiver) : Type 0 where
     pub h : ℕ → ℕ
-    pub goes : Goes g 0 from (at l h code)
+    pub goes : Goes g 0 3 from (at l h code)
     pub kept : KeptBelow (here m floors).frame.bank.scratch l.top.registers h
     pub fits : SpotFits (here m floors).frame.bank.scratch start spot
     pub receives : (c : Caller) → ResultGoes g floors (length m.callers) receiver (view_receiver receiver) c (h spot.base.0)
@@ -95,17 +96,18 @@ module _ (g : Setting) (fit : IsFitting g) (m : MirState) (l : State) (floors : 
       let typed : PathTo g.core (here m floors).number (view_path to) of = subst (λ p. PathTo g.core (here m floors).number p of) (sym same) (record { from = of; root = refl; reaches = refl; words = tt; small = small }) in
       let path_code = place_code g.core (here m floors).frame 0 to.root to.steps start in
       let spot = place_of g.core (here m floors).frame 0 to.root to.steps start in
+      let few : place_most to ≤ 3 = let none : place_most to ≡ 3 = ap (λ (p : MeantPath). 3 + 2 * indices p) same in omega arith in
       let spot_is : spot ≡ at_scratch start = ap₂ (λ r ss. place_of g.core (here m floors).frame 0 r ss start) root steps in
       let from = at l l.top.registers (path_code ++ code) in
-      let reached : Reached g fit m l floors s (fewest_steps path_code) from l.top.registers start spot code (all_of (temporary m.world.depth of n)) of =
-      subst (λ p. PlaceTo g fit m l floors s (fewest_steps path_code) from l.top.registers start spot code of (place_meant m.world p)) same
+      let reached : Reached g fit m l floors s (fewest_steps path_code) (place_most to) from l.top.registers start spot code (all_of (temporary m.world.depth of n)) of =
+      subst (λ p. PlaceTo g fit m l floors s (fewest_steps path_code) (place_most to) from l.top.registers start spot code of (place_meant m.world p)) same
       (place_goes g fit m l floors s to of 0 start l.top.registers code typed placed (indices_in g.mir (here m floors).routine to fits) (omega arith) (λ r low. refl)) in
       let none : spot.offset ≡ 0 = ap (λ (x : Spot). x.offset) spot_is in
       let low = reached.low in
       let there : IsAt g floors d (all_of (temporary m.world.depth of n)) of (reached.h spot.base.0) = let e : reached.h spot.base.0 + spot.offset ≡ reached.h spot.base.0 = omega arith in subst (IsAt g floors d (all_of (temporary m.world.depth of n)) of) e reached.is in
       record {
         h = reached.h;
-        goes = goes_fewer g (fewest_steps path_code) 0 from (at l reached.h code) (omega arith) reached.goes;
+        goes = goes_within g 0 3 from (at l reached.h code) (goes_fewer g (fewest_steps path_code) 0 from (at l reached.h code) (omega arith) reached.goes) few;
         kept = λ r below. reached.kept r (omega arith);
         fits = subst (SpotFits (here m floors).frame.bank.scratch start) (sym spot_is) (fits_scratch (here m floors).frame.bank.scratch start);
         receives = λ c. (n, same, subst (λ e. IsAt g floors d (all_of (temporary e of n)) of (reached.h spot.base.0)) s.depth there, omega arith);
@@ -114,8 +116,8 @@ module _ (g : Setting) (fit : IsFitting g) (m : MirState) (l : State) (floors : 
   -- of each receiver
   pub result_given : (receiver : DeclaredReceiver) (result : Option TypeId) (code : List LowInstruction) → receiver_fits g.mir (here m floors).routine receiver ≡ true → IsTypedReceiver g.core (view_receiver receiver) result → HasReceiver g.core (here m floors).number (here m floors).frame receiver → ResultGiven (at l l.top.registers (receiver_code g.core (here m floors).frame receiver start ++ code)) (receiver_spot g.core (here m floors).frame receiver start) code receiver
   unfolding receiver_fits copied_fits
-  result_given Nowhere result code fits typed homes = record { h = l.top.registers; goes = goes_none g (at l l.top.registers code); kept = λ r low. refl; fits = left_fits; receives = λ c. tt }
-  result_given (ToTemporary t) result code fits typed homes = record { h = l.top.registers; goes = goes_none g (at l l.top.registers code); kept = λ r low. refl; fits = left_fits; receives = λ c. has_of (here m floors).routine t fits }
+  result_given Nowhere result code fits typed homes = record { h = l.top.registers; goes = goes_within g 0 3 (at l l.top.registers code) (at l l.top.registers code) (goes_none g (at l l.top.registers code)) (omega arith); kept = λ r low. refl; fits = left_fits; receives = λ c. tt }
+  result_given (ToTemporary t) result code fits typed homes = record { h = l.top.registers; goes = goes_within g 0 3 (at l l.top.registers code) (at l l.top.registers code) (goes_none g (at l l.top.registers code)) (omega arith); kept = λ r low. refl; fits = left_fits; receives = λ c. has_of (here m floors).routine t fits }
   result_given (ToPlace of to) result code fits typed homes =
       let (n, same) = typed_place g.core of (view_path to) result typed in
       address_given of to n code same (both_true (has_type g.mir of) (path_fits g.mir (here m floors).routine to) fits).1 homes

@@ -1,5 +1,5 @@
 -- A procedure returns, and its caller goes on.
-use Rattle.std.proofs.Common.{◌≡◌, ◌≤◌, ◌<◌, ℕ, suc, ◌+◌, ◌-◌, List, [], ◌∷◌, length, Option, None, refl, sym, ap, ap₂, ◌∙◌, subst, arith}
+use Rattle.std.proofs.Common.{◌≡◌, ◌≤◌, ◌<◌, ℕ, suc, ◌+◌, ◌-◌, List, [], ◌∷◌, length, Option, None, refl, sym, ap, ap₂, ◌∙◌, subst, arith, ◌*◌}
 use Rattle.std.specs.Prelude.{false, nat_eq, slice_get, if◌then◌else◌}
 use Rattle.std.proofs.lemmas.Bool.Decides.{nat_tests}
 use Rattle.op_compute.specs.Bank.{scratch_of}
@@ -21,7 +21,7 @@ use Rattle.op_meaning.specs.Calls.{received, result_in}
 use Rattle.op_meaning.specs.Items.{Receiver, nowhere, to_temp, to_place}
 use Rattle.op_meaning.specs.Values.{Value, Holder, global, local, temporary, object, number_in}
 use Rattle.op_meaning.specs.World.{Running as GoingOn}
-use Rattle.op_mir.specs.Machine.{MirCaller, MirState, execute, mir_returned, mir_step, tables}
+use Rattle.op_mir.specs.Machine.{MirCaller, MirState, execute, mir_returned, mir_step, tables, mir_cost}
 use Rattle.op_mir.specs.Plain.{IsNameless}
 use Rattle.op_mir.specs.View.{view_receiver}
 use Rattle.op_mir.specs.declared.instruction.Instruction.TheVariants.{Return}
@@ -29,16 +29,16 @@ use Rattle.op_mir.specs.declared.instruction.Instruction.{Instruction}
 use Rattle.op_mir.specs.declared.instruction.Receiver.TheVariants.{Nowhere, Temporary, Place}
 use Rattle.op_mir.specs.declared.instruction.Receiver.{Receiver as DeclaredReceiver}
 use Rattle.op_agreement.proofs.Branching.{begins_here, step_here}
-use Rattle.op_agreement.proofs.Closing.{main_comes}
+use Rattle.op_agreement.proofs.Closing.{main_comes, running_costs}
 use Rattle.op_agreement.proofs.Computing.{rest_above, rest_below}
-use Rattle.op_agreement.proofs.Going.{goes_from, goes_one, goes_to}
+use Rattle.op_agreement.proofs.Going.{goes_from, goes_one, goes_to, goes_within}
 use Rattle.op_agreement.proofs.Standing.{Next, SameVariables, Temporaries, here, kept_registers, stands_on}
 use Rattle.op_agreement.specs.Chart.{Floor, Live}
 use Rattle.op_agreement.specs.Fitting.{IsFitting}
 use Rattle.op_agreement.specs.Settings.{Setting, managed}
 use Rattle.op_agreement.specs.Coding.{code_for}
 use Rattle.op_agreement.specs.Stands.{ActivationStands, CallersStand, Position, Stands, Stays}
-use Rattle.op_agreement.specs.Steps.{Comes}
+use Rattle.op_agreement.specs.Steps.{Comes, most_for_one}
 use Rattle.op_agreement.specs.Typed.{IsTypedReceiver}
 
 -- what is live where fewer activations are below is so where more are
@@ -161,7 +161,8 @@ module _ (g : Setting) (fit : IsFitting g) (m : MirState) (l : State) (floors : 
       record {
         to = k;
         goes = goes_from g 1 l (at l l.top.registers (LowReturn left ∷ rest)) k (begins_here g fit m l floors Return is id next (LowReturn left ∷ []) code)
-            (goes_to g 1 (at l l.top.registers (LowReturn left ∷ rest)) (act g.low g.placement (LowReturn left) (at l l.top.registers rest)) k does (goes_one g l l.top.registers (LowReturn left) rest));
+            (goes_within g 1 (most_for_one * mir_cost (managed g) m) (at l l.top.registers (LowReturn left ∷ rest)) k
+            (goes_to g 1 (at l l.top.registers (LowReturn left ∷ rest)) (act g.low g.placement (LowReturn left) (at l l.top.registers rest)) k does (goes_one g l l.top.registers (LowReturn left) rest)) (running_costs g m next.ending));
         stands = subst (λ x. Stands g x k) (sym step)
             (back_stands g fit m l floors s c cs lc lcs above below spare under frames nameless made position activation callers (omega arith) c.temps lc.to v
             (λ r less. kept r (omega arith))

@@ -22,7 +22,7 @@ use Rattle.op_agreement.specs.Coding.{code_for}
 use Rattle.op_expand.specs.Routines.{code_of}
 use Rattle.op_agreement.specs.Settings.{Setting, managed, AreLiterals, FrameFits, HomeFits, HasHomes, HaveHomes}
 use Rattle.op_agreement.specs.Stands.{AreKept, CallersStand, GoesOn, Stands, Stays, StandsBy}
-use Rattle.op_agreement.specs.Typed.{AreFine, IsFine, Leaves}
+use Rattle.op_agreement.specs.Typed.{AreFine, IsFine, IsPaid, Leaves}
 
 -- ---- a state that goes on, and its next instruction
 
@@ -39,6 +39,7 @@ pub record Next (g : Setting) (m : MirState) (l : State) (floors : ℕ → Floor
   pub literals : AreLiterals (literals_of g.core g.mir) id (instruction_literals g.core (here m floors).number i)
   pub others : AreLiterals (literals_of g.core g.mir) (id + literals_in g.core (here m floors).number i) (flat_map (instruction_literals g.core (here m floors).number) is)
   pub fine : IsFine g.core g.mir (here m floors).number (here m floors).routine i
+  pub paid : IsPaid g.mir (here m floors).number (here m floors).routine i
   pub on : Leaves i ⊎ AreFine g.core g.mir (here m floors).number (here m floors).routine is
   pub homes : HasHomes g.core (here m floors).number (here m floors).frame i
   pub more : HaveHomes g.core (here m floors).number (here m floors).frame is

@@ -158,14 +158,14 @@ module _ (g : Setting) (fit : IsFitting g) (loaded : IsLoaded g) (input : List �
   abbrev told : ℕ → ℕ
   told r = if nat_eq r 0 then g.stack else with_address r
 
-  addressed : (rest : List LowInstruction) → Goes g 1 (begun (slice_index []) (Address left (Global (record { 0 = length g.core.variables })) ∷ rest)) (begun with_address rest)
+  addressed : (rest : List LowInstruction) → Goes g 1 1 (begun (slice_index []) (Address left (Global (record { 0 = length g.core.variables })) ∷ rest)) (begun with_address rest)
   unfolding act
   addressed rest = goes_one g (begun (slice_index []) []) (slice_index []) (Address left (Global (record { 0 = length g.core.variables }))) rest
 
   stack_read : word_at memory_first (stack_address g) ≡ g.stack
   stack_read = let below = loaded.stack_below in number-same Signed32 g.loaded memory_first (stack_address g) (stack_address g) (λ x low. low_kept (stack_address g + x) (omega arith)) ∙ loaded.stack_told
 
-  loads : (rest : List LowInstruction) → Goes g 1 (begun with_address (Load Lw left left (pos 0) ∷ rest)) (begun told rest)
+  loads : (rest : List LowInstruction) → Goes g 1 1 (begun with_address (Load Lw left left (pos 0) ∷ rest)) (begun told rest)
   unfolding act load
   loads rest =
       let word = fit.placed.words (Global (record { 0 = length g.core.variables })) in

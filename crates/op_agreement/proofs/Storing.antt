@@ -1,5 +1,5 @@
 -- Stores, and looks at places.
-use Rattle.std.proofs.Common.{◌≡◌, ◌≢◌, ◌≤◌, ◌<◌, ◌⊎◌, inl, inr, ℕ, ℤ, ◌+◌, List, [], ◌∷◌, ◌++◌, length, Option, Some, None, refl, sym, ap, ap₂, ◌∙◌, subst, arith, append_assoc}
+use Rattle.std.proofs.Common.{◌≡◌, ◌≢◌, ◌≤◌, ◌<◌, ◌⊎◌, inl, inr, ℕ, ℤ, ◌+◌, List, [], ◌∷◌, ◌++◌, length, Option, Some, None, refl, sym, ap, ap₂, ◌∙◌, subst, arith, append_assoc, ◌*◌}
 use Rattle.std.specs.Prelude.{◌^◌, ◌%◌, map, pos, Bool, true, false, ◌&&◌, nat_eq, nat_le, nat_lt, if◌then◌else◌}
 use Rattle.std.proofs.lemmas.Bool.{cases_eq}
 use Rattle.std.proofs.lemmas.Bool.Decides.{nat_tests}
@@ -32,7 +32,7 @@ use Rattle.op_meaning.specs.Values.{Holder, Place, Value, all_of, local, number,
 use Rattle.op_meaning.specs.World.{number_at, with_value}
 use Rattle.op_mir.proofs.PlainLemmas.{plain_perform}
 use Rattle.op_mir.specs.Code.{Instr}
-use Rattle.op_mir.specs.Machine.{MirState, execute, mir_step}
+use Rattle.op_mir.specs.Machine.{MirState, execute, mir_step, mir_cost}
 use Rattle.op_mir.specs.Plain.{IsPlainWorld}
 use Rattle.op_mir.specs.Valid.{action_fits, has, load_fits}
 use Rattle.op_mir.specs.View.{view_action, view_path, view_step}
@@ -51,11 +51,13 @@ use Rattle.op_agreement.proofs.Cases.{behind_act}
 use Rattle.op_agreement.proofs.Charting.{same_is}
 use Rattle.op_agreement.proofs.Computing.{rest_above, rest_below, rest_stands}
 use Rattle.op_agreement.proofs.Following.{Comes}
-use Rattle.op_agreement.proofs.Going.{Goes, GoesTo, goes_from, goes_straight, goes_then}
+use Rattle.op_agreement.proofs.Going.{Goes, GoesTo, goes_from, goes_straight, goes_then, goes_within}
+use Rattle.op_agreement.proofs.Lengths.{low_bits_short}
 use Rattle.op_agreement.proofs.Loading.{index_fails, indices_in, placed_part}
 use Rattle.op_agreement.proofs.Memory.{number_stores, size_of_number, some_size}
-use Rattle.op_agreement.proofs.Paths.{PlaceTo, place_goes}
+use Rattle.op_agreement.proofs.Paths.{PlaceTo, place_goes, place_most}
 use Rattle.op_agreement.proofs.Places.{small_last}
+use Rattle.op_agreement.proofs.Pricing.{afford}
 use Rattle.op_agreement.proofs.Standing.{Next, here, stands_on}
 use Rattle.op_agreement.proofs.Updating.{callers_moved, stays_put}
 use Rattle.op_agreement.specs.Chart.{Floor, IsAt, Live, address_of, type_held}
@@ -63,6 +65,7 @@ use Rattle.op_agreement.specs.Coding.{code_for}
 use Rattle.op_agreement.specs.Fitting.{IsFitting}
 use Rattle.op_agreement.specs.Settings.{HomeFits, IsPlaced, Setting, managed}
 use Rattle.op_agreement.specs.Stands.{CallersStand, Stands, Stays}
+use Rattle.op_agreement.specs.Steps.{most_for_one}
 use Rattle.op_agreement.specs.Typed.{IsVariable, PathTo}
 
 -- ---- a variable that is kept in a register
@@ -209,13 +212,15 @@ module _ (g : Setting) (fit : IsFitting g) (m : MirState) (l : State) (floors : 
         (subst (λ d. IsPlainWorld (with_value (all_of (local d v.0)) (number (low_bits_of kind x)) m.world)) s.depth plain)
         (step_here g fit m l floors i is id next ∙ ap (λ d. record m { world = with_value (all_of (local d v.0)) (number (low_bits_of kind x)) m.world; rest = rest_above g m l floors i is id next }) s.depth)
       where
-        by : (o : Outcome) → GoesTo g (fewest_steps (low_bits_code r kind (register_of frame.bank from))) l (at l l.top.registers (low_bits_code r kind (register_of frame.bank from) ++ rest_below g m l floors (Stores (Local v) [] landing) is id next)) (rest_below g m l floors (Stores (Local v) [] landing) is id next) o → Answers (work_of frame.bank) r l.top.registers (gives (low_bits_of kind (number_at m.world from.0))) o → l ≡ at l l.top.registers (low_bits_code r kind (register_of frame.bank from) ++ rest_below g m l floors (Stores (Local v) [] landing) is id next) → fewest_steps (low_bits_code r kind (register_of frame.bank from)) ≡ 1 → IsVariable g.core (here m floors).number v.0 false → IsPlainWorld (with_value (all_of (local (length m.callers) v.0)) (number (low_bits_of kind (number_at m.world from.0))) m.world) → mir_step (managed g) m ≡ record m { world = with_value (all_of (local (length m.callers) v.0)) (number (low_bits_of kind (number_at m.world from.0))) m.world; rest = rest_above g m l floors (Stores (Local v) [] landing) is id next } → Comes g m l
+        by : (o : Outcome) → GoesTo g (fewest_steps (low_bits_code r kind (register_of frame.bank from))) (length (low_bits_code r kind (register_of frame.bank from))) l (at l l.top.registers (low_bits_code r kind (register_of frame.bank from) ++ rest_below g m l floors (Stores (Local v) [] landing) is id next)) (rest_below g m l floors (Stores (Local v) [] landing) is id next) o → Answers (work_of frame.bank) r l.top.registers (gives (low_bits_of kind (number_at m.world from.0))) o → l ≡ at l l.top.registers (low_bits_code r kind (register_of frame.bank from) ++ rest_below g m l floors (Stores (Local v) [] landing) is id next) → fewest_steps (low_bits_code r kind (register_of frame.bank from)) ≡ 1 → IsVariable g.core (here m floors).number v.0 false → IsPlainWorld (with_value (all_of (local (length m.callers) v.0)) (number (low_bits_of kind (number_at m.world from.0))) m.world) → mir_step (managed g) m ≡ record m { world = with_value (all_of (local (length m.callers) v.0)) (number (low_bits_of kind (number_at m.world from.0))) m.world; rest = rest_above g m l floors (Stores (Local v) [] landing) is id next } → Comes g m l
         by (Behind h) goes answers begins some variable plain step =
             let rest = rest_below g m l floors (Stores (Local v) [] landing) is id next in
             let n = low_bits_of kind (number_at m.world from.0) in
             record {
               to = at l h rest;
-              goes = subst (λ k. Goes g k l (at l h rest)) some (goes_from g _ l _ (at l h rest) begins goes);
+              goes = goes_within g 1 (most_for_one * mir_cost (managed g) m) l (at l h rest)
+                  (subst (λ k. Goes g k (length (low_bits_code r kind (register_of frame.bank from))) l (at l h rest)) some (goes_from g _ l _ (at l h rest) begins goes))
+                  (afford g fit m l floors (Stores (Local v) [] landing) is id next (λ light. light) (length (low_bits_code r kind (register_of frame.bank from))) (let short = low_bits_short r kind (register_of frame.bank from) in omega arith));
               stands = subst (λ k. Stands g k (at l h rest)) (sym step) (stands_on g (record m { world = with_value (all_of (local (length m.callers) v.0)) (number n) m.world; rest = rest_above g m l floors (Stores (Local v) [] landing) is id next }) (at l h rest) next.ending next.frames (record {
                 floors = floors;
                 stays = stays_variable g floors m l next.stays v.0 r.0 n variable home (rest_above g m l floors (Stores (Local v) [] landing) is id next) h rest answers.result (λ q low other. answers.others q (omega arith) other) plain;
@@ -234,8 +239,8 @@ module _ (g : Setting) (fit : IsFitting g) (m : MirState) (l : State) (floors : 
     abbrev sw : Path → LowInstruction
     sw path = StoreWord (store_op kind) (register_of frame.bank from) (spot_placed path).base (pos (spot_placed path).offset)
 
-    store_by : (path : Path) (landing : Option BlockId) (next : NextIs (Act (Store path kind from) landing)) (of : TypeId) → Rattle.op_meaning.specs.Shapes.shape_of g.core of ≡ Rattle.op_meaning.specs.Shapes.single kind → PathTo g.core (here m floors).number (view_path path) of → from.0 < (here m floors).routine.temporaries → (o : Option Place) → place_meant m.world (view_path path) ≡ o → l ≡ at l l.top.registers (store_code_placed path ++ (sw path ∷ rest_below g m l floors (Act (Store path kind from) landing) is id next)) → PlaceTo g fit m l floors next.stays (fewest_steps (store_code_placed path)) (at l l.top.registers (store_code_placed path ++ (sw path ∷ rest_below g m l floors (Act (Store path kind from) landing) is id next))) l.top.registers (scratch_of frame.bank 0) (spot_placed path) (sw path ∷ rest_below g m l floors (Act (Store path kind from) landing) is id next) of o → mir_step (managed g) m ≡ record m { world = at_place g.core o (λ p. with_value p (number (low_bits_of kind (number_at m.world from.0))) m.world) m.world; rest = rest_above g m l floors (Act (Store path kind from) landing) is id next } → IsPlainWorld (at_place g.core o (λ p. with_value p (number (low_bits_of kind (number_at m.world from.0))) m.world) m.world) → Comes g m l
-    store_by path landing next of shape typed low_from None e begins fails step plain = index_fails g fit m l floors is id (Act (Store path kind from) landing) next _ _ begins fails step
+    store_by : (path : Path) (landing : Option BlockId) (next : NextIs (Act (Store path kind from) landing)) (of : TypeId) → Rattle.op_meaning.specs.Shapes.shape_of g.core of ≡ Rattle.op_meaning.specs.Shapes.single kind → PathTo g.core (here m floors).number (view_path path) of → from.0 < (here m floors).routine.temporaries → (o : Option Place) → place_meant m.world (view_path path) ≡ o → l ≡ at l l.top.registers (store_code_placed path ++ (sw path ∷ rest_below g m l floors (Act (Store path kind from) landing) is id next)) → PlaceTo g fit m l floors next.stays (fewest_steps (store_code_placed path)) (place_most path) (at l l.top.registers (store_code_placed path ++ (sw path ∷ rest_below g m l floors (Act (Store path kind from) landing) is id next))) l.top.registers (scratch_of frame.bank 0) (spot_placed path) (sw path ∷ rest_below g m l floors (Act (Store path kind from) landing) is id next) of o → mir_step (managed g) m ≡ record m { world = at_place g.core o (λ p. with_value p (number (low_bits_of kind (number_at m.world from.0))) m.world) m.world; rest = rest_above g m l floors (Act (Store path kind from) landing) is id next } → IsPlainWorld (at_place g.core o (λ p. with_value p (number (low_bits_of kind (number_at m.world from.0))) m.world) m.world) → Comes g m l
+    store_by path landing next of shape typed low_from None e begins fails step plain = index_fails g fit m l floors is id (Act (Store path kind from) landing) next _ (place_most path) _ begins fails (afford g fit m l floors (Act (Store path kind from) landing) is id next (λ light. light) (place_most path + 5) (omega arith)) step
     store_by path landing next of shape typed low_from (Some q) e begins reached step plain =
         let i = Act (Store path kind from) landing in
         let s = next.stays in
@@ -254,7 +259,9 @@ module _ (g : Setting) (fit : IsFitting g) (m : MirState) (l : State) (floors : 
         let k = record (at l reached.h rest) { memory = stores.memory } in
         record {
           to = k;
-          goes = goes_from g 1 l _ k begins (goes_then g _ 1 1 _ (at l reached.h (sw path ∷ rest)) k (omega arith) reached.goes stores.goes);
+          goes = goes_within g 1 (most_for_one * mir_cost (managed g) m) l k
+              (goes_from g 1 l _ k begins (goes_then g _ 1 1 _ (at l reached.h (sw path ∷ rest)) k (omega arith) reached.goes stores.goes))
+              (afford g fit m l floors i is id next (λ light. light) (place_most path + 1) (omega arith));
           stands = subst (λ y. Stands g y k) (sym step) (stands_on g (record m { world = with_value q (number (low_bits_of kind x)) m.world; rest = rest_above g m l floors i is id next }) k next.ending next.frames (record {
             floors = floors;
             stays = stays_put g fit floors m l s q of (reached.h spot.base.0 + spot.offset) reached.is (omega arith) small (number (low_bits_of kind x)) stores.memory stores.changed (rest_above g m l floors i is id next) reached.h rest plain stores.bytes stores.lies
@@ -310,6 +317,6 @@ module _ (g : Setting) (fit : IsFitting g) (m : MirState) (l : State) (floors : 
   pub look_empty : (path : Path) (landing : Option BlockId) (next : NextIs (Act (Look path) landing)) → code_for g.core g.mir frame id (Act (Look path) landing) ≡ Const (scratch_of frame.bank 0) 0 ∷ [] → (q : Place) → place_meant m.world (view_path path) ≡ Some q → Comes g m l
   unfolding outcome execute perform
   look_empty path landing next code q e =
-      turned g fit m l floors (Act (Look path) landing) is id next (Const (scratch_of frame.bank 0) 0 ∷ []) None code refl (λ none. behind_act next.on) (λ k e. absurd cc)
+      turned g fit m l floors (Act (Look path) landing) is id next (Const (scratch_of frame.bank 0) 0 ∷ []) None code refl (afford g fit m l floors (Act (Look path) landing) is id next (λ light. light) 1 (omega arith)) (λ none. behind_act next.on) (λ k e. absurd cc)
       (λ r low. put_lower l.top.registers (scratch_of frame.bank 0) 0 r low)
       (step_here g fit m l floors (Act (Look path) landing) is id next ∙ ap (λ o. record m { world = at_place g.core o (λ p. m.world) m.world; rest = rest_above g m l floors (Act (Look path) landing) is id next }) e)

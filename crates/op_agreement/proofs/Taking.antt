@@ -1,5 +1,5 @@
 -- A variable of the routine under way takes a value with parts from an address.
-use Rattle.std.proofs.Common.{◌≡◌, ◌≢◌, ◌≤◌, ◌<◌, ◌⊎◌, inl, inr, ℕ, zero, suc, ◌+◌, ◌-◌, List, [], ◌∷◌, ◌++◌, None, refl, sym, ap, ap₂, ◌∙◌, subst, arith}
+use Rattle.std.proofs.Common.{◌≡◌, ◌≢◌, ◌≤◌, ◌<◌, ◌⊎◌, inl, inr, ℕ, zero, suc, ◌+◌, ◌-◌, List, [], ◌∷◌, ◌++◌, None, refl, sym, ap, ap₂, ◌∙◌, subst, arith, ◌*◌}
 use Rattle.std.specs.Prelude.{◌^◌, ◌%◌, pos, Bool, true, false, nat_eq, nat_lt, slice_index, if◌then◌else◌}
 use Rattle.std.specs.Int.{bytes_low_first}
 use Rattle.std.proofs.lemmas.Bool.{cases_lt}
@@ -29,7 +29,7 @@ use Rattle.op_rt_text.specs.Running.{Called, Copies, Copyable}
 use Rattle.op_rv.proofs.Memory.{with_bytes-below, word_at-stored}
 use Rattle.op_rv.specs.State.{with_bytes, word_at}
 use Rattle.op_rv.specs.declared.instruction.StoreOp.TheVariants.{Sw}
-use Rattle.op_agreement.proofs.Going.{Goes, goes_from, goes_none, goes_one, goes_then, goes_to, standing}
+use Rattle.op_agreement.proofs.Going.{Goes, goes_from, goes_none, goes_one, goes_then, goes_to, standing, goes_within, goes_path}
 use Rattle.op_agreement.proofs.WholeWords.{byte_far, byte_small, byte_taken, rounded_some, rounded_within, word_stores}
 use Rattle.op_agreement.specs.Chart.{Floor}
 use Rattle.op_agreement.specs.Fitting.{IsFitting}
@@ -59,12 +59,16 @@ pub record CanTake (g : Setting) (f : Floor) (l : State) (from : VirtualRegister
   pub readable : (x : ℕ) → source ≤ x → x < source + size → g.placement.rights.readable x ≡ true
   pub below : 0 < size → source + size ≤ f.base
 
+-- what it costs at most to take so many bytes
+abbrev pub take_most : ℕ → ℕ
+take_most size = 195 + 6 * size
+
 -- Low code has come to the rest. Registers in front of the scratch registers are as they were, but for the one with the address; so is
 -- memory below the limit, but for the whole words of the variable, where these bytes stand now.
 pub record Taken (g : Setting) (f : Floor) (l : State) (from : VirtualRegister) (rest : List LowInstruction) (a source size : ℕ) : Type 0 where
   pub registers : ℕ → ℕ
   pub memory : ℕ → ℕ
-  pub goes : Goes g 0 l (record (at l registers rest) { memory = memory })
+  pub goes : Goes g 0 (take_most size) l (record (at l registers rest) { memory = memory })
   pub kept : (r : ℕ) → r < f.frame.bank.scratch → r ≢ from.0 → registers r ≡ l.top.registers r
   pub others : (x : ℕ) → x < l.limit → (x < a) ⊎ (a + rounded size ≤ x) → memory x ≡ l.memory x
   pub copied : (k : ℕ) → k < size → memory (a + k) ≡ l.memory (source + k)
@@ -171,7 +175,7 @@ module _ (g : Setting) (fit : IsFitting g) (f : Floor) (l : State) (from : Virtu
     there = record l { memory = worded }
 
     -- the address of the variable
-    address_goes : Goes g 1 (at l l.top.registers at_place) (at l placed at_word)
+    address_goes : Goes g 1 1 (at l l.top.registers at_place) (at l placed at_word)
     unfolding act put
     address_goes =
         let limit = can.limit in
@@ -186,7 +190,7 @@ module _ (g : Setting) (fit : IsFitting g) (f : Floor) (l : State) (from : Virtu
     from_placed = put_other l.top.registers to a from.0 (let other = can.other in λ same. other (omega arith)) ∙ can.holds
 
     -- that is stored where they are to go
-    word_goes : Goes g 1 (at l placed at_word) (at there placed at_size)
+    word_goes : Goes g 1 1 (at l placed at_word) (at there placed at_size)
     word_goes =
         let is = within_here in
         let words = is.whole in
@@ -199,7 +203,7 @@ module _ (g : Setting) (fit : IsFitting g) (f : Floor) (l : State) (from : Virtu
         (λ x up down. fit.placed.writable x (omega arith) (omega arith))
 
     -- and how many they are
-    size_goes : Goes g 1 (at there placed at_size) (at there sized at_call)
+    size_goes : Goes g 1 1 (at there placed at_size) (at there sized at_call)
     unfolding act put
     size_goes = goes_one g there placed (Const from size) at_call
 
@@ -292,11 +296,11 @@ module _ (g : Setting) (fit : IsFitting g) (f : Floor) (l : State) (from : Virtu
         record {
           registers = registers;
           memory = c.memory;
-          goes = goes_from g 0 l (at l l.top.registers at_place) end (standing g l at_place can.running (now ∙ code_is))
+          goes = goes_within g 0 (take_most size) l end (goes_from g 0 l (at l l.top.registers at_place) end (standing g l at_place can.running (now ∙ code_is))
               (goes_then g 1 2 0 (at l l.top.registers at_place) (at l placed at_word) end (omega arith) address_goes
               (goes_then g 1 1 2 (at l placed at_word) (at there placed at_size) end (omega arith) word_goes
               (goes_then g 1 0 1 (at there placed at_size) (at there sized at_call) end (omega arith) size_goes
-              (record { steps = c.steps; enough = omega arith; ends = c.path.ends }))));
+              (goes_path g c.steps 0 (192 + 6 * size) (at there sized at_call) end (omega arith) c.path))))) (omega arith);
           kept = λ r low other. put_other sized from c.value r other ∙ put_other placed from size r other ∙ put_lower l.top.registers to a r (omega arith);
           others = byte_far l.memory c.memory a source size l.limit some below inside can.bytes c.copied;
           copied = byte_taken l.memory c.memory a source size l.limit some below inside can.bytes c.copied;
@@ -312,7 +316,7 @@ module _ (g : Setting) (fit : IsFitting g) (f : Floor) (l : State) (from : Virtu
       record {
         registers = l.top.registers;
         memory = l.memory;
-        goes = goes_to g 0 l l (at l l.top.registers rest) (standing g l rest can.running (now ∙ is)) (goes_none g l);
+        goes = goes_within g 0 (take_most size) l (at l l.top.registers rest) (goes_to g 0 l l (at l l.top.registers rest) (standing g l rest can.running (now ∙ is)) (goes_none g l)) (omega arith);
         kept = λ r low other. refl;
         others = λ x low far. refl;
         copied = λ k low. absurd (omega arith);

@@ -38,7 +38,7 @@ bytes_stored limit memory a bytes old new x low =
     elim (nat_le a x && nat_lt x (a + length bytes)) as (λ b. cond b (get_or bytes (x - a) 0) (memory x) < 2 ^ 8) [ true ↦ new (x - a) | false ↦ old x low ]
 
 -- a word is stored
-pub word_stores : (g : Setting) (l : State) (h : ℕ → ℕ) (from base : VirtualRegister) (off a v : ℕ) (rest : List LowInstruction) → h base.0 + off ≡ a → h from.0 ≡ v → a % 4 ≡ 0 → a + 4 ≤ l.limit → a < 2 ^ 32 → ((x : ℕ) → a ≤ x → x < a + 4 → g.placement.rights.writable x ≡ true) → Goes g 1 (at l h (StoreWord Sw from base (pos off) ∷ rest)) (at (record l { memory = with_bytes l.memory a (bytes_low_first 0 4 v) }) h rest)
+pub word_stores : (g : Setting) (l : State) (h : ℕ → ℕ) (from base : VirtualRegister) (off a v : ℕ) (rest : List LowInstruction) → h base.0 + off ≡ a → h from.0 ≡ v → a % 4 ≡ 0 → a + 4 ≤ l.limit → a < 2 ^ 32 → ((x : ℕ) → a ≤ x → x < a + 4 → g.placement.rights.writable x ≡ true) → Goes g 1 1 (at l h (StoreWord Sw from base (pos off) ∷ rest)) (at (record l { memory = with_bytes l.memory a (bytes_low_first 0 4 v) }) h rest)
 unfolding act store
 word_stores g l h from base off a v rest there has whole below word may =
     let can : can_access (usable g.placement.rights.writable (at l h rest)) a 4 ≡ true = may_access g.placement.rights.writable l.limit a 4 whole may below in

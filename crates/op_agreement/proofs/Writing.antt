@@ -1,5 +1,5 @@
 -- What is written: each value by a run-time routine.
-use Rattle.std.proofs.Common.{◌≡◌, ◌≤◌, ◌<◌, ℕ, ℤ, zero, suc, ◌+◌, List, [], ◌∷◌, ◌++◌, length, Option, Some, None, refl, sym, ap, ap₂, ◌∙◌, subst, arith}
+use Rattle.std.proofs.Common.{◌≡◌, ◌≤◌, ◌<◌, ℕ, ℤ, zero, suc, ◌+◌, List, [], ◌∷◌, ◌++◌, length, Option, Some, None, refl, sym, ap, ap₂, ◌∙◌, subst, arith, ◌*◌, length-append}
 use Rattle.std.specs.Prelude.{◌^◌, false, codes, nat_eq, replicate, slice_get, slice_index, if◌then◌else◌}
 use Rattle.std.proofs.lemmas.Bool.Decides.{nat_tests}
 use Rattle.op_compute.specs.Bank.{register_of, scratch_of}
@@ -11,7 +11,7 @@ use Rattle.op_constants.proofs.TypesArranged.{type_is_arranged}
 use Rattle.op_constants.specs.Lies.{arrangement_of}
 use Rattle.op_constants.specs.Literals.{literals_of}
 use Rattle.op_expand.specs.Calls.{result_address}
-use Rattle.op_low.specs.Machine.{act, low_machine}
+use Rattle.op_low.specs.Machine.{act, low_machine, cost, cost_by}
 use Rattle.op_low.specs.State.{State}
 use Rattle.op_low.specs.declared.ids.VirtualRegister.{VirtualRegister}
 use Rattle.op_low.specs.declared.instruction.Call.{Call as Operands}
@@ -22,7 +22,7 @@ use Rattle.op_meaning.specs.Texts.{padded, text_of_char, text_of_number, text_of
 use Rattle.op_meaning.specs.Values.{Holder}
 use Rattle.op_meaning.specs.World.{number_at, written}
 use Rattle.op_mir.specs.Code.{Instr}
-use Rattle.op_mir.specs.Machine.{MirState, execute, mir_step}
+use Rattle.op_mir.specs.Machine.{MirState, execute, mir_step, mir_cost, mir_effort}
 use Rattle.op_mir.specs.Valid.{action_fits, writing_fits}
 use Rattle.op_mir.specs.declared.action.Action.TheVariants.{Write, WriteText}
 use Rattle.op_mir.specs.declared.action.Writing.TheVariants.{Number, Truth, Char}
@@ -36,7 +36,7 @@ use Rattle.op_rt_text.specs.Names.{call, literal, routine_id, write_bytes_number
 use Rattle.op_rt_text.specs.Running.{Called, HasRoom, HasTexts, StandsAt, Writes}
 use Rattle.op_rv.specs.State.{bytes_from}
 use Rattle.op_rv.specs.Operation.{signed}
-use Rattle.op_simulation.specs.System.{run}
+use Rattle.op_simulation.specs.System.{run, spent}
 use Rattle.op_agreement.proofs.Branching.{begins_here, has_of, step_here, two_of}
 use Rattle.op_agreement.proofs.Cases.{behind_act}
 use Rattle.op_agreement.proofs.Charting.{live_stands}
@@ -44,7 +44,8 @@ use Rattle.op_agreement.proofs.Computing.{rest_above, rest_below, rest_stands}
 use Rattle.op_agreement.proofs.Elements.{KeptBelow}
 use Rattle.op_agreement.proofs.ErrorsEnd.{limit_above, literal_there}
 use Rattle.op_agreement.proofs.Following.{Comes}
-use Rattle.op_agreement.proofs.Going.{Goes, goes_from, goes_one, goes_then, goes_to}
+use Rattle.op_agreement.proofs.Going.{Goes, goes_from, goes_one, goes_then, goes_to, goes_within, goes_path}
+use Rattle.op_agreement.proofs.Pricing.{cost_is, heavy}
 use Rattle.op_agreement.proofs.Standing.{Next, SameVariables, Temporaries, here, kept_registers, stands_on}
 use Rattle.op_agreement.proofs.Updating.{floors_here, limit_here}
 use Rattle.op_agreement.specs.Chart.{AllLie, Floor, address_of, type_held}
@@ -52,7 +53,8 @@ use Rattle.op_agreement.specs.Coding.{code_for}
 use Rattle.op_agreement.specs.Fitting.{IsFitting}
 use Rattle.op_agreement.specs.Settings.{Setting, managed}
 use Rattle.op_agreement.specs.Stands.{CallersStand, Stands, Stays}
-use Rattle.op_agreement.specs.Typed.{AreFine}
+use Rattle.op_agreement.specs.Steps.{most_for_one}
+use Rattle.op_agreement.specs.Typed.{AreFine, IsLight}
 
 module _ (g : Setting) (fit : IsFitting g) (m : MirState) (l : State) (floors : ℕ → Floor) (s : Stays g floors m l) where
   -- ---- what run-time routines ask for
@@ -154,9 +156,17 @@ module _ (g : Setting) (fit : IsFitting g) (m : MirState) (l : State) (floors : 
       absurd (omega arith)
   at_least f number arguments k (suc n) now ends = omega arith
 
+  -- what is written is paid for
+  written_costs : (IsLight i → ⊥) → (text : List ℕ) → mir_step (managed g) m ≡ record m { world = written text m.world; rest = rest_above g m l floors i is id next } → 2 + (512 + length text) ≤ most_for_one * mir_cost (managed g) m
+  written_costs light text step =
+      let paid = (heavy g fit m l floors i is id next light).least in
+      let cost : mir_cost (managed g) m ≡ mir_effort (managed g) m (record m { world = written text m.world; rest = rest_above g m l floors i is id next }) = cost_is g fit m l floors i is id next ∙ ap (mir_effort (managed g) m) step in
+      let long = length-append m.world.output text in
+      omega arith
+
   -- the call, behind other code, writes what managed code does
-  pub written_comes : (f : ℕ → ℕ) (number : ℕ) (arguments : List VirtualRegister) (text : List ℕ) → KeptBelow (here m floors).frame.bank.scratch l.top.registers f → (n : ℕ) → Goes g n l (calls f number arguments) → Writes g.low g.placement (calls f number arguments) (operands arguments) rest text → AreFine g.core g.mir (here m floors).number (here m floors).routine is → mir_step (managed g) m ≡ record m { world = written text m.world; rest = rest_above g m l floors i is id next } → Comes g m l
-  written_comes f number arguments text kept_f n goes writes fine step =
+  pub written_comes : (f : ℕ → ℕ) (number : ℕ) (arguments : List VirtualRegister) (text : List ℕ) → KeptBelow (here m floors).frame.bank.scratch l.top.registers f → (n : ℕ) → Goes g n 2 l (calls f number arguments) → (IsLight i → ⊥) → Writes g.low g.placement (calls f number arguments) (operands arguments) rest text → AreFine g.core g.mir (here m floors).number (here m floors).routine is → mir_step (managed g) m ≡ record m { world = written text m.world; rest = rest_above g m l floors i is id next } → Comes g m l
+  written_comes f number arguments text kept_f n goes light writes fine step =
       let s = next.stays in
       let a = s.activation in
       let h = λ (r : ℕ). if nat_eq r to.0 then writes.value else f r in
@@ -164,10 +174,10 @@ module _ (g : Setting) (fit : IsFitting g) (m : MirState) (l : State) (floors : 
       let scratch = a.floor.fits.scratch in
       let kept_h : KeptBelow (here m floors).frame.bank.scratch l.top.registers h = λ r low. let t : nat_eq r to.0 ≡ false = grind (arith, nat_tests) in ap (λ b. if b then writes.value else f r) t ∙ kept_f r low in
       let some = at_least f number arguments k writes.steps refl writes.path.ends in
-      let call_goes : Goes g 1 (calls f number arguments) k = record { steps = writes.steps; enough = some; ends = writes.path.ends } in
+      let call_goes : Goes g 1 (512 + length text) (calls f number arguments) k = goes_path g writes.steps 1 (512 + length text) (calls f number arguments) k some writes.path in
       record {
         to = k;
-        goes = goes_then g n 1 1 l (calls f number arguments) k (omega arith) goes call_goes;
+        goes = goes_within g 1 (most_for_one * mir_cost (managed g) m) l k (goes_then g n 1 1 l (calls f number arguments) k (omega arith) goes call_goes) (written_costs light text step);
         stands = subst (λ x. Stands g x k) (sym step) (stands_on g (record m { world = written text m.world; rest = rest_above g m l floors i is id next }) k next.ending next.frames (record {
           floors = floors;
           stays = stays_written g fit m l floors s text (rest_above g m l floors i is id next) h rest writes.memory writes.kept (λ r low. kept_h r (omega arith))
@@ -212,7 +222,8 @@ module _ (g : Setting) (fit : IsFitting g) (m : MirState) (l : State) (floors : 
       let writes = routine here_state (record { arguments = arguments; to = scratch_of bank 0; landing = None }) rest (l.top.registers (register_of bank from).0) (l.top.registers (register_of bank width).0) (texts_there g fit m l floors s here_state refl refl) called in
       let text : padded (width_of (signed (l.top.registers (register_of bank width).0))) (meant (signed (l.top.registers (register_of bank from).0))) ≡ padded (width_of (number_at m.world width.0)) (meant (number_at m.world from.0)) = ap₂ (λ u v. padded (width_of u) (meant v)) second.number first.number in
       written_comes g fit m l floors i is id next l.top.registers number arguments (padded (width_of (number_at m.world width.0)) (meant (number_at m.world from.0))) (λ r low. refl) 0
-      (goes_from g 0 l here_state here_state (begins_here g fit m l floors i is id next (call number arguments (scratch_of bank 0) ∷ []) code) (Rattle.op_agreement.proofs.Going.goes_none g here_state))
+      (goes_from g 0 l here_state here_state (begins_here g fit m l floors i is id next (call number arguments (scratch_of bank 0) ∷ []) code) (goes_within g 0 2 here_state here_state (Rattle.op_agreement.proofs.Going.goes_none g here_state) (omega arith)))
+      (λ light. light)
       (subst (λ t. Writes g.low g.placement here_state (record { arguments = arguments; to = scratch_of bank 0; landing = None }) rest t) text writes)
       (behind_act next.on) step
 
@@ -230,7 +241,7 @@ module _ (g : Setting) (fit : IsFitting g) (m : MirState) (l : State) (floors : 
 
   -- of a literal: its address and its length come first
   pub write_text_comes : (text : List ℕ) (width : TemporaryId) (landing : Option BlockId) → NextIs (Act (WriteText text width) landing) → Comes g m l
-  unfolding code_for execute perform action_fits act put run Rattle.op_low.specs.Machine.step Rattle.op_low.specs.Machine.step_by_ending Rattle.op_low.specs.Machine.done
+  unfolding code_for execute perform action_fits act put run Rattle.op_low.specs.Machine.step Rattle.op_low.specs.Machine.step_by_ending Rattle.op_low.specs.Machine.done spent cost cost_by
   write_text_comes text width landing next =
       let i = Act (WriteText text width) landing in
       let s = next.stays in
@@ -252,7 +263,7 @@ module _ (g : Setting) (fit : IsFitting g) (m : MirState) (l : State) (floors : 
       let count_is : f count.0 ≡ length text = put_same (put l.top.registers address place) count (length text) in
       let short = next.fine.1.0 in
       let begins = begins_here g fit m l floors i is id next (Address address (literal id) ∷ Const count (length text) ∷ call write_bytes_number arguments address ∷ []) refl in
-      let two : Goes g 2 (at l l.top.registers (Address address (literal id) ∷ Const count (length text) ∷ call write_bytes_number arguments address ∷ rest)) here_state = record { steps = 2; enough = omega arith; ends = refl } in
+      let two : Goes g 2 2 (at l l.top.registers (Address address (literal id) ∷ Const count (length text) ∷ call write_bytes_number arguments address ∷ rest)) here_state = record { steps = 2; enough = omega arith; within = omega arith; ends = refl } in
       let called : Called g.low g.placement here_state write_bytes_number (place ∷ length text ∷ l.top.registers (register_of bank width).0 ∷ []) (record { arguments = arguments; to = address; landing = None }) rest = record {
         runtime = fit.placed.runtime;
         running = refl;
@@ -265,6 +276,7 @@ module _ (g : Setting) (fit : IsFitting g) (m : MirState) (l : State) (floors : 
       let same : padded (width_of (signed (l.top.registers (register_of bank width).0))) text ≡ padded (width_of (number_at m.world width.0)) text = ap (λ u. padded (width_of u) text) wide.number in
       written_comes g fit m l floors i is id next f write_bytes_number arguments (padded (width_of (number_at m.world width.0)) text) kept_f 2
       (goes_from g 2 l (at l l.top.registers (Address address (literal id) ∷ Const count (length text) ∷ call write_bytes_number arguments address ∷ rest)) here_state begins two)
+      (λ light. light)
       (subst (λ t. Writes g.low g.placement here_state (record { arguments = arguments; to = address; landing = None }) rest t) same writes)
       (behind_act next.on) (step_here g fit m l floors i is id next)
     where

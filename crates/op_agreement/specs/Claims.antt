@@ -1,17 +1,17 @@
 -- In what sense low code goes along with managed code.
 use Rattle.std.specs.Prelude.{◌≡◌, ◌≢◌, ℕ, List, []}
 use Rattle.std.specs.List.{flat_map}
-use Rattle.op_low.specs.Machine.{Event, NeverBad, Written, Taken, low_machine}
+use Rattle.op_low.specs.Machine.{Event, NeverBad, Written, Taken}
 use Rattle.op_low.specs.State.{Bad, State}
 use Rattle.op_low.specs.declared.instruction.Output.TheVariants.{Console, Errors}
 use Rattle.op_meaning.specs.Source.{Event as Shown, Written as WrittenAbove, Reported}
 use Rattle.op_mir.specs.Machine.{MirState, mir_machine}
 use Rattle.op_simulation.specs.Matching.{Agreement, Matching, Follows}
-use Rattle.op_simulation.specs.System.{System}
 use Rattle.op_agreement.specs.Fitting.{IsFitting}
 use Rattle.op_agreement.specs.Settings.{Setting, managed}
 use Rattle.op_agreement.specs.Starting.{IsLoaded, Starts}
 use Rattle.op_agreement.specs.Stands.{Stands}
+use Rattle.op_agreement.specs.Steps.{counted, most_for_one}
 
 -- ---- the bytes of each stream
 
@@ -39,13 +39,10 @@ pub record SameBytes (above : List Shown) (below : List Event) : Type 0 where
 
 -- ---- the machines
 
--- the machine of low code, whose steps cost nothing: how many there are for one of managed code is not said
-abbrev pub uncounted : Setting → System Event
-uncounted g = record (low_machine g.low g.placement) { cost = λ m. 0 }
-
--- states that stand for one another; low code is never bad on the way; the bytes of each stream are the same
-abbrev pub lowered : (g : Setting) → Matching (mir_machine (managed g)) (uncounted g)
-lowered g = record { states = Stands g; moments = λ m l. l.ending ≢ Bad; traces = SameBytes; factor = 0 }
+-- states that stand for one another; low code is never bad on the way, and costs no more than so much for a cost of one; the bytes of each
+-- stream are the same
+abbrev pub lowered : (g : Setting) → Matching (mir_machine (managed g)) (counted g)
+lowered g = record { states = Stands g; moments = λ m l. l.ending ≢ Bad; traces = SameBytes; factor = most_for_one }
 
 -- a step of managed code is one or more of low code
 abbrev pub LowCodeFollows : Type 0

@@ -24,7 +24,8 @@ use Rattle.op_rv.specs.declared.symbol.Symbol.TheVariants.{Global}
 use Rattle.op_agreement.specs.Settings.{Setting, Apart, FrameFits, HaveHomes, IsExpanded}
 use Rattle.op_agreement.specs.Typed.{IsGlobal, AreFine, HasResult, parameter_rows}
 
--- Values are arranged by their types, each parameter has its row and each result its variable, errors end the program, and no stack has more than 2^26 bytes.
+-- Values are arranged by their types, each parameter has its row and each result its variable, errors end the program, no stack has more than 2^26
+-- bytes, and no routine more than 64 parameters.
 pub record IsArrangedProgram (g : Setting) : Type 0 where
   pub extents : KeepsExtents g.core
   pub first_type : slice_get g.core.types 0 ≡ Some (Integer Signed8)
@@ -33,9 +34,10 @@ pub record IsArrangedProgram (g : Setting) : Type 0 where
   pub parameters : (r : ℕ) → r < length g.core.routines → length (parameter_rows g.core r) ≡ parameters_of g.core r
   pub results : (r : ℕ) (of : TypeId) → result_of (slice_get g.core.routines r) ≡ Some of → HasResult g.core r of
   pub stack : g.stack ≤ most_charge
+  pub few : (r : ℕ) → r < length g.core.routines → parameters_of g.core r ≤ 64
 
 -- the routine with the number: its blocks are typed and stand in low code, its variables have homes of their own, and an activation takes
--- no more than it is charged
+-- no more than it is charged, which is 256 at least
 pub record RoutineFits (g : Setting) (r : ℕ) (x : Routine) : Type 0 where
   pub some : 0 < length x.blocks
   pub fine : (k : ℕ) (block : Block) → slice_get x.blocks k ≡ Some block → AreFine g.core g.mir r x block.code
@@ -43,6 +45,7 @@ pub record RoutineFits (g : Setting) (r : ℕ) (x : Routine) : Type 0 where
   pub frame : FrameFits g.core r x (frame_of g.core r x)
   pub expanded : IsExpanded g r x (frame_of g.core r x)
   pub space : r < length g.mir.routines → space g.low g.placement (runtime + r) ≤ x.charge
+  pub charged : r < length g.mir.routines → 256 ≤ x.charge
 
 -- a literal stands below the stack, where nothing is written
 pub record LiteralStands (g : Setting) (at : ℕ) (bytes : List ℕ) : Type 0 where

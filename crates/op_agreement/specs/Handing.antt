@@ -1,5 +1,6 @@
 -- What a call hands over, and what low code has of it.
-use Rattle.std.specs.Prelude.{◌≡◌, ◌<◌, ◌⊎◌, ℕ, ◌+◌, ◌-◌, ◌^◌, List, [], ◌∷◌, length, map, nat_lt, false, true, Some, None, replicate}
+use Rattle.std.specs.Prelude.{◌≡◌, ◌<◌, ◌⊎◌, ℕ, ◌+◌, ◌-◌, ◌*◌, ◌^◌, List, [], ◌∷◌, length, map, nat_lt, false, true, Some, None, replicate}
+use Rattle.std.specs.List.{sum_by}
 use Rattle.op_compute.specs.Bank.{scratch_of}
 use Rattle.op_compute.specs.Meaning.{IsWordOf}
 use Rattle.op_core.specs.declared.routine.Variable.{Variable}
@@ -10,6 +11,7 @@ use Rattle.op_low.specs.State.{State, routine_of, space}
 use Rattle.op_low.specs.declared.ids.VirtualRegister.{VirtualRegister}
 use Rattle.op_low.specs.declared.instruction.Instruction.{Instruction as LowInstruction}
 use Rattle.op_meaning.specs.Calls.{Handed, a_value, a_place, all_handed}
+use Rattle.op_meaning.specs.Costs.{given_bytes}
 use Rattle.op_meaning.specs.Numbers.{low_bits_of}
 use Rattle.op_meaning.specs.Shapes.{single, composite, is_reference, shape_of}
 use Rattle.op_meaning.specs.Values.{Place, Value, number, number_in}
@@ -53,6 +55,14 @@ begun_below g r registers rest to words l =
       memory = with_bytes l.memory l.limit (replicate locals 0);
     }
 
+-- what is given, in bytes
+abbrev pub bytes_given : Setting → Operands → ℕ
+bytes_given g call = sum_by (given_bytes g.core) (map view_given call.given)
+
+-- what low code costs up to there
+abbrev pub begins_most : Setting → (r : ℕ) → Operands → ℕ
+begins_most g r call = 9 + 4 * length call.given + 2 * bytes_given g call + space g.low g.placement (runtime + r)
+
 -- the stack has room for the charge, all arguments are handed over, and low code comes to where the routine begins
 pub record Begins (g : Setting) (m : MirState) (l : State) (floors : ℕ → Floor) (r : ℕ) (call : Operands) (rest : List LowInstruction) : Type 0 where
   pub given : List Handed
@@ -65,5 +75,5 @@ pub record Begins (g : Setting) (m : MirState) (l : State) (floors : ℕ → Flo
   pub are : AreHanded g floors (length m.callers) m.world given (parameter_rows g.core r) words
   pub to : VirtualRegister
   pub gets : to ≡ receiver_of (floors (length m.callers)).frame call.receiver (scratch_of (floors (length m.callers)).frame.bank 0)
-  pub goes : Goes g 1 l (begun_below g r registers rest to ((registers 0 - (managed g).charge r) ∷ result ∷ words) l)
+  pub goes : Goes g 1 (begins_most g r call) l (begun_below g r registers rest to ((registers 0 - (managed g).charge r) ∷ result ∷ words) l)
   pub receives : ResultGoes g floors (length m.callers) call.receiver (view_receiver call.receiver) (record { activation = record l.top { registers = registers; now = rest }; to = to; landing = None }) result

@@ -47,8 +47,8 @@ pub record IsLoaded (g : Setting) : Type 0 where
 abbrev pub low_begins : Setting → List ℕ → State
 low_begins g input = start g.low g.placement g.bottom (g.top - g.bottom) g.loaded input
 
--- low code comes to a state that stands for the first one of managed code
+-- low code comes to a state that stands for the first one of managed code, in two steps
 pub record Starts (g : Setting) (input : List ℕ) : Type 0 where
   pub to : State
-  pub goes : Goes g 0 (low_begins g input) to
+  pub goes : Goes g 0 2 (low_begins g input) to
   pub stands : Stands g (mir_start (program_in g) input) to

@@ -1,5 +1,5 @@
 -- Managed code that has its operands at the types that they are used at, and goes to blocks that are there.
-use Rattle.std.specs.Prelude.{◌≡◌, ◌<◌, ◌⊎◌, ℕ, ◌+◌, ◌^◌, Bool, true, false, List, [], ◌∷◌, length, take, Option, Some, None, int_lt, nat_eq, slice_get, slice_index}
+use Rattle.std.specs.Prelude.{◌≡◌, ◌<◌, ◌≤◌, ◌⊎◌, ℕ, ◌+◌, ◌^◌, Bool, true, false, List, [], ◌∷◌, length, take, Option, Some, None, int_lt, nat_eq, slice_get, slice_index}
 use Rattle.std.specs.Int.{w32}
 use Rattle.std.specs.Int.RustNames.{FitsSigned}
 use Rattle.std.specs.List.{list_any}
@@ -28,6 +28,7 @@ use Rattle.op_mir.specs.declared.ids.BlockId.{BlockId}
 use Rattle.op_mir.specs.declared.instruction.Arm.{Arm}
 use Rattle.op_mir.specs.declared.instruction.Instruction.{Instruction}
 use Rattle.op_mir.specs.declared.instruction.Instruction.TheVariants.{Act, Call, Jump, When, Unless, Switch, Dispatch, MakeDue, Stop, Return}
+use Rattle.op_mir.specs.declared.instruction.Receiver.TheVariants.{Nowhere}
 use Rattle.std.specs.Prelude.{map}
 
 -- ---- places
@@ -151,7 +152,30 @@ Leaves (Jump block) = Unit {0}
 Leaves Return = Unit {0}
 Leaves _ = ⊥
 
+-- ---- what an activation is charged for
+
+-- how many labels a branch looks through
+abbrev pub labels_in : List Arm → ℕ
+labels_in [] = 0
+labels_in (a ∷ arms) = length a.labels + labels_in arms
+
+-- the program itself, which is charged nothing, calls without arguments and results, goes on and returns
+abbrev pub IsLight : Instruction → Type 0
+IsLight (Call id call) = (call.given ≡ []) × (call.receiver ≡ Nowhere)
+IsLight (Jump block) = Unit {0}
+IsLight Return = Unit {0}
+IsLight _ = ⊥
+
+-- any other routine is charged for each label
+abbrev pub IsCharged : Routine → Instruction → Type 0
+IsCharged x (Switch t arms) = labels_in arms ≤ x.charge
+IsCharged x _ = Unit {0}
+
+pub record IsPaid (mir : Mir) (r : ℕ) (x : Routine) (i : Instruction) : Type 0 where
+  pub itself : r ≡ length mir.routines → IsLight i
+  pub charged : r < length mir.routines → IsCharged x i
+
 -- code that does not go on behind its end
 abbrev pub AreFine : Core → Mir → ℕ → Routine → List Instruction → Type 0
 AreFine core mir r x [] = ⊥
-AreFine core mir r x (i ∷ is) = IsFine core mir r x i × (Leaves i ⊎ AreFine core mir r x is)
+AreFine core mir r x (i ∷ is) = IsFine core mir r x i × IsPaid mir r x i × (Leaves i ⊎ AreFine core mir r x is)

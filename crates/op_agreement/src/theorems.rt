@@ -3,7 +3,8 @@ ghost use Rattle.op_agreement.specs.Claims.{AgreesForEver, LowCodeFollows, Never
 ghost use Rattle.op_simulation.specs.Matching.{Joins};
 
 /// Low code goes along with managed code. `follows` says it of each step, for every program that fits: from states that stand for one another one step
-/// of managed code is one or more of low code, to such states, with the same bytes of each stream (`traces`); or both end, by the same error.
+/// of managed code is one or more of low code, to such states, with the same bytes of each stream (`traces`) and at no more than 32 times its
+/// cost; or both end, by the same error.
 /// `starts` says how a program begins, and `agrees` and `fine` what that is for ever.
 pub fn low_code_goes_along()
     ensures traces { Joins SameBytes }

@@ -2,7 +2,7 @@
 ghost use Rattle.std.specs.Prelude.{◌≡◌, ℕ, ◌≤◌, ◌∷◌, [], ◌↔◌, Some, None, Option, List, IfOk, OnOk, OnErr, IsTrue, ◌≢◌};
 ghost use Rattle.std.specs.Option.{option_copied};
 ghost use Rattle.op_base.specs.FileAnswer.{Answers, file_named};
-ghost use Rattle.op_base.specs.FaultPlan.{is_listed, next_number};
+ghost use Rattle.op_base.specs.FaultPlan.{after_call, is_listed, next_number};
 ghost use Rattle.op_base.specs.declared.files.NamedFile.{NamedFile};
 
 use crate::{FaultPlan, NoMemory, Text};
@@ -126,6 +126,8 @@ impl Files for MemFiles {
         // It fails exactly at the reads that are listed.
         ensures exactly { (result ≡ Ok FileAnswer.Failed) ↔ IsTrue (is_listed self.old.plan) }
         ensures numbered { self.new.plan.calls ≡ next_number self.old.plan.calls }
+        // The list of failing calls stays, and the call and its fault are counted.
+        ensures planned { self.new.plan ≡ after_call self.old.plan (is_listed self.old.plan) }
     {
         if self.plan.begins_failing_call() {
             self.plan.count_fault();

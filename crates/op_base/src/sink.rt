@@ -1,7 +1,7 @@
 //! Where output goes: a trait, a sink in memory and a sink over any writer.
-ghost use Rattle.std.specs.Prelude.{◌≡◌, ℕ, ◌+◌, ◌-◌, ◌^◌, ◌<◌, ◌≤◌, ◌↔◌, ◌||◌, Some, None, Option, List, [], ◌++◌, take, min, length, vec_len, vec_capacity, nat_lt, IfOk, IsTrue};
+ghost use Rattle.std.specs.Prelude.{◌≡◌, ℕ, ◌+◌, ◌-◌, ◌^◌, ◌<◌, ◌≤◌, ◌↔◌, ◌||◌, Some, None, Option, List, [], ◌++◌, take, min, length, vec_len, vec_capacity, nat_lt, IfOk, IsTrue, false};
 ghost use Rattle.op_base.specs.Outside.{Rose, appended, AppendsFront};
-ghost use Rattle.op_base.specs.FaultPlan.{is_listed, next_number};
+ghost use Rattle.op_base.specs.FaultPlan.{after_call, is_listed, next_number};
 
 use crate::{FaultPlan, NoMemory};
 use std::alloc::Global;
@@ -93,8 +93,13 @@ impl Sink for MemSink {
         // It fails exactly at the calls that are listed and where the bytes pass the room. Of these it takes what fits.
         ensures exactly { (result ≡ Put.Failed) ↔ IsTrue (is_listed self.old.plan || nat_lt self.old.room (vec_len self.old.bytes + length bytes.now)) }
         ensures fits { IsTrue (is_listed self.old.plan) → self.new.bytes.items ≡ self.old.bytes.items }
+        ensures takes { is_listed self.old.plan ≡ false →
+            self.new.bytes.items ≡ self.old.bytes.items ++ take (self.old.room - vec_len self.old.bytes) bytes.now }
         ensures room { self.new.room ≡ self.old.room }
         ensures numbered { self.new.plan.calls ≡ next_number self.old.plan.calls }
+        // The list of failing calls stays, and the call and its fault are counted.
+        ensures planned { self.new.plan ≡ after_call self.old.plan
+            (is_listed self.old.plan || nat_lt self.old.room (vec_len self.old.bytes + length bytes.now)) }
     {
         if self.plan.begins_failing_call() {
             self.plan.count_fault();

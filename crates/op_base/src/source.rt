@@ -2,7 +2,7 @@
 ghost use Rattle.std.specs.Prelude.{◌≡◌, ℕ, ◌+◌, ◌-◌, ◌^◌, ◌<◌, ◌≤◌, ◌↔◌, Some, None, Option, List, drop, take, length, vec_len, min, IsTrue};
 ghost use Rattle.op_base.specs.Outside.{Rose, IsExhausted};
 ghost use Rattle.op_base.specs.Got.{Gives};
-ghost use Rattle.op_base.specs.FaultPlan.{is_listed, next_number};
+ghost use Rattle.op_base.specs.FaultPlan.{after_call, is_listed, next_number};
 
 use crate::FaultPlan;
 use std::io::{ErrorKind, Read};
@@ -87,6 +87,8 @@ impl Source for MemSource {
         // It fails exactly at the calls that are listed.
         ensures exactly { (result ≡ Got.Failed) ↔ IsTrue (is_listed self.old.plan) }
         ensures numbered { self.new.plan.calls ≡ next_number self.old.plan.calls }
+        // The list of failing calls stays, and the call and its fault are counted.
+        ensures planned { self.new.plan ≡ after_call self.old.plan (is_listed self.old.plan) }
     {
         if self.plan.begins_failing_call() {
             self.plan.count_fault();

@@ -23,11 +23,11 @@ use Rattle.op_check_expr.specs.Constructors as member
 use Rattle.op_check_expr.specs.Expressions as means
 use Rattle.op_check_expr.specs.Expressions.{or_number, position_of, position_of_denoted, position_of_designator, ranged, still_at, still_at_position, text_denoted, value_in, with_member}
 use Rattle.op_check_expr.specs.Meanings as words
-use Rattle.op_check_expr.specs.Meanings.{ExprIs, alone_behind, alone_by, alone_called, alone_value, is_call, last_call, routine_alone, target_by}
+use Rattle.op_check_expr.specs.Meanings.{ExprIs, alone_behind, alone_by, alone_called, alone_value, is_call, last_call, result_first, routine_alone, selectors_behind, target_by, target_from, target_means}
 use Rattle.op_check_expr.specs.Naming.{Denoted, Meant, valued}
 use Rattle.op_check_expr.specs.Naming as naming
 use Rattle.op_check_expr.specs.RuleWords.{Made}
-use Rattle.op_check_expr.specs.Rules.{AloneAs, AloneBreaks, ArgumentBreaks, ArgumentIs, Behind, BehindBreaks, CallAs, CallBreaks, CallBreaksAs, CallIs, CalledBreaks, CalledIs, DesignatorBreaks, DesignatorIs, ElementAt, ElementBreaks, ElementBreaksAt, ElementIs, ExprMeans, Given, GivenBreaks, GivenBreaksFor, GivenIs, MemberBreaks, MemberIs, Members, MembersBreak, NumberBreaksOr, NumberOr, RootBreaks, RootIs, SelectBreaks, Selected, SelectedBreaks, Selects, SoleBreaks, SoleUse, StillAt, TargetAs, TargetBreaks, TargetBreaksBy, TargetIs, ValueBreaks, ValueIs, VariableBreaks, VariableIs}
+use Rattle.op_check_expr.specs.Rules.{AloneAs, AloneBreaks, ArgumentBreaks, ArgumentIs, Behind, BehindBreaks, CallAs, CallBreaks, CallBreaksAs, CallIs, CalledBreaks, CalledIs, DesignatorBreaks, DesignatorIs, ElementAt, ElementBreaks, ElementBreaksAt, ElementIs, ExprMeans, Given, GivenBreaks, GivenBreaksFor, GivenIs, MemberBreaks, MemberIs, Members, MembersBreak, NumberBreaksOr, NumberOr, RootBreaks, RootIs, SelectBreaks, Selected, SelectedBreaks, Selects, SoleBreaks, SoleUse, StillAt, TargetAs, TargetBreaks, TargetBreaksBy, TargetBreaksFrom, TargetFrom, TargetIs, TargetMeans, TargetMeansBreaks, ValueBreaks, ValueIs, VariableBreaks, VariableIs}
 use Rattle.op_check_expr.specs.Scopes.{Here}
 use Rattle.op_check_expr.specs.Values.{Value, tree_of}
 use Rattle.op_check_expr.specs.declared.call.Plan.{Plan}
@@ -141,13 +141,21 @@ element_law here base e = agrees_behind (value_law here None e) (λ v _. agrees_
 
 -- ---- what is assigned to
 
+target_means_law : (here : Here) (at : Place) {c : Checked Value} {T : Value → Type 0} {B : Refusal → Type 0} → Agrees c T B → Agrees (target_means here at c) (TargetMeans here T) (TargetMeansBreaks here at T B)
+target_means_law here at h = agrees_behind h (λ v _. target_value_law here at v)
+
 target_by_law : (here : Here) (d : Designator) (id : Option RoutineId) → Agrees (target_by here d id) (TargetAs here d id) (TargetBreaksBy here d id)
-target_by_law here d (Some id) = agrees_entry_fine
-target_by_law here d None = agrees_behind (value_law here None (designated d)) (λ v _. target_value_law here (position_of_designator d).place v)
+target_by_law here d (Some id) = agrees_refused 29 (position_of_designator d).place
+target_by_law here d None = target_means_law here (position_of_designator d).place (value_law here None (designated d))
+
+target_from_law : (here : Here) (d : Designator) (r : Option Denoted) → Agrees (target_from here d r) (TargetFrom here d r) (TargetBreaksFrom here d r)
+target_from_law here d (Some r) =
+    target_means_law here (position_of_designator d).place (agrees_behind (selected_law here (selectors_behind d) (holds_some r)) (λ d _. settles_law here d))
+target_from_law here d None = target_by_law here d (routine_alone here d)
 
 pub target_law : (here : Here) (d : Designator) → Agrees (words.target here d) (TargetIs here d) (TargetBreaks here d)
 unfolding words.target
-target_law here d = target_by_law here d (routine_alone here d)
+target_law here d = target_from_law here d (result_first here d)
 
 -- ---- a call alone
 

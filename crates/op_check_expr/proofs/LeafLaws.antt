@@ -63,7 +63,7 @@ prefixed_law core o p (computed e) = agrees_entry_fine
 
 computed_use_law : (core : Core) (p : Position) (what : Applied) (at : Place) (v : Value) → Agrees (computed_use core p what at v) (ComputedUse core p what v) (ComputedUseBreaks core p what at v)
 computed_use_law core p (Cast of) at v = agrees_entry_fine
-computed_use_law core p (Function' f) at v = agrees_entry_fine
+computed_use_law core p (Function' f) at v = agrees_entry (λ of _. agrees_feature)
 
 pub used_law : (core : Core) (p : Position) (what : Applied) (at : Place) (v : Value) → Agrees (used core p what at v) (Uses core p what v) (UseBreaks core p what at v)
 used_law core p what at (constant c) = agrees_whether (is_evaluated core what) (agrees_changed (use_law core what p.place at c)) (computed_use_law core p what at (constant c))

@@ -33,7 +33,7 @@ use Rattle.op_check_expr.specs.Expressions as means
 use Rattle.op_check_expr.specs.Expressions.{element_at, index_types, indexed, indexed_value, or_number}
 use Rattle.op_check_expr.specs.Naming as naming
 use Rattle.op_check_expr.specs.Naming.{Denoted, feature_of, feature_of_type, field_named, field_of, variable_named}
-use Rattle.op_check_expr.specs.Operating.{cast_by, computed_operation, computed_use, feature_of_operands, function_type, is_evaluated, operated, operation_of, prefix_of, rule_of, used}
+use Rattle.op_check_expr.specs.Operating.{cast_by, computed_operation, computed_use, feature_of_argument, feature_of_operands, function_type, is_evaluated, operated, operation_of, prefix_of, rule_of, used}
 use Rattle.op_check_expr.specs.Places.{is_very, is_writable, is_writable_row, target_value, variable_value}
 use Rattle.op_check_expr.specs.Scopes.{Here}
 use Rattle.op_check_expr.specs.Settled.{IsKnown, IsSettled, IsSoundValue}
@@ -155,7 +155,7 @@ computed_use_whole core sees f p (Cast of) at (constant c) h =
 computed_use_whole core sees f p (Cast of) at (computed t) h =
     whole_entered 39 p.place (cast_by core (typing.type_of t) of (sort_of core (typing.type_of t)) (sort_of core of)) (λ q e. whole_gives (cast_sound core sees t of q h e))
 computed_use_whole core sees f p (Function' g) at v h =
-    whole_entered (rule_of g) at (function_type core g (type_of v)) (λ of e. whole_gives (function_sound core sees f g p.switches.q v of h e))
+    whole_entered (rule_of g) at (function_type core g (type_of v)) (λ of e. whole_feature p.place (feature_of_argument core g (type_of v)) (whole_gives (function_sound core sees f g p.switches.q v of h e)))
 
 pub used_whole : (core : Core) (sees : Sees) → IsFounded core → (p : Position) (what : Applied) (at : Place) (v : Value) → IsSoundValue core sees v → Whole (IsSoundValue core sees) (used core p what at v)
 used_whole core sees f p what at (constant c) h =

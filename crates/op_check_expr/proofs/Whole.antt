@@ -1,7 +1,7 @@
 -- Where all names stand for what is there, each expression is sound or breaks a rule.
 use Rattle.std.proofs.Common.{◌≡◌, ℕ, pred, pos, nat_eq, Bool, ◌||◌, is_some, true, false, List, [], ◌∷◌, ◌++◌, append_assoc, append-nil, length, slice_get, Option, Some, None, refl, sym, ap, subst, ◌∙◌, arith}
 use Rattle.std.proofs.lemmas.Bool.{and_parts, eqb-true, false≢true}
-use Rattle.std.specs.Option.{option_and_then}
+use Rattle.std.specs.Option.{option_and_then, option_map}
 use Rattle.std.specs.Prelude.{if◌then◌else◌, position}
 use Rattle.op_base.specs.declared.place.Place.{Place}
 use Rattle.op_core.proofs.Completing.{whole_after, whole_behind, whole_changed_so, whole_entered, whole_followed, whole_gives, whole_refused, whole_rule, whole_standing, whole_tested, whole_with}
@@ -36,7 +36,7 @@ use Rattle.op_check_expr.specs.Constructors as made
 use Rattle.op_check_expr.specs.Expressions as means
 use Rattle.op_check_expr.specs.Expressions.{call_means, call_of, given_first, member_by, position_of, position_of_designator, ranged, settled, settled_by, still_at, still_at_position, text_denoted, used_by, value_in, with_member}
 use Rattle.op_check_expr.specs.Meanings as words
-use Rattle.op_check_expr.specs.Meanings.{alone_behind, alone_by, alone_value, is_call, is_own, is_result, last_call, own_result, result_at, result_in, routine_alone, target_by}
+use Rattle.op_check_expr.specs.Meanings.{alone_behind, alone_by, alone_value, is_call, is_own, is_result, last_call, own_result, result_at, result_denoted, result_first, result_in, result_named, routine_alone, routine_in, selectors_behind, target_by, target_from, target_means}
 use Rattle.op_check_expr.specs.Naming as naming
 use Rattle.op_check_expr.specs.Naming.{Denoted, Meant, variable_tree}
 use Rattle.op_check_expr.specs.Scopes.{Here}
@@ -47,7 +47,7 @@ use Rattle.op_types.proofs.ConstantWhole.{bound_whole, literal_sound, numeral_wh
 use Rattle.op_types.proofs.TypeFacts.{nil_kind, nothing_kind, string_kind}
 use Rattle.op_types.specs.Assignable.{assignable}
 use Rattle.op_types.specs.Constants.{joined_name, number_behind, only_value, type_named}
-use Rattle.op_types.specs.Names.{lower}
+use Rattle.op_types.specs.Names.{lower, meaning_of}
 use Rattle.op_types.specs.Operators as table
 use Rattle.op_types.specs.declared.constant.Applied.{Applied}
 use Rattle.op_types.specs.declared.constant.Applied.TheVariants.{Cast, Function as Function'}
@@ -56,6 +56,9 @@ use Rattle.op_types.specs.declared.visible.BuiltIn.TheVariants.{Chr, Function as
 
 none_is : {A : Type 0} {a : A} → None ≡ Some a → ⊥
 none_is e = absurd (cc)
+
+some_is : {A : Type 0} {a b : A} → Some a ≡ Some b → a ≡ b
+some_is e = cc
 
 -- what is used, and what is given to parameters
 abbrev Uses : Sees → Here → Position → Arguments → Option (Place × Checked Value) → Type 0
@@ -318,13 +321,37 @@ own_sound {sees} {here} s id v e = go here.routine refl (is_own here.routine id)
     go None q true f e = absurd (false≢true f)
     go o q false f e = absurd (none_is e)
 
+target_means_whole : (here : Here) (sees : Sees) (at : Place) {c : Checked Value} → Whole (IsSoundValue here.core sees) c → Whole (λ t. IsTyped here.core sees t × (is_place true here.core t ≡ true)) (target_means here at c)
+target_means_whole here sees at h = whole_behind h (λ v k. target_value_whole here sees at v k)
+
 target_by_whole : {sees : Sees} {here : Here} → IsSettled sees here → (d : Designator) (id : Option RoutineId) → Whole (λ t. IsTyped here.core sees t × (is_place true here.core t ≡ true)) (target_by here d id)
-target_by_whole {sees} {here} s d (Some id) = whole_entered 29 (position_of_designator d).place (own_result here id) (λ v e. whole_gives (own_sound s id v e, refl))
-target_by_whole {sees} {here} s d None = whole_behind (value_whole s None (designated d)) (λ v h. target_value_whole here sees (position_of_designator d).place v h)
+target_by_whole s d (Some id) = whole_refused
+target_by_whole {sees} {here} s d None = target_means_whole here sees (position_of_designator d).place (value_whole s None (designated d))
+
+named_sound : {sees : Sees} {here : Here} → IsSettled sees here → (n : Name) (r : Denoted) → result_named here n ≡ Some r → IsKnown here.core sees r
+named_sound {sees} {here} s n r e = go (routine_in (meaning_of here.visible (lower n.text))) e
+  where
+    at : (id : RoutineId) (o : Option (VariableId × TypeId)) → own_result here id ≡ o → option_map (result_denoted n.position) o ≡ Some r → IsKnown here.core sees r
+    at id (Some v) q e = subst (IsKnown here.core sees) (some_is e) (own_sound s id v q)
+    at id None q e = absurd (none_is e)
+
+    go : (o : Option RoutineId) → option_map (result_denoted n.position) (option_and_then (own_result here) o) ≡ Some r → IsKnown here.core sees r
+    go (Some id) e = at id (own_result here id) refl e
+    go None e = absurd (none_is e)
+
+first_sound : {sees : Sees} {here : Here} → IsSettled sees here → (d : Designator) (r : Denoted) → result_first here d ≡ Some r → IsKnown here.core sees r
+first_sound s (designator (named n) (selectors (call args) ss)) r e = absurd (none_is e)
+first_sound s (designator (named n) ss) r e = named_sound s n r e
+first_sound s d r e = absurd (none_is e)
+
+target_from_whole : {sees : Sees} {here : Here} → IsSettled sees here → (d : Designator) (o : Option Denoted) → result_first here d ≡ o → Whole (λ t. IsTyped here.core sees t × (is_place true here.core t ≡ true)) (target_from here d o)
+target_from_whole {sees} {here} s d (Some r) e =
+    target_means_whole here sees (position_of_designator d).place (whole_behind (selected_whole s (selectors_behind d) (filled r (first_sound s d r e))) (λ c k. settled_whole s c k))
+target_from_whole {sees} {here} s d None e = target_by_whole s d (routine_alone here d)
 
 pub target_whole : {sees : Sees} {here : Here} → IsSettled sees here → (d : Designator) → Whole (λ t. IsTyped here.core sees t × (is_place true here.core t ≡ true)) (words.target here d)
 unfolding words.target
-target_whole {sees} {here} s d = target_by_whole s d (routine_alone here d)
+target_whole {sees} {here} s d = target_from_whole s d (result_first here d) refl
 
 -- ---- a call alone
 

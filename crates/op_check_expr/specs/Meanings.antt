@@ -21,15 +21,17 @@ use Rattle.op_core.specs.declared.routine.Variable.{Variable as VariableRow}
 use Rattle.op_tree.specs.Expression.{Expression, designated, Designator, designator, named, Selector, Selectors, no_selectors, selectors, call, Arguments, no_arguments}
 use Rattle.op_check_expr.specs.Calling.{plan_of}
 use Rattle.op_check_expr.specs.Constructors.{is_small}
-use Rattle.op_check_expr.specs.Expressions.{call_of, called, given_first, given_to, position_of, position_of_designator, root_of, selected, value_in, variable_in}
+use Rattle.op_check_expr.specs.Expressions.{as_value, call_of, called, given_first, given_to, position_of, position_of_designator, root_of, selected, value_in, variable_in}
 use Rattle.op_check_expr.specs.Naming as naming
-use Rattle.op_check_expr.specs.Naming.{Denoted, Meant, variable_tree}
+use Rattle.op_check_expr.specs.Naming.{Denoted, Meant, valued, variable_tree}
 use Rattle.op_check_expr.specs.Places.{is_writable_row, target_value}
 use Rattle.op_check_expr.specs.Scopes.{Here}
-use Rattle.op_check_expr.specs.Values.{Value, as_type, tree_of, type_of}
+use Rattle.op_check_expr.specs.Values.{Value, as_type, computed, tree_of, type_of}
 use Rattle.op_check_expr.specs.Words.{changed, followed, number_at, standing}
 use Rattle.op_check_expr.specs.declared.call.Plan.{Plan}
 use Rattle.op_check_expr.specs.declared.call.Plan.TheVariants.{Bound, Sole}
+use Rattle.op_tree.specs.declared.position.Name.{Name}
+use Rattle.op_tree.specs.declared.position.Position.{Position}
 use Rattle.op_types.specs.Assignable.{assignable}
 use Rattle.op_types.specs.Names.{lower, meaning_of}
 use Rattle.op_types.specs.declared.visible.Meaning.{Meaning}
@@ -92,13 +94,37 @@ abbrev pub routine_alone : Here → Designator → Option RoutineId
 routine_alone here (designator (named n) no_selectors) = routine_in (meaning_of here.visible (lower n.text))
 routine_alone here d = None
 
-abbrev pub target_by : Here → Designator → Option RoutineId → Checked Tree
-target_by here d (Some id) = by_entry 29 (position_of_designator d).place (λ v. fine (variable_tree v.0 v.1)) (own_result here id)
-target_by here d None = followed (value_in here None (designated d)) (with_part (target_value here (position_of_designator d).place))
+-- a value is assigned to, in a statement that begins at a place
+abbrev pub target_means : Here → Place → Checked Value → Checked Tree
+target_means here at c = followed c (with_part (target_value here at))
 
--- A function's name is its result in its own body; no other routine's name is assigned to.
+abbrev pub target_by : Here → Designator → Option RoutineId → Checked Tree
+target_by here d (Some id) = refused 29 (position_of_designator d).place
+target_by here d None = target_means here (position_of_designator d).place (value_in here None (designated d))
+
+abbrev pub result_denoted : Position → VariableId × TypeId → Denoted
+result_denoted p v = valued p (computed (variable_tree v.0 v.1))
+
+-- the result of the routine whose body this is, by that routine's name
+abbrev pub result_named : Here → Name → Option Denoted
+result_named here n = option_map (result_denoted n.position) (option_and_then (own_result here) (routine_in (meaning_of here.visible (lower n.text))))
+
+-- the result that a place begins with; arguments behind the name call the function
+abbrev pub result_first : Here → Designator → Option Denoted
+result_first here (designator (named n) (selectors (call args) ss)) = None
+result_first here (designator (named n) ss) = result_named here n
+result_first here d = None
+
+abbrev pub selectors_behind : Designator → Selectors
+selectors_behind (designator root ss) = ss
+
+abbrev pub target_from : Here → Designator → Option Denoted → Checked Tree
+target_from here d (Some r) = target_means here (position_of_designator d).place (followed (selected here (Some r) (selectors_behind d)) (as_value here))
+target_from here d None = target_by here d (routine_alone here d)
+
+-- In its own body a function's name is its result, of which a part may be selected; no other routine's name is assigned to.
 unfoldable pub target : Here → Designator → Checked Tree
-target here d = target_by here d (routine_alone here d)
+target here d = target_from here d (result_first here d)
 
 -- ---- a call alone
 

@@ -173,10 +173,18 @@ argument_type core f of = of
 abbrev pub function_tree : Core → Function → Bool → Value → TypeId → Value
 function_tree core f checked v of = computed (with_step (as_type core true (argument_type core f (type_of v)) v) (apply f checked) of)
 
+-- Length takes a Char as a string
+abbrev pub becomes_string : Core → Function → TypeId → Bool
+becomes_string core Length of = is_ordinal (sort_of core of)
+becomes_string core f of = false
+
+abbrev pub feature_of_argument : Core → Function → TypeId → Option ℕ
+feature_of_argument core f of = if becomes_string core f of then Some 40 else None
+
 -- a function at a position, of an argument at a place
 abbrev pub application_of : Core → Position → Function → Place → Value → Checked Value
 application_of core p f at v =
-    by_entry (rule_of f) at (λ of. fine (function_tree core f p.switches.q v of)) (function_type core f (type_of v))
+    by_entry (rule_of f) at (λ of. by_feature p.place (feature_of_argument core f (type_of v)) (fine (function_tree core f p.switches.q v of))) (function_type core f (type_of v))
 
 -- what it does with constants is evaluated: casts to ordinal types, and functions of values
 abbrev pub is_evaluated : Core → Applied → Bool

@@ -11,7 +11,7 @@ use Rattle.op_core.specs.declared.types.CoreType.{CoreType}
 use Rattle.op_tree.specs.declared.operator.Operator.{Operator}
 use Rattle.op_tree.specs.declared.operator.PrefixOperator.{PrefixOperator}
 use Rattle.op_tree.specs.declared.position.Position.{Position}
-use Rattle.op_check_expr.specs.Operating.{cast_by, feature_of_operands, function_tree, function_type, is_evaluated, operation_tree, prefix_tree, rule_of}
+use Rattle.op_check_expr.specs.Operating.{cast_by, feature_of_argument, feature_of_operands, function_tree, function_type, is_evaluated, operation_tree, prefix_tree, rule_of}
 use Rattle.op_check_expr.specs.RuleWords.{Made, Shows, Whether}
 use Rattle.op_check_expr.specs.Values.{Value, constant, computed, as_type, index_tree, tree_of, type_of}
 use Rattle.op_types.specs.Assignable.{assignable}
@@ -74,16 +74,20 @@ PrefixBreaks core o p (computed e) = Lacks (table.prefixed o (sort_of core (type
 
 -- ---- casts and functions
 
--- A cast leads from an ordinal type to an ordinal type; a function takes certain types.
+-- A cast leads from an ordinal type to an ordinal type; a function takes certain types, and strings are left out.
 abbrev pub ComputedUse : Core → Position → Applied → Value → Value → Type 0
 ComputedUse core p (Cast of) v =
     Made (Entry (cast_by core (type_of v) of (sort_of core (type_of v)) (sort_of core of)))
     (λ c. computed (with_step (tree_of v) (convert c CastOrigin) of))
-ComputedUse core p (Function' f) v = Made (Entry (function_type core f (type_of v))) (function_tree core f p.switches.q v)
+ComputedUse core p (Function' f) v =
+    Through (Entry (function_type core f (type_of v))) (λ of.
+    Where (feature_of_argument core f (type_of v) ≡ None) (Only (function_tree core f p.switches.q v of)))
 
 abbrev pub ComputedUseBreaks : Core → Position → Applied → Place → Value → Refusal → Type 0
 ComputedUseBreaks core p (Cast of) at v = Lacks (cast_by core (type_of v) of (sort_of core (type_of v)) (sort_of core of)) 39 p.place
-ComputedUseBreaks core p (Function' f) at v = Lacks (function_type core f (type_of v)) (rule_of f) at
+ComputedUseBreaks core p (Function' f) at v =
+    Either (Lacks (function_type core f (type_of v)) (rule_of f) at)
+    (Through (Entry (function_type core f (type_of v))) (λ of. Shows (feature_of_argument core f (type_of v)) p.place))
 
 -- A constant is evaluated, where that use of one is.
 abbrev pub Uses : Core → Position → Applied → Value → Value → Type 0

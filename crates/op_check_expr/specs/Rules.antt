@@ -18,7 +18,7 @@ use Rattle.op_check_expr.specs.Calling.{behind, first_of, others_of, plan_of, ty
 use Rattle.op_check_expr.specs.Constructors.{Member, is_small}
 use Rattle.op_check_expr.specs.Constructors as member
 use Rattle.op_check_expr.specs.Expressions.{position_of, position_of_designator, text_denoted}
-use Rattle.op_check_expr.specs.Meanings.{is_call, last_call, own_result, routine_alone}
+use Rattle.op_check_expr.specs.Meanings.{is_call, last_call, result_first, routine_alone, selectors_behind}
 use Rattle.op_check_expr.specs.NameRules.{CallBreaksBy, CallMeans, CallingBreaks, CallsBare, IndexBreaks, Indexes, MemberAs, MemberBreaksBy, NameBreaks, NameIs, Passes, PassingBreaks, Plans, SettleBreaks, Settles, TargetValue, TargetValueBreaks, VariableValue, VariableValueBreaks}
 use Rattle.op_check_expr.specs.Naming as naming
 use Rattle.op_check_expr.specs.Naming.{Denoted, Meant, valued, variable_tree}
@@ -218,22 +218,41 @@ ElementBreaks here base e =
 
 -- ---- what is assigned to
 
--- by the routine whose name stands alone: that routine's result, in its own body only
+-- a value that is assigned to may be written, in a statement that begins at a place
+abbrev pub TargetMeans : Here → (Value → Type 0) → Tree → Type 0
+TargetMeans here T = Through T (TargetValue here)
+
+abbrev pub TargetMeansBreaks : Here → Place → (Value → Type 0) → (Refusal → Type 0) → Refusal → Type 0
+TargetMeansBreaks here at T B = Either B (Through T (TargetValueBreaks here at))
+
+-- no routine's name alone is assigned to
 abbrev pub TargetAs : Here → Designator → Option RoutineId → Tree → Type 0
-TargetAs here d (Some id) = Made (Entry (own_result here id)) (λ v. variable_tree v.0 v.1)
-TargetAs here d None = Through (ValueIs here None (designated d)) (TargetValue here)
+TargetAs here d (Some id) = Never
+TargetAs here d None = TargetMeans here (ValueIs here None (designated d))
 
 abbrev pub TargetBreaksBy : Here → Designator → Option RoutineId → Refusal → Type 0
-TargetBreaksBy here d (Some id) = Lacks (own_result here id) 29 (position_of_designator d).place
-TargetBreaksBy here d None =
-    Either (ValueBreaks here None (designated d))
-    (Through (ValueIs here None (designated d)) (TargetValueBreaks here (position_of_designator d).place))
+TargetBreaksBy here d (Some id) = At 29 (position_of_designator d).place
+TargetBreaksBy here d None = TargetMeansBreaks here (position_of_designator d).place (ValueIs here None (designated d)) (ValueBreaks here None (designated d))
+
+-- but that of the function whose body this is: its result, with what is selected of it
+abbrev ResultSelected : Here → Designator → Denoted → Denoted → Type 0
+ResultSelected here d r = Selected here (Only r) (selectors_behind d)
+
+abbrev pub TargetFrom : Here → Designator → Option Denoted → Tree → Type 0
+TargetFrom here d (Some r) = TargetMeans here (Through (ResultSelected here d r) (Settles here))
+TargetFrom here d None = TargetAs here d (routine_alone here d)
+
+abbrev pub TargetBreaksFrom : Here → Designator → Option Denoted → Refusal → Type 0
+TargetBreaksFrom here d (Some r) =
+    TargetMeansBreaks here (position_of_designator d).place (Through (ResultSelected here d r) (Settles here))
+    (Either (SelectedBreaks here (Only r) (selectors_behind d)) (Through (ResultSelected here d r) (SettleBreaks here)))
+TargetBreaksFrom here d None = TargetBreaksBy here d (routine_alone here d)
 
 abbrev pub TargetIs : Here → Designator → Tree → Type 0
-TargetIs here d = TargetAs here d (routine_alone here d)
+TargetIs here d = TargetFrom here d (result_first here d)
 
 abbrev pub TargetBreaks : Here → Designator → Refusal → Type 0
-TargetBreaks here d = TargetBreaksBy here d (routine_alone here d)
+TargetBreaks here d = TargetBreaksFrom here d (result_first here d)
 
 -- ---- a call alone
 

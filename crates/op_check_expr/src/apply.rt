@@ -3,14 +3,14 @@ ghost use Rattle.std.specs.Prelude.{◌≡◌, IfOk};
 ghost use Rattle.std.specs.Option.{option_map};
 ghost use Rattle.op_core.specs.Expression.{expr_of};
 ghost use Rattle.op_core.specs.Sizes.{type_at};
-ghost use Rattle.op_check_expr.specs.Operating.{application_of, argument_type, cast_by, cast_conversion, cast_of, computed_use, function_type, index_type, is_evaluated, keeps_low_bits, rule_of, used};
+ghost use Rattle.op_check_expr.specs.Operating.{application_of, argument_type, becomes_string, cast_by, cast_conversion, cast_of, computed_use, function_type, index_type, is_evaluated, keeps_low_bits, rule_of, used};
 ghost use Rattle.op_check_expr.specs.Values.{value_of};
 ghost use Rattle.op_check_expr.specs.Words.{Reports};
 ghost use Rattle.op_types.specs.Sorts.{sort_of};
 
 use crate::convert::{as_type, is_integer, is_wider};
 use crate::operate::Valued;
-use crate::sink::refuse;
+use crate::sink::{leave_out, refuse};
 use crate::tree::{then, type_of};
 use crate::value::{Value, constant_value};
 use op_base::Place;
@@ -135,11 +135,24 @@ fn application_of(
     let Some(of) = function_type(core, function, value.type_of()) else {
         return Ok(refuse(sink, rule_of(function), at));
     };
+    if becomes_string(core, function, value.type_of()) {
+        return Ok(leave_out(sink, 40, position.place));
+    }
     let to = argument_type(core, function, value.type_of());
     let e = as_type(setting.alloc, core, true, to, value)?;
     let checked = position.switches.q;
     let action = Action::Apply { function, checked };
     Ok(Some(Value::Computed(then(e, action, of)?)))
+}
+
+/// Whether the argument becomes a string: Length takes a Char as one.
+fn becomes_string(core: &Core, function: Function, of: TypeId) -> bool
+    ensures { result ≡ becomes_string core.now function of }
+{
+    match (function, sort_of(core, of)) {
+        (Function::Length, Sort::Ordinal(_)) => true,
+        _ => false,
+    }
 }
 
 /// The rule that an argument breaks which the function does not take.

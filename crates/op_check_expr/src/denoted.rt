@@ -131,7 +131,7 @@ pub fn variable_tree(alloc: Global, id: VariableId, of: TypeId) -> CoreExpr
     CoreExpr::new(alloc, Root::Variable(id), of)
 }
 
-/// The feature that the name of a built-in routine shows.
+/// The feature that a built-in name shows.
 fn feature_of(b: BuiltIn) -> Option<u8>
     ensures { result ≡ feature_of b }
 {
@@ -150,6 +150,7 @@ fn feature_of(b: BuiltIn) -> Option<u8>
         | BuiltIn::StringOfChar => Some(40),
         BuiltIn::Halt => Some(39),
         BuiltIn::Function(Function::Assigned) => Some(41),
+        BuiltIn::LeftOut(feature) => Some(feature),
         _ => None,
     }
 }

@@ -6,6 +6,7 @@ ghost use Rattle.op_tree.specs.Expression.{expr_of, selector_of};
 ghost use Rattle.op_core.specs.Faults.{with_part};
 ghost use Rattle.op_tree.specs.Lists.{arguments_of};
 ghost use Rattle.op_tree.specs.Statement.{designator_of, selectors_of};
+ghost use Rattle.op_check_expr.specs.Expressions.{as_value};
 ghost use Rattle.op_check_expr.specs.Naming.{denoted_of};
 ghost use Rattle.op_check_expr.specs.Meanings as means;
 ghost use Rattle.op_check_expr.specs.Rules as rules;
@@ -15,7 +16,7 @@ ghost use Rattle.op_check_expr.specs.Words.{Reports};
 
 use crate::call::Plan;
 use crate::convert::{as_type, stored};
-use crate::denoted::{Denoted, Meant, number_at, variable_tree};
+use crate::denoted::{Denoted, Found, Meant, number_at, variable_tree};
 use crate::operate::Valued;
 use crate::part::{given_first, position_of, position_of_designator};
 use crate::place::{is_writable_variable, target_value, variable_value};
@@ -27,7 +28,7 @@ use op_core::{
     CheckError, Core, CoreExpr, FirstRefusal, Role, Routine, RoutineId, Run, TypeId, Variable,
     VariableId,
 };
-use op_tree::{Argument, Designator, Expr, Root, Selector};
+use op_tree::{Argument, Designator, Expr, Name, Position, Root, Selector};
 use op_types::{Meaning, assignable};
 use std::alloc::Global;
 
@@ -125,23 +126,73 @@ impl<'a> Checker<'a> {
         Ok(Some(as_type(self.alloc, core, true, base, value)?))
     }
 
-    /// What is assigned to: rule 29 at its first token. A function's own name is its result.
+    /// What is assigned to: rule 29 at its first token. A function's own name is its result, of which a part may be selected.
     #[tactic(auto, unfolding(crate::specs::Meanings::target))]
     pub fn target(self, sink: &mut FirstRefusal, called: &Designator) -> Typed
         ensures { IfOk result (λ v. Reports (means.target (here_of self.entry.scope) (designator_of called.now)) sink.old sink.new (option_map typed.expr_of v)) }
     {
         let at = position_of_designator(called).place;
-        if let Some(id) = self.routine_alone(called)? {
-            return match self.own_result(id) {
-                Some((id, of)) => Ok(Some(variable_tree(self.alloc, id, of))),
-                None => Ok(refuse(sink, 29, at)),
-            };
+        match self.result_first(called)? {
+            Some(result) => {
+                let denoted = self.selected(sink, Some(result), &called.selectors)?;
+                self.target_denoted(sink, at, denoted)
+            }
+            None => self.target_of_others(sink, called),
         }
-        let denoted = self.designator(sink, called)?;
+    }
+
+    /// What is assigned to, where that is no result: no routine's name alone.
+    fn target_of_others(self, sink: &mut FirstRefusal, called: &Designator) -> Typed
+        ensures { IfOk result (λ v. Reports (means.target_by (here_of self.entry.scope) (designator_of called.now) (means.routine_alone (here_of self.entry.scope) (designator_of called.now))) sink.old sink.new (option_map typed.expr_of v)) }
+    {
+        let at = position_of_designator(called).place;
+        match self.routine_alone(called)? {
+            Some(_) => Ok(refuse(sink, 29, at)),
+            None => {
+                let denoted = self.designator(sink, called)?;
+                self.target_denoted(sink, at, denoted)
+            }
+        }
+    }
+
+    /// What is assigned to, in a statement that begins at a place.
+    fn target_denoted(self, sink: &mut FirstRefusal, at: Place, denoted: Option<Denoted>) -> Typed
+        ensures { IfOk result (λ v. Reports (means.target_means (here_of self.entry.scope) at (as_value (here_of self.entry.scope) (option_map denoted_of denoted))) sink.old sink.new (option_map typed.expr_of v)) }
+    {
         match self.as_value(sink, denoted)? {
             Some(value) => Ok(target_value(self.scope, sink, at, value)),
             None => Ok(None),
         }
+    }
+
+    /// The result that a place begins with, by the name of the function whose body this is.
+    fn result_first(self, called: &Designator) -> Found
+        ensures { IfOk result (λ r. option_map denoted_of r ≡ means.result_first (here_of self.entry.scope) (designator_of called.now)) }
+    {
+        match (&called.root, called.selectors.split_first()) {
+            (Root::Named(_), Some((Selector::Call { .. }, _))) => Ok(None),
+            (Root::Named(name), _) => self.result_named(name),
+            _ => Ok(None),
+        }
+    }
+
+    fn result_named(self, name: &Name) -> Found
+        ensures { IfOk result (λ r. option_map denoted_of r ≡ means.result_named (here_of self.entry.scope) name.now) }
+    {
+        match self.scope.visible.look_up(name.text.as_slice())? {
+            Some(Meaning::Routine(id)) => Ok(self.result_denoted(name.position, *id)),
+            _ => Ok(None),
+        }
+    }
+
+    fn result_denoted(self, position: Position, id: RoutineId) -> Option<Denoted>
+        ensures { option_map denoted_of result ≡ option_map (means.result_denoted position) (means.own_result (here_of self.entry.scope) id) }
+    {
+        let (id, of) = self.own_result(id)?;
+        Some(Denoted {
+            position,
+            what: Meant::Value(Value::Computed(variable_tree(self.alloc, id, of))),
+        })
     }
 
     /// The routine whose name stands alone.

@@ -4,13 +4,12 @@ use Rattle.op_base.specs.declared.place.Place.{Place}
 use Rattle.op_base.specs.declared.rule.Refusal.{Refusal}
 use Rattle.op_check_stmt.proofs.Law.{statements_law}
 use Rattle.op_check_unit.proofs.LawDeclaring.{constants_law, types_law, variables_law}
-use Rattle.op_check_unit.proofs.LawNames.{name_law}
 use Rattle.op_check_unit.proofs.LawRoutines.{routine_law}
 use Rattle.op_check_unit.proofs.LawSteps.{agrees_left_out, each_declaration_law, lists_also, lists_entry, lists_no_entry}
 use Rattle.op_check_unit.specs.Checking.{CheckIs}
-use Rattle.op_check_unit.specs.Programs.{all_declared, declaration_means, declared_in, files_mean, main_head, main_means, missing, name_declared, name_of, program_declared, program_means, with_unit}
+use Rattle.op_check_unit.specs.Programs.{all_declared, declaration_means, declared_in, files_mean, main_head, main_means, missing, name_of, program_declared, program_means, with_heading, with_unit}
 use Rattle.op_check_unit.specs.Routines.{next_routine, scope_of, with_routine}
-use Rattle.op_check_unit.specs.Rules.{AwaitedBreaks, DeclarationBreaks, DeclarationsBreak, DeclaredBreaks, FilesBreak, MainBreaks, Obeys, ProgramBreaks, ProgramFileBreaks, ProgramNameBreaks}
+use Rattle.op_check_unit.specs.Rules.{AwaitedBreaks, DeclarationBreaks, DeclarationsBreak, DeclaredBreaks, FilesBreak, MainBreaks, Obeys, ProgramBreaks, ProgramFileBreaks}
 use Rattle.op_check_unit.specs.Steps.{Given, Here}
 use Rattle.op_check_unit.specs.System.{beginning}
 use Rattle.op_core.proofs.Agreeing.{first_broken, lists_none, lists_one, none_broken}
@@ -22,13 +21,7 @@ use Rattle.op_core.specs.declared.program.Core.{Core}
 use Rattle.op_tree.specs.Declaration.{Declaration, constants, types, variables, heading, routine, Declarations}
 use Rattle.op_tree.specs.File.{File, Program, program}
 use Rattle.op_tree.specs.Statement.{Statements}
-use Rattle.op_tree.specs.declared.file.ProgramHeading.{ProgramHeading}
 use Rattle.op_tree.specs.declared.position.Name.{Name}
-use Rattle.op_types.specs.declared.visible.Meaning.TheVariants.{Unit as UnitName}
-
-name_declared_law : (x : Option ProgramHeading) (h : Here) → Lists (name_declared x h).faults (ProgramNameBreaks x h)
-name_declared_law None h = lists_none
-name_declared_law (Some x) h = name_law x.name (UnitName (record { 0 = 0 })) h
 
 declaration_law : (d : Declaration) (h : Here) → Lists (declaration_means d h).faults (DeclarationBreaks d h)
 declaration_law (constants cs) h = constants_law cs h
@@ -49,7 +42,7 @@ main_law : (n : Name) (ss : Statements) (h : Here) → Lists (main_means n ss h)
 main_law n ss h = let id = next_routine h in (statements_law (scope_of id (with_unit n id (with_routine n main_head None h))) ss).1
 
 declared_law : (p : Program) (h : Here) → Lists (declared_in p h).faults (DeclaredBreaks p h)
-declared_law p h = lists_also (name_declared_law p.heading h) (declarations_law p.declarations (name_declared p.heading h).here)
+declared_law p h = declarations_law p.declarations (with_heading p.heading h)
 
 file_law : (p : Program) (h : Here) → Lists (program_declared p h).faults (ProgramFileBreaks p h)
 file_law p h =

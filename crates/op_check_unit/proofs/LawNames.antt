@@ -1,12 +1,12 @@
 -- The rules of names agree with what names mean.
 use Rattle.std.proofs.Common.{ℕ, Bool, true, false, not, ◌||◌, length, List, Option, Some, None}
 use Rattle.op_base.specs.declared.place.Place.{Place}
-use Rattle.op_check_unit.proofs.LawSteps.{agrees_feature_fine, agrees_feature_never, agrees_when, from_where, from_where_fine}
+use Rattle.op_check_unit.proofs.LawSteps.{agrees_feature_fine, agrees_feature_never, agrees_left_out, agrees_when, from_where, from_where_fine}
 use Rattle.op_check_unit.specs.Naming.{declared, declared_within, entered_name, has_room, is_ahead, is_declared, is_name, own_type, told_in, type_meant, type_named, type_of_unit, with_name}
 use Rattle.op_check_unit.specs.RulesNames.{EnteredBreaks, NameBreaks, NameWithinBreaks, NamedBreaks, NamedIs, OwnBreaks, TypeBreaks, TypeIs, TypeNamedBreaks, TypeNamedIs, UnitTypeBreaks, UnitTypeIs}
 use Rattle.op_check_unit.specs.Steps.{Here}
 use Rattle.op_check_unit.specs.declared.naming.Told.{Told}
-use Rattle.op_check_unit.specs.declared.naming.Told.TheVariants.{Unknown, Spoiled, Known, Unit as Unit', Other}
+use Rattle.op_check_unit.specs.declared.naming.Told.TheVariants.{Unknown, Spoiled, Known, LeftOutType, Unit as Unit', Other}
 use Rattle.op_core.proofs.Agreeing.{agrees_refused, agrees_untyped}
 use Rattle.op_core.specs.Relations.{Agrees, Lists, Never}
 use Rattle.op_core.specs.declared.program.Core.{Core}
@@ -20,6 +20,7 @@ pub type_law : (core : Core) (place : Place) (t : Told) → Agrees (type_meant c
 type_law core place Unknown = agrees_refused 15 place
 type_law core place Spoiled = agrees_untyped
 type_law core place (Known of) = agrees_feature_fine
+type_law core place (LeftOutType feature) = agrees_left_out
 type_law core place Unit' = agrees_refused 16 place
 type_law core place Other = agrees_refused 16 place
 
@@ -27,6 +28,7 @@ pub unit_type_law : (core : Core) (names : List Named) (u n : Name) (t : Told) �
 unit_type_law core names u n Unknown = agrees_refused 15 u.position.place
 unit_type_law core names u n Spoiled = agrees_untyped
 unit_type_law core names u n (Known of) = agrees_feature_never (agrees_refused 16 u.position.place)
+unit_type_law core names u n (LeftOutType feature) = agrees_left_out
 unit_type_law core names u n Unit' = type_law core n.position.place (told_in names (joined_name u.text n.text))
 unit_type_law core names u n Other = agrees_refused 16 u.position.place
 

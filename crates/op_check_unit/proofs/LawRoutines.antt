@@ -89,6 +89,7 @@ class_law : (core : Core) (place : Place) (t : Told) → Lists (class_meant core
 class_law core place told.Unknown = lists_one (broken 15 place)
 class_law core place told.Spoiled = lists_none
 class_law core place (told.Known of) = (agrees_feature_never (agrees_refused 16 place)).1
+class_law core place (told.LeftOutType feature) = (agrees_left_out {A = Unit {0}}).1
 class_law core place told.Unit = lists_one (broken 16 place)
 class_law core place told.Other = lists_one (broken 16 place)
 

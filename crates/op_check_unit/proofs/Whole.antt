@@ -11,13 +11,14 @@ use Rattle.op_check_unit.proofs.WholeDeclaring.{constants_settled, types_settled
 use Rattle.op_check_unit.proofs.WholeGrowth.{Wider, bare_routines_on, bare_variable_on, body_on, names_on, value_on}
 use Rattle.op_check_unit.proofs.WholeRoutines.{Closes, Rests, routine_settled, statements_settled, with_routine_settled}
 use Rattle.op_check_unit.proofs.WholeSteps.{from_gives, from_so, from_then, founded, founded_in, wider}
-use Rattle.op_check_unit.proofs.WholeTypes.{declared_settled, entered_is, first_behind, wide}
+use Rattle.op_check_unit.proofs.WholeTypes.{entered_is, first_behind, wide, with_name_settled}
 use Rattle.op_check_unit.specs.Complete.{From, HasBody, IsAwaited, IsBareVariable, IsBareRoutine, IsOpen, IsPeopled, IsTypedBody, IsTypedFirst, Settled, Stage, faulty, outside, scope, scope_of, settled}
-use Rattle.op_check_unit.specs.Programs.{all_completed, all_declared, declaration_means, declared_in, main_head, main_means, missing, name_declared, name_of, program_declared, with_unit}
+use Rattle.op_check_unit.specs.Naming.{with_name}
+use Rattle.op_check_unit.specs.Programs.{all_completed, all_declared, declaration_means, declared_in, main_head, main_means, missing, name_of, opened, program_declared, with_heading, with_unit}
 use Rattle.op_check_unit.specs.Routines.{next_routine, no_rows, routine_row, statements_mean, with_routine}
 use Rattle.op_check_unit.specs.Steps.{Given, Here, followed, gives}
 use Rattle.op_check_unit.specs.System as system
-use Rattle.op_check_unit.specs.System.{beginning, class_names, empty, function_names, meaning_of_known, other_names, statement_names, system_core, system_names, system_unit, text_names, type_names, value_names, with_classes, with_known, with_table}
+use Rattle.op_check_unit.specs.System.{beginning, character_names, class_names, empty, floating_names, function_names, integer_names, meaning_of_known, native_names, other_names, pointer_names, rest_names, short_names, sized_names, statement_names, string_names, system_core, system_names, system_unit, text_names, type_names, value_names, with_classes, with_known, with_left_out, with_table}
 use Rattle.op_check_unit.specs.Tables.{IsTabled}
 use Rattle.op_check_unit.specs.declared.system.Known.{Known}
 use Rattle.op_check_unit.specs.declared.system.Known.TheVariants.{Named as Type_, Form, Value}
@@ -88,6 +89,19 @@ values_stand core sees ns f a =
     let some = with_known (codes "False") (Value (id 5) (pos 0)) ns in
     known_stands core sees (codes "MaxInt") (Value (id 4) (pos 2147483647)) (with_known (codes "True") (Value (id 5) (pos 1)) some) (known_stands core sees (codes "True") (Value (id 5) (pos 1)) some (known_stands core sees (codes "False") (Value (id 5) (pos 0)) ns a falsity) truth) greatest
 
+left_out_stands : (core : Core) (sees : Sees) (ns : List Named) → 19 ≤ length core.types → AllStand core sees ns → AllStand core sees (with_left_out ns)
+left_out_stands core sees ns le a =
+    let f = with_table floating_names ns in
+    let i = with_table integer_names f in
+    let n = with_table native_names i in
+    let z = with_table sized_names n in
+    let h = with_table short_names z in
+    let s = with_table string_names h in
+    let c = with_table character_names s in
+    table_stands core sees rest_names (with_table pointer_names c) le refl (table_stands core sees pointer_names c le refl (table_stands core sees character_names s le refl
+    (table_stands core sees string_names h le refl (table_stands core sees short_names z le refl (table_stands core sees sized_names n le refl (table_stands core sees native_names i le refl
+    (table_stands core sees integer_names f le refl (table_stands core sees floating_names ns le refl a))))))))
+
 system_stands : (core : Core) (sees : Sees) → 19 ≤ length core.types → IsFounded core → AllStand core sees system_names
 system_stands core sees le f =
     let t = with_table type_names system_unit in
@@ -95,8 +109,8 @@ system_stands core sees le f =
     let v = with_table value_names c in
     let w = with_table text_names v in
     let s = with_table statement_names w in
-    table_stands core sees other_names (with_table function_names s) le refl (table_stands core sees function_names s le refl (table_stands core sees statement_names w le refl (table_stands core sees text_names v le refl (values_stand core sees c f
-    (table_stands core sees class_names t le refl (table_stands core sees type_names system_unit le refl (All-cons (λ n. StandsFor core sees n.meaning) _ [] tt (All-nil (λ n. StandsFor core sees n.meaning)))))))))
+    left_out_stands core sees (with_table other_names (with_table function_names s)) le (table_stands core sees other_names (with_table function_names s) le refl (table_stands core sees function_names s le refl (table_stands core sees statement_names w le refl (table_stands core sees text_names v le refl (values_stand core sees c f
+    (table_stands core sees class_names t le refl (table_stands core sees type_names system_unit le refl (All-cons (λ n. StandsFor core sees n.meaning) _ [] tt (All-nil (λ n. StandsFor core sees n.meaning))))))))))
 
 system_is : (ts : List CoreType) (core : Core) → (us : List CoreType) × (es : List Extent) × (system.with_types ts core ≡ wide core us es)
 system_is [] core = ([], [], ap₂ (λ a b. record core { types = a; extents = b }) (sym (append-nil core.types)) (sym (append-nil core.extents)))
@@ -136,9 +150,27 @@ beginning_settled = let e = system_is system.types (with_classes empty) in subst
 
 -- ---- declarations
 
-name_settled : (x : Option ProgramHeading) (h : Here) → Settled (outside None) h → From Rests (name_declared x h)
-name_settled None h y = from_gives y
-name_settled (Some x) h y = from_so (declared_settled x.name (UnitName (record { 0 = 0 })) h y tt) (λ t i r. r.state)
+-- a scope begins outside of bodies
+opened_settled : (h : Here) → Settled (outside None) h → Settled (outside None) (opened h)
+opened_settled h y = record {
+  tables = y.tables;
+  people = y.people;
+  units = y.units;
+  names = y.names;
+  first = omega arith;
+  counts = y.counts;
+  routine = y.routine;
+  inside = tt;
+  current = y.current;
+  awaits = y.awaits;
+  accounted = y.accounted;
+  bodies = y.bodies;
+  values = y.values;
+}
+
+heading_settled : (x : Option ProgramHeading) (h : Here) → Settled (outside None) h → Settled (outside None) (with_heading x h)
+heading_settled None h y = y
+heading_settled (Some x) h y = let m = UnitName (record { 0 = 0 }) in opened_settled (with_name x.name m h) (with_name_settled x.name m h y tt)
 
 declaration_settled : (d : Declaration) (h : Here) → Settled (outside None) h → From Rests (declaration_means d h)
 declaration_settled (constants cs) h y = from_so (constants_settled cs h y) (λ t i r. r.state)
@@ -152,7 +184,7 @@ declarations_settled no_declarations h y = from_gives y
 declarations_settled (declarations d ds) h y = from_then (all_declared ds) (declaration_settled d h y) (λ t i z. declarations_settled ds i z)
 
 declared_in_settled : (p : Program) (h : Here) → Settled (outside None) h → From Rests (declared_in p h)
-declared_in_settled p h y = from_then (all_declared p.declarations) (name_settled p.heading h y) (λ t i z. declarations_settled p.declarations i z)
+declared_in_settled p h y = declarations_settled p.declarations (with_heading p.heading h) (heading_settled p.heading h y)
 
 -- ---- bodies that are awaited
 

@@ -57,6 +57,7 @@ use Rattle.op_tree.specs.declared.heading.Directive.{Directive}
 use Rattle.op_tree.specs.declared.position.Name.{Name}
 use Rattle.op_types.specs.Names.{Named, lower, meaning_of}
 use Rattle.op_types.specs.Standing.{AllStand, StandsFor}
+use Rattle.op_types.specs.declared.visible.BuiltIn.TheVariants.{LeftOut}
 use Rattle.op_types.specs.declared.visible.Meaning.{Meaning}
 use Rattle.op_types.specs.declared.visible.Meaning.TheVariants as meaning
 use Rattle.op_types.specs.declared.visible.Meaning.TheVariants.{Variable, Routine as RoutineName}
@@ -684,6 +685,8 @@ class_whole : (core : Core) (sees : Sees) (place : Place) (m : Option Meaning) �
 class_whole core sees place None u = whole_refused
 class_whole core sees place (Some meaning.Spoiled) u = absurd u
 class_whole core sees place (Some (meaning.TypeName of)) u = class_fault place (feature_of_type (type_at core of))
+class_whole core sees place (Some (meaning.BuiltIn (LeftOut feature))) u = whole_rule
+class_whole core sees place (Some (meaning.BuiltIn b)) u = whole_refused
 class_whole core sees place (Some m) u = whole_refused
 
 routine_by_settled : (c : Option Name) (x : Heading) (ds : List Directive) (b : Body) (h : Here) → Settled (outside None) h → From Rests (routine_by c x ds b h)

@@ -20,7 +20,7 @@ use Rattle.op_check_unit.specs.Steps.{Given, Here, by, checked, followed, gives,
 use Rattle.op_check_unit.specs.Tables.{IsBelow, IsPlain, IsTabled}
 use Rattle.op_check_unit.specs.Types.{array_of, arrays, bounds, constant_part, enumerated, enumeration_of, in_core, index_over, is_kind, is_small, is_within_set, lower_bound, lower_of, most_bytes, number_of_next, one_array, row, set_over, sized_row, start_of_denoter, subrange_of, value_of, values}
 use Rattle.op_check_unit.specs.declared.record.FieldRows.{FieldRows}
-use Rattle.op_core.proofs.Completing.{whole_behind, whole_both, whole_entered, whole_gives, whole_if, whole_refused, whole_tested, whole_with}
+use Rattle.op_core.proofs.Completing.{whole_behind, whole_both, whole_entered, whole_gives, whole_if, whole_refused, whole_rule, whole_tested, whole_with}
 use Rattle.op_core.proofs.Growing.{front_itself, front_row, front_there}
 use Rattle.op_core.specs.Faults.{IsIn, behind, broken, front, here, none, with_part}
 use Rattle.op_core.specs.Growing.{IsFrontOf}
@@ -54,6 +54,7 @@ use Rattle.op_types.specs.Standing.{AllStand, IsSoundConstant, StandsFor}
 use Rattle.op_types.specs.Values.{number_of}
 use Rattle.op_types.specs.declared.constant.Constant.{Constant}
 use Rattle.op_types.specs.declared.sort.OrdinalKind.{OrdinalKind}
+use Rattle.op_types.specs.declared.visible.BuiltIn.TheVariants.{LeftOut}
 use Rattle.op_types.specs.declared.visible.Meaning.{Meaning}
 use Rattle.op_types.specs.declared.visible.Meaning.TheVariants as meaning
 
@@ -66,6 +67,8 @@ meant_whole : (core : Core) (sees : Sees) (place : Place) (m : Option Meaning) �
 meant_whole core sees place None u = whole_refused
 meant_whole core sees place (Some meaning.Spoiled) u = absurd u
 meant_whole core sees place (Some (meaning.TypeName of)) u = whole_feature place (feature_of_type (type_at core of)) (whole_gives u)
+meant_whole core sees place (Some (meaning.BuiltIn (LeftOut feature))) u = whole_rule
+meant_whole core sees place (Some (meaning.BuiltIn b)) u = whole_refused
 meant_whole core sees place (Some m) u = whole_refused
 
 if_some : {A : Type 0} {P : A → Type 0} (o : Option A) → ((a : A) → o ≡ Some a → P a) → IfSome o P
@@ -80,6 +83,8 @@ unit_whole core sees names u q n None v = whole_refused
 unit_whole core sees names u q n (Some meaning.Spoiled) v = absurd v
 unit_whole core sees names u q n (Some (meaning.TypeName of)) v = whole_feature q.position.place (feature_of_type (type_at core of)) whole_refused
 unit_whole core sees names u q n (Some (meaning.Unit id)) v = meant_whole core sees n.position.place (meaning_of names (joined_name q.text n.text)) (found core sees names u (joined_name q.text n.text))
+unit_whole core sees names u q n (Some (meaning.BuiltIn (LeftOut feature))) v = whole_rule
+unit_whole core sees names u q n (Some (meaning.BuiltIn b)) v = whole_refused
 unit_whole core sees names u q n (Some m) v = whole_refused
 
 own_whole : (core : Core) (own : Option Name) (inside : Bool) (place : Place) → Whole (λ of. IsType of core) (own_type own inside place)

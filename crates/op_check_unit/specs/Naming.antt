@@ -3,9 +3,9 @@ use Rattle.std.specs.Prelude.{ℕ, ◌+◌, ◌-◌, Bool, false, not, ◌||◌,
 use Rattle.std.specs.Str.{str_eq_ignore_ascii_case}
 use Rattle.op_base.specs.declared.place.Place.{Place}
 use Rattle.op_check_expr.specs.Naming.{feature_of_type}
-use Rattle.op_check_expr.specs.Words.{by_feature}
+use Rattle.op_check_expr.specs.Words.{by_feature, left_out}
 use Rattle.op_check_unit.specs.declared.naming.Told.{Told}
-use Rattle.op_check_unit.specs.declared.naming.Told.TheVariants.{Unknown, Spoiled, Known, Unit as Unit', Other}
+use Rattle.op_check_unit.specs.declared.naming.Told.TheVariants.{Unknown, Spoiled, Known, LeftOutType, Unit as Unit', Other}
 use Rattle.op_check_unit.specs.Steps.{Here, Given, gives, where_true}
 use Rattle.op_core.specs.Faults.{Checked, fine, refused, untyped}
 use Rattle.op_core.specs.Sizes.{type_at}
@@ -15,6 +15,7 @@ use Rattle.op_tree.specs.declared.position.Name.{Name}
 use Rattle.op_tree.specs.declared.position.QualifiedName.{QualifiedName}
 use Rattle.op_types.specs.Constants.{joined_name}
 use Rattle.op_types.specs.Names.{Named, lower, meaning_of}
+use Rattle.op_types.specs.declared.visible.BuiltIn.TheVariants.{LeftOut}
 use Rattle.op_types.specs.declared.visible.Meaning.{Meaning}
 use Rattle.op_types.specs.declared.visible.Meaning.TheVariants as meaning
 
@@ -25,6 +26,7 @@ abbrev pub told_by : Option Meaning → Told
 told_by None = Unknown
 told_by (Some meaning.Spoiled) = Spoiled
 told_by (Some (meaning.TypeName of)) = Known of
+told_by (Some (meaning.BuiltIn (LeftOut feature))) = LeftOutType feature
 told_by (Some (meaning.Unit id)) = Unit'
 told_by (Some _) = Other
 
@@ -35,11 +37,12 @@ told_in names name = told_by (meaning_of names name)
 abbrev pub by_type : Core → Place → TypeId → Checked TypeId → Checked TypeId
 by_type core place of c = by_feature place (feature_of_type (type_at core of)) c
 
--- the name is unknown, its declaration breaks a rule, or it is of another kind
+-- the name is unknown, its declaration breaks a rule, the type is left out, or it is of another kind
 abbrev pub type_meant : Core → Place → Told → Checked TypeId
 type_meant core place Unknown = refused 15 place
 type_meant core place Spoiled = untyped
 type_meant core place (Known of) = by_type core place of (fine of)
+type_meant core place (LeftOutType feature) = left_out feature place
 type_meant core place _ = refused 16 place
 
 -- a name of a unit

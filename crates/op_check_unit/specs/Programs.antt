@@ -4,7 +4,7 @@ use Rattle.std.specs.Option.{option_map}
 use Rattle.op_base.specs.declared.place.Place.{Place}
 use Rattle.op_check_expr.specs.Words.{left_out}
 use Rattle.op_check_unit.specs.Declaring.{constants_declared, types_declared, variables_declared}
-use Rattle.op_check_unit.specs.Naming.{declared}
+use Rattle.op_check_unit.specs.Naming.{with_name}
 use Rattle.op_check_unit.specs.Routines.{next_routine, no_rows, routine_declared, statements_mean, with_routine}
 use Rattle.op_check_unit.specs.Steps.{Here, Given, checked, each_declaration, followed, gives}
 use Rattle.op_check_unit.specs.System.{beginning}
@@ -21,10 +21,14 @@ use Rattle.op_tree.specs.declared.position.Name.{Name}
 use Rattle.op_tree.specs.declared.position.Position.{Position}
 use Rattle.op_types.specs.declared.visible.Meaning.TheVariants.{Unit as UnitName}
 
--- the name stands for the program as a unit
-abbrev pub name_declared : Option ProgramHeading → Here → Given (Unit {0})
-name_declared None h = gives tt h
-name_declared (Some x) h = declared x.name (UnitName (record { 0 = 0 })) h
+-- a scope begins
+abbrev pub opened : Here → Here
+opened h = record h { first = length h.names }
+
+-- the name stands for the program as a unit, around the scope of its declarations
+abbrev pub with_heading : Option ProgramHeading → Here → Here
+with_heading None h = h
+with_heading (Some x) h = opened (with_name x.name (UnitName (record { 0 = 0 })) h)
 
 abbrev pub declaration_means : Declaration → Here → Given (Unit {0})
 declaration_means (constants cs) h = constants_declared cs h
@@ -69,7 +73,7 @@ abbrev pub main_means : Name → Statements → Here → Given (Unit {0})
 main_means n ss h = let id = next_routine h in statements_mean id ss (with_unit n id (with_routine n main_head None h))
 
 abbrev pub declared_in : Program → Here → Given (Unit {0})
-declared_in p h = followed (name_declared p.heading h) (λ t h. all_declared p.declarations h)
+declared_in p h = all_declared p.declarations (with_heading p.heading h)
 
 abbrev pub program_declared : Program → Here → Given (Unit {0})
 program_declared p h = followed (declared_in p h) (λ t h. followed (all_completed h) (λ t h. main_means (name_of p.position p.heading) p.statements h))

@@ -223,6 +223,7 @@ abbrev pub class_meant : Core → Place → Told → Checked (Unit {0})
 class_meant core place told.Unknown = refused 15 place
 class_meant core place told.Spoiled = untyped
 class_meant core place (told.Known of) = record { typed = None; faults = (by_type core place of (refused 16 place)).faults }
+class_meant core place (told.LeftOutType feature) = left_out feature place
 class_meant core place _ = refused 16 place
 
 abbrev pub routine_by : Option Name → Heading → List Directive → Body → Here → Given (Unit {0})

@@ -3,10 +3,9 @@ use Rattle.std.specs.Prelude.{List, [], ◌∷◌, Option, Some, None, Result, O
 use Rattle.op_base.specs.declared.place.Place.{Place}
 use Rattle.op_base.specs.declared.rule.Refusal.{Refusal}
 use Rattle.op_check_stmt.specs.Rules.{StatementsBreak}
-use Rattle.op_check_unit.specs.Programs.{declaration_means, declared_in, main_head, name_declared, name_of, start, with_unit}
+use Rattle.op_check_unit.specs.Programs.{declaration_means, declared_in, main_head, name_of, start, with_heading, with_unit}
 use Rattle.op_check_unit.specs.Routines.{next_routine, scope_of, with_routine}
 use Rattle.op_check_unit.specs.RulesDeclaring.{ConstantsBreak, TypesBreak, VariablesBreak}
-use Rattle.op_check_unit.specs.RulesNames.{NameBreaks}
 use Rattle.op_check_unit.specs.RulesRoutines.{RoutineBreaks}
 use Rattle.op_check_unit.specs.RulesSteps.{EachDeclarationBreaks, LeftOut, behind}
 use Rattle.op_check_unit.specs.Steps.{Here}
@@ -18,13 +17,7 @@ use Rattle.op_core.specs.declared.program.Core.{Core}
 use Rattle.op_tree.specs.Declaration.{Declaration, constants, types, variables, heading, routine, Declarations}
 use Rattle.op_tree.specs.File.{File, Program, program}
 use Rattle.op_tree.specs.Statement.{Statements}
-use Rattle.op_tree.specs.declared.file.ProgramHeading.{ProgramHeading}
 use Rattle.op_tree.specs.declared.position.Name.{Name}
-
--- the name of the program stands in its scope
-abbrev pub ProgramNameBreaks : Option ProgramHeading → Here → Refusal → Type 0
-ProgramNameBreaks None h = Never
-ProgramNameBreaks (Some x) h = NameBreaks x.name h
 
 abbrev pub DeclarationBreaks : Declaration → Here → Refusal → Type 0
 DeclarationBreaks (constants cs) h = ConstantsBreak cs h
@@ -47,9 +40,9 @@ abbrev pub MainBreaks : Name → Statements → Here → Refusal → Type 0
 MainBreaks n ss h = let id = next_routine h in StatementsBreak (scope_of id (with_unit n id (with_routine n main_head None h))) ss
 
 abbrev pub DeclaredBreaks : Program → Here → Refusal → Type 0
-DeclaredBreaks p h = Either (ProgramNameBreaks p.heading h) (DeclarationsBreak p.declarations (behind (name_declared p.heading h)))
+DeclaredBreaks p h = DeclarationsBreak p.declarations (with_heading p.heading h)
 
--- the declarations, the bodies that are still awaited behind them, and the statements
+-- the declarations, in a scope of their own, the bodies that are still awaited behind them, and the statements
 abbrev pub ProgramFileBreaks : Program → Here → Refusal → Type 0
 ProgramFileBreaks p h =
     let g = behind (declared_in p h) in

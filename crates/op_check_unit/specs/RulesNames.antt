@@ -4,10 +4,10 @@ use Rattle.op_base.specs.declared.place.Place.{Place}
 use Rattle.op_base.specs.declared.rule.Refusal.{Refusal}
 use Rattle.op_check_expr.specs.Naming.{feature_of_type}
 use Rattle.op_check_unit.specs.Naming.{has_room, is_ahead, is_declared, is_name, place_of, told_in}
-use Rattle.op_check_unit.specs.RulesSteps.{Shows, When}
+use Rattle.op_check_unit.specs.RulesSteps.{LeftOut, Shows, When}
 use Rattle.op_check_unit.specs.Steps.{Here}
 use Rattle.op_check_unit.specs.declared.naming.Told.{Told}
-use Rattle.op_check_unit.specs.declared.naming.Told.TheVariants.{Unknown, Spoiled, Known, Unit as Unit', Other}
+use Rattle.op_check_unit.specs.declared.naming.Told.TheVariants.{Unknown, Spoiled, Known, LeftOutType, Unit as Unit', Other}
 use Rattle.op_core.specs.Relations.{At, Either, Fails, Never, Only, Where}
 use Rattle.op_core.specs.Sizes.{type_at}
 use Rattle.op_core.specs.declared.ids.TypeId.{TypeId}
@@ -32,6 +32,7 @@ abbrev pub TypeBreaks : Core → Place → Told → Refusal → Type 0
 TypeBreaks core place Unknown = At 15 place
 TypeBreaks core place Spoiled = Never
 TypeBreaks core place (Known of) = Shows place (feature_at core of)
+TypeBreaks core place (LeftOutType feature) = LeftOut feature place
 TypeBreaks core place _ = At 16 place
 
 -- a type of a unit
@@ -45,6 +46,7 @@ UnitTypeBreaks core names u n Unknown = At 15 u.position.place
 UnitTypeBreaks core names u n Spoiled = Never
 UnitTypeBreaks core names u n (Known of) =
     Either (Shows u.position.place (feature_at core of)) (Where (feature_at core of ≡ None) (At 16 u.position.place))
+UnitTypeBreaks core names u n (LeftOutType feature) = LeftOut feature u.position.place
 UnitTypeBreaks core names u n Unit' = TypeBreaks core n.position.place (told_in names (joined_name u.text n.text))
 UnitTypeBreaks core names u n Other = At 16 u.position.place
 

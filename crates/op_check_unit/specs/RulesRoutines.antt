@@ -98,6 +98,7 @@ abbrev pub ClassBreaks : Core → Place → Told → Refusal → Type 0
 ClassBreaks core place told.Unknown = At 15 place
 ClassBreaks core place told.Spoiled = Never
 ClassBreaks core place (told.Known of) = Either (Shows place (feature_at core of)) (Where (feature_at core of ≡ None) (At 16 place))
+ClassBreaks core place (told.LeftOutType feature) = LeftOut feature place
 ClassBreaks core place _ = At 16 place
 
 abbrev pub RoutineBreaksBy : Option Name → Heading → List Directive → Body → Here → Refusal → Type 0

@@ -1,12 +1,13 @@
 -- The rules of types: constant bounds, subranges, enumerations, sets and arrays.
-use Rattle.std.specs.Prelude.{◌≡◌, ℕ, ◌+◌, ℤ, pos, int_le, Bool, true, List, [], ◌∷◌, is_some, Option}
+use Rattle.std.specs.Prelude.{◌≡◌, ℕ, ◌+◌, ℤ, pos, int_le, Bool, true, List, [], ◌∷◌, is_some, None, Option}
 use Rattle.op_base.specs.declared.place.Place.{Place}
 use Rattle.op_base.specs.declared.rule.Refusal.{Refusal}
+use Rattle.op_check_expr.specs.Rules.{ValueBreaks, ValueIs}
 use Rattle.op_check_unit.specs.Naming.{declared_within}
 use Rattle.op_check_unit.specs.RulesNames.{NameWithinBreaks}
 use Rattle.op_check_unit.specs.RulesSteps.{Whether, behind}
 use Rattle.op_check_unit.specs.Steps.{Here}
-use Rattle.op_check_unit.specs.Types.{is_kind, is_small, is_within_set, number_of_next, one_array, value_of, whole_type}
+use Rattle.op_check_unit.specs.Types.{is_kind, is_small, is_within_set, number_of_next, one_array, scope_outside, value_of, whole_type}
 use Rattle.op_core.specs.Relations.{At, Either, Entry, Fails, Lacks, Never, Only, Through, Where}
 use Rattle.op_core.specs.Sizes.{range_of, type_at}
 use Rattle.op_core.specs.declared.ids.TypeId.{TypeId}
@@ -30,10 +31,15 @@ use Rattle.op_types.specs.declared.sort.OrdinalKind.{OrdinalKind}
 abbrev pub NeededIs : Core → List Named → Expression → Constant → Type 0
 NeededIs core names e = Where (IsConstant core names e) (Evaluates core names e)
 
+-- it is no constant expression: it breaks a rule, or it has a value
+abbrev pub NoConstantBreaks : Core → List Named → Expression → Refusal → Type 0
+NoConstantBreaks core names e =
+    Either (ValueBreaks (scope_outside core names) None e) (Through (ValueIs (scope_outside core names) None e) (λ v. At 30 (start_of e)))
+
 -- what is needed is no constant expression, or it breaks a rule
 abbrev pub NeededBreaks : Core → List Named → Expression → Refusal → Type 0
 NeededBreaks core names e =
-    Either (Where (IsConstant core names e → ⊥) (At 30 (start_of e)))
+    Either (Where (IsConstant core names e → ⊥) (NoConstantBreaks core names e))
     (Where (IsConstant core names e) (ConstantBreaks core names e))
 
 -- ---- subranges

@@ -155,12 +155,110 @@ other_names =
     ∷ (codes "StringOfChar", Form form.StringOfChar)
     ∷ []
 
+-- Types that are not in this profile, by their features:
+-- floating point
+abbrev pub floating_names : List (List ℕ × Known)
+floating_names =
+    (codes "Real", Form (form.LeftOut 1))
+    ∷ (codes "Single", Form (form.LeftOut 1))
+    ∷ (codes "Double", Form (form.LeftOut 1))
+    ∷ (codes "Extended", Form (form.LeftOut 1))
+    ∷ (codes "Currency", Form (form.LeftOut 1))
+    ∷ (codes "Comp", Form (form.LeftOut 1))
+    ∷ (codes "ValReal", Form (form.LeftOut 1))
+    ∷ (codes "TDateTime", Form (form.LeftOut 1))
+    ∷ []
+
+-- other integer types
+abbrev pub integer_names : List (List ℕ × Known)
+integer_names =
+    (codes "Int64", Form (form.LeftOut 2))
+    ∷ (codes "UInt64", Form (form.LeftOut 2))
+    ∷ (codes "QWord", Form (form.LeftOut 2))
+    ∷ (codes "Cardinal", Form (form.LeftOut 2))
+    ∷ (codes "LongWord", Form (form.LeftOut 2))
+    ∷ (codes "DWord", Form (form.LeftOut 2))
+    ∷ []
+
+-- integer types of the width of the machine
+abbrev pub native_names : List (List ℕ × Known)
+native_names =
+    (codes "NativeInt", Form (form.LeftOut 2))
+    ∷ (codes "NativeUInt", Form (form.LeftOut 2))
+    ∷ (codes "PtrInt", Form (form.LeftOut 2))
+    ∷ (codes "PtrUInt", Form (form.LeftOut 2))
+    ∷ []
+
+-- integer types by their bits, and those of sizes
+abbrev pub sized_names : List (List ℕ × Known)
+sized_names =
+    (codes "Int8", Form (form.LeftOut 2))
+    ∷ (codes "Int16", Form (form.LeftOut 2))
+    ∷ (codes "Int32", Form (form.LeftOut 2))
+    ∷ (codes "UInt8", Form (form.LeftOut 2))
+    ∷ (codes "UInt16", Form (form.LeftOut 2))
+    ∷ (codes "UInt32", Form (form.LeftOut 2))
+    ∷ (codes "SizeInt", Form (form.LeftOut 2))
+    ∷ (codes "SizeUInt", Form (form.LeftOut 2))
+    ∷ []
+
+-- short strings
+abbrev pub short_names : List (List ℕ × Known)
+short_names =
+    (codes "ShortString", Form (form.LeftOut 3))
+    ∷ (codes "OpenString", Form (form.LeftOut 3))
+    ∷ []
+
+-- other string types
+abbrev pub string_names : List (List ℕ × Known)
+string_names =
+    (codes "WideString", Form (form.LeftOut 4))
+    ∷ (codes "UnicodeString", Form (form.LeftOut 4))
+    ∷ (codes "UTF8String", Form (form.LeftOut 4))
+    ∷ (codes "RawByteString", Form (form.LeftOut 4))
+    ∷ []
+
+-- pointers to characters and texts
+abbrev pub character_names : List (List ℕ × Known)
+character_names =
+    (codes "PChar", Form (form.LeftOut 5))
+    ∷ (codes "PAnsiChar", Form (form.LeftOut 5))
+    ∷ (codes "PWideChar", Form (form.LeftOut 5))
+    ∷ (codes "PPChar", Form (form.LeftOut 5))
+    ∷ (codes "PString", Form (form.LeftOut 5))
+    ∷ (codes "PAnsiString", Form (form.LeftOut 5))
+    ∷ []
+
+-- other pointers
+abbrev pub pointer_names : List (List ℕ × Known)
+pointer_names =
+    (codes "Pointer", Form (form.LeftOut 5))
+    ∷ (codes "PPointer", Form (form.LeftOut 5))
+    ∷ (codes "PByte", Form (form.LeftOut 5))
+    ∷ (codes "PInteger", Form (form.LeftOut 5))
+    ∷ (codes "PLongInt", Form (form.LeftOut 5))
+    ∷ (codes "PBoolean", Form (form.LeftOut 5))
+    ∷ []
+
+-- a procedural type, a metaclass and files
+abbrev pub rest_names : List (List ℕ × Known)
+rest_names =
+    (codes "TProcedure", Form (form.LeftOut 6))
+    ∷ (codes "TClass", Form (form.LeftOut 7))
+    ∷ (codes "Text", Form (form.LeftOut 11))
+    ∷ (codes "TextFile", Form (form.LeftOut 11))
+    ∷ []
+
+abbrev pub with_left_out : List Named → List Named
+with_left_out ns =
+    with_table rest_names (with_table pointer_names (with_table character_names (with_table string_names (with_table short_names (with_table sized_names (with_table native_names (with_table integer_names (with_table floating_names ns))))))))
+
 abbrev pub system_unit : List Named
 system_unit = record { name = codes "system"; meaning = meaning.Unit (record { 0 = 4294967295 }) } ∷ []
 
 abbrev pub system_names : List Named
 system_names =
-    with_table other_names (with_table function_names (with_table statement_names (with_table text_names (with_table value_names (with_table class_names (with_table type_names system_unit))))))
+    with_left_out (with_table other_names (with_table function_names (with_table statement_names (with_table text_names (with_table value_names (with_table class_names (with_table type_names system_unit)))))))
 
 -- ---- where a program begins
 

@@ -1,6 +1,9 @@
 -- What types denote: rows of the table of types (Free Pascal Reference Guide, "Types").
 use Rattle.std.specs.Prelude.{ℕ, ◌+◌, ℤ, pos, int_le, max, nat_le, Bool, false, ◌&&◌, List, [], ◌∷◌, length, is_some, Option, Some, None}
 use Rattle.op_base.specs.declared.place.Place.{Place}
+use Rattle.op_check_expr.specs.Meanings.{value_of as value_meant}
+use Rattle.op_check_expr.specs.Scopes.{Here as Scope}
+use Rattle.op_check_expr.specs.Words.{followed as followed_by}
 use Rattle.op_check_unit.specs.Naming.{declared_within}
 use Rattle.op_check_unit.specs.Steps.{Here, Given, gives, silent, where_true, followed, by}
 use Rattle.op_core.specs.Faults.{Checked, after, both, by_entry, by_test, fine, none, refused, with_part}
@@ -70,13 +73,21 @@ sized_row place t h =
 
 -- ---- constants
 
-abbrev pub needed : Place → Option (Checked Constant) → Checked Constant
-needed place None = refused 30 place
-needed place (Some c) = c
+-- the place of an expression in no body
+abbrev pub scope_outside : Core → List Named → Scope
+scope_outside core names = record { core = core; visible = names; routine = None; around = [] }
+
+-- what is no constant expression, where no rule is broken in it
+abbrev pub no_constant : Core → List Named → Expression → Checked Constant
+no_constant core names e = followed_by (value_meant (scope_outside core names) None e) (with_part (λ v. refused 30 (start_of e)))
+
+abbrev pub needed : Checked Constant → Option (Checked Constant) → Checked Constant
+needed others None = others
+needed others (Some c) = c
 
 -- the value of an expression that has to be constant
-abbrev pub constant_part : Core → List Named → Expression → Checked Constant
-constant_part core names e = needed (start_of e) (constant core names e)
+unfoldable pub constant_part : Core → List Named → Expression → Checked Constant
+constant_part core names e = needed (no_constant core names e) (constant core names e)
 
 -- ---- subranges
 

@@ -2,18 +2,19 @@
 ghost use Rattle.std.specs.Prelude.{◌≡◌, IfOk};
 ghost use Rattle.op_check_expr.specs.Words.{Reports};
 ghost use Rattle.op_check_unit.specs.Steps.{Leaves, checked, here_of};
-ghost use Rattle.op_check_unit.specs.Types.{bounds, constant_part, is_kind, lower_of, subrange_of, whole_type};
+ghost use Rattle.op_check_unit.specs.Types.{bounds, constant_part, is_kind, lower_of, no_constant, subrange_of, whole_type};
 ghost use Rattle.op_core.specs.Faults.{with_part};
 ghost use Rattle.op_tree.specs.Expression.{expr_of};
 
 use crate::Declarer;
 use op_base::{NoMemory, Place};
-use op_check_expr::refuse;
+use op_check_expr::{Checker, Scope, refuse};
 use op_core::{CoreType, FirstRefusal, TypeId};
 use op_tree::Expr;
 use op_types::{Constant, OrdinalKind, Setting, kind_of, number_of, start_of};
 
-/// The value of an expression that has to be constant, which is rule 30 where it is none.
+/// The value of an expression that has to be constant, which is rule 30 where it is none and breaks no other rule.
+#[tactic(auto, unfolding(crate::specs::Types::constant_part))]
 pub fn needed_constant(
     setting: Setting,
     sink: &mut FirstRefusal,
@@ -26,8 +27,32 @@ pub fn needed_constant(
         Some(constant) => Ok(constant),
         None => {
             *sink = before;
-            Ok(refuse(sink, 30, start_of(e)))
+            no_constant(setting, sink, e)
         }
+    }
+}
+
+/// What is no constant expression: rule 30, where no rule is broken in it.
+fn no_constant(
+    setting: Setting,
+    sink: &mut FirstRefusal,
+    e: &Expr,
+) -> Result<Option<Constant>, NoMemory>
+    ensures { IfOk result (Reports (no_constant setting.entry.core.now setting.entry.visible.now (expr_of e.now)) sink.old sink.new) }
+{
+    let scope = Scope {
+        core: setting.core,
+        visible: setting.visible,
+        routine: None,
+        around: &[],
+    };
+    let checker = Checker {
+        alloc: setting.alloc,
+        scope,
+    };
+    match checker.value(sink, None, e)? {
+        Some(_) => Ok(refuse(sink, 30, start_of(e))),
+        None => Ok(None),
     }
 }
 

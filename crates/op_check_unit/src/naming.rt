@@ -12,7 +12,7 @@ use crate::declarer::is_name;
 use op_base::{NoMemory, Place};
 use op_core::{CoreType, TypeId};
 use op_tree::{Name, QualifiedName};
-use op_types::{Meaning, type_at};
+use op_types::{BuiltIn, Meaning, type_at};
 
 /// What a name stands for, as far as types ask.
 #[derive(Clone, Copy)]
@@ -22,6 +22,8 @@ pub enum Told {
     Spoiled,
     /// It is a type.
     Known(TypeId),
+    /// It is a type that is not in this profile, by the number of the feature.
+    LeftOutType(u8),
     Unit,
     Other,
 }
@@ -33,6 +35,7 @@ pub fn told_by(meaning: Option<&Meaning>) -> Told
         None => Told::Unknown,
         Some(Meaning::Spoiled) => Told::Spoiled,
         Some(Meaning::TypeName(of)) => Told::Known(*of),
+        Some(Meaning::BuiltIn(BuiltIn::LeftOut(feature))) => Told::LeftOutType(*feature),
         Some(Meaning::Unit(_)) => Told::Unit,
         Some(_) => Told::Other,
     }
@@ -104,6 +107,10 @@ impl Declarer {
             }
             Told::Spoiled => None,
             Told::Known(of) => self.built(place, of),
+            Told::LeftOutType(feature) => {
+                self.leave_out(feature, place);
+                None
+            }
             Told::Unit | Told::Other => {
                 self.refuse(16, place);
                 None

@@ -3,7 +3,7 @@ ghost use Rattle.std.specs.Prelude.{◌≡◌, IfOk, map};
 ghost use Rattle.op_check_unit.specs.Bodies.{said};
 ghost use Rattle.op_check_unit.specs.Checking.{CheckIs, Fills, Finishes};
 ghost use Rattle.op_check_unit.specs.FirstValues.{begins_so};
-ghost use Rattle.op_check_unit.specs.Programs.{all_completed, all_declared, declaration_means, declared_in, files_mean, main_means, missing, name_declared, name_of, program_declared, program_means, with_unit};
+ghost use Rattle.op_check_unit.specs.Programs.{all_completed, all_declared, declaration_means, declared_in, files_mean, main_means, missing, name_of, program_declared, program_means, with_heading, with_unit};
 ghost use Rattle.op_check_unit.specs.Rules.{Obeys, ProgramBreaks};
 ghost use Rattle.op_check_unit.specs.Steps.{Declares, here_of};
 ghost use Rattle.op_core.specs.Faults.{kept};
@@ -61,17 +61,23 @@ impl Declarer {
     fn declared_in(&mut self, program: &Program) -> Result<(), NoMemory>
         ensures { IfOk result (λ _. Declares (declared_in (program_of program.now) (here_of self.old)) self.old self.new) }
     {
-        self.name_declared(&program.heading)?;
+        self.enter_heading(&program.heading)?;
         self.all_declared_in(&program.declarations)
     }
 
-    /// The name stands for the program as a unit.
-    fn name_declared(&mut self, heading: &Option<ProgramHeading>) -> Result<(), NoMemory>
-        ensures { IfOk result (λ _. Declares (name_declared heading.now (here_of self.old)) self.old self.new) }
+    /// The name stands for the program as a unit, around the scope of its declarations.
+    fn enter_heading(&mut self, heading: &Option<ProgramHeading>) -> Result<(), NoMemory>
+        ensures here { IfOk result (λ _. here_of self.new ≡ with_heading heading.now (here_of self.old)) }
+        ensures kept { self.new.sink ≡ self.old.sink }
     {
         match heading {
             None => Ok(()),
-            Some(heading) => self.declare(&heading.name, Meaning::Unit(UnitId(0))),
+            Some(heading) => {
+                let name = heading.name.text.as_slice();
+                self.visible.enter(name, Meaning::Unit(UnitId(0)))?;
+                self.first = self.visible.len();
+                Ok(())
+            }
         }
     }
 

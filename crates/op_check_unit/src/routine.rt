@@ -53,6 +53,7 @@ impl Declarer {
             Told::Unknown => self.refuse(15, place),
             Told::Spoiled => {}
             Told::Known(of) => self.no_type(place, of),
+            Told::LeftOutType(feature) => self.leave_out(feature, place),
             Told::Unit | Told::Other => self.refuse(16, place),
         }
         Ok(())

@@ -1,7 +1,9 @@
 //! The unit System: what a program sees without declaring it.
 ghost use Rattle.std.specs.Prelude.{◌≡◌, IfOk, None, []};
 ghost use Rattle.op_check_unit.specs.Steps.{here_of};
-ghost use Rattle.op_check_unit.specs.System.{beginning, class_names, function_names, meaning_of_known, other_names, statement_names, system_core, system_names, text_names, type_names, value_names, with_class, with_classes, with_known, with_table, with_types, with_unknown};
+ghost use Rattle.op_check_unit.specs.System.{beginning, character_names, class_names, floating_names, function_names, integer_names, meaning_of_known, native_names, other_names, pointer_names, rest_names, short_names, sized_names, statement_names, string_names, system_core, system_names, text_names, type_names, value_names, with_class, with_classes, with_known, with_left_out, with_table, with_types, with_unknown};
+ghost use Rattle.op_check_unit.specs.declared.system.Known.TheVariants.{Form};
+ghost use Rattle.op_types.specs.declared.visible.BuiltIn.TheVariants as form;
 
 use crate::Declarer;
 use op_base::{NoMemory, Text};
@@ -179,7 +181,8 @@ fn enter_names(alloc: Global, visible: &mut Visible) -> Result<(), NoMemory>
     enter_text(alloc, visible)?;
     enter_statements(alloc, visible)?;
     enter_functions(alloc, visible)?;
-    enter_others(alloc, visible)
+    enter_others(alloc, visible)?;
+    enter_left_out(alloc, visible)
 }
 
 /// The names of types.
@@ -347,6 +350,130 @@ fn enter_others(alloc: Global, visible: &mut Visible) -> Result<(), NoMemory>
         b"StringOfChar",
         Known::Form(BuiltIn::StringOfChar),
     )
+}
+
+/// The names of types that are not in this profile.
+fn enter_left_out(alloc: Global, visible: &mut Visible) -> Result<(), NoMemory>
+    ensures { IfOk result (λ _. visible.new ≡ with_left_out visible.old) }
+{
+    enter_floating(alloc, visible)?;
+    enter_integers(alloc, visible)?;
+    enter_natives(alloc, visible)?;
+    enter_sized(alloc, visible)?;
+    enter_short(alloc, visible)?;
+    enter_strings(alloc, visible)?;
+    enter_characters(alloc, visible)?;
+    enter_pointers(alloc, visible)?;
+    enter_rest(alloc, visible)
+}
+
+/// Floating point.
+fn enter_floating(alloc: Global, visible: &mut Visible) -> Result<(), NoMemory>
+    ensures { IfOk result (λ _. visible.new ≡ with_table floating_names visible.old) }
+{
+    leave_out(alloc, visible, b"Real", 1)?;
+    leave_out(alloc, visible, b"Single", 1)?;
+    leave_out(alloc, visible, b"Double", 1)?;
+    leave_out(alloc, visible, b"Extended", 1)?;
+    leave_out(alloc, visible, b"Currency", 1)?;
+    leave_out(alloc, visible, b"Comp", 1)?;
+    leave_out(alloc, visible, b"ValReal", 1)?;
+    leave_out(alloc, visible, b"TDateTime", 1)
+}
+
+/// Other integer types.
+fn enter_integers(alloc: Global, visible: &mut Visible) -> Result<(), NoMemory>
+    ensures { IfOk result (λ _. visible.new ≡ with_table integer_names visible.old) }
+{
+    leave_out(alloc, visible, b"Int64", 2)?;
+    leave_out(alloc, visible, b"UInt64", 2)?;
+    leave_out(alloc, visible, b"QWord", 2)?;
+    leave_out(alloc, visible, b"Cardinal", 2)?;
+    leave_out(alloc, visible, b"LongWord", 2)?;
+    leave_out(alloc, visible, b"DWord", 2)
+}
+
+/// Integer types of the width of the machine.
+fn enter_natives(alloc: Global, visible: &mut Visible) -> Result<(), NoMemory>
+    ensures { IfOk result (λ _. visible.new ≡ with_table native_names visible.old) }
+{
+    leave_out(alloc, visible, b"NativeInt", 2)?;
+    leave_out(alloc, visible, b"NativeUInt", 2)?;
+    leave_out(alloc, visible, b"PtrInt", 2)?;
+    leave_out(alloc, visible, b"PtrUInt", 2)
+}
+
+/// Integer types by their bits, and those of sizes.
+fn enter_sized(alloc: Global, visible: &mut Visible) -> Result<(), NoMemory>
+    ensures { IfOk result (λ _. visible.new ≡ with_table sized_names visible.old) }
+{
+    leave_out(alloc, visible, b"Int8", 2)?;
+    leave_out(alloc, visible, b"Int16", 2)?;
+    leave_out(alloc, visible, b"Int32", 2)?;
+    leave_out(alloc, visible, b"UInt8", 2)?;
+    leave_out(alloc, visible, b"UInt16", 2)?;
+    leave_out(alloc, visible, b"UInt32", 2)?;
+    leave_out(alloc, visible, b"SizeInt", 2)?;
+    leave_out(alloc, visible, b"SizeUInt", 2)
+}
+
+/// Short strings.
+fn enter_short(alloc: Global, visible: &mut Visible) -> Result<(), NoMemory>
+    ensures { IfOk result (λ _. visible.new ≡ with_table short_names visible.old) }
+{
+    leave_out(alloc, visible, b"ShortString", 3)?;
+    leave_out(alloc, visible, b"OpenString", 3)
+}
+
+/// Other string types.
+fn enter_strings(alloc: Global, visible: &mut Visible) -> Result<(), NoMemory>
+    ensures { IfOk result (λ _. visible.new ≡ with_table string_names visible.old) }
+{
+    leave_out(alloc, visible, b"WideString", 4)?;
+    leave_out(alloc, visible, b"UnicodeString", 4)?;
+    leave_out(alloc, visible, b"UTF8String", 4)?;
+    leave_out(alloc, visible, b"RawByteString", 4)
+}
+
+/// Pointers to characters and texts.
+fn enter_characters(alloc: Global, visible: &mut Visible) -> Result<(), NoMemory>
+    ensures { IfOk result (λ _. visible.new ≡ with_table character_names visible.old) }
+{
+    leave_out(alloc, visible, b"PChar", 5)?;
+    leave_out(alloc, visible, b"PAnsiChar", 5)?;
+    leave_out(alloc, visible, b"PWideChar", 5)?;
+    leave_out(alloc, visible, b"PPChar", 5)?;
+    leave_out(alloc, visible, b"PString", 5)?;
+    leave_out(alloc, visible, b"PAnsiString", 5)
+}
+
+/// Other pointers.
+fn enter_pointers(alloc: Global, visible: &mut Visible) -> Result<(), NoMemory>
+    ensures { IfOk result (λ _. visible.new ≡ with_table pointer_names visible.old) }
+{
+    leave_out(alloc, visible, b"Pointer", 5)?;
+    leave_out(alloc, visible, b"PPointer", 5)?;
+    leave_out(alloc, visible, b"PByte", 5)?;
+    leave_out(alloc, visible, b"PInteger", 5)?;
+    leave_out(alloc, visible, b"PLongInt", 5)?;
+    leave_out(alloc, visible, b"PBoolean", 5)
+}
+
+/// A procedural type, a metaclass and files.
+fn enter_rest(alloc: Global, visible: &mut Visible) -> Result<(), NoMemory>
+    ensures { IfOk result (λ _. visible.new ≡ with_table rest_names visible.old) }
+{
+    leave_out(alloc, visible, b"TProcedure", 6)?;
+    leave_out(alloc, visible, b"TClass", 7)?;
+    leave_out(alloc, visible, b"Text", 11)?;
+    leave_out(alloc, visible, b"TextFile", 11)
+}
+
+/// Enters the name of a type that is not in this profile, by the number of the feature.
+fn leave_out(alloc: Global, visible: &mut Visible, name: &[u8], feature: u8) -> Result<(), NoMemory>
+    ensures { IfOk result (λ _. visible.new ≡ with_known name.now (Form (form.LeftOut feature)) visible.old) }
+{
+    enter(alloc, visible, name, Known::Form(BuiltIn::LeftOut(feature)))
 }
 
 /// Enters a name, alone and behind that of the unit.

@@ -1,15 +1,15 @@
 -- The agreements of the passes, one after the other.
-use Rattle.std.proofs.Common.{◌≡◌, ◌≢◌, ◌≤◌, ◌<◌, ℕ, zero, suc, ◌+◌, ◌-◌, List, refl, sym, ap, ◌∙◌, subst, arith, inl, inr, ◌⊎◌}
+use Rattle.std.proofs.Common.{◌≡◌, ◌≢◌, ◌≤◌, ◌<◌, ℕ, zero, suc, ◌+◌, ◌-◌, List, refl, sym, ap, ◌∙◌, subst, arith, inl, inr, ◌⊎◌, le_trans, mul-le-mul_right, ◌*◌}
 use Rattle.std.proofs.lemmas.Bool.{cases_lt}
 use Rattle.op_core.specs.declared.program.Core.{Core}
 use Rattle.op_image.specs.Means.{AreBytes, Runs, image_run, low_start}
-use Rattle.op_low.specs.Machine.{NeverBad, low_machine}
-use Rattle.op_low.specs.State.{State as LowState, Ending as LowEnding, Running as LowRunning, Ended as LowEnded, Bad}
+use Rattle.op_low.specs.Machine.{NeverBad, low_machine, cost}
+use Rattle.op_low.specs.State.{State as LowState, Ending as LowEnding, Running as LowRunning, Ended as LowEnded, Bad, space}
 use Rattle.op_managed.specs.Managed.{Manages, goes_along}
-use Rattle.op_meaning.specs.Frames.{program_of}
+use Rattle.op_meaning.specs.Frames.{State as SourceState, program_of}
 use Rattle.op_meaning.specs.Start.{start}
 use Rattle.op_meaning.specs.World.{Ending, Running, Ended, World}
-use Rattle.op_mir.specs.Machine.{MirState, mir_machine, mir_start}
+use Rattle.op_mir.specs.Machine.{MirState, mir_machine, mir_start, mir_cost}
 use Rattle.op_mir.specs.Plain.{IsPlain}
 use Rattle.op_mir.specs.declared.code.Mir.{Mir}
 use Rattle.op_rv.specs.State.{State as ImageState, Running as GoesOn, Ended as HasEnded}
@@ -17,17 +17,23 @@ use Rattle.op_select.specs.Going.{Setting as Placed, placement_of}
 use Rattle.op_select.specs.RiscvMachine.{riscv_machine}
 use Rattle.op_select.specs.Selected.{Matches, MatchesBy, selected}
 use Rattle.op_simulation.proofs.Points.{point_rises}
-use Rattle.op_simulation.proofs.Runs.{run_add}
+use Rattle.op_simulation.proofs.Runs.{run_add, run_past_end, spent_add}
 use Rattle.op_simulation.specs.Matching.{Agreement, Follows}
-use Rattle.op_simulation.specs.System.{System, run}
-use Rattle.op_agreement.proofs.Following.{EndsAs, agrees, fine_before, never_bad, run_uncounted, same_states}
+use Rattle.op_simulation.specs.System.{System, run, Halted, spent}
+use Rattle.op_agreement.proofs.Following.{EndsAs, agrees, fine_before, never_bad, same_states}
+use Rattle.op_agreement.proofs.Going.{run_counted}
 use Rattle.op_agreement.proofs.Starting.{starts}
-use Rattle.op_agreement.specs.Claims.{lowered, uncounted}
+use Rattle.op_agreement.specs.Claims.{lowered}
 use Rattle.op_agreement.specs.Fitting.{IsFitting}
 use Rattle.op_agreement.specs.Settings.{Setting, managed}
 use Rattle.op_agreement.specs.Stands.{Stands}
 use Rattle.op_agreement.specs.Starting.{IsLoaded, Starts}
-use Rattle.op_correctness.specs.Agrees.{EndsAlike, GoesAlong, LooksAlike, source_run}
+use Rattle.op_agreement.specs.Steps.{cost_going, counted, most_for_one}
+use Rattle.op_link.specs.Image.{start as image_begin}
+use Rattle.op_meaning.specs.Costs.{cost as cost_above}
+use Rattle.op_correctness.proofs.Settling.{counted_steps, counts_first, counts_less, counts_nothing, going, one_or_none, settles, settling, stays, while_running}
+use Rattle.op_correctness.proofs.Spending.{Between, EachCosts, between, same_run, with_cost}
+use Rattle.op_correctness.specs.Agrees.{EndsAlike, GoesAlong, LooksAlike, source_run, most_for_work}
 use Rattle.op_correctness.specs.Placed.{setting_by}
 
 -- ---- two states, by way of those between
@@ -77,7 +83,7 @@ module _ (core : Core) (mir : Mir) (stack : ℕ) (w : Placed) (image : List ℕ)
   abbrev g : Setting
   g = setting_by core mir stack w image
 
-  module _ (does : (input : List ℕ) → AreBytes input → NeverBad w.low (placement_of w) (low_start w image input) → Runs w image input) (fit : IsFitting (setting_by core mir stack w image)) (loaded : IsLoaded (setting_by core mir stack w image)) (follows : Follows (lowered (setting_by core mir stack w image))) (manages : Manages core mir) (plain : IsPlain (program_of core stack)) (input : List ℕ) (bytes : AreBytes input) where
+  module _ (does : (input : List ℕ) → AreBytes input → NeverBad w.low (placement_of w) (low_start w image input) → Runs w image input) (fit : IsFitting (setting_by core mir stack w image)) (loaded : IsLoaded (setting_by core mir stack w image)) (follows : Follows (lowered (setting_by core mir stack w image))) (manages : Manages core mir) (plain : IsPlain (program_of core stack)) (own : space w.low (placement_of w) w.low.entry.0 ≤ 1024) (input : List ℕ) (bytes : AreBytes input) where
     abbrev begin : MirState
     begin = mir_start (program_of core stack) input
 
@@ -116,28 +122,28 @@ module _ (core : Core) (mir : Mir) (stack : ℕ) (w : Placed) (image : List ℕ)
     abbrev lower : Agreement (selected w) low_first runs.along.first
     lower = runs.along.agreement
 
-    -- the point of low code, and that of the image
+    -- the point of low code, and a number of steps that leads to that of the image
     abbrev low_point : ℕ → ℕ
     low_point n = started.goes.steps + middle.point (upper.point n)
 
-    abbrev point : ℕ → ℕ
-    point n = runs.along.steps + lower.point (low_point n)
+    abbrev far : ℕ → ℕ
+    far n = runs.along.steps + lower.point (low_point n)
 
-    rises : (n : ℕ) → point n < point (suc n)
-    rises n =
+    far_rises : (n : ℕ) → far n < far (suc n)
+    far_rises n =
         let one = point_rises (goes_along (program_of core stack) (managed g)) (start (program_of core stack) input) begin upper n in
         let two = above_points middle.point (point_rises (lowered g) begin started.to middle) (upper.point n) (upper.point (suc n)) one in
         let three = above_points lower.point (point_rises (selected w) low_first runs.along.first lower) (low_point n) (low_point (suc n)) (omega arith) in
         omega arith
 
-    low_is : (n : ℕ) → low_at (low_point n) ≡ run (uncounted g) (middle.point (upper.point n)) started.to
-    low_is n = run_add (low_machine g.low g.placement) started.goes.steps (middle.point (upper.point n)) low_first ∙ ap (run (low_machine g.low g.placement) (middle.point (upper.point n))) there ∙ sym (run_uncounted g (middle.point (upper.point n)) started.to)
+    low_is : (n : ℕ) → low_at (low_point n) ≡ run (counted g) (middle.point (upper.point n)) started.to
+    low_is n = run_add (low_machine g.low g.placement) started.goes.steps (middle.point (upper.point n)) low_first ∙ ap (run (low_machine g.low g.placement) (middle.point (upper.point n))) there ∙ sym (run_counted g (middle.point (upper.point n)) started.to)
 
-    image_is : (n : ℕ) → image_run image input (point n) ≡ run riscv_machine (lower.point (low_point n)) runs.along.first
+    image_is : (n : ℕ) → image_run image input (far n) ≡ run riscv_machine (lower.point (low_point n)) runs.along.first
     image_is n = run_add riscv_machine runs.along.steps (lower.point (low_point n)) _ ∙ ap (run riscv_machine (lower.point (low_point n))) runs.along.path.ends
 
-    alike : (n : ℕ) → LooksAlike (source_run (program_of core stack) input n) (image_run image input (point n))
-    alike n =
+    far_alike : (n : ℕ) → LooksAlike (source_run (program_of core stack) input n) (image_run image input (far n))
+    far_alike n =
         let s = source_run (program_of core stack) input n in
         let m = run (mir_machine (managed g)) (upper.point n) begin in
         let l = low_at (low_point n) in
@@ -153,5 +159,195 @@ module _ (core : Core) (mir : Mir) (stack : ℕ) (w : Placed) (image : List ℕ)
           ending = subst (λ (x : World). EndsAlike x.ending b.ending) world (ends_through m.world.ending l b same.ending saw.ending);
         })
 
+    -- ---- what the steps between two points cost
+
+    -- each stretch of the image is counted until it ends, as that of low code is
+    image_costs : EachCosts (selected w) low_first runs.along.first lower (λ l. cost_going g l l.ending) going (selected w).factor
+    image_costs n = by l.ending refl (lower.states n)
+      where
+        l : LowState
+        l = run (low_machine g.low g.placement) n low_first
+
+        b : ImageState
+        b = run riscv_machine (lower.point n) runs.along.first
+
+        more : ℕ
+        more = suc (lower.stretch n).more
+
+        by : (e : LowEnding) → l.ending ≡ e → Matches w l b → spent settling more b ≤ (selected w).factor * cost_going g l l.ending
+        by LowRunning is stands =
+            let within = (lower.stretch n).within in
+            let less = counts_less more b in
+            let same : cost_going g l l.ending ≡ cost g.low g.placement l.ending l = ap (cost_going g l) is ∙ sym (ap (λ e. cost g.low g.placement e l) is) in
+            subst (λ c. spent settling more b ≤ (selected w).factor * c) (sym same) (le_trans less within)
+        by (LowEnded status) is stands =
+            let saw = seen_by w (LowEnded status) l b is (subst (λ e. MatchesBy w e l b) is stands.states) in
+            let ended : b.ending ≡ HasEnded status = subst (λ e. EndsWith e b) is saw.ending in
+            let none = counts_nothing more b (ap while_running ended) in
+            omega arith
+        by Bad is stands = absurd (subst (λ e. MatchesBy w e l b) is stands.states)
+
+    module _ (n : ℕ) where
+      abbrev s_here : SourceState
+      s_here = source_run (program_of core stack) input n
+
+      abbrev managed_more : ℕ
+      managed_more = suc (upper.stretch n).more
+
+      middle_between : Between (lowered g) begin started.to middle (mir_cost (managed g)) (λ l. cost_going g l l.ending) most_for_one (upper.point n) managed_more
+      middle_between = between (lowered g) begin started.to middle (mir_cost (managed g)) (λ l. cost_going g l l.ending) most_for_one (λ k. (middle.stretch k).within) (upper.point n) managed_more
+
+      lower_between : Between (selected w) low_first runs.along.first lower (λ l. cost_going g l l.ending) going (selected w).factor (low_point n) middle_between.more
+      lower_between = between (selected w) low_first runs.along.first lower (λ l. cost_going g l l.ending) going (selected w).factor image_costs (low_point n) middle_between.more
+
+      -- the next point is so far
+      far_next : far (suc n) ≡ far n + lower_between.more
+      far_next =
+          let first = upper.next n in
+          let points : upper.point (suc n) ≡ upper.point n + managed_more = omega arith in
+          let middles = middle_between.at in
+          let next : low_point (suc n) ≡ low_point n + middle_between.more = ap (λ k. started.goes.steps + middle.point k) points ∙ sum started.goes.steps (middle.point (upper.point n + managed_more)) (middle.point (upper.point n)) middle_between.more middles in
+          let lowers_at = lower_between.at in
+          let lasts = ap lower.point next in
+          omega arith
+        where
+          sum : (a b c d : ℕ) → b ≡ c + d → a + b ≡ a + c + d
+          sum a b c d e = omega arith
+
+      -- and costs so much
+      abbrev image_cost : ℕ
+      image_cost = spent settling lower_between.more (image_run image input (far n))
+
+      image_within : image_cost ≤ most_for_work * cost_above (program_of core stack) s_here
+      image_within =
+          let l = run (low_machine g.low g.placement) (low_point n) low_first in
+          let first : spent (mir_machine (managed g)) managed_more (run (mir_machine (managed g)) (upper.point n) begin) ≤ 4 * cost_above (program_of core stack) s_here = (upper.stretch n).within in
+          let second = middle_between.within in
+          let same : spent (with_cost (low_machine g.low g.placement) (λ l. cost_going g l l.ending)) middle_between.more l ≡ spent (counted g) middle_between.more (run (counted g) (middle.point (upper.point n)) started.to) = ap (spent (counted g) middle_between.more) (low_is n) in
+          let third : image_cost ≤ (selected w).factor * spent (with_cost (low_machine g.low g.placement) (λ l. cost_going g l l.ending)) middle_between.more l = subst (λ b. spent settling lower_between.more b ≤ (selected w).factor * spent (with_cost (low_machine g.low g.placement) (λ l. cost_going g l l.ending)) middle_between.more l) (sym (image_is n)) lower_between.within in
+          let fast : (selected w).factor ≤ 32 = omega arith in
+          let scaled = mul-le-mul_right (spent (with_cost (low_machine g.low g.placement) (λ l. cost_going g l l.ending)) middle_between.more l) fast in
+          omega arith
+
+    -- ---- the points: the steps until the image has ended, and one for each step of the program behind its end
+
+    abbrev settled : ℕ → ℕ
+    settled n = counted_steps (image_begin image input) (far n)
+
+    abbrev idle : ImageState → ℕ
+    idle b = 1 - going b
+
+    idles : ℕ → ℕ
+    idles zero = 0
+    idles (suc n) = idles n + idle (image_run image input (far n))
+
+    abbrev point : ℕ → ℕ
+    point n = settled n + idles n
+
+    -- a point further on
+    next_settled : (n : ℕ) → settled (suc n) ≡ settled n + image_cost n
+    next_settled n =
+        ap (counted_steps (image_begin image input)) (far_next n) ∙ spent_add settling (far n) (lower_between n).more (image_begin image input)
+        ∙ ap (λ b. settled n + spent settling (lower_between n).more b) (same_run riscv_machine going (far n) (image_begin image input))
+
+    next_idles : (n : ℕ) → idles (suc n) ≡ idles n + idle (image_run image input (far n))
+    unfolding idles
+    next_idles n = refl
+
+    rises : (n : ℕ) → point n < point (suc n)
+    rises n = by (going (image_run image input (far n))) refl
+      where
+        by : (k : ℕ) → going (image_run image input (far n)) ≡ k → point n < point (suc n)
+        by zero none = let next = next_settled n in let idle_next = next_idles n in omega arith
+        by (suc k) some =
+            let next = next_settled n in
+            let idle_next = next_idles n in
+            let risen = far_rises n in
+            let along_is = far_next n in
+            let few = one_or_none (image_run image input (far n)).ending in
+            let first = counts_first (lower_between n).more (image_run image input (far n)) (omega arith) (omega arith) in
+            omega arith
+
+    -- where the image goes on there was no idle step
+    no_idles : (n : ℕ) → going (image_run image input (far n)) ≡ 1 → idles n ≡ 0
+    unfolding idles
+    no_idles zero goes = refl
+    no_idles (suc n) goes = by (going (image_run image input (far n))) refl (no_idles n)
+      where
+        by : (k : ℕ) → going (image_run image input (far n)) ≡ k → (going (image_run image input (far n)) ≡ 1 → idles n ≡ 0) → idles (suc n) ≡ 0
+        by zero none before =
+            let risen = far_rises n in
+            let stayed = run_past_end riscv_machine (far n) (far (suc n)) (image_begin image input) (stays (image_run image input (far n)) none) (omega arith) in
+            let same = ap going stayed in
+            absurd (omega arith)
+        by (suc k) some before =
+            let few = one_or_none (image_run image input (far n)).ending in
+            let one : going (image_run image input (far n)) ≡ 1 = omega arith in
+            let none = before one in
+            let next = next_idles n in
+            omega arith
+
+    -- the point is a state as the image had far on
+    point_is : (n : ℕ) → image_run image input (point n) ≡ image_run image input (far n)
+    point_is n = by (going (image_run image input (far n))) refl
+      where
+        settled_is : image_run image input (settled n) ≡ image_run image input (far n)
+        settled_is = (settles (image_begin image input) (far n)).same
+
+        by : (k : ℕ) → going (image_run image input (far n)) ≡ k → image_run image input (point n) ≡ image_run image input (far n)
+        by zero none = run_past_end riscv_machine (settled n) (point n) (image_begin image input) (subst (Halted riscv_machine) (sym settled_is) (stays (image_run image input (far n)) none)) (omega arith) ∙ settled_is
+        by (suc k) some =
+            let few = one_or_none (image_run image input (far n)).ending in
+            let none = no_idles n (omega arith) in
+            let same : settled n + idles n ≡ settled n = omega arith in
+            ap (image_run image input) same ∙ settled_is
+
+    alike : (n : ℕ) → LooksAlike (source_run (program_of core stack) input n) (image_run image input (point n))
+    alike n = subst (LooksAlike (source_run (program_of core stack) input n)) (sym (point_is n)) (far_alike n)
+
+    soon : (n : ℕ) → (source_run (program_of core stack) input n).world.ending ≡ Running → point (suc n) ≤ point n + most_for_work * cost_above (program_of core stack) (source_run (program_of core stack) input n)
+    soon n goes_on =
+        let next = next_settled n in
+        let idle_next = next_idles n in
+        let within = image_within n in
+        let running : (image_run image input (far n)).ending ≡ GoesOn = subst (λ e. EndsAlike e (image_run image input (far n)).ending) goes_on (far_alike n).ending in
+        let going_on : going (image_run image input (far n)) ≡ 1 = ap while_running running in
+        omega arith
+
+    -- the first steps of the image, and those of the program's own beginning
+    first : point 0 ≤ most_for_work
+    unfolding Rattle.op_select.specs.Frames.frame_of idles
+    first =
+        let few = runs.along.within in
+        let low_between = between (selected w) low_first runs.along.first lower (λ l. cost_going g l l.ending) going (selected w).factor image_costs 0 started.goes.steps in
+        let start_low = started.goes.within in
+        let begins = upper.first in
+        let begins_middle = middle.first in
+        let begins_lower = lower.first in
+        let where_low : low_point 0 ≡ 0 + started.goes.steps = ap (λ k. started.goes.steps + middle.point k) begins ∙ plus_none started.goes.steps (middle.point 0) begins_middle in
+        let lower_at = low_between.at in
+        let point_low : lower.point (low_point 0) ≡ low_between.more = ap lower.point where_low ∙ lower_at ∙ only low_between.more (lower.point 0) begins_lower in
+        let total : settled 0 ≡ spent settling runs.along.steps (image_begin image input) + spent settling low_between.more runs.along.first =
+        ap (λ k. counted_steps (image_begin image input) (runs.along.steps + k)) point_low ∙ spent_add settling runs.along.steps low_between.more (image_begin image input)
+        ∙ ap (λ b. counted_steps (image_begin image input) runs.along.steps + spent settling low_between.more b) (same_run riscv_machine going runs.along.steps (image_begin image input) ∙ runs.along.path.ends) in
+        let begin_few = (settles (image_begin image input) runs.along.steps).few in
+        let none : idles 0 ≡ 0 = refl in
+        let within : spent settling low_between.more runs.along.first ≤ (selected w).factor * spent (counted g) started.goes.steps low_first =
+        subst (λ b. spent settling low_between.more b ≤ (selected w).factor * spent (counted g) started.goes.steps low_first) (run_at_none (lower.point 0) runs.along.first begins_lower)
+        (subst (λ l. spent settling low_between.more (run riscv_machine (lower.point 0) runs.along.first) ≤ (selected w).factor * spent (counted g) started.goes.steps l) (run_none (low_machine g.low g.placement) low_first) low_between.within) in
+        let fast : (selected w).factor ≤ 32 = omega arith in
+        let scaled = mul-le-mul_right (spent (counted g) started.goes.steps low_first) fast in
+        let most = own in
+        omega arith
+      where
+        plus_none : (a b : ℕ) → b ≡ 0 → a + b ≡ 0 + a
+        plus_none a b e = omega arith
+
+        only : (a b : ℕ) → b ≡ 0 → b + a ≡ a
+        only a b e = omega arith
+
+        run_at_none : (k : ℕ) (b : ImageState) → k ≡ 0 → run riscv_machine k b ≡ b
+        run_at_none k b e = ap (λ k. run riscv_machine k b) e ∙ run_none riscv_machine b
+
     pub along : GoesAlong (program_of core stack) image input
-    along = record { point = point; rises = rises; alike = alike; safe = runs.safe }
+    along = record { point = point; rises = rises; alike = alike; safe = runs.safe; first = first; soon = soon }

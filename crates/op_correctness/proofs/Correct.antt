@@ -57,14 +57,14 @@ module _ (core : Core) (mir : Mir) (stack : ℕ) (w : Placed) (image : List ℕ)
   fits : stack ≤ most_charge → IsPlacedProgram (setting_by core mir stack w image) → IsFitting (setting_by core mir stack w image)
   fits few is_placed =
       program_fits (setting_by core mir stack w image) sound nesting (simple_core core class) lowers low
-      (is_spacious core mir stack sound nesting (simple_core core class) (core_charges core class) lowers w low image) few is_placed
+      (is_spacious core mir stack sound nesting (simple_core core class) (core_charges core class) lowers w low image) (core_charges core class) few is_placed
 
-  agrees_by : first_failing image ≡ None → ((input : List ℕ) → AreBytes input → NeverBad w.low (placement_of w) (low_start w image input) → Runs w image input) → stack ≤ most_charge → IsPlacedProgram (setting_by core mir stack w image) → IsLoaded (setting_by core mir stack w image) → Agrees (program_of core stack) image
-  agrees_by loads does few is_placed is_loaded = record {
+  agrees_by : space w.low (placement_of w) w.low.entry.0 ≤ 1024 → first_failing image ≡ None → ((input : List ℕ) → AreBytes input → NeverBad w.low (placement_of w) (low_start w image input) → Runs w image input) → stack ≤ most_charge → IsPlacedProgram (setting_by core mir stack w image) → IsLoaded (setting_by core mir stack w image) → Agrees (program_of core stack) image
+  agrees_by own loads does few is_placed is_loaded = record {
     loads = loads;
     along = λ input bytes.
         along core mir stack w image does (fits few is_placed) is_loaded (low_code_follows (setting_by core mir stack w image) (fits few is_placed)) manages
-        (program_plain core stack sound nesting (simple_core core class) class.endings class.globals) input bytes;
+        (program_plain core stack sound nesting (simple_core core class) class.endings class.globals) own input bytes;
   }
 
 -- ---- in its image
@@ -80,13 +80,18 @@ module _ (core : Core) (mir : Mir) (settings : Settings) (image : List ℕ) (pla
   own_space : space (placed_in core mir settings image).low (placement_of (placed_in core mir settings image)) (runtime + length core.routines) ≤ 1024
   own_space = program_space core mir (1024 * settings.stack) sound nesting (simple_core core class) (core_charges core class) lowers (placed_in core mir settings image) refl
 
+  entry_space : space (placed_in core mir settings image).low (placement_of (placed_in core mir settings image)) (program_low core mir settings).entry.0 ≤ 1024
+  entry_space =
+      let number : (program_low core mir settings).entry.0 ≡ runtime + length core.routines = entry (setting_in core mir settings image) refl lowers.number in
+      let same : space (placed_in core mir settings image).low (placement_of (placed_in core mir settings image)) (program_low core mir settings).entry.0 ≡ space (placed_in core mir settings image).low (placement_of (placed_in core mir settings image)) (runtime + length core.routines) = ap (space (placed_in core mir settings image).low (placement_of (placed_in core mir settings image))) number in
+      let own = own_space in
+      omega arith
+
   has_room : HasRoom (placed_in core mir settings image)
   has_room =
-      let number : (program_low core mir settings).entry.0 ≡ runtime + length core.routines = entry (setting_in core mir settings image) refl lowers.number in
       let bottom = bottom_is settings in
       let less = few in
-      let own = own_space in
-      let same : space (placed_in core mir settings image).low (placement_of (placed_in core mir settings image)) (program_low core mir settings).entry.0 ≡ space (placed_in core mir settings image).low (placement_of (placed_in core mir settings image)) (runtime + length core.routines) = ap (space (placed_in core mir settings image).low (placement_of (placed_in core mir settings image))) number in
+      let own = entry_space in
       omega arith
 
   pub correct : Agrees (program_of core (1024 * settings.stack)) image
@@ -94,7 +99,7 @@ module _ (core : Core) (mir : Mir) (settings : Settings) (image : List ℕ) (pla
       let bottom = bottom_is settings in
       let less = few in
       let own = own_space in
-      agrees_by core mir (1024 * settings.stack) (placed_in core mir settings image) image class sound nesting lowers manages refl built.means.loads
+      agrees_by core mir (1024 * settings.stack) (placed_in core mir settings image) image class sound nesting lowers manages refl entry_space built.means.loads
       (λ input bytes good. built.means.runs has_room input bytes good) (omega arith)
       (placed core mir settings image built.means sound few)
       (loaded core mir settings image built.means sound few lowers class.globals (omega arith))

@@ -25,10 +25,12 @@ use Rattle.op_agreement.specs.Typed.{HasResult, parameter_rows}
 use Rattle.op_typing.proofs.Callees.{RowIs, result_stands}
 use Rattle.op_typing.proofs.Rows.{some_then}
 use Rattle.op_typing.specs.Typed.{HasVariable}
+use Rattle.op_correctness.proofs.Paid.{blocks_paid, least_charged}
 use Rattle.op_correctness.proofs.Places.{variable_is}
 use Rattle.op_correctness.proofs.ParameterRows.{parameters_counted}
 use Rattle.op_correctness.proofs.RoutineCode.{blocks_fine, has_block}
 use Rattle.op_correctness.proofs.Variables.{variables_fit}
+use Rattle.op_correctness.specs.Charges.{HaveCharges}
 use Rattle.op_correctness.specs.SimpleCore.{IsSimpleCore}
 use Rattle.op_correctness.specs.Spacious.{IsSpacious}
 
@@ -49,8 +51,8 @@ module _ (g : Setting) (sound : IsSound g.core) (nesting : IsSoundNesting g.core
       by (Some y) there e = has_result r of (result_stands g.core sound is.simple r y there of e)
 
   -- Its values are arranged by their types, each parameter has its row, and each result its variable.
-  pub program_arranged : g.stack ≤ most_charge → IsArrangedProgram g
-  program_arranged stack = record {
+  pub program_arranged : HaveCharges g.core → g.stack ≤ most_charge → IsArrangedProgram g
+  program_arranged charges stack = record {
     extents = sound.extents;
     first_type = first_type g.core sound;
     exceptions = is.exceptions;
@@ -58,6 +60,7 @@ module _ (g : Setting) (sound : IsSound g.core) (nesting : IsSoundNesting g.core
     parameters = parameters_told;
     results = results_told;
     stack = stack;
+    few = λ r low. (charges r low).parameters;
   }
 
   module _ (low : g.low ≡ low_of g.core g.mir g.stack) (spacious : IsSpacious g) where
@@ -67,13 +70,14 @@ module _ (g : Setting) (sound : IsSound g.core) (nesting : IsSoundNesting g.core
         let has : HasVariables g.core r x = variables_fit g.core g.mir g.stack sound nesting is lowers r x found in
         record {
           some = has_block g.core g.mir g.stack sound nesting is lowers r x found;
-          fine = λ k block there. blocks_fine g.core g.mir g.stack sound nesting is lowers r x found k block there;
+          fine = λ k block there. blocks_fine g.core g.mir g.stack sound nesting is lowers r x found k block there (blocks_paid g.core g.mir g.stack sound nesting is lowers r x found charge k block there);
           homes = have_homes g.core r x has;
           frame = frame_fits g.core r x has;
           expanded = is_expanded g low r x found charge;
           space = spacious r x found charge;
+          charged = least_charged g.core g.mir g.stack sound nesting is lowers r x found charge;
         }
 
     -- So the program fits where it is placed as is asked.
-    pub program_fits : g.stack ≤ most_charge → IsPlacedProgram g → IsFitting g
-    program_fits stack placed = record { program = program_arranged stack; routines = routine_fits; placed = placed }
+    pub program_fits : HaveCharges g.core → g.stack ≤ most_charge → IsPlacedProgram g → IsFitting g
+    program_fits charges stack placed = record { program = program_arranged charges stack; routines = routine_fits; placed = placed }

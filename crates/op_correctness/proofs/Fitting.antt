@@ -103,6 +103,10 @@ some_of (Some x) some = (x, refl)
 charge_told : (charge given : ℕ) → given ≡ min charge (2 ^ 64 - 1) → given ≤ most_charge → charge ≡ given
 charge_told charge given e less = omega (arith, e, less)
 
+-- a routine is no method, so it has a body
+pub body_there : (core : Core) → IsSound core → IsSimpleCore core → (r : ℕ) (row : Row) → slice_get core.routines r ≡ Some row → (b : Body) × (row.body ≡ Some b)
+body_there core sound is r row there = some_of row.body ((routine core sound is.simple r row there).has_body (each_row (IsSimpleRoutine core) core.routines r row is.simple.routines there).owner)
+
 -- ---- a routine
 
 module _ (core : Core) (sound : IsSound core) (nesting : IsSoundNesting core) (is : IsSimpleCore core) (r : ℕ) (charge : HasCharge core r) (row : Row) (there : slice_get core.routines r ≡ Some row) (x : Routine) (lowered : IsRoutine core r x) where
@@ -111,7 +115,7 @@ module _ (core : Core) (sound : IsSound core) (nesting : IsSoundNesting core) (i
 
   -- it is no method, so it has a body
   has_body : (b : Body) × (row.body ≡ Some b)
-  has_body = some_of row.body ((routine core sound simple r row there).has_body (each_row (IsSimpleRoutine core) core.routines r row simple.routines there).owner)
+  has_body = body_there core sound is r row there
 
   -- each of its variables has words in the charge, which are enough
   rows_kept : Every (λ v. IsCharged v.role × (v.role ≡ Object → size_in core v.of ≤ 4)) (rows core.variables (variables_of core r))

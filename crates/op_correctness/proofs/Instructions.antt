@@ -24,7 +24,7 @@ use Rattle.op_mir.specs.declared.instruction.Instruction.TheVariants.{Act, Call,
 use Rattle.op_mir.specs.declared.instruction.Instruction.{Instruction}
 use Rattle.op_typing.specs.Simple.{IsSimpleProgram}
 use Rattle.op_typing.specs.Typed.{AreTypedInstrs, AreWords, IsTypedInstr}
-use Rattle.op_agreement.specs.Typed.{AreFine, AreTargets, IsFine, Leaves as LeavesIt}
+use Rattle.op_agreement.specs.Typed.{AreFine, AreTargets, IsFine, Leaves as LeavesIt, IsPaid}
 use Rattle.op_correctness.proofs.Actions.{action_is, action_there, has_it}
 use Rattle.op_correctness.proofs.Calls.{call_is, call_there}
 use Rattle.op_correctness.specs.Targets.{IsTargetNumber, IsTargeted}
@@ -95,16 +95,16 @@ module _ (core : Core) (sound : IsSound core) (simple : IsSimpleProgram core) (m
       let others = All-tail (IsTypedInstr core r) (view_instruction core r i) (map (view_instruction core r) code) typed in
       All-cons (IsFine core mir r x) i code (instruction_fine i first leads here) (all_fine code others targeted low)
 
-  -- where each instruction is fine and the last one leaves, the code is
-  code_fine : (code : List Instruction) → All (IsFine core mir r x) code → Leaves (map (view_instruction core r) code) → AreFine core mir r x code
-  code_fine [] fine leaves = absurd leaves
-  code_fine (i ∷ []) fine leaves = (All-head (IsFine core mir r x) i [] fine, inl (leaves_it core r i leaves))
-  code_fine (i ∷ j ∷ code) fine leaves = (All-head (IsFine core mir r x) i (j ∷ code) fine, inr (code_fine (j ∷ code) (All-tail (IsFine core mir r x) i (j ∷ code) fine) leaves))
+  -- where each instruction is fine and paid, and the last one leaves, the code is
+  code_fine : (code : List Instruction) → All (IsFine core mir r x) code → Every (IsPaid mir r x) code → Leaves (map (view_instruction core r) code) → AreFine core mir r x code
+  code_fine [] fine paid leaves = absurd leaves
+  code_fine (i ∷ []) fine (here, paid) leaves = (All-head (IsFine core mir r x) i [] fine, here, inl (leaves_it core r i leaves))
+  code_fine (i ∷ j ∷ code) fine (here, paid) leaves = (All-head (IsFine core mir r x) i (j ∷ code) fine, here, inr (code_fine (j ∷ code) (All-tail (IsFine core mir r x) i (j ∷ code) fine) paid leaves))
 
   -- Each instruction of a block of typed code, whose branches lead to blocks, is fine.
   pub each_fine : (block : Block) → AreTypedInstrs core r (view_block core r block) → IsCode (IsTargeted (length x.blocks)) (view_block core r block) → in_block block ≤ x.temporaries → All (IsFine core mir r x) block.code
   each_fine block typed is low = all_fine block.code typed is.each (most_each in_instruction block.code x.temporaries low)
 
-  -- And so is the block.
-  pub block_fine : (block : Block) → AreTypedInstrs core r (view_block core r block) → IsCode (IsTargeted (length x.blocks)) (view_block core r block) → in_block block ≤ x.temporaries → AreFine core mir r x block.code
-  block_fine block typed is low = code_fine block.code (each_fine block typed is low) is.leaves
+  -- And so is the block, if they are paid.
+  pub block_fine : (block : Block) → AreTypedInstrs core r (view_block core r block) → IsCode (IsTargeted (length x.blocks)) (view_block core r block) → in_block block ≤ x.temporaries → Every (IsPaid mir r x) block.code → AreFine core mir r x block.code
+  block_fine block typed is low paid = code_fine block.code (each_fine block typed is low) paid is.leaves

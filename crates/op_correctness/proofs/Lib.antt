@@ -10,12 +10,15 @@ pub mod Loaded
 pub mod Making
 pub mod Named
 pub mod OwnCode
+pub mod Paid
 pub mod ParameterRows
 pub mod Places
 pub mod Placing
 pub mod PlainItems
 pub mod ProgramCode
 pub mod RoutineCode
+pub mod Settling
 pub mod Space
+pub mod Spending
 pub mod Targeting
 pub mod Variables

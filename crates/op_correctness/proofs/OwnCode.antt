@@ -3,6 +3,7 @@ use Rattle.std.proofs.Common.{◌≡◌, ◌≤◌, ℕ, List, [], ◌∷◌, �
 use Rattle.std.specs.Prelude.{map}
 use Rattle.std.specs.List.{All, flat_map}
 use Rattle.std.proofs.lemmas.List.Elements.{All-head, All-tail}
+use Rattle.op_agreement.specs.Typed.{IsLight}
 use Rattle.op_core.specs.declared.ids.RoutineId.{RoutineId}
 use Rattle.op_core.specs.declared.program.Core.{Core}
 use Rattle.op_core.specs.declared.program.Unit.{Unit as UnitRow}
@@ -99,6 +100,16 @@ none_given : (gs : List Given) → map view_given gs ≡ [] → most_of in_given
 none_given [] none = refl
 none_given (g ∷ gs) none = absurd cc
 
+-- where its machine sees no argument there is none, and no place for a result
+no_given : (gs : List Given) → map view_given gs ≡ [] → gs ≡ []
+no_given [] e = refl
+no_given (g ∷ gs) e = absurd cc
+
+no_receiver : (y : Receiver) → view_receiver y ≡ nowhere → y ≡ Nowhere
+no_receiver Nowhere e = refl
+no_receiver (ToTemporary t) e = absurd cc
+no_receiver (Place of to) e = absurd cc
+
 none_received : (y : Receiver) → view_receiver y ≡ nowhere → in_receiver y ≡ 0
 none_received Nowhere none = refl
 none_received (ToTemporary t) none = absurd cc
@@ -131,6 +142,31 @@ module _ (core : Core) (r n : ℕ) where
   blocks_low : (blocks : List Block) → Every (Every IsBare) (seen_blocks core r blocks) → Every (λ b. in_block b ≤ n) blocks
   blocks_low [] bare = tt
   blocks_low (b ∷ blocks) (here, bare) = (most_at in_instruction b.code n (all_low b.code here), blocks_low blocks bare)
+
+  -- bare instructions are those that cost little
+  bare_light : (i : Instruction) → IsBare (view_instruction core r i) → IsLight i
+  bare_light (Call id call) (given, receiver) = (no_given call.given given, no_receiver call.receiver receiver)
+  bare_light Return bare = tt
+  bare_light (Act a landing) bare = absurd bare
+  bare_light (Jump block) bare = tt
+  bare_light (When t block) bare = absurd bare
+  bare_light (Unless t block) bare = absurd bare
+  bare_light (Switch t arms) bare = absurd bare
+  bare_light (Dispatch t block) bare = absurd bare
+  bare_light (MakeDue f) bare = absurd bare
+  bare_light (Stop t) bare = absurd bare
+
+  all_light : (code : List Instruction) → Every IsBare (map (view_instruction core r) code) → Every IsLight code
+  all_light [] bare = tt
+  all_light (i ∷ code) (here, bare) = (bare_light i here, all_light code bare)
+
+  blocks_light : (blocks : List Block) → Every (Every IsBare) (seen_blocks core r blocks) → Every (λ b. Every IsLight b.code) blocks
+  blocks_light [] bare = tt
+  blocks_light (b ∷ blocks) (here, bare) = (all_light b.code here, blocks_light blocks bare)
+
+  -- So are those of the program's own blocks.
+  pub own_light : (us : List UnitRow) → All (λ u. u.finalization ≡ None) us → (blocks : List Block) → seen_blocks core r blocks ≡ own_blocks us → Every (λ b. Every IsLight b.code) blocks
+  own_light us none blocks seen = blocks_light blocks (subst (Every (Every IsBare)) (sym seen) (own_bare us none))
 
   -- And they name no temporary.
   pub own_low : (us : List UnitRow) → All (λ u. u.finalization ≡ None) us → (blocks : List Block) → seen_blocks core r blocks ≡ own_blocks us → Every (λ b. in_block b ≤ n) blocks

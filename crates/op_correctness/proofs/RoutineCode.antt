@@ -23,7 +23,7 @@ use Rattle.op_mir.specs.declared.code.Routine.{Routine}
 use Rattle.op_typing.proofs.CodeTyped.{mir_is_typed}
 use Rattle.op_typing.proofs.Rows.{each_row, some_is}
 use Rattle.op_typing.specs.Typed.{AreTypedBlocks, AreTypedInstrs}
-use Rattle.op_agreement.specs.Typed.{AreFine, IsFine}
+use Rattle.op_agreement.specs.Typed.{AreFine, IsFine, IsPaid}
 use Rattle.op_correctness.proofs.Instructions.{block_fine, each_fine}
 use Rattle.op_correctness.proofs.Making.{items_made, nodes}
 use Rattle.op_correctness.proofs.OwnCode.{own_low, own_targeted}
@@ -32,13 +32,13 @@ use Rattle.op_correctness.specs.SimpleCore.{IsSimpleCore}
 use Rattle.op_correctness.specs.Targets.{IsTargeted}
 
 -- what holds of each element holds of the one in a place
-every_at : {A : Type 0} (Q : A → Type 0) (xs : List A) (k : ℕ) (x : A) → Every Q xs → slice_get xs k ≡ Some x → Q x
+pub every_at : {A : Type 0} (Q : A → Type 0) (xs : List A) (k : ℕ) (x : A) → Every Q xs → slice_get xs k ≡ Some x → Q x
 every_at Q [] k x all e = absurd cc
 every_at Q (y ∷ ys) zero x all e = subst Q (some_is e) all.0
 every_at Q (y ∷ ys) (suc k) x all e = every_at Q ys k x all.1 e
 
 -- the block in a place, as its machine sees it
-seen_at : (core : Core) (r : ℕ) (blocks : List Block) (k : ℕ) (block : Block) → slice_get blocks k ≡ Some block → slice_get (seen_blocks core r blocks) k ≡ Some (view_block core r block)
+pub seen_at : (core : Core) (r : ℕ) (blocks : List Block) (k : ℕ) (block : Block) → slice_get blocks k ≡ Some block → slice_get (seen_blocks core r blocks) k ≡ Some (view_block core r block)
 seen_at core r blocks k block e = slice_get-map (view_block core r) blocks k ∙ ap (option_map (view_block core r)) e
 
 -- ---- a routine, or the program itself
@@ -120,6 +120,6 @@ module _ (core : Core) (mir : Mir) (stack : ℕ) (sound : IsSound core) (nesting
     pub instructions_fine : All (IsFine core mir r x) block.code
     instructions_fine = each_fine core sound is.simple mir lowers.number lowers.types lowers.variables r x locals block typed_there targeted_there low_there
 
-    -- And so is each of its blocks.
-    pub blocks_fine : AreFine core mir r x block.code
-    blocks_fine = block_fine core sound is.simple mir lowers.number lowers.types lowers.variables r x locals block typed_there targeted_there low_there
+    -- And so is each of its blocks, if they are paid.
+    pub blocks_fine : Every (IsPaid mir r x) block.code → AreFine core mir r x block.code
+    blocks_fine paid = block_fine core sound is.simple mir lowers.number lowers.types lowers.variables r x locals block typed_there targeted_there low_there paid

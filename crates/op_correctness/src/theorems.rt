@@ -2,7 +2,8 @@
 ghost use Rattle.op_correctness.specs.Claims.{EndsAreMeant, ImageAgrees, LowCodeIsBuildable};
 
 /// The image of a sound program of the class that is compiled does what the program means: `agrees` says it of each step, over every input
-/// and for ever, `ends` of where the image ends, and `buildable` that low code may be built.
+/// and for ever, in so many steps for the work of the program's step, `ends` of where the image ends, and `buildable` that low code may be
+/// built.
 pub fn image_agrees()
     ensures agrees { ImageAgrees }
     ensures ends { EndsAreMeant }

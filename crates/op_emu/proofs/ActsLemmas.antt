@@ -53,7 +53,7 @@ Acts-quiet f old new i o e same leads =
       errors = sym (appended-nil e);
     }
 
-pub Acts-same : (f g : State → State) (old new : Moment) (told : Streams) → ((x o e : List ℕ) → g (state_of old x o e) ≡ f (state_of old x o e)) → Acts f old new told → Acts g old new told
+unfoldable pub Acts-same : (f g : State → State) (old new : Moment) (told : Streams) → ((x o e : List ℕ) → g (state_of old x o e) ≡ f (state_of old x o e)) → Acts f old new told → Acts g old new told
 Acts-same f g old new told same acts =
     record {
       taken = acts.taken;
@@ -308,7 +308,7 @@ module _ (a b : Hart) (i i' i'' : Option (List ℕ)) (taken taken' : List ℕ) (
 
 -- one after the other
 module _ (f g : State → State) (a b : Moment) (i i' i'' o o' o'' e e' e'' : Option (List ℕ)) where
-  pub Acts-then : (c : Moment) → Acts f a b (streams i i' o o' e e') → Acts g b c (streams i' i'' o' o'' e' e'') → Acts (λ s. g (f s)) a c (streams i i'' o o'' e e'')
+  unfoldable pub Acts-then : (c : Moment) → Acts f a b (streams i i' o o' e e') → Acts g b c (streams i' i'' o' o'' e' e'') → Acts (λ s. g (f s)) a c (streams i i'' o o'' e e'')
   Acts-then c first next =
       record {
         taken = first.taken ++ next.taken;
@@ -353,7 +353,7 @@ after-suc (suc n) s = after-suc n (step s)
 
 -- a run and one more step
 module _ (n : ℕ) (a b : Moment) (i i' i'' o o' o'' e e' e'' : Option (List ℕ)) where
-  pub after-step : (c : Moment) → Acts (after n) a b (streams i i' o o' e e') → Acts step b c (streams i' i'' o' o'' e' e'') → Acts (after (suc n)) a c (streams i i'' o o'' e e'')
+  unfoldable pub after-step : (c : Moment) → Acts (after n) a b (streams i i' o o' e e') → Acts step b c (streams i' i'' o' o'' e' e'') → Acts (after (suc n)) a c (streams i i'' o o'' e e'')
   after-step c first next =
       Acts-same (λ s. step (after n s)) (after (suc n)) a c _ (λ x out err. sym (after-suc n (state_of a x out err))) (Acts-then (after n) step a b i i' i'' o o' o'' e e' e'' c first next)
 

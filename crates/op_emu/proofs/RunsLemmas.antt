@@ -1,22 +1,77 @@
 -- Runs of the emulator.
-use Rattle.std.proofs.Common.{◌≡◌, ◌≢◌, ℕ, suc, ◌+◌, ◌-◌, ◌^◌, ◌<◌, ◌≤◌, if◌then◌else◌, Option, List, refl, ap, sym, ◌∙◌, subst, arith, inl, inr}
-use Rattle.op_rv.specs.State.{Running, Ended, Faulted}
-use Rattle.op_rv.specs.Step.{step, after}
+use Rattle.std.proofs.Common.{◌≡◌, ◌≢◌, ℕ, suc, ◌+◌, ◌-◌, ◌^◌, ◌<◌, ◌≤◌, if◌then◌else◌, Option, List, ◌++◌, zero, append_assoc, refl, ap, sym, ◌∙◌, subst, arith, inl, inr}
+use Rattle.op_rv.specs.State.{State, Ending, Running, Ended, Faulted}
+use Rattle.op_rv.specs.Step.{step, step_by_ending, after}
+use Rattle.op_emu.specs.declared.hart.Hart.{Hart}
 use Rattle.op_emu.specs.declared.machine.Machine.{Machine}
 use Rattle.op_emu.specs.declared.stop.Stepped.{Stepped}
 use Rattle.op_emu.specs.declared.stop.Stepped.TheVariants as stepped
 use Rattle.op_emu.specs.declared.stop.Stop.{Stop}
-use Rattle.op_emu.specs.Acts.{moment, ending_of, streams, faults, Faults, Acts, Leads, OutputFailed, StepIs}
-use Rattle.op_emu.specs.Runs.{moment_of, one_more, is_done, stop_of, DoesSteps, RunIs}
+use Rattle.op_emu.specs.Acts.{Moment, moment, state_of, ending_of, Streams, streams, faults, Faults, Acts, Leads, OutputFailed, StepIs}
+use Rattle.op_emu.specs.Runs.{moment_of, one_more, is_done, stop_of, GoesOnBefore, DoesSteps, RunIs}
 use Rattle.op_emu.proofs.Gliding.{Acts-glide}
 use Rattle.op_emu.proofs.Stretches.{Rose-from}
-use Rattle.op_emu.proofs.ActsLemmas.{Acts-quiet, after-step, after-step_in_part}
+use Rattle.op_emu.proofs.ActsLemmas.{Acts-quiet, Acts-same, Acts-then, after-step, after-step_in_part, may_follow}
+
+-- a machine that has ended or faulted stays
+stays : (m : ℕ) (s : State) → step s ≡ s → after m s ≡ s
+unfolding after
+stays zero s same = refl
+stays (suc m) s same = ap (after m) same ∙ stays m s same
+
+went_on_by : (m : ℕ) (s : State) (ending : Ending) → s.ending ≡ ending → (after m s).ending ≡ Running → s.ending ≡ Running
+unfolding step step_by_ending
+went_on_by m s Running is goes = is
+went_on_by m s (Ended status) is goes =
+    absurd (not_ended status (sym is ∙ ap (λ s. s.ending) (sym (stays m s (ap (λ ending. step_by_ending ending s) is))) ∙ goes))
+  where
+    not_ended : (status : ℕ) → Ended status ≡ Running → ⊥
+    not_ended status e = cc
+went_on_by m s (Faulted kind pc) is goes =
+    absurd (not_faulted (sym is ∙ ap (λ s. s.ending) (sym (stays m s (ap (λ ending. step_by_ending ending s) is))) ∙ goes))
+  where
+    not_faulted : Faulted kind pc ≡ Running → ⊥
+    not_faulted e = cc
+
+-- a machine that goes on after some steps went on before each of them
+went_on : (k m : ℕ) (s : State) → k ≤ m → (after m s).ending ≡ Running → (after k s).ending ≡ Running
+unfolding after
+went_on zero m s le goes = went_on_by m s s.ending refl goes
+went_on (suc k) zero s le goes = absurd (omega arith)
+went_on (suc k) (suc m) s le goes = went_on k m (step s) (omega arith) goes
+
+-- so many steps, before each of which the machine went on
+abbrev Runs : ℕ → Moment → Moment → Streams → Type 0
+Runs m old new told = (acts : Acts (after m) old new told) × GoesOnBefore m acts.taken old new.hart
+
+runs_on : (m : ℕ) (old : Moment) (hart : Hart) (told : Streams) → Acts (after m) old (moment hart Running) told → Runs m old (moment hart Running) told
+runs_on m old hart told acts = (
+  acts,
+  λ k less x o e may. went_on k m (state_of old (acts.taken ++ x) o e) (omega arith) (ap (λ s. s.ending) (acts.leads x o e may)),
+)
+
+-- a run that goes on, and one more step
+runs_then : (m : ℕ) (old : Moment) (hart : Hart) (new : Moment) (i i' i'' o o' o'' e e' e'' : Option (List ℕ)) → Acts (after m) old (moment hart Running) (streams i i' o o' e e') → Acts step (moment hart Running) new (streams i' i'' o' o'' e' e'') → Runs (suc m) old new (streams i i'' o o'' e e'')
+unfolding after-step Acts-same Acts-then
+runs_then m old hart new i i' i'' o o' o'' e e' e'' first next = (
+  after-step m old (moment hart Running) i i' i'' o o' o'' e e' e'' new first next,
+  λ k less x out err may.
+      ap (λ input. (after k (state_of old input out err)).ending) (append_assoc first.taken next.taken x)
+      ∙ went_on k m (state_of old (first.taken ++ (next.taken ++ x)) out err) (omega arith) (ap (λ s. s.ending) (first.leads (next.taken ++ x) out err (may_follow old.hart hart i i' i'' first.taken next.taken first.input new.hart x next.input may))),
+)
+
+does_of : (m : ℕ) (old new : Machine) (told : Streams) → Runs m (moment_of old) (moment_of new) told → new.steps ≡ old.steps + m → DoesSteps m old new told
+does_of m old new told runs counted = record { acts = runs.0; goes_on = runs.1; counted = counted }
 
 -- no step
 pub does_nothing : (m : Machine) (i o e : Option (List ℕ)) → DoesSteps 0 m m (streams i i o o e e)
 unfolding after
 does_nothing m i o e =
-    record { acts = Acts-quiet (after 0) (moment_of m) (moment_of m) i o e refl (λ x o e. refl); counted = omega arith }
+    record {
+      acts = Acts-quiet (after 0) (moment_of m) (moment_of m) i o e refl (λ x o e. refl);
+      goes_on = λ k less x o e may. absurd (omega arith);
+      counted = omega arith;
+    }
 
 moment_of-is : (m : Machine) (r : Stepped) → m.last ≡ r → moment_of m ≡ moment m.hart (ending_of r)
 moment_of-is m r is = ap (λ r. moment m.hart (ending_of r)) is
@@ -39,10 +94,7 @@ glides m n old mid new i i' o o' e e' does goes last counted leads =
     let from : Acts (after m) (moment_of old) (moment mid.hart Running) (streams i i' o o' e e') =
     subst (λ b. Acts (after m) (moment_of old) b (streams i i' o o' e e')) (moment_of-is mid stepped.Went goes) does.acts
     in
-    record {
-      acts = subst (λ b. Acts (after (m + n)) (moment_of old) b (streams i i' o o' e e')) (sym (moment_of-is new stepped.Went last)) (Acts-glide m n (moment_of old) mid.hart new.hart i i' o o' e e' from leads);
-      counted = omega (arith, does.counted);
-    }
+    does_of (m + n) old new (streams i i' o o' e e') (subst (λ b. Runs (m + n) (moment_of old) b (streams i i' o o' e e')) (sym (moment_of-is new stepped.Went last)) (runs_on (m + n) (moment_of old) new.hart _ (Acts-glide m n (moment_of old) mid.hart new.hart i i' o o' e e' from leads))) (omega (arith, does.counted))
 
 module _ (m : ℕ) (old mid new : Machine) (i i' i'' o o' o'' e e' e'' : Option (List ℕ)) (does : DoesSteps m old mid (streams i i' o o' e e')) (goes : mid.last ≡ stepped.Went) (below : mid.steps < 2 ^ 64 - 1) where
   first : Acts (after m) (moment_of old) (moment mid.hart Running) (streams i i' o o' e e')
@@ -51,10 +103,7 @@ module _ (m : ℕ) (old mid new : Machine) (i i' i'' o o' o'' e e' e'' : Option 
 
   goes_on_by : new.last ≡ stepped.Went → new.steps ≡ one_more mid.steps → Acts step (moment mid.hart Running) (moment new.hart Running) (streams i' i'' o' o'' e' e'') → DoesSteps (suc m) old new (streams i i'' o o'' e e'')
   goes_on_by last counted next =
-      record {
-        acts = subst (λ c. Acts (after (suc m)) (moment_of old) c (streams i i'' o o'' e e'')) (sym (moment_of-is new stepped.Went last)) (after-step m (moment_of old) (moment mid.hart Running) i i' i'' o o' o'' e e' e'' (moment new.hart Running) first next);
-        counted = omega (arith, does.counted);
-      }
+      does_of (suc m) old new (streams i i'' o o'' e e'') (subst (λ c. Runs (suc m) (moment_of old) c (streams i i'' o o'' e e'')) (sym (moment_of-is new stepped.Went last)) (runs_then m (moment_of old) mid.hart (moment new.hart Running) i i' i'' o o' o'' e e' e'' first next)) (omega (arith, does.counted))
 
   -- a step of a run that goes on
   pub goes_on : (r : Stepped) (k : ℕ) (counts : Faults) → k ≡ suc m → r ≡ stepped.Went → new.last ≡ r → new.steps ≡ (if is_done r then one_more mid.steps else mid.steps) → StepIs step r mid.hart new.hart (streams i' i'' o' o'' e' e'') counts → DoesSteps k old new (streams i i'' o o'' e e'')
@@ -70,19 +119,13 @@ module _ (m : ℕ) (old mid new : Machine) (i i' i'' o o' o'' e e' e'' : Option 
   stops_by n (stepped.Ended k) d d' d'' f f' f'' h h' h'' more b p q goes_not last counted is = (
     suc m,
     omega arith,
-    record {
-      acts = subst (λ c. Acts (after (suc m)) (moment_of old) c (streams i i'' o o'' e e'')) (sym (moment_of-is new (stepped.Ended k) last)) (after-step m (moment_of old) (moment mid.hart Running) i i' i'' o o' o'' e e' e'' (moment new.hart (Ended k)) first is);
-      counted = omega (arith, does.counted);
-    },
+    does_of (suc m) old new (streams i i'' o o'' e e'') (subst (λ c. Runs (suc m) (moment_of old) c (streams i i'' o o'' e e'')) (sym (moment_of-is new (stepped.Ended k) last)) (runs_then m (moment_of old) mid.hart (moment new.hart (Ended k)) i i' i'' o o' o'' e e' e'' first is)) (omega (arith, does.counted)),
   )
-  stops_by n (stepped.Fault kind pc) d d' d'' f f' f'' h h' h'' more b p q goes_not last counted is = (
-    m,
-    more,
-    record {
-      acts = subst (λ c. Acts (after (suc m)) (moment_of old) c (streams i i'' o o'' e e'')) (sym (moment_of-is new (stepped.Fault kind pc) last)) (after-step m (moment_of old) (moment mid.hart Running) i i' i'' o o' o'' e e' e'' (moment new.hart (Faulted kind pc)) first is);
-      counted = counted ∙ does.counted;
-    },
-  )
+  stops_by n (stepped.Fault kind pc) d d' d'' f f' f'' h h' h'' more b p q goes_not last counted is =
+      let runs : Runs (suc m) (moment_of old) (moment_of new) (streams i i'' o o'' e e'') =
+      subst (λ c. Runs (suc m) (moment_of old) c (streams i i'' o o'' e e'')) (sym (moment_of-is new (stepped.Fault kind pc) last)) (runs_then m (moment_of old) mid.hart (moment new.hart (Faulted kind pc)) i i' i'' o o' o'' e e' e'' first is)
+      in
+      (m, more, record { acts = runs.0; goes_on = runs.1; counted = counted ∙ does.counted })
   stops_by n stepped.ReadFault d d' d'' f f' f'' h h' h'' more b p q goes_not last counted is = (
     m,
     more,

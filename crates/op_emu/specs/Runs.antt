@@ -1,9 +1,9 @@
 -- Runs of the emulator, as runs of the machine's definition.
-use Rattle.std.specs.Prelude.{◌≡◌, ℕ, suc, ◌+◌, ◌-◌, ◌^◌, ◌<◌, ◌≤◌, ◌⊎◌, min, Bool, true, false, Option, Some, None, List}
+use Rattle.std.specs.Prelude.{◌≡◌, ℕ, suc, ◌+◌, ◌-◌, ◌^◌, ◌<◌, ◌≤◌, ◌⊎◌, min, Bool, true, false, Option, Some, None, List, ◌++◌}
 use Rattle.op_rv.specs.State.{Running}
 use Rattle.op_rv.specs.Step.{step, after}
 use Rattle.op_link.specs.Image.{first_failing}
-use Rattle.op_emu.specs.Acts.{Moment, moment, ending_of, Streams, Faults, Acts, ActsInPart, ReadsInPart, InputFailed, OutputFailed, BeginsAs}
+use Rattle.op_emu.specs.Acts.{Moment, MayFollow, moment, state_of, ending_of, Streams, Faults, Acts, ActsInPart, ReadsInPart, InputFailed, OutputFailed, BeginsAs}
 use Rattle.op_emu.specs.declared.hart.Hart.{Hart}
 use Rattle.op_emu.specs.declared.machine.Machine.{Machine}
 use Rattle.op_emu.specs.declared.stop.MachineError.{MachineError}
@@ -35,14 +35,21 @@ stop_of (stepped.Fault kind pc) = stop.Fault kind pc
 stop_of stepped.ReadFault = stop.ReadFault
 stop_of stepped.WriteFault = stop.WriteFault
 
--- the call did m steps
+-- before each of so many steps the machine of the definition goes on, whatever had been written and may be left behind what was taken
+abbrev pub GoesOnBefore : ℕ → List ℕ → Moment → Hart → Type 0
+GoesOnBefore m taken old new =
+    (k : ℕ) → k < m → (x o e : List ℕ) → MayFollow new x → (after k (state_of old (taken ++ x) o e)).ending ≡ Running
+
+-- the call did m steps: where the machine has ended, m is the first number of steps after which it has
 pub record DoesSteps (m : ℕ) (old new : Machine) (told : Streams) : Type 0 where
   pub acts : Acts (after m) (moment_of old) (moment_of new) told
+  pub goes_on : GoesOnBefore m acts.taken (moment_of old) new.hart
   pub counted : new.steps ≡ old.steps + m
 
--- the call did m steps, and the next one is a fault, which changes nothing
+-- the call did m steps, and the next one is a fault, the first, which changes nothing
 pub record FaultsAfter (m : ℕ) (old new : Machine) (told : Streams) : Type 0 where
   pub acts : Acts (after (suc m)) (moment_of old) (moment_of new) told
+  pub goes_on : GoesOnBefore (suc m) acts.taken (moment_of old) new.hart
   pub counted : new.steps ≡ old.steps + m
 
 -- the call did m steps, and the next one reads and wants more bytes than the source gave before it failed

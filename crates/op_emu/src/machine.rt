@@ -83,7 +83,9 @@ impl Machine {
         matches!(self.last, Stepped::Went)
     }
 
-    /// Does at most `n` steps. A machine that has stopped answers as before.
+    /// Does at most `n` steps. A machine that has stopped answers as before. Where the program has ended, the steps that were counted
+    /// are the first number of them after which the machine of the definition has, and where the next step is a fault, the first number
+    /// after which it is.
     pub fn run<R: Source, W: Sink, E: Sink>(
         &mut self,
         n: u64,

@@ -17,9 +17,9 @@ use Rattle.op_core.specs.declared.types.CoreType.{CoreType}
 use Rattle.op_core.specs.declared.types.CoreType.TheVariants.{Array, Boolean, Char, Set}
 use Rattle.op_core.specs.declared.types.IntegerKind.TheVariants.{Signed32}
 use Rattle.op_frames.proofs.ExpressionsWithin.{IsFound, IsNow, made_both, made_acts, expression_some, path_short, steps_more, loaded_well, acts_well, converted_well, find_well, make_well}
-use Rattle.op_frames.specs.Counted.{IsCounted, IsBare, IsCountedAmount, IsCountedItem, AreCountedItems, IsCountedBuiltIn, IsCountedStatement, AreCountedStatements, AreCountedBranches}
+use Rattle.op_frames.specs.Counted.{IsCounted, IsBare, IsCountedAmount, IsCountedItem, AreCountedItems, IsCountedBuiltIn, IsCountedStatement, AreCountedStatements, AreCountedBranches, AreCountedLabels}
 use Rattle.op_frames.specs.Made.{Every, AreMade, IsMade, AreMadeTurns, AreMadeCases, ArmsOf}
-use Rattle.op_frames.specs.Within.{StepsBelow, ActionBelow, IsWithin}
+use Rattle.op_frames.specs.Within.{StepsBelow, ActionBelow, IsWithin, labels_among}
 use Rattle.op_meaning.specs.Charge.{Weight, nodes_of, valued, expression_weight, item_weight, items_weight, built_in_weight, labels_weight, counter_weight, statement_weight, statements_weight, branches_weight}
 use Rattle.op_meaning.specs.Actions.{Action, constant, load, store, copy, arithmetic, compare, check, single as lone, combine, contains, write_number, write_truth, write_char, write_text}
 use Rattle.op_meaning.specs.Expressions.{Here, past, past_whole, Env, Now, ready, at_path, a_text, Found, found, whole_path, path_of, own, then_acts, low_in, high_in, counted_of, element_step, converted, find, make}
@@ -27,7 +27,7 @@ use Rattle.op_meaning.specs.Items.{act, choose, select, loop, body_first, protec
 use Rattle.op_meaning.specs.Paths.{Path, Step, with_step}
 use Rattle.op_meaning.specs.Shapes.{Shape, single, composite, of_chars, of_elements, of_instance, shape_of, type_of_variable}
 use Rattle.op_meaning.specs.Statements.{stored_by, assigned, result_path, variable_path, at_variable, kind_of, write_by, write_by_now, write_value, no_width, write_one, write_all, line_end, sum_or_difference, counted_at, changed_set, done_built_in, counting, check_bound, store_variable, for_items, in_array, in_set, in_collection, in_turn, work_of, work_of_all, cases_of}
-use Rattle.op_mir.specs.Code.{Instr, do_act}
+use Rattle.op_mir.specs.Code.{Instr, do_act, Arm}
 use Rattle.op_tree.specs.declared.operator.Operator.{Operator}
 use Rattle.op_tree.specs.declared.operator.Operator.TheVariants.{Add, Subtract}
 use Rattle.op_tree.specs.declared.statement.Direction.{Direction}
@@ -224,6 +224,21 @@ module _ (blocks top room : ℕ) where
 
   -- ---- statements
 
+  -- labels are no more than the nodes of their branches
+  labels_few : (core : Core) (labels : List Label) → AreCountedLabels labels → length labels ≤ nodes_of (labels_weight labels)
+  labels_few core [] c = omega arith
+  labels_few core (l ∷ ls) (some, c) = let rest = labels_few core ls c in omega (arith, some, rest)
+
+  arms_few : (env : Env) (here : Here) (bs : Branches) (arms : List Arm) → AreCountedBranches bs → ArmsOf blocks (cases_of env here bs) arms → labels_among arms ≤ nodes_of (branches_weight env.core bs)
+  arms_few env here no_branches [] c are = omega arith
+  arms_few env here no_branches (a ∷ arms) c are = absurd are
+  arms_few env here (branches labels s bs) [] c are = absurd are
+  arms_few env here (branches labels s bs) (a ∷ arms) (counted, body, c) (same, some, less, are) =
+      let first = labels_few env.core labels counted in
+      let rest = arms_few env here bs arms c are in
+      let as_many = ap length same in
+      omega (arith, first, rest, as_many)
+
   mutual
     pub work_well : (env : Env) (here : Here) (s : Statement) → IsCountedStatement s → here.temp + 2 * nodes_of (statement_weight env.core s) ≤ top → 2 * nodes_of (statement_weight env.core s) + 1 ≤ room → IsItems (work_of env here s)
     work_well env here empty c t r = tt
@@ -241,7 +256,7 @@ module _ (blocks top room : ℕ) where
         let w = make_well blocks top room env here e c.0 (omega (arith, t)) (omega (arith, r)) in
         let arms = branches_well env here bs c.1 (omega (arith, t)) (omega (arith, r)) in
         let other = all_well env here ss c.2 (omega (arith, t)) (omega (arith, r)) in
-        both (make env here e).items (only (select here.temp (cases_of env here bs) (work_of_all env here ss))) w.items ((λ chosen are. (omega (arith, t), omega (arith, r)), arms, other), tt)
+        both (make env here e).items (only (select here.temp (cases_of env here bs) (work_of_all env here ss))) w.items ((λ chosen are. (omega (arith, t), omega (arith, r), let few = arms_few env here bs chosen c.1 are in omega (arith, r, few)), arms, other), tt)
     work_well env here (while_do e s) c t r =
         let w = make_well blocks top room env here e c.0 (omega (arith, t)) (omega (arith, r)) in
         let body = work_well env here s c.1 (omega (arith, t)) (omega (arith, r)) in
@@ -299,4 +314,4 @@ module _ (blocks top room : ℕ) where
     branches_well : (env : Env) (here : Here) (bs : Branches) → AreCountedBranches bs → here.temp + 2 * nodes_of (branches_weight env.core bs) ≤ top → 2 * nodes_of (branches_weight env.core bs) + 1 ≤ room → AreMadeCases (IsWithin top room) blocks (cases_of env here bs)
     branches_well env here no_branches c t r = tt
     branches_well env here (branches labels s bs) c t r =
-        (work_well env here s c.0 (omega (arith, t)) (omega (arith, r)), branches_well env here bs c.1 (omega (arith, t)) (omega (arith, r)))
+        (work_well env here s c.1 (omega (arith, t)) (omega (arith, r)), branches_well env here bs c.2 (omega (arith, t)) (omega (arith, r)))

@@ -4,6 +4,7 @@ use Rattle.op_core.specs.Expression.{Expression, expression, Root, constant, var
 use Rattle.op_core.specs.Statement.{Item, plain, padded, BuiltIn, write, read, count, set_length, include, exclude, val, str, free, destroy, Statement, empty, block, if_then, if_else, case_of, while_do, repeat_until, for_to, for_in, try_finally, try_on, try_on_else, raise, reraise, call as call_statement, assign, exit, exit_with, break, continue, halt, built_in, Statements, no_statements, statements, Branches, no_branches, branches}
 use Rattle.op_core.specs.declared.constant.Const.{Const}
 use Rattle.op_core.specs.declared.ids.TypeId.{TypeId}
+use Rattle.op_core.specs.declared.statement.Label.{Label}
 
 abbrev mutual
   pub IsCounted : Expression → Type 0
@@ -85,6 +86,11 @@ IsCountedBuiltIn (str v target) = Unit {0}
 IsCountedBuiltIn (free e empties) = ⊥
 IsCountedBuiltIn (destroy e) = ⊥
 
+-- each label counts for a node
+abbrev pub AreCountedLabels : List Label → Type 0
+AreCountedLabels [] = Unit {0}
+AreCountedLabels (l ∷ ls) = (0 < l.nodes) × AreCountedLabels ls
+
 abbrev mutual
   pub IsCountedStatement : Statement → Type 0
   IsCountedStatement empty = Unit {0}
@@ -116,4 +122,4 @@ abbrev mutual
 
   pub AreCountedBranches : Branches → Type 0
   AreCountedBranches no_branches = Unit {0}
-  AreCountedBranches (branches labels s bs) = IsCountedStatement s × AreCountedBranches bs
+  AreCountedBranches (branches labels s bs) = AreCountedLabels labels × IsCountedStatement s × AreCountedBranches bs

@@ -1,11 +1,11 @@
--- How far the temporaries of an instruction go, and how many scratch registers it takes at most.
-use Rattle.std.specs.Prelude.{◌<◌, ◌≤◌, ℕ, ◌+◌, List, [], ◌∷◌}
+-- How far the temporaries of an instruction go, and how many scratch registers it takes at most; and that a branch has no more labels than that.
+use Rattle.std.specs.Prelude.{◌<◌, ◌≤◌, ℕ, ◌+◌, List, [], ◌∷◌, length}
 use Rattle.op_frames.specs.Made.{Every}
 use Rattle.op_frames.specs.Scratch.{action_room, givens_room, receiver_room}
 use Rattle.op_meaning.specs.Actions.{Action, constant, load, store, copy, look, begin_with, pick, arithmetic, compare, negate, complement, invert, absolute, odd, upper, low_bits, check, neighbour, single, span, combine, contains, check_set, write_number, write_truth, write_char, write_text}
 use Rattle.op_meaning.specs.Items.{Given, by_value, by_reference, by_place, by_copy, Receiver, nowhere, to_temp, to_place}
 use Rattle.op_meaning.specs.Paths.{Step, field, element}
-use Rattle.op_mir.specs.Code.{Instr, do_act, do_call, jump, when, unless, switch, dispatch, make_due, stop, ret}
+use Rattle.op_mir.specs.Code.{Instr, do_act, do_call, jump, when, unless, switch, dispatch, make_due, stop, ret, Arm}
 
 abbrev pub StepsBelow : ℕ → List Step → Type 0
 StepsBelow top [] = Unit {0}
@@ -58,6 +58,11 @@ ReceiverBelow top nowhere = Unit {0}
 ReceiverBelow top (to_temp t) = t < top
 ReceiverBelow top (to_place of p) = StepsBelow top p.steps
 
+-- how many labels a branch looks through
+abbrev pub labels_among : List Arm → ℕ
+labels_among [] = 0
+labels_among (a ∷ arms) = length a.labels + labels_among arms
+
 -- behind the reason of a finally part stands the exception that waits
 abbrev pub IsWithin : (top room : ℕ) → Instr → Type 0
 IsWithin top room (do_act a landing) = ActionBelow top a × (action_room a ≤ room)
@@ -65,7 +70,7 @@ IsWithin top room (do_call r given receiver landing) = Every (GivenBelow top) gi
 IsWithin top room (jump k) = Unit {0}
 IsWithin top room (when t k) = (t < top) × (3 ≤ room)
 IsWithin top room (unless t k) = (t < top) × (3 ≤ room)
-IsWithin top room (switch t arms) = (t < top) × (3 ≤ room)
+IsWithin top room (switch t arms) = (t < top) × (3 ≤ room) × (labels_among arms ≤ room)
 IsWithin top room (dispatch t k) = (t + 1 < top) × (3 ≤ room)
 IsWithin top room (make_due f) = 1 ≤ room
 IsWithin top room (stop t) = t < top

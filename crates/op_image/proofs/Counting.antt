@@ -1,5 +1,5 @@
 -- Blocks of valid code have items, so there are no more blocks than items.
-use Rattle.std.proofs.Common.{◌≡◌, ℕ, pos, ◌-ℤ◌, min, zero, suc, ◌+◌, ◌-◌, ◌<◌, ◌≤◌, true, Some, List, [], ◌∷◌, ◌++◌, length, map, slice_get, subst, arith, length-append}
+use Rattle.std.proofs.Common.{◌≡◌, ℕ, pos, ◌-ℤ◌, min, zero, suc, ◌+◌, ◌-◌, ◌*◌, ◌<◌, ◌≤◌, Bool, true, false, if◌then◌else◌, nat_lt, Some, List, [], ◌∷◌, ◌++◌, length, map, slice_get, subst, arith, length-append}
 use Rattle.std.proofs.lemmas.Bool.{and_parts}
 use Rattle.std.proofs.lemmas.List.Sums.{sum_by-append, sum_by-cons}
 use Rattle.std.specs.List.{list_all}
@@ -13,15 +13,16 @@ use Rattle.op_low.specs.declared.ids.VirtualRegister.{VirtualRegister}
 use Rattle.op_low.specs.declared.instruction.Instruction.{Instruction}
 use Rattle.op_low.specs.declared.instruction.Instruction.TheVariants.{Const, Address, Local, Move, Alu, AluImm, Shift, Load, Store, Call, CallAt, Branch, Jump, Return, Raise, Read, Write, Exit}
 use Rattle.op_rv.specs.declared.instruction.ImmOp.TheVariants.{Addi}
-use Rattle.op_rv.specs.declared.instruction.Instr.TheVariants.{Imm, Store as StoreInstr}
+use Rattle.op_rv.specs.declared.instruction.Instr.TheVariants.{Imm, Lui, Store as StoreInstr}
 use Rattle.op_rv.specs.declared.instruction.StoreOp.TheVariants.{Sw}
 use Rattle.op_rv.specs.declared.objects.Item.{Item}
 use Rattle.op_rv.specs.declared.objects.Item.TheVariants.{Plain}
 use Rattle.op_rv.specs.declared.objects.ObjectBlock.{ObjectBlock}
 use Rattle.op_rv.specs.declared.objects.ObjectRoutine.{ObjectRoutine}
-use Rattle.op_select.specs.Frames.{cleared_locals, cleared_registers, epilogue, frame_of, head_of, home, keep, received, store_home}
+use Rattle.op_select.specs.Frames.{cleared_locals, cleared_registers, epilogue, fetch, frame_of, head_of, home, keep, load_home, operand, put, taken}
 use Rattle.op_select.specs.Selection.{answered, code_items, items_of, object_block_of, object_routine_of}
-use Rattle.op_select.specs.Sequences.{below, sum, word_store}
+use Rattle.op_select.specs.Sequences.{below, constant, is_near, lower_of, reach, sum, upper_of, word_load}
+use Rattle.op_select.specs.declared.frame.Home.TheVariants.{Frame, Register}
 
 -- ---- lists that are not empty
 
@@ -43,9 +44,25 @@ before_some xs ys more =
     let one = more.some in
     record { some = omega arith }
 
-keep_some : (routine : Routine) (r : VirtualRegister) (value : ℕ) → Some_of (keep routine r value)
-unfolding keep store_home home word_store
-keep_some routine r value = behind_some _ (_ ∷ []) (first_of _ [])
+constant_some : (to n : ℕ) → Some_of (constant to n)
+unfolding constant
+constant_some to n = by_size (is_near n)
+  where
+    by_size : (b : Bool) → Some_of (if b then Plain (Imm Addi to 0 (lower_of n)) ∷ [] else Plain (Lui to (upper_of n)) ∷ Plain (Imm Addi to to (lower_of n)) ∷ [])
+    by_size true = first_of _ _
+    by_size false = first_of _ _
+
+sum_some : (to base via n : ℕ) → Some_of (sum to base via n)
+unfolding sum
+sum_some to base via n = behind_some (reach base via n) (_ ∷ []) (first_of _ [])
+
+fetch_some : (routine : Routine) (to : ℕ) (r : VirtualRegister) → Some_of (fetch routine to r)
+unfolding fetch home load_home word_load
+fetch_some routine to r = by_home (nat_lt r.0 14)
+  where
+    by_home : (b : Bool) → Some_of (load_home to (if b then Register (18 + r.0) else Frame (4 * (routine.registers - 1 - r.0))))
+    by_home true = first_of _ _
+    by_home false = behind_some _ (_ ∷ []) (first_of _ [])
 
 epilogue_some : (routine : Routine) → Some_of (epilogue routine)
 unfolding epilogue
@@ -53,14 +70,14 @@ epilogue_some routine = behind_some _ (_ ∷ _ ∷ []) (first_of _ (_ ∷ []))
 
 items_some : (routine : Routine) (i : Instruction) → Some_of (items_of routine i)
 unfolding items_of answered
-items_some routine (Const to n) = behind_some _ (keep routine to 10) (keep_some routine to 10)
+items_some routine (Const to n) = before_some (constant (operand routine 10 to) n) _ (constant_some (operand routine 10 to) n)
 items_some routine (Address to symbol) = first_of _ _
-items_some routine (Local to offset) = behind_some _ (keep routine to 10) (keep_some routine to 10)
-items_some routine (Move to from) = behind_some _ (keep routine to 10) (keep_some routine to 10)
-items_some routine (Alu op to left right) = behind_some _ (_ ∷ keep routine to 10) (first_of _ _)
-items_some routine (AluImm op to left imm) = behind_some _ (_ ∷ keep routine to 10) (first_of _ _)
-items_some routine (Shift op to left amount) = behind_some _ (_ ∷ keep routine to 10) (first_of _ _)
-items_some routine (Load op to base offset) = behind_some _ (_ ∷ keep routine to 10) (first_of _ _)
+items_some routine (Local to offset) = before_some (sum (operand routine 10 to) 8 (operand routine 10 to) _) _ (sum_some (operand routine 10 to) 8 (operand routine 10 to) _)
+items_some routine (Move to from) = before_some (fetch routine (operand routine 10 to) from) _ (fetch_some routine (operand routine 10 to) from)
+items_some routine (Alu op to left right) = behind_some _ (_ ∷ put routine to) (first_of _ _)
+items_some routine (AluImm op to left imm) = behind_some _ (_ ∷ put routine to) (first_of _ _)
+items_some routine (Shift op to left amount) = behind_some _ (_ ∷ put routine to) (first_of _ _)
+items_some routine (Load op to base offset) = behind_some _ (_ ∷ put routine to) (first_of _ _)
 items_some routine (Store op value base offset) = behind_some _ (_ ∷ []) (first_of _ [])
 items_some routine (Call id call) = behind_some _ (_ ∷ answered routine call.to call.landing) (first_of _ _)
 items_some routine (CallAt address call) = behind_some _ (_ ∷ answered routine call.to call.landing) (first_of _ _)
@@ -68,14 +85,14 @@ items_some routine (Branch op left right block) = behind_some _ (_ ∷ []) (firs
 items_some routine (Jump block) = first_of _ _
 items_some routine (Return value) = behind_some _ (epilogue routine) (epilogue_some routine)
 items_some routine Raise = behind_some (Plain (Imm Addi 11 0 (pos 1)) ∷ []) (epilogue routine) (epilogue_some routine)
-items_some routine (Read to buffer size) = behind_some _ (keep routine to 10) (keep_some routine to 10)
+items_some routine (Read to buffer size) = before_some _ (keep routine to 10) (behind_some _ (_ ∷ []) (first_of _ []))
 items_some routine (Write output buffer size) = behind_some _ (_ ∷ []) (first_of _ [])
 items_some routine (Exit status) = behind_some _ (_ ∷ []) (first_of _ [])
 
 head_some : (routine : Routine) → Some_of (head_of routine)
 unfolding head_of
 head_some routine =
-    before_some _ (cleared_locals routine) (before_some _ (cleared_registers routine) (before_some _ (received routine (min routine.parameters 8)) (first_of (Plain (StoreInstr Sw 2 1 (pos 0 -ℤ pos 4))) (sum 2 2 1 (below (frame_of routine))))))
+    before_some _ (cleared_locals routine) (before_some _ (cleared_registers routine) (before_some _ (sum 2 2 1 (below (frame_of routine))) (first_of (Plain (StoreInstr Sw 2 1 (pos 0 -ℤ pos 4))) (taken routine (min routine.registers 14)))))
 
 -- ---- blocks
 

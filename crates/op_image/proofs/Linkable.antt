@@ -1,5 +1,5 @@
 -- The objects of valid code may be linked.
-use Rattle.std.proofs.Common.{◌≡◌, ℕ, pos, zero, suc, ◌+◌, ◌*◌, ◌%◌, ◌^◌, ◌-ℤ◌, ◌<◌, ◌≤◌, Bool, true, false, ◌&&◌, nat_le, nat_lt, if◌then◌else◌, Option, Some, None, List, [], ◌∷◌, ◌++◌, length, map, min, slice_get, refl, ap, ap₂, subst, ◌∙◌, arith, length-append}
+use Rattle.std.proofs.Common.{◌≡◌, ℕ, pos, zero, suc, ◌+◌, ◌-◌, ◌*◌, ◌%◌, ◌^◌, ◌-ℤ◌, ◌<◌, ◌≤◌, Bool, true, false, ◌&&◌, nat_le, nat_lt, if◌then◌else◌, Option, Some, None, List, [], ◌∷◌, ◌++◌, length, map, min, slice_get, refl, ap, ap₂, subst, ◌∙◌, arith, length-append}
 use Rattle.std.specs.List.{list_all}
 use Rattle.std.specs.Option.{option_map}
 use Rattle.std.proofs.lemmas.Bool.{lt-ltb, ltb-true, leb-true}
@@ -10,6 +10,7 @@ use Rattle.op_rv.specs.Encoding.{fits, is_imm, is_register}
 use Rattle.op_rv.specs.declared.instruction.ImmOp.TheVariants.{Addi}
 use Rattle.op_rv.specs.declared.instruction.Instr.{Instr}
 use Rattle.op_rv.specs.declared.instruction.Instr.TheVariants.{Ecall, Imm as ImmInstr, Load as LoadInstr, Shift as ShiftInstr}
+use Rattle.op_rv.specs.declared.instruction.LoadOp.TheVariants.{Lw}
 use Rattle.op_rv.specs.declared.objects.Item.{Item}
 use Rattle.op_rv.specs.declared.objects.Item.TheVariants.{Plain, Address as AddressItem, Branch as BranchItem, Call as CallItem, CallAt as CallAtItem, Jump as JumpItem}
 use Rattle.op_rv.specs.declared.objects.Objects.{Objects}
@@ -29,9 +30,10 @@ use Rattle.op_low.specs.declared.ids.VirtualRegister.{VirtualRegister}
 use Rattle.op_low.specs.declared.instruction.Instruction.{Instruction}
 use Rattle.op_low.specs.declared.instruction.Instruction.TheVariants.{Const, Address, Local, Move, Alu, AluImm, Shift, Load, Store, Call, CallAt, Branch, Jump, Return, Raise, Read, Write, Exit}
 use Rattle.op_low.specs.declared.instruction.Output.TheVariants.{Console, Errors}
-use Rattle.op_select.specs.Frames.{cleared_locals, cleared_registers, epilogue, fetch, head_of, home, keep, load_home, lowered, passed, passed_in_memory, passed_one, received, store_home}
+use Rattle.op_select.specs.Frames.{bring, brought, cleared_locals, cleared_registers, epilogue, fetch, given_back, head_of, home, keep, load_home, lowered, operand, passed, passed_in_memory, passed_one, put, put_away, register_of, store_home, taken, taken_from, taken_one}
 use Rattle.op_select.specs.Selection.{answered, code_items, items_of, landing_of, object_block_of, object_routine_of, raise_block, select_of}
 use Rattle.op_select.specs.Sequences.{below, constant, is_near, lower_of, reach, reached, sum, upper_of, word_load, word_store}
+use Rattle.op_select.specs.declared.frame.Home.TheVariants.{Frame, Register}
 use Rattle.op_image.specs.Building.{is_buildable, is_laid_out}
 
 -- ---- tests that hold together
@@ -143,32 +145,99 @@ module _ (known : Symbol → Bool) (blocks routines : ℕ) where
 
   -- ---- registers and frames
 
+  home_fits : (r : ℕ) → nat_lt r 14 ≡ true → is_register (18 + r) ≡ true
+  home_fits r is = (let small = ltb-true r 14 is in lt-ltb _ _ (omega arith))
+
+  good_move : (to from : ℕ) → is_register to ≡ true → is_register from ≡ true → Good (Plain (ImmInstr Addi to from (pos 0)) ∷ [])
+  good_move to from t f = good_one _ _ (both _ _ (both _ _ t f) refl) none
+
   good_fetch : (routine : Routine) (to : ℕ) (r : VirtualRegister) → is_register to ≡ true → Good (fetch routine to r)
-  unfolding fetch load_home home
-  good_fetch routine to r t = good_load to 2 to _ t refl t
+  unfolding fetch home load_home
+  good_fetch routine to r t = by_home (nat_lt r.0 14) refl
+    where
+      by_home : (b : Bool) → nat_lt r.0 14 ≡ b → Good (load_home to (if b then Register (18 + r.0) else Frame (4 * (routine.registers - 1 - r.0))))
+      by_home true is = good_move to (18 + r.0) t (home_fits r.0 is)
+      by_home false is = good_load to 2 to _ t refl t
 
   good_keep : (routine : Routine) (r : VirtualRegister) (value : ℕ) → is_register value ≡ true → Good (keep routine r value)
-  unfolding keep store_home home
-  good_keep routine r value t = good_store value 2 1 _ t refl refl
+  unfolding keep home store_home
+  good_keep routine r value t = by_home (nat_lt r.0 14) refl
+    where
+      by_home : (b : Bool) → nat_lt r.0 14 ≡ b → Good (store_home value (if b then Register (18 + r.0) else Frame (4 * (routine.registers - 1 - r.0))))
+      by_home true is = good_move (18 + r.0) value (home_fits r.0 is) t
+      by_home false is = good_store value 2 1 _ t refl refl
+
+  operand_fits : (routine : Routine) (scratch : ℕ) (r : VirtualRegister) → is_register scratch ≡ true → is_register (operand routine scratch r) ≡ true
+  unfolding operand home register_of
+  operand_fits routine scratch r t = by_home (nat_lt r.0 14) refl
+    where
+      by_home : (b : Bool) → nat_lt r.0 14 ≡ b → is_register (register_of scratch (if b then Register (18 + r.0) else Frame (4 * (routine.registers - 1 - r.0)))) ≡ true
+      by_home true is = home_fits r.0 is
+      by_home false is = t
+
+  good_bring : (routine : Routine) (scratch : ℕ) (r : VirtualRegister) → is_register scratch ≡ true → Good (bring routine scratch r)
+  unfolding bring home brought
+  good_bring routine scratch r t = by_home (nat_lt r.0 14)
+    where
+      by_home : (b : Bool) → Good (brought scratch (if b then Register (18 + r.0) else Frame (4 * (routine.registers - 1 - r.0))))
+      by_home true = none
+      by_home false = good_load scratch 2 scratch _ t refl t
+
+  good_put : (routine : Routine) (r : VirtualRegister) → Good (put routine r)
+  unfolding put home put_away
+  good_put routine r = by_home (nat_lt r.0 14)
+    where
+      by_home : (b : Bool) → Good (put_away (if b then Register (18 + r.0) else Frame (4 * (routine.registers - 1 - r.0))))
+      by_home true = none
+      by_home false = good_store 10 2 1 _ refl refl refl
 
   good_passed_one : (routine : Routine) (k : ℕ) (r : VirtualRegister) → Good (passed_one routine k r)
   unfolding passed_one passed_in_memory
   good_passed_one routine k r = if_good (nat_lt k 8) refl
     where
-      if_good : (b : Bool) → nat_lt k 8 ≡ b → Good (if b then fetch routine (10 + k) r else fetch routine 10 r ++ word_store 10 2 1 (below ((4 * k + 8) % 2 ^ 32)))
+      if_good : (b : Bool) → nat_lt k 8 ≡ b → Good (if b then fetch routine (10 + k) r else bring routine 10 r ++ word_store (operand routine 10 r) 2 1 (below ((4 * k + 8) % 2 ^ 32)))
       if_good true is = good_fetch routine (10 + k) r (let small = ltb-true k 8 is in lt-ltb _ _ (omega arith))
-      if_good false is = good_both (fetch routine 10 r) _ (good_fetch routine 10 r refl) (good_store 10 2 1 _ refl refl refl)
+      if_good false is = good_both (bring routine 10 r) _ (good_bring routine 10 r refl) (good_store (operand routine 10 r) 2 1 _ (operand_fits routine 10 r refl) refl refl)
 
   good_passed : (routine : Routine) (k : ℕ) (rs : List VirtualRegister) → Good (passed routine k rs)
   unfolding passed
   good_passed routine k [] = none
   good_passed routine k (r ∷ rs) = good_both (passed routine (k + 1) rs) _ (good_passed routine (k + 1) rs) (good_passed_one routine k r)
 
-  good_received : (routine : Routine) (n : ℕ) → n ≤ 8 → Good (received routine n)
-  unfolding received
-  good_received routine zero small = none
-  good_received routine (suc n) small =
-      good_both (received routine n) _ (good_received routine n (omega arith)) (good_keep routine _ (10 + n) (lt-ltb _ _ (omega arith)))
+  -- where homes are saved is near
+  saved_fits : (k : ℕ) → k < 14 → is_imm (pos 0 -ℤ pos (4 * k + 8)) ≡ true
+  saved_fits k few = near (4 * k + 8) (omega arith)
+    where
+      near : (n : ℕ) → n < 2048 → is_imm (pos 0 -ℤ pos n) ≡ true
+      near n small = search (arith, ints)
+
+  small_home : (k : ℕ) → k < 14 → is_register (18 + k) ≡ true
+  small_home k few = lt-ltb _ _ (omega arith)
+
+  good_taken_from : (k source : ℕ) → k < 14 → is_register source ≡ true → Good (taken_from k source)
+  good_taken_from k source few s =
+      good_one _ _ (both _ _ (small_home k few) (saved_fits k few)) (good_move (18 + k) source (small_home k few) s)
+
+  good_taken_one : (routine : Routine) (k : ℕ) → k < 14 → Good (taken_one routine k)
+  unfolding taken_one
+  good_taken_one routine k few =
+      good_if (nat_le routine.parameters k) (taken_from k 0) _ (good_taken_from k 0 few refl) (if_good (nat_lt k 8) refl)
+    where
+      if_good : (b : Bool) → nat_lt k 8 ≡ b → Good (if b then taken_from k (10 + k) else Plain (LoadInstr Lw 10 2 (pos 0 -ℤ pos (4 * k + 8))) ∷ taken_from k 10)
+      if_good true is = good_taken_from k (10 + k) few (let small = ltb-true k 8 is in lt-ltb _ _ (omega arith))
+      if_good false is = good_one _ _ (saved_fits k few) (good_taken_from k 10 few refl)
+
+  good_taken : (routine : Routine) (n : ℕ) → n ≤ 14 → Good (taken routine n)
+  unfolding taken
+  good_taken routine zero few = none
+  good_taken routine (suc n) few =
+      good_both (taken routine n) _ (good_taken routine n (omega arith)) (good_taken_one routine n (omega arith))
+
+  good_given_back : (n : ℕ) → n ≤ 14 → Good (given_back n)
+  unfolding given_back
+  good_given_back zero few = none
+  good_given_back (suc n) few =
+      good_both (given_back n) _ (good_given_back n (omega arith)) (good_one _ _ (both _ _ (both _ _ (small_home n (omega arith)) refl) (saved_fits n (omega arith))) none)
 
   good_cleared_registers : (routine : Routine) → Good (cleared_registers routine)
   unfolding cleared_registers
@@ -184,17 +253,19 @@ module _ (known : Symbol → Bool) (blocks routines : ℕ) where
   unfolding head_of
   good_head routine =
       good_one _ _ refl (
-      good_both (sum 2 2 1 _ ++ received routine (min routine.parameters 8) ++ cleared_registers routine) _
-      (good_both (sum 2 2 1 _ ++ received routine (min routine.parameters 8)) _
-      (good_both (sum 2 2 1 _) _ (good_sum 2 2 1 _ refl refl refl) (good_received routine (min routine.parameters 8) (omega arith)))
+      good_both (taken routine (min routine.registers 14) ++ sum 2 2 1 _ ++ cleared_registers routine) _
+      (good_both (taken routine (min routine.registers 14) ++ sum 2 2 1 _) _
+      (good_both (taken routine (min routine.registers 14)) _ (good_taken routine (min routine.registers 14) (omega arith)) (good_sum 2 2 1 _ refl refl refl))
       (good_cleared_registers routine))
       (good_cleared_locals routine))
 
   good_epilogue : (routine : Routine) → Good (epilogue routine)
   unfolding epilogue lowered
   good_epilogue routine =
-      good_both (lowered routine ++ sum 2 2 1 _) _
+      good_both (lowered routine ++ sum 2 2 1 _ ++ given_back (min routine.registers 14)) _
+      (good_both (lowered routine ++ sum 2 2 1 _) _
       (good_both (lowered routine) _ (good_if _ [] _ none (good_sum 8 8 1 _ refl refl refl)) (good_sum 2 2 1 _ refl refl refl))
+      (good_given_back (min routine.registers 14) (omega arith)))
       (record { holds = refl })
 
   -- ---- instructions
@@ -211,8 +282,18 @@ module _ (known : Symbol → Bool) (blocks routines : ℕ) where
   good_two : (routine : Routine) (to other : ℕ) (r q : VirtualRegister) → is_register to ≡ true → is_register other ≡ true → Good (fetch routine to r ++ fetch routine other q)
   good_two routine to other r q t o = good_both (fetch routine to r) _ (good_fetch routine to r t) (good_fetch routine other q o)
 
-  good_computed : (routine : Routine) (from to : VirtualRegister) (i : Instr) → fits i ≡ true → Good (fetch routine 10 from ++ Plain i ∷ keep routine to 10)
-  good_computed routine from to i is = good_both (fetch routine 10 from) _ (good_fetch routine 10 from refl) (good_one _ _ is (good_keep routine to 10 refl))
+  good_operands : (routine : Routine) (left right : VirtualRegister) → Good (bring routine 10 left ++ bring routine 11 right)
+  good_operands routine left right = good_both (bring routine 10 left) _ (good_bring routine 10 left refl) (good_bring routine 11 right refl)
+
+  good_computed : (routine : Routine) (from to : VirtualRegister) (i : Instr) → fits i ≡ true → Good (bring routine 10 from ++ Plain i ∷ put routine to)
+  good_computed routine from to i is = good_both (bring routine 10 from) _ (good_bring routine 10 from refl) (good_one _ _ is (good_put routine to))
+
+  -- the registers of a result and an operand
+  two_fit : (routine : Routine) (to from : VirtualRegister) → (is_register (operand routine 10 to) && is_register (operand routine 10 from)) ≡ true
+  two_fit routine to from = both _ _ (operand_fits routine 10 to refl) (operand_fits routine 10 from refl)
+
+  operands_are : (routine : Routine) (left right : VirtualRegister) → (is_register (operand routine 10 left) && is_register (operand routine 11 right)) ≡ true
+  operands_are routine left right = both _ _ (operand_fits routine 10 left refl) (operand_fits routine 11 right refl)
 
   good_transfer : (routine : Routine) (buffer size : VirtualRegister) (d n : ℕ) → nat_lt d (2 ^ 11) ≡ true → nat_lt n (2 ^ 11) ≡ true → Good (fetch routine 11 buffer ++ fetch routine 12 size ++ Plain (ImmInstr Addi 10 0 (pos d)) ∷ [] ++ Plain (ImmInstr Addi 17 0 (pos n)) ∷ [] ++ Plain Ecall ∷ [])
   good_transfer routine buffer size d n small few =
@@ -224,17 +305,25 @@ module _ (known : Symbol → Bool) (blocks routines : ℕ) where
 
   good_items : (low : Low) (routine : Routine) → length routine.blocks < blocks → length low.routines ≤ routines → ((symbol : Symbol) → has_symbol low symbol ≡ true → known symbol ≡ true) → (i : Instruction) → is_valid_instruction low routine i ≡ true → Good (items_of routine i)
   unfolding items_of is_valid_instruction address_fits imm_fits shift_fits call_fits call_at_fits operands_fit branch_fits
-  good_items low routine more few knows (Const to n) valid = good_both (constant 10 n) _ (good_constant 10 n refl) (good_keep routine to 10 refl)
-  good_items low routine more few knows (Address to symbol) valid = good_one _ _ (knows symbol (right_of _ _ valid)) (good_keep routine to 10 refl)
-  good_items low routine more few knows (Local to offset) valid = good_both (sum 10 8 10 _) _ (good_sum 10 8 10 _ refl refl refl) (good_keep routine to 10 refl)
-  good_items low routine more few knows (Move to from) valid = good_both (fetch routine 10 from) _ (good_fetch routine 10 from refl) (good_keep routine to 10 refl)
+  good_items low routine more few knows (Const to n) valid =
+      good_both (constant (operand routine 10 to) n) _ (good_constant (operand routine 10 to) n (operand_fits routine 10 to refl)) (good_put routine to)
+  good_items low routine more few knows (Address to symbol) valid =
+      good_one _ _ (both _ _ (operand_fits routine 10 to refl) (knows symbol (right_of _ _ valid))) (good_put routine to)
+  good_items low routine more few knows (Local to offset) valid =
+      let t = operand_fits routine 10 to refl in
+      good_both (sum (operand routine 10 to) 8 (operand routine 10 to) _) _ (good_sum (operand routine 10 to) 8 (operand routine 10 to) _ t refl t) (good_put routine to)
+  good_items low routine more few knows (Move to from) valid =
+      good_both (fetch routine (operand routine 10 to) from) _ (good_fetch routine (operand routine 10 to) from (operand_fits routine 10 to refl)) (good_put routine to)
   good_items low routine more few knows (Alu op to left right) valid =
-      good_both (fetch routine 10 left ++ fetch routine 11 right) _ (good_two routine 10 11 left right refl refl) (good_one _ _ refl (good_keep routine to 10 refl))
-  good_items low routine more few knows (AluImm op to left imm) valid = good_computed routine left to (ImmInstr op 10 10 imm) (right_of _ _ valid)
-  good_items low routine more few knows (Shift op to left amount) valid = good_computed routine left to (ShiftInstr op 10 10 amount) (right_of _ _ valid)
-  good_items low routine more few knows (Load op to base offset) valid = good_computed routine base to (LoadInstr op 10 10 offset) (right_of _ _ valid)
+      good_both (bring routine 10 left ++ bring routine 11 right) _ (good_operands routine left right) (good_one _ _ (both _ _ (two_fit routine to left) (operand_fits routine 11 right refl)) (good_put routine to))
+  good_items low routine more few knows (AluImm op to left imm) valid =
+      good_computed routine left to (ImmInstr op (operand routine 10 to) (operand routine 10 left) imm) (both _ _ (two_fit routine to left) (right_of _ _ valid))
+  good_items low routine more few knows (Shift op to left amount) valid =
+      good_computed routine left to (ShiftInstr op (operand routine 10 to) (operand routine 10 left) amount) (both _ _ (two_fit routine to left) (right_of _ _ valid))
+  good_items low routine more few knows (Load op to base offset) valid =
+      good_computed routine base to (LoadInstr op (operand routine 10 to) (operand routine 10 base) offset) (both _ _ (two_fit routine to base) (right_of _ _ valid))
   good_items low routine more few knows (Store op v base offset) valid =
-      good_both (fetch routine 10 base ++ fetch routine 11 v) _ (good_two routine 10 11 base v refl refl) (good_one _ _ (right_of _ _ valid) none)
+      good_both (bring routine 10 base ++ bring routine 11 v) _ (good_operands routine base v) (good_one _ _ (both _ _ (operands_are routine base v) (right_of _ _ valid)) none)
   good_items low routine more few knows (Call id operands) valid =
       let there = taken_exists low.routines id.0 (length operands.arguments) (left_of _ _ valid) in
       good_both (passed routine 0 operands.arguments) _ (good_passed routine 0 operands.arguments) (
@@ -245,7 +334,7 @@ module _ (known : Symbol → Bool) (blocks routines : ℕ) where
       (good_one _ _ refl (good_answered routine operands.to operands.landing more (right_of _ _ (right_of _ _ valid))))
   good_items low routine more few knows (Branch op left right block) valid =
       let small = ltb-true block.0 (length routine.blocks) (right_of _ _ valid) in
-      good_both (fetch routine 10 left ++ fetch routine 11 right) _ (good_two routine 10 11 left right refl refl) (good_one _ _ (lt-ltb _ _ (omega arith)) none)
+      good_both (bring routine 10 left ++ bring routine 11 right) _ (good_operands routine left right) (good_one _ _ (both _ _ (operands_are routine left right) (lt-ltb _ _ (omega arith))) none)
   good_items low routine more few knows (Jump block) valid = (let small = ltb-true block.0 (length routine.blocks) valid in good_one _ _ (lt-ltb _ _ (omega arith)) none)
   good_items low routine more few knows (Return v) valid =
       good_both (fetch routine 10 v ++ Plain (ImmInstr Addi 11 0 (pos 0)) ∷ []) _ (good_both (fetch routine 10 v) _ (good_fetch routine 10 v refl) (record { holds = refl })) (good_epilogue routine)

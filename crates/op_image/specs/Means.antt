@@ -16,7 +16,7 @@ use Rattle.op_rv.specs.declared.symbol.LiteralId.{LiteralId}
 use Rattle.op_rv.specs.declared.symbol.Symbol.TheVariants.{Global, Literal}
 use Rattle.op_select.specs.Going.{IsSafe, IsSetting, Setting, locals_in, placement_of, routine_in}
 use Rattle.op_select.specs.RiscvMachine.{riscv_machine}
-use Rattle.op_select.specs.Selected.{Finished, selected}
+use Rattle.op_select.specs.Selected.{Finished, most_steps, selected}
 use Rattle.op_select.specs.Starting.{start_in}
 use Rattle.op_simulation.specs.Matching.{Agreement}
 use Rattle.op_simulation.specs.Path.{Path}
@@ -44,9 +44,9 @@ image_run image input n = run riscv_machine n (start image input)
 
 -- the steps with which an image comes to where low code begins
 abbrev pub most_first : Setting → ℕ
-most_first w = 42 + 3 * (routine_in w w.low.entry.0).registers + locals_in w w.low.entry.0
+most_first w = 18 + 3 * (routine_in w w.low.entry.0).registers + locals_in w w.low.entry.0
 
--- after these first steps, which show nothing, both go along for ever: the same events, at most 18 steps for a cost of one, and
+-- after these first steps, which show nothing, both go along for ever: the same events, at most 32 steps for a cost of one, and
 -- states that stand for one another again and again
 pub record GoesAlong (w : Setting) (image input : List ℕ) : Type 0 where
   pub first : State
@@ -58,7 +58,7 @@ pub record GoesAlong (w : Setting) (image input : List ℕ) : Type 0 where
 -- the image has ended as low code has after n steps: the same status, output and errors, and the same input left
 pub record EndsWithin (w : Setting) (image input : List ℕ) (n status : ℕ) : Type 0 where
   pub steps : ℕ
-  pub within : steps ≤ most_first w + 18 * low_spent w image input n
+  pub within : steps ≤ most_first w + most_steps * low_spent w image input n
   pub finished : Finished status (low_run w image input n) (image_run image input steps)
 
 pub record Runs (w : Setting) (image input : List ℕ) : Type 0 where

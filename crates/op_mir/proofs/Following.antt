@@ -17,7 +17,7 @@ use Rattle.op_core.specs.declared.program.Unit.{Unit as UnitRow}
 use Rattle.op_meaning.specs.Actions.{Action, constant, load, store, copy, look, begin_with, pick, arithmetic, compare, negate, complement, invert, absolute, odd, upper, low_bits, check, neighbour, single, span, combine, contains, check_set, write_number, write_truth, write_char, write_text}
 use Rattle.op_meaning.specs.Costs.{numbers, action_bytes, given_bytes, work_bytes, cost}
 use Rattle.op_meaning.specs.Ending.{closed}
-use Rattle.op_meaning.specs.Frames.{Program, State, Frame, Pending, walk, destruction, construction, closing, finalize, empty_global}
+use Rattle.op_meaning.specs.Frames.{Program, State, Frame, Caller, Pending, walk, destruction, construction, closing, finalize, empty_global}
 use Rattle.op_meaning.specs.Items.{nowhere, act, also, choose, select, loop, body_first, protect, leave, enter, finish, attempt, throw, rethrow, halt, construct, free, Task, item, mark, turn, finally, resume, catching, handling, leaving, ending, due}
 use Rattle.op_meaning.specs.Machine.{step, step_by, stepped, acted, done, do_task}
 use Rattle.op_meaning.specs.Start.{start, unit_work, first_memory}
@@ -26,7 +26,7 @@ use Rattle.op_meaning.specs.Values.{Holder, global, local, temporary, object}
 use Rattle.op_meaning.specs.World.{World, Ending, Running, Ended}
 use Rattle.op_mir.specs.Code.{Instr, do_call, make_due, ret, Exits, routine_exits, unit_code, program_blocks, blocks_of, blocks_in, items_of}
 use Rattle.op_mir.specs.Going.{At, CallersGo, image, IsUnderWay, Goes}
-use Rattle.op_mir.specs.Machine.{code_of, MirState, MirCaller, block_at, mir_closed, mir_acted, mir_stepped, mir_step_by, mir_step, mir_cost, mir_cost_by, moved, instr_bytes, next_bytes, mir_machine, mir_start, shown_between}
+use Rattle.op_mir.specs.Machine.{code_of, MirState, MirCaller, block_at, mir_closed, mir_acted, mir_stepped, mir_step_by, mir_step, mir_cost, mir_cost_by, charge_here, moved, instr_bytes, next_bytes, mir_machine, mir_start, shown_between}
 use Rattle.op_mir.specs.Managed.{managed, CodeFollows, CodeAgrees}
 use Rattle.op_mir.specs.Plain.{IsPlain, Exists, IfExists, ArePlainUnits, IsNameless, ArePlainFrames, ArePlainPending}
 use Rattle.op_mir.proofs.BlockLemmas.{has_from, at_block}
@@ -34,7 +34,7 @@ use Rattle.op_mir.proofs.CallLemmas.{begun_goes, ended_goes, enter_goes, return_
 use Rattle.op_mir.proofs.ItemLemmas.{act_goes, also_goes, choose_goes, select_goes, loop_goes, body_goes, head_goes, turn_goes, protect_goes, finally_goes, leave_item_goes, resume_goes, halt_goes, due_goes}
 use Rattle.op_mir.proofs.PlainLemmas.{no_more, nameless_zero, nameless_first}
 use Rattle.op_mir.proofs.ShownLemmas.{shown_none, looks_never, shows_between}
-use Rattle.op_mir.proofs.StepLemmas.{Here, Reaches, at_most, one_step, price, price_is}
+use Rattle.op_mir.proofs.StepLemmas.{Here, Reaches, at_most, one_step, price, price_is, silent, under_way}
 
 -- ---- the activation under way acts
 
@@ -111,8 +111,8 @@ task_goes p plain s ms out (ending vs result ∷ w) rest e h at = absurd at
 -- ---- the closing
 
 -- a step without an instruction of the code
-by_itself : (p : Program) (s t : State) (ms : List MirCaller) (from last : MirState) (status : ℕ) (others : List Frame) → from.world ≡ s.world → from.frames ≡ closing status ∷ others → s.world.ending ≡ Running → CallersGo p s.callers from.callers → mir_step (code_of p) from ≡ last → Goes p t last → Reaches p 3 0 s t from
-by_itself p s t ms from last status others world is running waits step goes =
+by_itself : (p : Program) (s t : State) (ms : List MirCaller) (from last : MirState) (status : ℕ) (others : List Frame) → from.world ≡ s.world → from.routine ≡ s.routine → from.frames ≡ closing status ∷ others → s.world.ending ≡ Running → CallersGo p s.callers from.callers → mir_step (code_of p) from ≡ last → Goes p t last → Reaches p 3 0 s t from
+by_itself p s t ms from last status others world here is running waits step goes =
     let after : last.world ≡ t.world = ap (λ (m : MirState). m.world) goes.same in
     let goes_on : from.world.ending ≡ Running = ap (λ (w : World). w.ending) world ∙ running in
     let shows =
@@ -121,9 +121,9 @@ by_itself p s t ms from last status others world is running waits step goes =
     ∙ ap (λ w. shown_between p.core false w last.world) world
     ∙ ap (λ w. shown_between p.core false s.world w) after in
     let moves : next_bytes p.core from.routine from.rest from.frames ≡ 0 = ap (λ f. next_bytes p.core from.routine from.rest f) is in
-    let cost = price_is p s t ms from last 0 world moves waits goes in
-    let none : price p s t 0 ≡ 0 + price p s t 0 = omega arith in
-    let r : Reaches p 0 0 s t from = record { more = 0; last = last; goes = goes; steps = one_step p from last _ (0 + price p s t 0) goes_on step shows (cost ∙ none) } in
+    let cost = price_is p s t ms from last 0 world here moves waits goes in
+    let none : price p s t 0 ≡ silent p s 0 + price p s t 0 = omega arith in
+    let r : Reaches p 0 0 s t from = record { more = 0; last = last; goes = goes; steps = one_step p from last _ (silent p s 0 + price p s t 0) goes_on step shows (cost ∙ none) } in
     at_most p 0 3 0 0 s t from (omega arith) (omega arith) r
 
 closing_goes : (p : Program) → IsPlain p → (s : State) (ms : List MirCaller) (rest : List Instr) (status : ℕ) (others : List Frame) → s.frames ≡ closing status ∷ others → s.world.ending ≡ Running → IsUnderWay p s rest → ArePlainFrames s.frames → CallersGo p s.callers ms → ArePlainPending p s.pending → Reaches p 3 0 s (closed p status s.pending s) (image s rest ms)
@@ -139,11 +139,11 @@ closing_goes p plain s ms rest status others is running under frames callers pen
     by : (pd : List Pending) → s.pending ≡ pd → ArePlainPending p pd → Reaches p 3 0 s (closed p status pd s) m
     by [] e plain_pd =
         let t = closed p status [] s in
-        by_itself p s t ms m (image t rest ms) status others refl is running callers (steps_to ∙ ap (λ pd. mir_closed (code_of p) status pd m) e)
+        by_itself p s t ms m (image t rest ms) status others refl refl is running callers (steps_to ∙ ap (λ pd. mir_closed (code_of p) status pd m) e)
         (ended_goes p t ms rest status refl frames callers pending)
     by (finalize r ∷ pd) e plain_pd =
         let s' = record s { pending = pd } in
-        by_itself p s (closed p status (finalize r ∷ pd) s) ms m (mir_closed (code_of p) status (finalize r ∷ pd) m) status others refl is running callers (steps_to ∙ ap (λ x. mir_closed (code_of p) status x m) e)
+        by_itself p s (closed p status (finalize r ∷ pd) s) ms m (mir_closed (code_of p) status (finalize r ∷ pd) m) status others refl refl is running callers (steps_to ∙ ap (λ x. mir_closed (code_of p) status x m) e)
         (begun_goes p plain s' ms r.0 nowhere s.work [] under.out rest plain_pd.0 no_more under.world frames callers plain_pd.1 under.at)
     by (empty_global v ∷ pd) e plain_pd = absurd plain_pd
 
@@ -175,18 +175,26 @@ step_goes p plain s m running g =
 
 -- ---- costs
 
-dear : (a b c d e x y : ℕ) → 1 + a + b + e ≤ 1 + (a + b + c) + d + e + x + y
-dear a b c d e x y = omega arith
+dear : (a b c d e x y u : ℕ) → u ≡ d → 1 + a + b + u + e ≤ 1 + (a + b + c) + d + e + x + y
+dear a b c d e x y u same = omega arith
+
+abbrev charge_above : Program → ℕ → List Caller → ℕ
+charge_above p r [] = 0
+charge_above p r (c ∷ cs) = p.charge r
+
+charge_same : (p : Program) (r : ℕ) (cs : List Caller) → charge_here p.charge (length cs) r ≡ charge_above p r cs
+charge_same p r [] = refl
+charge_same p r (c ∷ cs) = refl
 
 -- the price is no more than the cost above
 price_fits : (p : Program) (s : State) → s.world.ending ≡ Running → price p s (step p s) (acting p s s.frames) ≤ cost p s
-price_fits p s running = rw running (dear _ _ _ _ _ _ _)
+price_fits p s running = rw running (dear _ _ _ _ _ _ _ _ (charge_same p s.routine s.callers))
 
-at_least_one : (a b c : ℕ) → 1 ≤ 1 + a + b + c
-at_least_one a b c = omega arith
+at_least_one : (a b c u : ℕ) → 1 + u ≤ 1 + a + b + u + c
+at_least_one a b c u = omega arith
 
-scaled : (x y : ℕ) → 1 ≤ x → x ≤ y → 3 + x ≤ 4 * y
-scaled x y one le = omega arith
+scaled : (x y u : ℕ) → 1 + u ≤ x → x ≤ y → 3 * (1 + u) + x ≤ 4 * y
+scaled x y u one le = omega arith
 
 -- ---- the agreement
 
@@ -194,7 +202,7 @@ running_stretch : (p : Program) → IsPlain p → (s : State) (m : MirState) →
 running_stretch p plain s m running g =
     let r = step_goes p plain s m running g in
     let most = price p s (step p s) (acting p s s.frames) in
-    stretch_of_path (managed p) s m r.last r.more _ (3 + most) r.steps r.goes (shows_between p s) (scaled most (cost p s) (at_least_one _ _ _) (price_fits p s running))
+    stretch_of_path (managed p) s m r.last r.more _ (silent p s 3 + most) r.steps r.goes (shows_between p s) (scaled most (cost p s) (under_way p s) (at_least_one _ _ _ _) (price_fits p s running))
 
 -- what has ended stays
 ended_stretch : (p : Program) (s : State) (m : MirState) (status : ℕ) → s.world.ending ≡ Ended status → Goes p s m → Stretch (managed p) s m

@@ -19,7 +19,7 @@ use Rattle.op_mir.specs.Plain.{IsPlain, ArePlain, ArePlainTurns, ArePlainCases, 
 use Rattle.op_mir.proofs.BlockLemmas.{has_front, has_back, at_continued, at_block, at_onto}
 use Rattle.op_mir.proofs.PlainLemmas.{plain_perform, plain_number, name_in_nameless, below_none}
 use Rattle.op_mir.proofs.ShownLemmas.{shown_none}
-use Rattle.op_mir.proofs.StepLemmas.{Reaches, Here, Steps, one, quiet, before, at_most, come, advance, goes_at, goes_with, if_goes}
+use Rattle.op_mir.proofs.StepLemmas.{Reaches, Here, Steps, one, quiet, silent, before, at_most, come, advance, goes_at, goes_with, if_goes}
 
 -- ---- actions and choices
 
@@ -235,9 +235,9 @@ leave_goes p s ms n out (finally t keep ts ∷ work) rest way h (outer, k, behin
     let h' : Here p s' ms = record { running = h.running; world = plain_number t z s.world h.world; frames = h.frames; callers = h.callers; pending = h.pending } in
     let there = finally_stands p bs outer t keep ts work k behind pi hs at in
     let second : Reaches p 0 0 s' u (image s' (jump k ∷ []) ms) = one p s' u ms (jump k) [] _ h' refl (goes_at p s' ms h' w h'.world later outer (block_at bs k) there) in
-    let first : Steps p (image s (do_act (constant t (pos (suc n))) None ∷ jump k ∷ []) ms) (image s' (jump k ∷ []) ms) 1 [] 1 = quiet p s s' ms (do_act (constant t (pos (suc n))) None) (jump k ∷ []) (jump k ∷ []) w.temps h refl refl refl in
+    let first : Steps p (image s (do_act (constant t (pos (suc n))) None ∷ jump k ∷ []) ms) (image s' (jump k ∷ []) ms) 1 [] (silent p s 1) = quiet p s s' ms (do_act (constant t (pos (suc n))) None) (jump k ∷ []) (jump k ∷ []) w.temps h refl refl refl in
     let none = shown_none p.core w w.temps ∙ sym (shown_none p.core s.world w.temps) in
-    let reached : Reaches p 1 0 s u (image s (do_act (constant t (pos (suc n))) None ∷ jump k ∷ []) ms) = before p 0 0 1 s s' u (image s (do_act (constant t (pos (suc n))) None ∷ jump k ∷ []) ms) (image s' (jump k ∷ []) ms) first none refl second in
+    let reached : Reaches p 1 0 s u (image s (do_act (constant t (pos (suc n))) None ∷ jump k ∷ []) ms) = before p 0 0 1 s s' u (image s (do_act (constant t (pos (suc n))) None ∷ jump k ∷ []) ms) (image s' (jump k ∷ []) ms) first none refl refl second in
     let same : u ≡ left (suc n) (finally t keep ts ∷ work) s =
     ap (λ y. record s { world = with_number t y s.world; work = later }) (way_fits n way)
     ∙ ap (λ v. record s { world = with_number t (pos (suc n)) s.world; work = v }) (sym (finishes_none keep later s.world h.world.made)) in
@@ -281,7 +281,7 @@ resume_goes p s ms t keep out work rest h (k, behind, comes, hs, at) = by (numbe
     off n j z way e same block =
         let is = act_is z e ∙ same (image s behind ms) ∙ ap (λ b. image s (block_or b) ms) block in
         let first = quiet p s s ms (dispatch t k) behind (out (suc n)) s.world.temps h refl is refl in
-        let r = before p 1 0 1 s s (left (suc n) work s) (image s (dispatch t k ∷ behind) ms) (image s (out (suc n)) ms) first refl refl (leave_goes p s ms n out work behind way h at) in
+        let r = before p 1 0 1 s s (left (suc n) work s) (image s (dispatch t k ∷ behind) ms) (image s (out (suc n)) ms) first refl refl refl (leave_goes p s ms n out work behind way h at) in
         at_most p (1 + (1 + 1)) 3 0 0 s (left (suc n) work s) (image s rest ms) (omega arith) (omega arith)
         (come p (1 + 1) 0 s (left (suc n) work s) ms rest (dispatch t k ∷ behind) h comes r)
 

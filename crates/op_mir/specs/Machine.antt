@@ -255,13 +255,20 @@ next_bytes core r rest (frame ∷ frames) = 0
 abbrev pub console_between : World → World → ℕ
 console_between v w = (length w.output - length v.output) + (length w.errors - length v.errors) + (length v.input - length w.input)
 
+-- the charge of the activation under way, with so many below it: the program itself is charged nothing
+abbrev pub charge_here : (ℕ → ℕ) → (below : ℕ) → ℕ → ℕ
+charge_here charge zero r = 0
+charge_here charge (suc below) r = charge r
+
 -- what an activation is charged that begins, by how many stood below it and now stand below it
 abbrev pub charge_between : (ℕ → ℕ) → ℕ → ℕ → ℕ → ℕ
 charge_between charge below r now = if nat_lt below now then charge r else 0
 
--- one, with the bytes and the charge
+-- one, with the bytes and the charges of the activation under way and of the one that is entered
 abbrev pub mir_effort : Code → MirState → MirState → ℕ
-mir_effort c m n = 1 + next_bytes c.core m.routine m.rest m.frames + console_between m.world n.world + charge_between c.charge (length m.callers) n.routine (length n.callers)
+mir_effort c m n =
+    1 + next_bytes c.core m.routine m.rest m.frames + console_between m.world n.world + charge_here c.charge (length m.callers) m.routine
+    + charge_between c.charge (length m.callers) n.routine (length n.callers)
 
 abbrev pub mir_cost_by : Code → MirState → Ending → ℕ
 mir_cost_by c m Running = mir_effort c m (mir_step c m)

@@ -7,11 +7,12 @@ use Rattle.op_core.specs.Statement.{Item, plain, padded, BuiltIn, write, read, c
 use Rattle.op_core.specs.declared.ids.TypeId.{TypeId}
 use Rattle.op_core.specs.declared.program.Core.{Core}
 use Rattle.op_frames.proofs.ExpressionsWithin.{expression_some}
-use Rattle.op_frames.specs.Counted.{AreCountedArguments, AreCountedBranches, AreCountedElements, AreCountedItems, AreCountedStatements, AreCountedSteps, IsCounted, IsCountedAction, IsCountedAmount, IsCountedArgument, IsCountedBuiltIn, IsCountedElement, IsCountedItem, IsCountedRoot, IsCountedStatement}
+use Rattle.op_frames.specs.Counted.{AreCountedArguments, AreCountedBranches, AreCountedElements, AreCountedItems, AreCountedStatements, AreCountedSteps, IsCounted, IsCountedAction, IsCountedAmount, IsCountedArgument, IsCountedBuiltIn, IsCountedElement, IsCountedItem, IsCountedRoot, IsCountedStatement, AreCountedLabels}
 use Rattle.op_meaning.specs.Charge.{built_in_weight, nodes_of, statement_weight, statements_weight}
 use Rattle.op_plain.proofs.Parts.{below, failed}
-use Rattle.op_plain.specs.Plain.{are_plain_arguments, are_plain_branches, are_plain_elements, are_plain_statements, are_plain_steps, has_work, is_plain_amount, is_plain_argument, is_plain_bare, is_plain_built_in, is_plain_element, is_plain_expression, is_plain_item, is_plain_root, is_plain_statement, is_plain_step, is_work}
+use Rattle.op_plain.specs.Plain.{are_plain_arguments, are_plain_branches, are_plain_elements, are_plain_statements, are_plain_steps, has_work, is_plain_amount, is_plain_argument, is_plain_bare, is_plain_built_in, is_plain_element, is_plain_expression, is_plain_item, is_plain_root, is_plain_statement, is_plain_step, is_work, are_plain_labels}
 use Rattle.op_typing.specs.Simple.{is_text, text_after}
+use Rattle.op_core.specs.declared.statement.Label.{Label}
 
 both : {a b : Bool} {P Q : Type 0} → (a ≡ true → P) → (b ≡ true → Q) → (a && b) ≡ true → P × Q
 both f g e = let parts = and_parts _ _ e in (f parts.0, g parts.1)
@@ -34,8 +35,8 @@ module _ (core : Core) where
     root_counted (call id given) of e = arguments_counted given (and_parts _ _ e).1
     root_counted (construct c id given) of e = failed e
     root_counted (set es) of e = elements_counted es (and_parts _ _ e).1
-    root_counted eof of e = tt
-    root_counted eoln of e = tt
+    root_counted eof of e = failed e
+    root_counted eoln of e = failed e
 
     steps_counted : (others : Steps) (text : Bool) → are_plain_steps core text others ≡ true → AreCountedSteps others
     steps_counted no_steps text e = tt
@@ -84,15 +85,19 @@ module _ (core : Core) where
 
   built_in_counted : (b : BuiltIn) → is_plain_built_in core b ≡ true → IsCountedBuiltIn b
   built_in_counted (write items ends_line) e = items_counted items e
-  built_in_counted (read targets ends_line) e = tt
+  built_in_counted (read targets ends_line) e = failed e
   built_in_counted (count direction target amount checked) e = both (expression_counted target.place) (amount_counted amount) e
-  built_in_counted (set_length target a) e = tt
+  built_in_counted (set_length target a) e = failed e
   built_in_counted (include s a) e = both (expression_counted s) (expression_counted a) e
   built_in_counted (exclude s a) e = both (expression_counted s) (expression_counted a) e
-  built_in_counted (val text v code) e = tt
-  built_in_counted (str v target) e = tt
+  built_in_counted (val text v code) e = failed e
+  built_in_counted (str v target) e = failed e
   built_in_counted (free a empties) e = failed e
   built_in_counted (destroy a) e = failed e
+
+  labels_counted : (labels : List Label) → are_plain_labels labels ≡ true → AreCountedLabels labels
+  labels_counted [] e = tt
+  labels_counted (l ∷ ls) e = (below 0 l.nodes (and_parts _ _ e).0, labels_counted ls (and_parts _ _ e).1)
 
   mutual
     statement_counted : (s : Statement) → is_plain_statement core s ≡ true → IsCountedStatement s
@@ -125,7 +130,7 @@ module _ (core : Core) where
 
     branches_counted : (bs : Branches) → are_plain_branches core bs ≡ true → AreCountedBranches bs
     branches_counted no_branches e = tt
-    branches_counted (branches labels s bs) e = both (statement_counted s) (branches_counted bs) e
+    branches_counted (branches labels s bs) e = three (labels_counted labels) (statement_counted s) (branches_counted bs) e
 
   -- ---- nodes
 

@@ -1,8 +1,8 @@
 -- Some programs and statements are tested by computation.
 use Rattle.std.proofs.Common.{◌≡◌, true, false, [], ◌∷◌, refl}
 use Rattle.std.specs.Prelude.{pos, codes}
-use Rattle.op_core.specs.Expression.{expression, constant, no_steps}
-use Rattle.op_core.specs.Statement.{assign, built_in, count, empty, for_to, no_handlers, no_statements, try_finally, try_on}
+use Rattle.op_core.specs.Expression.{expression, constant, eof, no_steps}
+use Rattle.op_core.specs.Statement.{assign, built_in, count, empty, for_to, no_handlers, no_statements, read, try_finally, try_on, while_do}
 use Rattle.op_core.specs.Types.{id}
 use Rattle.op_core.specs.declared.constant.Const.TheVariants.{Ordinal}
 use Rattle.op_core.specs.declared.operation.Conversion.TheVariants.{Keep}
@@ -41,6 +41,14 @@ module _ (name : Name) where
   -- try except end
   handlers_fail : are_plain_statements core (listed (try_on no_statements no_handlers ∷ [])) ≡ false
   handlers_fail = refl
+
+  -- ReadLn
+  reading_fails : are_plain_statements core (listed (built_in (read [] true) ∷ [])) ≡ false
+  reading_fails = refl
+
+  -- while Eof do ;
+  end_of_input_fails : are_plain_statements core (listed (while_do (expression eof (id 1) no_steps) empty ∷ [])) ≡ false
+  end_of_input_fails = refl
 
   -- s := 'a', where s is a string
   string_fails : are_plain_statements core (listed (assign (var 0 7) (quoted (codes "a")) ∷ [])) ≡ false

@@ -54,8 +54,8 @@ module _ (core : Core) where
     root_simple (call id given) of e = both same (arguments_simple given) e
     root_simple (construct c id given) of e = failed e
     root_simple (set es) of e = both same (elements_simple es) e
-    root_simple eof of e = e
-    root_simple eoln of e = e
+    root_simple eof of e = failed e
+    root_simple eoln of e = failed e
 
     steps_simple : (others : Steps) (text : Bool) → are_plain_steps core text others ≡ true → are_simple_steps core text others ≡ true
     steps_simple no_steps text e = refl
@@ -106,9 +106,7 @@ module _ (core : Core) where
   built_in_simple (count direction target amount checked) e = both (expression_simple target.place) (amount_simple amount) e
   built_in_simple (include s a) e = both (expression_simple s) (expression_simple a) e
   built_in_simple (exclude s a) e = both (expression_simple s) (expression_simple a) e
-  built_in_simple (free a empties) e = failed e
-  built_in_simple (destroy a) e = failed e
-  built_in_simple _ e = refl
+  built_in_simple _ e = failed e
 
   mutual
     statement_simple : (s : Statement) → is_plain_statement core s ≡ true → is_simple_statement core s ≡ true
@@ -135,7 +133,7 @@ module _ (core : Core) where
 
     branches_simple : (bs : Branches) → are_plain_branches core bs ≡ true → are_simple_branches core bs ≡ true
     branches_simple no_branches e = refl
-    branches_simple (branches labels s bs) e = both (statement_simple s) (branches_simple bs) e
+    branches_simple (branches labels s bs) e = both (statement_simple s) (branches_simple bs) (and_parts _ _ e).1
 
   -- ---- tables
 

@@ -1,9 +1,9 @@
 -- A test of whether a program is of the class that the theorems of the compiler are about: it works on numbers, sets, records and arrays
--- with bounds, and on texts only as they are written in it; its routines stand in no other one, and nothing is raised. Each node of a tree
+-- with bounds, and on texts only as they are written in it; its routines stand in no other one, nothing is read, and nothing is raised. Each node of a tree
 -- is asked once for all of it. (Free Pascal Reference Guide, "Types", "Expressions" and "Statements".)
-use Rattle.std.specs.Prelude.{ℕ, Bool, true, false, not, ◌&&◌, ◌||◌, Option, Some, None, nat_eq, nat_lt}
+use Rattle.std.specs.Prelude.{ℕ, Bool, true, false, not, ◌&&◌, ◌||◌, Option, Some, None, nat_eq, nat_lt, List}
 use Rattle.std.specs.List.{list_all}
-use Rattle.op_core.specs.Expression.{Expression, expression, Root, constant, object, call, construct, set, Steps, no_steps, steps, Action, bracket, index, method, operate, apply, Elements, no_elements, elements, Element, one, range, Arguments, no_arguments, arguments, Argument, value, place, array, listed}
+use Rattle.op_core.specs.Expression.{Expression, expression, Root, constant, variable, object, call, construct, set, eof, eoln, Steps, no_steps, steps, Action, bracket, index, method, operate, apply, Elements, no_elements, elements, Element, one, range, Arguments, no_arguments, arguments, Argument, value, place, array, listed}
 use Rattle.op_core.specs.Statement.{Item, plain, padded, BuiltIn, write, count, include, exclude, free, destroy, Statement, empty, block, if_then, if_else, case_of, while_do, repeat_until, for_to, for_in, try_finally, try_on, try_on_else, raise, reraise, call as call_statement, assign, exit_with, halt, built_in, Statements, no_statements, statements, Branches, no_branches, branches, stmts_of}
 use Rattle.op_core.specs.declared.constant.Const.{Const}
 use Rattle.op_core.specs.declared.constant.Const.TheVariants.{Text}
@@ -18,6 +18,7 @@ use Rattle.op_core.specs.declared.routine.Variable.{Variable}
 use Rattle.op_meaning.specs.Shapes.{is_managed, no_type}
 use Rattle.op_typing.specs.Simple.{asks_text, is_text, text_after}
 use Rattle.op_typing.specs.SimpleTests.{begins_itself, is_counted, is_none, is_of_unit, is_procedure, is_short_text, is_solid_parameter, is_solid_type}
+use Rattle.op_core.specs.declared.statement.Label.{Label}
 
 -- ---- expressions: the type of each part that comes out is solid, but of a text that is written there
 
@@ -36,7 +37,9 @@ abbrev mutual
   is_plain_root core (call id given) of = is_solid_type core of && are_plain_arguments core given
   is_plain_root core (construct c id given) of = false
   is_plain_root core (set es) of = is_solid_type core of && are_plain_elements core es
-  is_plain_root core _ of = is_solid_type core of
+  is_plain_root core (variable id) of = is_solid_type core of
+  is_plain_root core eof of = false
+  is_plain_root core eoln of = false
 
   pub are_plain_steps : Core → Bool → Steps → Bool
   are_plain_steps core text no_steps = true
@@ -71,7 +74,7 @@ abbrev mutual
   is_plain_argument core (array e) = false
   is_plain_argument core (listed of es) = false
 
--- ---- statements: no exception is raised or handled, and no instance is ended
+-- ---- statements: no exception is raised or handled, no instance is ended, nothing is read, and no text is made
 
 abbrev pub is_plain_item : Core → Item → Bool
 is_plain_item core (plain e) = is_plain_expression core e
@@ -91,9 +94,11 @@ is_plain_built_in core (write items ends_line) = list_all (is_plain_item core) i
 is_plain_built_in core (count direction target amount checked) = is_plain_expression core target.place && is_plain_amount core amount
 is_plain_built_in core (include s e) = is_plain_expression core s && is_plain_expression core e
 is_plain_built_in core (exclude s e) = is_plain_expression core s && is_plain_expression core e
-is_plain_built_in core (free e empties) = false
-is_plain_built_in core (destroy e) = false
-is_plain_built_in core _ = true
+is_plain_built_in core _ = false
+
+-- each label stands for a node of the text at least
+abbrev pub are_plain_labels : List Label → Bool
+are_plain_labels labels = list_all (λ l. nat_lt 0 l.nodes) labels
 
 abbrev mutual
   pub is_plain_statement : Core → Statement → Bool
@@ -123,7 +128,7 @@ abbrev mutual
 
   pub are_plain_branches : Core → Branches → Bool
   are_plain_branches core no_branches = true
-  are_plain_branches core (branches labels s bs) = is_plain_statement core s && are_plain_branches core bs
+  are_plain_branches core (branches labels s bs) = are_plain_labels labels && (is_plain_statement core s && are_plain_branches core bs)
 
 -- ---- tables
 

@@ -39,8 +39,8 @@ pub fn is_plain_root(core: &Core, root: &Root, of: TypeId) -> bool
         }
         Root::Construct { .. } => false,
         Root::Set(elements) => is_solid_type(core, of) && are_plain_elements(core, elements),
-        Root::Eof => is_solid_type(core, of),
-        Root::Eoln => is_solid_type(core, of),
+        Root::Eof => false,
+        Root::Eoln => false,
     }
 }
 

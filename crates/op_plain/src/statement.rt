@@ -4,11 +4,11 @@ ghost use Rattle.std.specs.List.{list_all};
 ghost use Rattle.op_core.specs.Expression.{expr_of, root_of};
 ghost use Rattle.op_core.specs.Nodes.{branches_of};
 ghost use Rattle.op_core.specs.Statement.{built_in_of, item_of, stmt_of, stmts_of};
-ghost use Rattle.op_plain.specs.Plain.{are_plain_branches, are_plain_statements, has_work, is_plain_amount, is_plain_bare, is_plain_built_in, is_plain_item, is_plain_statement, is_work};
+ghost use Rattle.op_plain.specs.Plain.{are_plain_branches, are_plain_labels, are_plain_statements, has_work, is_plain_amount, is_plain_bare, is_plain_built_in, is_plain_item, is_plain_statement, is_work};
 
 use crate::expression::{is_plain_expression, is_plain_root};
 use crate::types::is_plain_constant;
-use op_core::{Core, CoreAction, CoreBranch, CoreExpr, CoreItem, CoreStmt, Root, TypeId};
+use op_core::{Core, CoreAction, CoreBranch, CoreExpr, CoreItem, CoreStmt, Label, Root, TypeId};
 
 #[cycle(statement)]
 pub fn are_plain_statements(core: &Core, list: &[CoreStmt]) -> bool
@@ -96,11 +96,20 @@ fn are_plain_branches(core: &Core, list: &[CoreBranch]) -> bool
     ensures { result ≡ are_plain_branches core.now (branches_of list.now) }
 {
     for each in list {
+        if !are_plain_labels(each.labels.as_slice()) {
+            return false;
+        }
         if !is_plain_statement(core, &each.body) {
             return false;
         }
     }
     true
+}
+
+fn are_plain_labels(labels: &[Label]) -> bool
+    ensures { result ≡ are_plain_labels labels.now }
+{
+    labels.iter().all(|label| 0 < label.nodes)
 }
 
 fn is_plain_built_in(core: &Core, action: &CoreAction) -> bool
@@ -117,9 +126,7 @@ fn is_plain_built_in(core: &Core, action: &CoreAction) -> bool
         CoreAction::Exclude { set, element } => {
             is_plain_expression(core, set) && is_plain_expression(core, element)
         }
-        CoreAction::Free { .. } => false,
-        CoreAction::Destroy(_) => false,
-        _ => true,
+        _ => false,
     }
 }
 

@@ -55,7 +55,7 @@ module _ (low : Low) (p : Placement) (m : State) (r : ℕ) (arguments : List ℕ
         path = along it.value it.memory (m.output ++ bytes) it.pieces most (512 + length bytes) less it.walk;
       }
 
-  pub copies : (to from count most : ℕ) → most ≤ 512 + 6 * count → Copied (whole low p called.runtime) p m r operands rest to from count most → Copies low p m operands rest to from count
+  pub copies : (to from count most : ℕ) → most ≤ 192 + 6 * count → Copied (whole low p called.runtime) p m r operands rest to from count most → Copies low p m operands rest to from count
   copies to from count most less it =
       let few = it.walk.few in
       record {
@@ -64,5 +64,5 @@ module _ (low : Low) (p : Placement) (m : State) (r : ℕ) (arguments : List ℕ
         copied = it.copied;
         steps = it.walk.steps;
         few = omega arith;
-        path = along it.value it.memory m.output [] most (512 + 6 * count) less it.walk;
+        path = along it.value it.memory m.output [] most (192 + 6 * count) less it.walk;
       }

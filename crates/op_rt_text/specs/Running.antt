@@ -99,5 +99,5 @@ pub record Copies (low : Low) (p : Placement) (m : State) (operands : Operands) 
   pub memory : ℕ → ℕ
   pub copied : (x : ℕ) → x < m.limit → memory x ≡ with_bytes m.memory to (bytes_from m.memory from count) x
   pub steps : ℕ
-  pub few : steps ≤ 512 + 6 * count
-  pub path : Path (low_machine low p) (λ s. s.ending ≢ Bad) m (behind m operands rest value memory m.output) steps [] (512 + 6 * count)
+  pub few : steps ≤ 192 + 6 * count
+  pub path : Path (low_machine low p) (λ s. s.ending ≢ Bad) m (behind m operands rest value memory m.output) steps [] (192 + 6 * count)

@@ -26,7 +26,7 @@ pub fn texts_are_written()
 {}
 
 /// A call of a routine that copies leaves memory below the limit as it was but for exactly the bytes that were to be copied, and comes
-/// back with the caller as it was. It takes at most 512 steps, and 6 a byte, at that cost.
+/// back with the caller as it was. It takes at most 192 steps, and 6 a byte, at that cost.
 pub fn memory_is_copied()
     ensures words { (low : Low) (p : Placement) (m : State) (operands : Call) (rest : List Instruction) (to from count : ℕ) → Copyable p m to from count → to % 4 ≡ 0 → from % 4 ≡ 0 → count % 4 ≡ 0 → Called low p m copy_words_number (to ∷ from ∷ count ∷ []) operands rest → Copies low p m operands rest to from count }
     ensures bytes { (low : Low) (p : Placement) (m : State) (operands : Call) (rest : List Instruction) (to from count : ℕ) → Copyable p m to from count → Called low p m copy_bytes_number (to ∷ from ∷ count ∷ []) operands rest → Copies low p m operands rest to from count }

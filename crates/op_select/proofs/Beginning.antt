@@ -1,5 +1,5 @@
 -- The head of the entry routine makes the state that low code begins with.
-use Rattle.std.proofs.Common.{◌≡◌, ℕ, zero, suc, ◌+◌, ◌-◌, ◌*◌, ◌<◌, true, List, [], ◌∷◌, length, get_or, replicate, slice_get, refl, ap, sym, subst, ◌∙◌, arith, inl, inr}
+use Rattle.std.proofs.Common.{◌≡◌, ℕ, zero, suc, ◌+◌, ◌-◌, ◌<◌, true, List, [], ◌∷◌, length, get_or, replicate, slice_get, refl, ap, sym, subst, ◌∙◌, arith, inl, inr}
 use Rattle.std.proofs.lemmas.Bool.{cases_lt}
 use Rattle.std.proofs.lemmas.Bool.Decides.{nat_tests}
 use Rattle.std.proofs.lemmas.List.{length-replicate}
@@ -13,9 +13,9 @@ use Rattle.op_low.specs.Valid.{is_valid, takes}
 use Rattle.op_low.specs.declared.code.Routine.{Routine}
 use Rattle.op_low.proofs.ValidRuns.{start_runs}
 use Rattle.op_rv.proofs.Memory.{with_bytes-below, with_bytes-within, zeros_get}
-use Rattle.op_rv.specs.State.{State, word_at}
+use Rattle.op_rv.specs.State.{State}
 use Rattle.op_select.specs.Frames.{frame_of}
-use Rattle.op_select.specs.Going.{Setting, IsSetting, routine_in, frame_in, placement_of, place_of, Below, Stays}
+use Rattle.op_select.specs.Going.{Setting, IsSetting, homes_in, routine_in, frame_in, placement_of, Holds, Below, Stays}
 use Rattle.op_select.specs.RiscvMachine.{riscv_machine}
 use Rattle.op_select.specs.Selected.{Finished, MatchesBy, Matches, selected}
 use Rattle.op_select.specs.Starting.{start_in, Starts, Begins, EndsAlike}
@@ -23,6 +23,7 @@ use Rattle.op_select.proofs.ClearLemmas.{stored}
 use Rattle.op_select.proofs.EnterLemmas.{Heads, heads}
 use Rattle.op_select.proofs.Following.{selected_follows}
 use Rattle.op_select.proofs.FrameLemmas.{sizes}
+use Rattle.op_select.proofs.HeadLemmas.{Comes}
 use Rattle.op_select.proofs.TransferLemmas.{block_stands}
 use Rattle.op_select.proofs.ValueSteps.{both_left}
 
@@ -43,7 +44,7 @@ module _ (w : Setting) (law : IsSetting w) where
   unfolding is_valid
   entry_is = entry_of w.low.routines w.low.entry.0 (both_left (takes (slice_get w.low.routines w.low.entry.0) 0) _ law.valid)
 
-  start_stays : (memory : ℕ → ℕ) (input : List ℕ) (b : State) → Starts w memory input b → (h : Heads w b w.low.entry.0 w.top w.bottom (get_or b.registers 1 0)) → Stays w (start_in w memory input) (stored b h.registers (w.placing.block w.low.entry.0 0) h.memory)
+  start_stays : (memory : ℕ → ℕ) (input : List ℕ) (b : State) → Starts w memory input b → (h : Heads w b w.low.entry.0 w.top w.bottom (get_or b.registers 1 0) (λ v. 0)) → Stays w (start_in w memory input) (stored b h.registers (w.placing.block w.low.entry.0 0) h.memory)
   unfolding start Below frame_of
   start_stays memory input b s h =
       let r = w.low.entry.0 in
@@ -57,7 +58,8 @@ module _ (w : Setting) (law : IsSetting w) where
       let top_whole = s.top_aligned in
       let none = entry_is.plain in
       let sp_is : w.top - frame ≡ w.bottom + locals + (w.top - w.bottom - (locals + frame)) = omega arith in
-      let held : (v : ℕ) → v < routine.registers → word_at h.memory (place_of routine (w.top - frame) v) ≡ 0 = λ v within. h.fresh v within (omega arith) in
+      let new = homes_in (stored b h.registers (w.placing.block r 0) h.memory) in
+      let held_ : Holds h.memory new (w.top - frame) routine (λ v. 0) = λ v within. (h.begun v within, omega arith) in
       record {
         sound = h.sound;
         memory = λ x lower.
@@ -75,7 +77,7 @@ module _ (w : Setting) (law : IsSetting w) where
         sp = h.sp_is ∙ sp_is;
         limit_aligned = omega arith;
         sp_aligned = omega arith;
-        holds = subst (λ n. (v : ℕ) → v < routine.registers → word_at h.memory (n + 4 * (routine.registers - 1 - v)) ≡ 0) sp_is held;
+        holds = subst (λ n. Holds h.memory new n routine (λ v. 0)) sp_is held_;
         below = (refl, omega arith);
       }
 
@@ -85,7 +87,13 @@ module _ (w : Setting) (law : IsSetting w) where
       let r = w.low.entry.0 in
       let room = s.room in
       let none = entry_is.plain in
-      let h = heads w law b r w.top w.bottom (get_or b.registers 1 0) s.sound entry_is.exists s.pc s.sp s.limit refl s.word s.top_aligned s.bottom_aligned (omega arith) (omega arith) (omega arith) (λ v under early. absurd (omega arith)) in
+      let comes : Comes b (routine_in w r) w.top (λ v. 0) = record {
+        early = λ v given soon. absurd (omega arith);
+        late = λ v given late. absurd (omega arith);
+        fresh = λ v over. refl;
+        words = λ v. omega arith;
+      } in
+      let h = heads w law b r w.top w.bottom (get_or b.registers 1 0) (λ v. 0) s.sound entry_is.exists s.pc s.sp s.limit refl s.word s.top_aligned s.bottom_aligned (omega arith) (omega arith) (omega arith) comes in
       let c = stored b h.registers (w.placing.block r 0) h.memory in
       record {
         after = c;

@@ -23,19 +23,19 @@ use Rattle.op_rv.specs.declared.objects.Item.{Item}
 use Rattle.op_rv.specs.declared.objects.Item.TheVariants.{Call as CallItem, CallAt as CallAtItem}
 use Rattle.op_rv.specs.declared.symbol.BlockId.{BlockId}
 use Rattle.op_rv.specs.declared.symbol.RoutineId.{RoutineId}
-use Rattle.op_select.specs.Frames.{frame_of, head_of, fetch, passed, passed_one, passed_in_memory}
-use Rattle.op_select.specs.Going.{Setting, IsSetting, routine_in, locals_in, placement_of, Sound, place_of, Stays}
+use Rattle.op_select.specs.Frames.{bring, frame_of, head_of, fetch, operand, passed, passed_one, passed_in_memory}
+use Rattle.op_select.specs.Going.{Setting, IsSetting, homes_in, routine_in, locals_in, placement_of, Sound, Stays}
 use Rattle.op_select.specs.Placing.{Stands, First, StandsHere, Expands, past}
 use Rattle.op_select.specs.RiscvMachine.{instr_shows}
 use Rattle.op_select.specs.Selection.{items_of, code_items, answered}
 use Rattle.op_select.specs.Sequences.{below}
 use Rattle.op_select.proofs.ClearLemmas.{stored}
 use Rattle.op_select.proofs.ControlSteps.{steps_join}
-use Rattle.op_select.proofs.FrameLemmas.{sizes, below_top, below_bottom, below_same, sound_stored, stays_placed, fetches}
+use Rattle.op_select.proofs.FrameLemmas.{below_bottom, below_same, below_top, brings, fetches, holds_same, sizes, sound_stored, stays_placed, value-bounded}
 use Rattle.op_select.proofs.ReturnSteps.{down-bounded}
 use Rattle.op_select.proofs.SequenceLemmas.{stores}
 use Rattle.op_select.proofs.TransferLemmas.{Linked, links, head_stands}
-use Rattle.op_select.proofs.ValueSteps.{Steps, both_left, both_right, inside, value-bounded}
+use Rattle.op_select.proofs.ValueSteps.{Steps, both_left, both_right, inside}
 use Rattle.op_select.proofs.Walks.{Walk, walk_none, walk_join, walk_weaken, walk_step, advanced_pc, placed, sound_placed, plain_first, split, nothing_more}
 use Rattle.op_select.proofs.WordLemmas.{cond_true}
 use Rattle.op_select.proofs.ArrivalLemmas.{began, Arrives, arrives}
@@ -70,12 +70,12 @@ module _ (w : Setting) (law : IsSetting w) where
   -- ---- arguments
 
   -- what is stored between the limit and sp leaves the rest
-  stays_scratch : (m : LowState) (b : State) (registers : List ℕ) (at a v : ℕ) → Stays w m b → length registers ≡ 32 → get_or registers 2 0 ≡ get_or b.registers 2 0 → get_or registers 8 0 ≡ get_or b.registers 8 0 → m.limit ≤ a → a + 4 ≤ m.limit + m.room → Stays w m (stored b registers at (with_bytes b.memory a (bytes_low_first 0 4 v)))
+  stays_scratch : (m : LowState) (b : State) (registers : List ℕ) (at a v : ℕ) → Stays w m b → length registers ≡ 32 → get_or registers 2 0 ≡ get_or b.registers 2 0 → get_or registers 8 0 ≡ get_or b.registers 8 0 → ((k : ℕ) → get_or registers (18 + k) 0 ≡ get_or b.registers (18 + k) 0) → m.limit ≤ a → a + 4 ≤ m.limit + m.room → Stays w m (stored b registers at (with_bytes b.memory a (bytes_low_first 0 4 v)))
   unfolding frame_of
-  stays_scratch m b registers at a v stays size sp limit from before =
+  stays_scratch m b registers at a v stays size sp limit homes from before =
       let memory = with_bytes b.memory a (bytes_low_first 0 4 v) in
-      let bottom = below_bottom w b.memory m.top.routine m.limit (m.limit + m.room) m.callers stays.below in
-      let top = below_top w b.memory m.top.routine m.limit (m.limit + m.room) m.callers stays.below in
+      let bottom = below_bottom w b.memory (homes_in b) m.top.routine m.limit (m.limit + m.room) m.callers stays.below in
+      let top = below_top w b.memory (homes_in b) m.top.routine m.limit (m.limit + m.room) m.callers stays.below in
       record {
         sound = sound_stored w law b registers at a (bytes_low_first 0 4 v) stays.sound size (four-bounded v) (λ x lower upper. law.writable x (omega arith) (omega arith));
         memory = λ x lower. with_bytes-below b.memory a (bytes_low_first 0 4 v) x (omega arith) ∙ stays.memory x lower;
@@ -87,8 +87,8 @@ module _ (w : Setting) (law : IsSetting w) where
         sp = sp ∙ stays.sp;
         limit_aligned = stays.limit_aligned;
         sp_aligned = stays.sp_aligned;
-        holds = λ r within. word_at-same b.memory memory (place_of (routine_in w m.top.routine) (m.limit + m.room) r) (λ x lower upper. with_bytes-above b.memory a (bytes_low_first 0 4 v) x (omega arith)) ∙ stays.holds r within;
-        below = below_same w b.memory memory m.top.routine m.limit (m.limit + m.room) m.callers (λ x upper. with_bytes-above b.memory a (bytes_low_first 0 4 v) x (omega arith)) stays.below;
+        holds = holds_same b.memory memory (homes_in b) (homes_in (placed b registers at)) (m.limit + m.room) (routine_in w m.top.routine) m.top.registers (λ x lower upper. with_bytes-above b.memory a (bytes_low_first 0 4 v) x (omega arith)) (λ k few within word. homes k) stays.holds;
+        below = below_same w b.memory memory (homes_in b) (homes_in (placed b registers at)) m.top.routine m.limit (m.limit + m.room) m.callers (λ x upper. with_bytes-above b.memory a (bytes_low_first 0 4 v) x (omega arith)) (λ k few over word. homes k) stays.below;
       }
 
   argument_place : (sp k : ℕ) → 4 * k + 8 ≤ sp → sp < 2 ^ 32 → (sp + below ((4 * k + 8) % 2 ^ 32)) % 2 ^ 32 ≡ sp - (8 + 4 * k)
@@ -114,7 +114,7 @@ module _ (w : Setting) (law : IsSetting w) where
       record {
         after = placed c made.registers at;
         there = refl;
-        stays = stays_placed w law m c made.registers at stays made.size (made.others 2 (omega arith) (omega arith)) (made.others 8 (omega arith) (omega arith));
+        stays = stays_placed w law m c made.registers at stays made.size (made.others 2 (omega arith) (omega arith)) (made.others 8 (omega arith) (omega arith)) (λ j. made.others (18 + j) (omega arith) (omega arith));
         registers = λ j later few. made.others (10 + j) (omega arith) (omega arith);
         memory = λ j later fits. refl;
         in_register = λ few. made.value_is;
@@ -126,30 +126,31 @@ module _ (w : Setting) (law : IsSetting w) where
       let routine = routine_in w m.top.routine in
       let sp = m.limit + m.room in
       let low = law.low_top in
-      let bottom = below_bottom w c.memory m.top.routine m.limit sp m.callers stays.below in
-      let top = below_top w c.memory m.top.routine m.limit sp m.callers stays.below in
+      let bottom = below_bottom w c.memory (homes_in c) m.top.routine m.limit sp m.callers stays.below in
+      let top = below_top w c.memory (homes_in c) m.top.routine m.limit sp m.callers stays.below in
       let whole = stays.sp_aligned in
-      let parts = split w.placing m.top.routine c.pc (fetch routine 10 r) _ at stands in
-      let made = fetches w law m c 10 r parts.middle stays within (omega arith) (omega arith) (omega arith) parts.first in
+      let q = operand routine 10 r in
+      let parts = split w.placing m.top.routine c.pc (bring routine 10 r) _ at stands in
+      let made = brings w law m c 10 r parts.middle stays within (omega arith) (omega arith) (omega arith) parts.first in
       let d = placed c made.registers parts.middle in
       let sound_d = sound_placed w law c made.registers parts.middle stays.sound made.size in
       let a = sp - (8 + 4 * k) in
       let word = below ((4 * k + 8) % 2 ^ 32) in
-      let sp_d : get_or made.registers 2 0 ≡ sp = made.others 2 (omega arith) (omega arith) ∙ stays.sp in
+      let sp_d : get_or made.registers 2 0 ≡ sp = made.others 2 (omega arith) ∙ stays.sp in
       let place = ap (λ n. (n + word) % 2 ^ 32) sp_d ∙ argument_place sp k (omega arith) (omega arith) in
-      let put = stores w law d m.top.routine 10 2 1 word at a sound_d (omega arith) (omega arith) (omega arith) (omega arith) (omega arith) (omega arith) (down-bounded ((4 * k + 8) % 2 ^ 32)) place (omega arith) (λ x lower upper. law.writable x (omega arith) (omega arith)) parts.second in
-      let x = get_or made.registers 10 0 in
+      let put = stores w law d m.top.routine q 2 1 word at a sound_d made.some (made.apart 1 (omega arith) (omega arith)) (omega arith) (omega arith) (omega arith) (omega arith) (down-bounded ((4 * k + 8) % 2 ^ 32)) place (omega arith) (λ x lower upper. law.writable x (omega arith) (omega arith)) parts.second in
+      let x = get_or made.registers q 0 in
       let after = stored c put.registers at (with_bytes c.memory a (bytes_low_first 0 4 x)) in
       let x_small : x < 2 ^ 32 = subst (λ n. n < 2 ^ 32) (sym made.value_is) (value-bounded w law m c r stays within) in
       record {
         after = after;
         there = refl;
-        stays = stays_scratch m c put.registers at a x stays put.size (put.others 2 (omega arith) ∙ made.others 2 (omega arith) (omega arith)) (put.others 8 (omega arith) ∙ made.others 8 (omega arith) (omega arith)) (omega arith) (omega arith);
+        stays = stays_scratch m c put.registers at a x stays put.size (put.others 2 (omega arith) ∙ made.others 2 (omega arith)) (put.others 8 (omega arith) ∙ made.others 8 (omega arith)) (λ j. put.others (18 + j) (omega arith) ∙ made.others (18 + j) (omega arith)) (omega arith) (omega arith);
         registers = λ j later few. absurd (omega arith);
         memory = λ j later fits. word_at-same c.memory after.memory (sp - (8 + 4 * j)) (λ y lower upper. with_bytes-outside c.memory a (bytes_low_first 0 4 x) y (λ l u. absurd (omega arith)));
         in_register = λ few. absurd (omega arith);
         in_memory = λ many. word_at-stored c.memory a x x_small ∙ made.value_is;
-        walk = walk_weaken c after 2 6 0 6 [] (omega arith) (omega arith) (walk_join c d after 1 3 1 3 [] [] made.walk put.walk);
+        walk = walk_weaken c after 1 6 0 6 [] (omega arith) (omega arith) (walk_join c d after 0 3 1 3 [] [] made.walk put.walk);
       }
 
   passes : (m : LowState) (b : State) (k : ℕ) (rs : List VirtualRegister) (at : ℕ) → Stays w m b → list_all (has (routine_in w m.top.routine)) rs ≡ true → 4 * (k + length rs) + 4 ≤ m.room → Stands w.placing m.top.routine b.pc (passed (routine_in w m.top.routine) k rs) at → Passes w m b k (values m rs) at
@@ -203,7 +204,7 @@ module _ (w : Setting) (law : IsSetting w) where
   values-bounded m b (r ∷ rs) (suc i) stays all within = values-bounded m b rs i stays (both_right (has (routine_in w m.top.routine) r) _ all) (omega arith)
 
   -- the routine is entered, with the address behind the call in ra
-  call_from : (m : LowState) (b : State) (r back most at end : ℕ) (rs : List VirtualRegister) (to : VirtualRegister) (landing : Option BlockId) → (p : Passes w m b 0 (values m rs) at) → (l : Linked p.after (w.placing.head r) back most) → Stays w m b → list_all (has (routine_in w m.top.routine)) rs ≡ true → Stands w.placing m.top.routine back (answered (routine_in w m.top.routine) to landing ++ code_items (routine_in w m.top.routine) m.top.now) end → to.0 < (routine_in w m.top.routine).registers → can_enter w.low (placement_of w) r (length rs) m ≡ true → Steps w (began w r (values m rs) to landing m) b (6 * length rs + most + (36 + 3 * (routine_in w r).registers + locals_in w r)) []
+  call_from : (m : LowState) (b : State) (r back most at end : ℕ) (rs : List VirtualRegister) (to : VirtualRegister) (landing : Option BlockId) → (p : Passes w m b 0 (values m rs) at) → (l : Linked p.after (w.placing.head r) back most) → Stays w m b → list_all (has (routine_in w m.top.routine)) rs ≡ true → Stands w.placing m.top.routine back (answered (routine_in w m.top.routine) to landing ++ code_items (routine_in w m.top.routine) m.top.now) end → to.0 < (routine_in w m.top.routine).registers → can_enter w.low (placement_of w) r (length rs) m ≡ true → Steps w (began w r (values m rs) to landing m) b (6 * length rs + most + (12 + 3 * (routine_in w r).registers + locals_in w r)) []
   call_from m b r back most at end rs to landing p l stays all stands to_in enters =
       let first : (nat_lt r (length w.low.routines) && nat_eq (length rs) (routine_in w r).parameters) ≡ true = both_left _ (nat_le (space w.low (placement_of w) r) m.room) enters in
       let exists = ltb-true r (length w.low.routines) (both_left _ (nat_eq (length rs) (routine_in w r).parameters) first) in
@@ -212,7 +213,7 @@ module _ (w : Setting) (law : IsSetting w) where
       let room = leb-true (space w.low (placement_of w) r) m.room (both_right (nat_lt r (length w.low.routines) && nat_eq (length rs) (routine_in w r).parameters) _ enters) in
       let long : length (values m rs) ≡ length rs = length-map rs (value m) in
       let d = placed p.after l.registers (w.placing.head r) in
-      let stays_d = stays_placed w law m p.after l.registers (w.placing.head r) p.stays l.size (l.others 2 (omega arith)) (l.others 8 (omega arith)) in
+      let stays_d = stays_placed w law m p.after l.registers (w.placing.head r) p.stays l.size (l.others 2 (omega arith)) (l.others 8 (omega arith)) (λ k. l.others (18 + k) (omega arith)) in
       let arrived : Arrives w m d r (values m rs) to landing = record {
         stays = stays_d;
         there = refl;
@@ -228,8 +229,8 @@ module _ (w : Setting) (law : IsSetting w) where
       } in
       let steps = arrives w law m d r (values m rs) to landing arrived in
       let walk = walk_join b p.after d 0 (6 * length (values m rs)) 1 most [] [] p.walk l.walk in
-      let joined_ = steps_join w law (began w r (values m rs) to landing m) b d 1 (6 * length (values m rs) + most) (36 + 3 * (routine_in w r).registers + locals_in w r) [] [] walk steps in
-      subst (λ n. Steps w (began w r (values m rs) to landing m) b (6 * n + most + (36 + 3 * (routine_in w r).registers + locals_in w r)) []) long joined_
+      let joined_ = steps_join w law (began w r (values m rs) to landing m) b d 1 (6 * length (values m rs) + most) (12 + 3 * (routine_in w r).registers + locals_in w r) [] [] walk steps in
+      subst (λ n. Steps w (began w r (values m rs) to landing m) b (6 * n + most + (12 + 3 * (routine_in w r).registers + locals_in w r)) []) long joined_
     where
       zero_more : (i : ℕ) → 0 + i ≡ i
       zero_more i = omega arith
@@ -250,7 +251,7 @@ module _ (w : Setting) (law : IsSetting w) where
   linked_first m c id landing items end sound (First is expands here rest) =
       record { back = past c.pc is; linked = links w law c (w.placing.head id.0) is sound expands here; rest = rest }
 
-  pub call_steps : (m : LowState) (b : State) (id : RoutineId) (operands : Operands) (end : ℕ) → Stays w m b → is_valid_instruction w.low (routine_in w m.top.routine) (Call id operands) ≡ true → can_enter w.low (placement_of w) id.0 (length operands.arguments) m ≡ true → Stands w.placing m.top.routine b.pc (items_of (routine_in w m.top.routine) (Call id operands) ++ code_items (routine_in w m.top.routine) m.top.now) end → Steps w (low_act w.low (placement_of w) (Call id operands) m) b (6 * length operands.arguments + 2 + (36 + 3 * (routine_in w id.0).registers + locals_in w id.0)) []
+  pub call_steps : (m : LowState) (b : State) (id : RoutineId) (operands : Operands) (end : ℕ) → Stays w m b → is_valid_instruction w.low (routine_in w m.top.routine) (Call id operands) ≡ true → can_enter w.low (placement_of w) id.0 (length operands.arguments) m ≡ true → Stands w.placing m.top.routine b.pc (items_of (routine_in w m.top.routine) (Call id operands) ++ code_items (routine_in w m.top.routine) m.top.now) end → Steps w (low_act w.low (placement_of w) (Call id operands) m) b (6 * length operands.arguments + 2 + (12 + 3 * (routine_in w id.0).registers + locals_in w id.0)) []
   unfolding is_valid_instruction call_fits operands_fit has_all items_of low_act call
   call_steps m b id operands end stays valid enters stands =
       let r = m.top.routine in
@@ -267,7 +268,7 @@ module _ (w : Setting) (law : IsSetting w) where
       let there = subst (λ n. Stands w.placing r n (CallItem id operands.landing ∷ (answered routine operands.to operands.landing ++ code_items routine m.top.now)) end) (sym p.there) parts.second in
       let e = linked_first m p.after id operands.landing _ end p.stays.sound there in
       let steps = call_from m b id.0 e.back 2 parts.middle end args operands.to operands.landing p e.linked stays all e.rest to_in enters in
-      subst (λ s. Steps w s b (6 * length args + 2 + (36 + 3 * (routine_in w id.0).registers + locals_in w id.0)) []) (sym (cond_true (can_enter w.low (placement_of w) id.0 (length args) m) (began w id.0 (values m args) operands.to operands.landing m) _ enters)) steps
+      subst (λ s. Steps w s b (6 * length args + 2 + (12 + 3 * (routine_in w id.0).registers + locals_in w id.0)) []) (sym (cond_true (can_enter w.low (placement_of w) id.0 (length args) m) (began w id.0 (values m args) operands.to operands.landing m) _ enters)) steps
 
   -- ---- calls of an address
 
@@ -324,7 +325,7 @@ module _ (w : Setting) (law : IsSetting w) where
         rest = e.rest;
       }
 
-  pub call_at_steps : (m : LowState) (b : State) (address : VirtualRegister) (operands : Operands) (r end : ℕ) → Stays w m b → is_valid_instruction w.low (routine_in w m.top.routine) (CallAt address operands) ≡ true → w.routine_at (value m address) ≡ Some r → can_enter w.low (placement_of w) r (length operands.arguments) m ≡ true → Stands w.placing m.top.routine b.pc (items_of (routine_in w m.top.routine) (CallAt address operands) ++ code_items (routine_in w m.top.routine) m.top.now) end → Steps w (call w.low (placement_of w) r operands m) b (6 * length operands.arguments + 4 + (36 + 3 * (routine_in w r).registers + locals_in w r)) []
+  pub call_at_steps : (m : LowState) (b : State) (address : VirtualRegister) (operands : Operands) (r end : ℕ) → Stays w m b → is_valid_instruction w.low (routine_in w m.top.routine) (CallAt address operands) ≡ true → w.routine_at (value m address) ≡ Some r → can_enter w.low (placement_of w) r (length operands.arguments) m ≡ true → Stands w.placing m.top.routine b.pc (items_of (routine_in w m.top.routine) (CallAt address operands) ++ code_items (routine_in w m.top.routine) m.top.now) end → Steps w (call w.low (placement_of w) r operands m) b (6 * length operands.arguments + 4 + (12 + 3 * (routine_in w r).registers + locals_in w r)) []
   unfolding is_valid_instruction call_at_fits operands_fit has_all items_of call
   call_at_steps m b address operands r end stays valid found enters stands =
       let me = m.top.routine in
@@ -345,4 +346,4 @@ module _ (w : Setting) (law : IsSetting w) where
       let there = subst (λ n. Stands w.placing me n (fetch routine 1 address) parts.middle) (sym p.there) two.second in
       let e = linked_at m p.after address r parts.middle operands.landing items end p.stays address_in exists found there parts.second in
       let steps = call_from m b r e.back 4 two.middle end args operands.to operands.landing p e.linked stays all e.rest to_in enters in
-      subst (λ s. Steps w s b (6 * length args + 4 + (36 + 3 * (routine_in w r).registers + locals_in w r)) []) (sym (cond_true (can_enter w.low (placement_of w) r (length args) m) (began w r (values m args) operands.to operands.landing m) _ enters)) steps
+      subst (λ s. Steps w s b (6 * length args + 4 + (12 + 3 * (routine_in w r).registers + locals_in w r)) []) (sym (cond_true (can_enter w.low (placement_of w) r (length args) m) (began w r (values m args) operands.to operands.landing m) _ enters)) steps

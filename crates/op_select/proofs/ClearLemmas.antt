@@ -20,7 +20,7 @@ use Rattle.op_select.specs.RiscvMachine.{instr_shows}
 use Rattle.op_select.proofs.FrameLemmas.{sound_stored}
 use Rattle.op_select.proofs.TransferLemmas.{branches}
 use Rattle.op_select.proofs.Walks.{Walk, walk_join, walk_weaken, walk_step, advanced_pc, placed, sound_placed, becomes, register_is, plain_first, nothing_more}
-use Rattle.op_select.proofs.WordLemmas.{cond_true}
+use Rattle.op_select.proofs.WordLemmas.{cond_true, no_distance}
 
 -- a state with other memory
 abbrev pub stored : State → List ℕ → ℕ → (ℕ → ℕ) → State
@@ -36,10 +36,7 @@ pub record Clears (w : Setting) (b : State) (a words from at : ℕ) : Type 0 whe
   pub sound : Sound w (stored b registers at memory)
   pub walk : Walk b (stored b registers at memory) 1 (3 * words) []
 
--- the place itself, four more, and eight back
-pub no_distance : (a : ℕ) → a < 2 ^ 32 → (a + word_from (pos 0)) % 2 ^ 32 ≡ a
-no_distance a small = omega (arith, ints)
-
+-- four more, and eight back
 four_more : (a : ℕ) → a + 4 < 2 ^ 32 → (a + word_from (pos 4)) % 2 ^ 32 ≡ a + 4
 four_more a small = omega (arith, ints)
 

@@ -6,7 +6,7 @@ use Rattle.op_low.specs.State.{State as LowState, value, usable, jump}
 use Rattle.op_low.specs.Valid.{is_valid_instruction, has, imm_fits, branch_fits}
 use Rattle.op_low.specs.declared.ids.VirtualRegister.{VirtualRegister}
 use Rattle.op_low.specs.declared.instruction.Instruction.TheVariants.{Branch, Jump, Store, Exit}
-use Rattle.op_rv.proofs.Memory.{with_bytes-outside, word_at-same}
+use Rattle.op_rv.proofs.Memory.{with_bytes-outside}
 use Rattle.op_rv.specs.Environment.{environment_call, read_call, write_call, exit_call}
 use Rattle.op_rv.specs.Operation.{branch_taken}
 use Rattle.op_rv.specs.State.{State, Ended, register, faulted, with_bytes}
@@ -19,17 +19,17 @@ use Rattle.op_rv.specs.declared.instruction.Instr.TheVariants.{Ecall, Store as S
 use Rattle.op_rv.specs.declared.objects.Item.{Item}
 use Rattle.op_rv.specs.declared.objects.Item.TheVariants.{Branch as BranchItem, Jump as JumpItem}
 use Rattle.op_rv.specs.declared.symbol.BlockId.{BlockId}
-use Rattle.op_select.specs.Frames.{fetch, frame_of}
-use Rattle.op_select.specs.Going.{Setting, IsSetting, routine_in, placement_of, Sound, place_of, Stays, Goes}
+use Rattle.op_select.specs.Frames.{bring, fetch, frame_of, operand}
+use Rattle.op_select.specs.Going.{Setting, IsSetting, homes_in, routine_in, placement_of, Sound, Stays, Goes}
 use Rattle.op_select.specs.Placing.{Stands, First, Expands, past}
 use Rattle.op_select.specs.RiscvMachine.{instr_shows, call_event, read_event, write_event}
 use Rattle.op_select.specs.Selection.{items_of, code_items}
 use Rattle.op_select.specs.Sequences.{small}
-use Rattle.op_select.proofs.FrameLemmas.{stays_placed, sound_stored, below_same, fetches}
+use Rattle.op_select.proofs.FrameLemmas.{stays_placed, sound_stored, below_same, fetches, holds_same}
 use Rattle.op_select.proofs.SequenceLemmas.{smalls}
 use Rattle.op_select.proofs.TransferLemmas.{jumps, chooses, block_stands}
-use Rattle.op_select.proofs.ValueSteps.{Steps, both_left, both_right, inside, two_fetched, usable_all, access_of}
-use Rattle.op_select.proofs.Walks.{Walk, walk_join, walk_weaken, walk_step, advanced_pc, placed, sound_placed, plain_first, split, nothing_more}
+use Rattle.op_select.proofs.ValueSteps.{Steps, both_left, both_right, inside, two_brought, usable_all, access_of}
+use Rattle.op_select.proofs.Walks.{Walk, walk_join, walk_weaken, walk_step, advanced_pc, placed, sound_placed, register_is, plain_first, split, nothing_more}
 use Rattle.op_select.proofs.WordLemmas.{cond_true}
 
 -- the machine has ended
@@ -59,10 +59,10 @@ module _ (w : Setting) (law : IsSetting w) where
   -- ---- jumps
 
   -- at a block
-  at_block_goes : (m : LowState) (b : State) (block : BlockId) (registers : List ℕ) → Stays w m b → length registers ≡ 32 → get_or registers 2 0 ≡ get_or b.registers 2 0 → get_or registers 8 0 ≡ get_or b.registers 8 0 → Goes w (jump w.low block m) (placed b registers (w.placing.block m.top.routine block.0))
-  at_block_goes m b block registers stays size sp limit =
+  at_block_goes : (m : LowState) (b : State) (block : BlockId) (registers : List ℕ) → Stays w m b → length registers ≡ 32 → get_or registers 2 0 ≡ get_or b.registers 2 0 → get_or registers 8 0 ≡ get_or b.registers 8 0 → ((k : ℕ) → get_or registers (18 + k) 0 ≡ get_or b.registers (18 + k) 0) → Goes w (jump w.low block m) (placed b registers (w.placing.block m.top.routine block.0))
+  at_block_goes m b block registers stays size sp limit homes =
       let c = placed b registers (w.placing.block m.top.routine block.0) in
-      let there = stays_placed w law m b registers (w.placing.block m.top.routine block.0) stays size sp limit in
+      let there = stays_placed w law m b registers (w.placing.block m.top.routine block.0) stays size sp limit homes in
       record {
         stays = record {
           sound = there.sound;
@@ -87,7 +87,7 @@ module _ (w : Setting) (law : IsSetting w) where
       let moved = jumps w law b (w.placing.block m.top.routine block.0) is stays.sound expands here in
       record {
         after = placed b moved.registers (w.placing.block m.top.routine block.0);
-        goes = at_block_goes m b block moved.registers stays moved.size (moved.others 2 (omega arith)) (moved.others 8 (omega arith));
+        goes = at_block_goes m b block moved.registers stays moved.size (moved.others 2 (omega arith)) (moved.others 8 (omega arith)) (λ k. moved.others (18 + k) (omega arith));
         walk = moved.walk;
       }
 
@@ -115,7 +115,7 @@ module _ (w : Setting) (law : IsSetting w) where
       let choice = choice_at m.top.routine c op left right block (code_items (routine_in w m.top.routine) m.top.now) end true stays.sound tells stands in
       record {
         after = placed c choice.registers choice.at;
-        goes = subst (λ n. Goes w (jump w.low block m) (placed c choice.registers n)) (sym choice.there) (at_block_goes m c block choice.registers stays choice.size (choice.others 2 (omega arith)) (choice.others 8 (omega arith)));
+        goes = subst (λ n. Goes w (jump w.low block m) (placed c choice.registers n)) (sym choice.there) (at_block_goes m c block choice.registers stays choice.size (choice.others 2 (omega arith)) (choice.others 8 (omega arith)) (λ k. choice.others (18 + k) (omega arith)));
         walk = choice.walk;
       }
   choice_by m c op left right block end false stays tells stands =
@@ -123,7 +123,7 @@ module _ (w : Setting) (law : IsSetting w) where
       record {
         after = placed c choice.registers choice.at;
         goes = record {
-          stays = stays_placed w law m c choice.registers choice.at stays choice.size (choice.others 2 (omega arith)) (choice.others 8 (omega arith));
+          stays = stays_placed w law m c choice.registers choice.at stays choice.size (choice.others 2 (omega arith)) (choice.others 8 (omega arith)) (λ k. choice.others (18 + k) (omega arith));
           ready = record { end = end; stands = choice.there };
         };
         walk = choice.walk;
@@ -133,16 +133,18 @@ module _ (w : Setting) (law : IsSetting w) where
   unfolding is_valid_instruction branch_fits items_of low_act
   branch_steps m b op left right block end stays valid stands =
       let routine = routine_in w m.top.routine in
-      let fetched = fetch routine 10 left ++ fetch routine 11 right in
-      let regrouped = subst (λ items. Stands w.placing m.top.routine b.pc items end) (append_assoc fetched (BranchItem op 10 11 block ∷ []) (code_items routine m.top.now)) stands in
-      let parts = split w.placing m.top.routine b.pc fetched _ end regrouped in
+      let p = operand routine 10 left in
+      let q = operand routine 11 right in
+      let brought_ = bring routine 10 left ++ bring routine 11 right in
+      let regrouped = subst (λ items. Stands w.placing m.top.routine b.pc items end) (append_assoc brought_ (BranchItem op p q block ∷ []) (code_items routine m.top.now)) stands in
+      let parts = split w.placing m.top.routine b.pc brought_ _ end regrouped in
       let both : (has routine left && has routine right) ≡ true = both_left _ _ valid in
-      let two = two_fetched w law m b left right parts.middle stays (inside w law m left (both_left _ _ both)) (inside w law m right (both_right (has routine left) _ both)) parts.first in
+      let two = two_brought w law m b left right parts.middle stays (inside w law m left (both_left _ _ both)) (inside w law m right (both_right (has routine left) _ both)) parts.first in
       let c = placed b two.registers parts.middle in
-      let stays_c = stays_placed w law m b two.registers parts.middle stays two.size (two.others 2 (omega arith) (omega arith)) (two.others 8 (omega arith) (omega arith)) in
-      let tells : branch_taken op (register c 10) (register c 11) ≡ branch_taken op (value m left) (value m right) = ap₂ (branch_taken op) two.first two.second in
-      let choice = choice_by m c op 10 11 block end (branch_taken op (value m left) (value m right)) stays_c tells parts.second in
-      steps_join (cond (branch_taken op (value m left) (value m right)) (jump w.low block m) m) b c 2 6 3 [] [] two.walk choice
+      let stays_c = stays_placed w law m b two.registers parts.middle stays two.size (two.others 2 (omega arith) (omega arith)) (two.others 8 (omega arith) (omega arith)) (λ k. two.others (18 + k) (omega arith) (omega arith)) in
+      let tells : branch_taken op (register c p) (register c q) ≡ branch_taken op (value m left) (value m right) = ap₂ (branch_taken op) (register_is c p two.first_some ∙ two.first_is) (register_is c q two.second_some ∙ two.second_is) in
+      let choice = choice_by m c op p q block end (branch_taken op (value m left) (value m right)) stays_c tells parts.second in
+      steps_join (cond (branch_taken op (value m left) (value m right)) (jump w.low block m) m) b c 0 6 3 [] [] two.walk choice
 
   -- ---- exit
 
@@ -186,9 +188,9 @@ module _ (w : Setting) (law : IsSetting w) where
   both_memories test v x y same = ap (cond test v) same
 
   -- bytes below the limit are written on both sides
-  pub stays_written : (m : LowState) (b : State) (registers : List ℕ) (at a : ℕ) (bytes : List ℕ) → Stays w m b → length registers ≡ 32 → get_or registers 2 0 ≡ get_or b.registers 2 0 → get_or registers 8 0 ≡ get_or b.registers 8 0 → ((k : ℕ) → get_or bytes k 0 < 2 ^ 8) → ((x : ℕ) → a ≤ x → x < a + length bytes → (w.rights.writable x ≡ true) × (x < m.limit)) → Stays w (record m { memory = with_bytes m.memory a bytes }) (record (placed b registers at) { memory = with_bytes b.memory a bytes })
+  pub stays_written : (m : LowState) (b : State) (registers : List ℕ) (at a : ℕ) (bytes : List ℕ) → Stays w m b → length registers ≡ 32 → get_or registers 2 0 ≡ get_or b.registers 2 0 → get_or registers 8 0 ≡ get_or b.registers 8 0 → ((k : ℕ) → get_or registers (18 + k) 0 ≡ get_or b.registers (18 + k) 0) → ((k : ℕ) → get_or bytes k 0 < 2 ^ 8) → ((x : ℕ) → a ≤ x → x < a + length bytes → (w.rights.writable x ≡ true) × (x < m.limit)) → Stays w (record m { memory = with_bytes m.memory a bytes }) (record (placed b registers at) { memory = with_bytes b.memory a bytes })
   unfolding frame_of
-  stays_written m b registers at a bytes stays size sp limit small may =
+  stays_written m b registers at a bytes stays size sp limit homes small may =
       let memory = with_bytes b.memory a bytes in
       let above : (x : ℕ) → m.limit ≤ x → memory x ≡ b.memory x = λ x upper. with_bytes-outside b.memory a bytes x (λ from before. let under = (may x from before).1 in absurd (omega arith)) in
       record {
@@ -202,8 +204,8 @@ module _ (w : Setting) (law : IsSetting w) where
         sp = sp ∙ stays.sp;
         limit_aligned = stays.limit_aligned;
         sp_aligned = stays.sp_aligned;
-        holds = λ r inside. word_at-same b.memory memory (place_of (routine_in w m.top.routine) (m.limit + m.room) r) (λ x from before. above x (omega arith)) ∙ stays.holds r inside;
-        below = below_same w b.memory memory m.top.routine m.limit (m.limit + m.room) m.callers (λ x from. above x (omega arith)) stays.below;
+        holds = holds_same b.memory memory (homes_in b) (homes_in (placed b registers at)) (m.limit + m.room) (routine_in w m.top.routine) m.top.registers (λ x from before. above x (omega arith)) (λ k few within word. homes k) stays.holds;
+        below = below_same w b.memory memory (homes_in b) (homes_in (placed b registers at)) m.top.routine m.limit (m.limit + m.room) m.callers (λ x from. above x (omega arith)) (λ k few over word. homes k) stays.below;
       }
 
   bytes-bounded : (i n v k : ℕ) → get_or (bytes_low_first i n v) k 0 < 2 ^ 8
@@ -224,27 +226,29 @@ module _ (w : Setting) (law : IsSetting w) where
   unfolding is_valid_instruction imm_fits items_of low_act low_store act store instr_shows
   store_steps m b op v base offset end stays valid can stands =
       let routine = routine_in w m.top.routine in
-      let i = StoreInstr op 10 11 offset in
+      let p = operand routine 10 base in
+      let q = operand routine 11 v in
+      let i = StoreInstr op p q offset in
       let n = store_size_of op in
       let a = offset_from (value m base) offset in
       let bytes = bytes_low_first 0 n (value m v) in
       let whole = split w.placing m.top.routine b.pc (items_of routine (Store op v base offset)) _ end stands in
-      let parts = split w.placing m.top.routine b.pc (fetch routine 10 base ++ fetch routine 11 v) _ whole.middle whole.first in
+      let parts = split w.placing m.top.routine b.pc (bring routine 10 base ++ bring routine 11 v) _ whole.middle whole.first in
       let both : (has routine v && has routine base) ≡ true = both_left _ _ valid in
-      let two = two_fetched w law m b base v parts.middle stays (inside w law m base (both_right (has routine v) _ both)) (inside w law m v (both_left _ _ both)) parts.first in
+      let two = two_brought w law m b base v parts.middle stays (inside w law m base (both_right (has routine v) _ both)) (inside w law m v (both_left _ _ both)) parts.first in
       let c = placed b two.registers parts.middle in
-      let stays_c = stays_placed w law m b two.registers parts.middle stays two.size (two.others 2 (omega arith) (omega arith)) (two.others 8 (omega arith) (omega arith)) in
+      let stays_c = stays_placed w law m b two.registers parts.middle stays two.size (two.others 2 (omega arith) (omega arith)) (two.others 8 (omega arith) (omega arith)) (λ k. two.others (18 + k) (omega arith) (omega arith)) in
       let first = plain_first w.placing m.top.routine parts.middle i _ whole.middle parts.second in
       let there = nothing_more w.placing m.top.routine (parts.middle + 4) whole.middle first.1 in
       let may : (x : ℕ) → a ≤ x → x < a + length bytes → (w.rights.writable x ≡ true) × (x < m.limit) = λ x from before. usable_all w.rights.writable m a n (both_right (nat_eq (a % n) 0) _ can) x from (subst (λ k. x < a + k) (length_of_store op (value m v)) before) in
       let can_c : can_access c.rights.writable a n ≡ true = subst (λ rights. can_access rights.writable a n ≡ true) (sym stays_c.sound.rights) (access_of w.rights.writable m a n can) in
       let after : ℕ → ℕ → ℕ → State = λ x y at. record c { memory = with_bytes c.memory (offset_from y offset) (bytes_low_first 0 n x); pc = at } in
-      let done = ap (λ y. store op (register c 11) (offset_from y offset) c) two.first ∙ ap (λ x. store op x a c) two.second ∙ cond_true (can_access c.rights.writable a n) (after (value m v) (value m base) ((c.pc + 4) % 2 ^ 32)) (faulted StoreFault c) can_c ∙ ap (after (value m v) (value m base)) (advanced_pc w law c i first.0 ∙ there) in
+      let done = ap (λ y. store op (register c q) (offset_from y offset) c) (register_is c p two.first_some ∙ two.first_is) ∙ ap (λ x. store op x a c) (register_is c q two.second_some ∙ two.second_is) ∙ cond_true (can_access c.rights.writable a n) (after (value m v) (value m base) ((c.pc + 4) % 2 ^ 32)) (faulted StoreFault c) can_c ∙ ap (after (value m v) (value m base)) (advanced_pc w law c i first.0 ∙ there) in
       let one = walk_step w law c (after (value m v) (value m base) whole.middle) i [] stays_c.sound first.0 refl done in
-      let stored = stays_written m b two.registers whole.middle a bytes stays two.size (two.others 2 (omega arith) (omega arith)) (two.others 8 (omega arith) (omega arith)) (bytes-bounded 0 n (value m v)) may in
+      let stored = stays_written m b two.registers whole.middle a bytes stays two.size (two.others 2 (omega arith) (omega arith)) (two.others 8 (omega arith) (omega arith)) (λ k. two.others (18 + k) (omega arith) (omega arith)) (bytes-bounded 0 n (value m v)) may in
       let steps : Steps w (record m { memory = with_bytes m.memory a bytes }) b 7 [] = record {
         after = after (value m v) (value m base) whole.middle;
         goes = record { stays = stored; ready = record { end = end; stands = whole.second } };
-        walk = walk_weaken b (after (value m v) (value m base) whole.middle) 3 7 1 7 [] (omega arith) (omega arith) (walk_join b c (after (value m v) (value m base) whole.middle) 2 6 1 1 [] [] two.walk one);
+        walk = walk_weaken b (after (value m v) (value m base) whole.middle) 1 7 1 7 [] (omega arith) (omega arith) (walk_join b c (after (value m v) (value m base) whole.middle) 0 6 1 1 [] [] two.walk one);
       } in
       subst (λ s. Steps w s b 7 []) (sym (cond_true (can_access (usable w.rights.writable m) a n) (record m { memory = with_bytes m.memory a bytes }) _ can)) steps

@@ -12,7 +12,7 @@ use Rattle.op_rv.specs.declared.objects.ObjectBlock.{ObjectBlock}
 use Rattle.op_rv.specs.declared.objects.ObjectRoutine.{ObjectRoutine}
 use Rattle.op_rv.specs.declared.symbol.RoutineId.{RoutineId}
 use Rattle.op_select.specs.Example.{is_between, example_routine, example_low, example_code, example_setting}
-use Rattle.op_select.specs.Frames.{frame_of, home, load_home, store_home, fetch, keep, received, cleared_registers, cleared_locals, head_of, lowered, epilogue}
+use Rattle.op_select.specs.Frames.{frame_of, home, load_home, store_home, fetch, keep, operand, register_of, bring, brought, put, put_away, taken_one, taken, given_back, cleared_registers, cleared_locals, head_of, lowered, epilogue}
 use Rattle.op_select.specs.Going.{IsSetting, routine_in}
 use Rattle.op_select.specs.Placing.{Placing, Stands, Nothing, First, StandsFrom, StandsHere, Expands, past, StandsRoutine}
 use Rattle.op_select.specs.Selection.{items_of, code_items, object_block_of, object_routine_of, select_of}
@@ -26,17 +26,17 @@ plain_more : {g : Placing} {r at end : ℕ} {i : Instr} {items : List Item} → 
 unfolding Expands StandsHere past
 plain_more {i = i} here rest = First (i ∷ []) refl (here, tt) rest
 
-head_there : Stands example_setting.placing 0 65536 (head_of example_routine) 65564
-unfolding example_code frame_of home load_home store_home fetch keep received cleared_registers cleared_locals head_of lowered epilogue items_of code_items upper_of lower_of is_near below constant reach reached sum word_load word_store
-head_there = plain_more refl (plain_more refl (plain_more refl (plain_more refl (plain_more refl (plain_more refl (plain_more refl (Nothing refl)))))))
+head_there : Stands example_setting.placing 0 65536 (head_of example_routine) 65552
+unfolding example_code frame_of home load_home store_home fetch keep operand register_of bring brought put put_away taken_one taken given_back cleared_registers cleared_locals head_of lowered epilogue items_of code_items upper_of lower_of is_near below constant reach reached sum word_load word_store
+head_there = plain_more refl (plain_more refl (plain_more refl (plain_more refl (Nothing refl))))
 
-block_there : Stands example_setting.placing 0 65564 (code_items example_routine (Const (record { 0 = 0 }) 7 ∷ Exit (record { 0 = 0 }) ∷ [])) 65584
-unfolding example_code frame_of home load_home store_home fetch keep received cleared_registers cleared_locals head_of lowered epilogue items_of code_items upper_of lower_of is_near below constant reach reached sum word_load word_store
-block_there = plain_more refl (plain_more refl (plain_more refl (plain_more refl (plain_more refl (Nothing refl)))))
+block_there : Stands example_setting.placing 0 65552 (code_items example_routine (Const (record { 0 = 0 }) 7 ∷ Exit (record { 0 = 0 }) ∷ [])) 65568
+unfolding example_code frame_of home load_home store_home fetch keep operand register_of bring brought put put_away taken_one taken given_back cleared_registers cleared_locals head_of lowered epilogue items_of code_items upper_of lower_of is_near below constant reach reached sum word_load word_store
+block_there = plain_more refl (plain_more refl (plain_more refl (plain_more refl (Nothing refl))))
 
-stub_there : Stands example_setting.placing 0 65584 (items_of example_routine Raise) 65600
-unfolding example_code frame_of home load_home store_home fetch keep received cleared_registers cleared_locals head_of lowered epilogue items_of code_items upper_of lower_of is_near below constant reach reached sum word_load word_store
-stub_there = plain_more refl (plain_more refl (plain_more refl (plain_more refl (Nothing refl))))
+stub_there : Stands example_setting.placing 0 65568 (items_of example_routine Raise) 65588
+unfolding example_code frame_of home load_home store_home fetch keep operand register_of bring brought put put_away taken_one taken given_back cleared_registers cleared_locals head_of lowered epilogue items_of code_items upper_of lower_of is_near below constant reach reached sum word_load word_store
+stub_there = plain_more refl (plain_more refl (plain_more refl (plain_more refl (plain_more refl (Nothing refl)))))
 
 -- what stands where an element of a list is found
 abbrev FromBlock : ℕ → Option ObjectBlock → Type 0
@@ -47,7 +47,7 @@ abbrev FromRoutine : Option ObjectRoutine → Type 0
 FromRoutine None = Unit {0}
 FromRoutine (Some routine) = StandsRoutine example_setting.placing 0 routine
 
-from_head : Stands example_setting.placing 0 65536 (object_routine_of example_routine).head 65564
+from_head : Stands example_setting.placing 0 65536 (object_routine_of example_routine).head 65552
 unfolding object_routine_of
 from_head = head_there
 
@@ -64,8 +64,8 @@ equal_is a b test = grind (arith, nat_tests)
 
 blocks_there : (b : ℕ) (block : ObjectBlock) → slice_get (object_routine_of example_routine).blocks b ≡ Some block → StandsFrom example_setting.placing 0 (example_setting.placing.block 0 b) block.items
 unfolding object_routine_of object_block_of
-blocks_there zero block is = subst (λ o. FromBlock 65564 o) is (record { end = 65584; stands = block_there })
-blocks_there (suc zero) block is = subst (λ o. FromBlock 65584 o) is (record { end = 65600; stands = stub_there })
+blocks_there zero block is = subst (λ o. FromBlock 65552 o) is (record { end = 65568; stands = block_there })
+blocks_there (suc zero) block is = subst (λ o. FromBlock 65568 o) is (record { end = 65588; stands = stub_there })
 blocks_there (suc (suc b)) block is = absurd cc
 
 routines_there : (r : ℕ) (routine : ObjectRoutine) → slice_get (select_of example_low).routines r ≡ Some routine → StandsRoutine example_setting.placing r routine
@@ -82,13 +82,13 @@ within (y ∷ ys) (suc k) x is =
     let more = within ys k x is in
     omega arith
 
-code_length : length example_code ≡ 16
-unfolding example_code frame_of home load_home store_home fetch keep received cleared_registers cleared_locals head_of lowered epilogue items_of code_items upper_of lower_of is_near below constant reach reached sum word_load word_store
+code_length : length example_code ≡ 13
+unfolding example_code frame_of home load_home store_home fetch keep operand register_of bring brought put put_away taken_one taken given_back cleared_registers cleared_locals head_of lowered epilogue items_of code_items upper_of lower_of is_near below constant reach reached sum word_load word_store
 code_length = refl
 
 record Place (a : ℕ) : Type 0 where
   from : 65536 ≤ a
-  before : a < 65600
+  before : a < 65588
   whole : a % 4 ≡ 0
 
 place_by : (a : ℕ) (i : Instr) (test : Bool) → (nat_le 65536 a && nat_eq (a % 4) 0) ≡ test → cond test (slice_get example_code ((a - 65536) / 4)) None ≡ Some i → Place a

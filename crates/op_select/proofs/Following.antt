@@ -28,7 +28,7 @@ use Rattle.op_select.specs.Frames.{frame_of}
 use Rattle.op_select.specs.Going.{Setting, IsSetting, routine_in, locals_in, placement_of, Stays, Goes, IsSafe}
 use Rattle.op_select.specs.Placing.{Stands}
 use Rattle.op_select.specs.RiscvMachine.{riscv_machine, riscv_shows}
-use Rattle.op_select.specs.Selected.{Finished, MatchesBy, Matches, selected}
+use Rattle.op_select.specs.Selected.{Finished, MatchesBy, Matches, most_steps, selected}
 use Rattle.op_select.specs.Selection.{items_of, code_items}
 use Rattle.op_select.proofs.CallSteps.{call_steps, call_at_steps}
 use Rattle.op_select.proofs.ControlSteps.{jump_steps, branch_steps, store_steps, exit_steps}
@@ -42,7 +42,7 @@ use Rattle.op_select.proofs.WordLemmas.{cond_true}
 pub record Outcome (w : Setting) (m : LowState) (b : State) (events : List Event) (price : ℕ) : Type 0 where
   pub after : State
   pub states : MatchesBy w m.ending m after
-  pub walk : Walk b after 1 (18 * price) events
+  pub walk : Walk b after 1 (most_steps * price) events
 
 is_taken : (b : Bool) (s t : LowState) → ((if b then s else t).ending ≡ Bad → ⊥) → t.ending ≡ Bad → b ≡ true
 is_taken true s t good bad = refl
@@ -99,12 +99,12 @@ running_if : (b : Bool) (s t : LowState) → b ≡ true → s.ending ≡ Running
 running_if b s t is running = ap (λ c. (if c then s else t).ending) is ∙ running
 
 module _ (w : Setting) (law : IsSetting w) where
-  going : (m : LowState) (b : State) (most price : ℕ) (events : List Event) → m.ending ≡ Running → most ≤ 18 * price → Steps w m b most events → Outcome w m b events price
+  going : (m : LowState) (b : State) (most price : ℕ) (events : List Event) → m.ending ≡ Running → most ≤ most_steps * price → Steps w m b most events → Outcome w m b events price
   going m b most price events running less steps =
       record {
         after = steps.after;
         states = subst (λ e. MatchesBy w e m steps.after) (sym running) steps.goes;
-        walk = walk_weaken b steps.after 1 most 1 (18 * price) events (omega arith) less steps.walk;
+        walk = walk_weaken b steps.after 1 most 1 (most_steps * price) events (omega arith) less steps.walk;
       }
 
   does_call : (m : LowState) (b : State) (id : RoutineId) (operands : Operands) (end : ℕ) → m.ending ≡ Running → ((call w.low (placement_of w) id.0 operands m).ending ≡ Bad → ⊥) → is_valid_instruction w.low (routine_in w m.top.routine) (Call id operands) ≡ true → Stays w m b → Stands w.placing m.top.routine b.pc (items_of (routine_in w m.top.routine) (Call id operands) ++ code_items (routine_in w m.top.routine) m.top.now) end → Outcome w (call w.low (placement_of w) id.0 operands m) b [] (1 + space w.low (placement_of w) id.0 + length operands.arguments)
@@ -112,7 +112,7 @@ module _ (w : Setting) (law : IsSetting w) where
   does_call m b id operands end running good valid stays stands =
       let can = is_taken (can_enter w.low (placement_of w) id.0 (length operands.arguments) m) _ (bad m) good refl in
       let ran = running_if (can_enter w.low (placement_of w) id.0 (length operands.arguments) m) _ (bad m) can running in
-      going _ b (6 * length operands.arguments + 2 + (36 + 3 * (routine_in w id.0).registers + locals_in w id.0)) (1 + space w.low (placement_of w) id.0 + length operands.arguments) [] ran (omega arith) (call_steps w law m b id operands end stays valid can stands)
+      going _ b (6 * length operands.arguments + 2 + (12 + 3 * (routine_in w id.0).registers + locals_in w id.0)) (1 + space w.low (placement_of w) id.0 + length operands.arguments) [] ran (omega arith) (call_steps w law m b id operands end stays valid can stands)
 
   does_call_at : (m : LowState) (b : State) (address : VirtualRegister) (operands : Operands) (o : Option ℕ) (end : ℕ) → w.routine_at (value m address) ≡ o → m.ending ≡ Running → ((call_found w.low (placement_of w) o operands m).ending ≡ Bad → ⊥) → is_valid_instruction w.low (routine_in w m.top.routine) (CallAt address operands) ≡ true → Stays w m b → Stands w.placing m.top.routine b.pc (items_of (routine_in w m.top.routine) (CallAt address operands) ++ code_items (routine_in w m.top.routine) m.top.now) end → Outcome w (call_found w.low (placement_of w) o operands m) b [] (cost_by w.low (record (placement_of w) { routine_at = λ a. o }) (CallAt address operands) m)
   unfolding call cost_by frame_of
@@ -120,19 +120,19 @@ module _ (w : Setting) (law : IsSetting w) where
   does_call_at m b address operands (Some r) end found running good valid stays stands =
       let can = is_taken (can_enter w.low (placement_of w) r (length operands.arguments) m) _ (bad m) good refl in
       let ran = running_if (can_enter w.low (placement_of w) r (length operands.arguments) m) _ (bad m) can running in
-      going _ b (6 * length operands.arguments + 4 + (36 + 3 * (routine_in w r).registers + locals_in w r)) (1 + space w.low (placement_of w) r + length operands.arguments) [] ran (omega arith) (call_at_steps w law m b address operands r end stays valid found can stands)
+      going _ b (6 * length operands.arguments + 4 + (12 + 3 * (routine_in w r).registers + locals_in w r)) (1 + space w.low (placement_of w) r + length operands.arguments) [] ran (omega arith) (call_at_steps w law m b address operands r end stays valid found can stands)
 
   does_return : (m : LowState) (b : State) (v : VirtualRegister) (cs : List Caller) (end : ℕ) → m.callers ≡ cs → m.ending ≡ Running → ((return_to w.low (placement_of w) (value m v) m.callers m).ending ≡ Bad → ⊥) → is_valid_instruction w.low (routine_in w m.top.routine) (Return v) ≡ true → Stays w m b → Stands w.placing m.top.routine b.pc (items_of (routine_in w m.top.routine) (Return v) ++ code_items (routine_in w m.top.routine) m.top.now) end → Outcome w (return_to w.low (placement_of w) (value m v) m.callers m) b [] 1
   unfolding act
   does_return m b v [] end is running good valid stays stands = absurd (good (ap (λ xs. (return_to w.low (placement_of w) (value m v) xs m).ending) is))
   does_return m b v (c ∷ cs) end is running good valid stays stands =
-      going _ b 18 1 [] (ap (λ xs. (return_to w.low (placement_of w) (value m v) xs m).ending) is ∙ running) (omega arith) (return_steps w law m b v c cs end stays is valid stands)
+      going _ b 32 1 [] (ap (λ xs. (return_to w.low (placement_of w) (value m v) xs m).ending) is ∙ running) (omega arith) (return_steps w law m b v c cs end stays is valid stands)
 
   does_raise : (m : LowState) (b : State) (cs : List Caller) (end : ℕ) → m.callers ≡ cs → m.ending ≡ Running → ((raise_to w.low (placement_of w) m.callers m).ending ≡ Bad → ⊥) → Stays w m b → Stands w.placing m.top.routine b.pc (items_of (routine_in w m.top.routine) Raise ++ code_items (routine_in w m.top.routine) m.top.now) end → Outcome w (raise_to w.low (placement_of w) m.callers m) b [] 1
   unfolding act
   does_raise m b [] end is running good stays stands = absurd (good (ap (λ xs. (raise_to w.low (placement_of w) xs m).ending) is))
   does_raise m b (c ∷ cs) end is running good stays stands =
-      going _ b 12 1 [] (ap (λ xs. (raise_to w.low (placement_of w) xs m).ending) is ∙ running) (omega arith) (raise_steps w law m b c cs end stays is stands)
+      going _ b 26 1 [] (ap (λ xs. (raise_to w.low (placement_of w) xs m).ending) is ∙ running) (omega arith) (raise_steps w law m b c cs end stays is stands)
 
   written_runs : (output : Output) (bytes : List ℕ) (m : LowState) → m.ending ≡ Running → (written output bytes m).ending ≡ Running
   written_runs Console bytes m running = running
@@ -165,7 +165,7 @@ module _ (w : Setting) (law : IsSetting w) where
       record {
         after = steps.after;
         states = record { ending = steps.ended; output = steps.output; errors = steps.errors; input = steps.input };
-        walk = walk_weaken b steps.after 1 5 1 (18 * 1) [] (omega arith) (omega arith) steps.walk;
+        walk = walk_weaken b steps.after 1 5 1 (most_steps * 1) [] (omega arith) (omega arith) steps.walk;
       }
 
   does_load : (m : LowState) (b : State) (op : LoadOp) (to base : VirtualRegister) (offset : ℤ) (end : ℕ) → m.ending ≡ Running → ((act w.low (placement_of w) (Load op to base offset) m).ending ≡ Bad → ⊥) → is_valid_instruction w.low (routine_in w m.top.routine) (Load op to base offset) ≡ true → Stays w m b → Stands w.placing m.top.routine b.pc (items_of (routine_in w m.top.routine) (Load op to base offset) ++ code_items (routine_in w m.top.routine) m.top.now) end → Outcome w (act w.low (placement_of w) (Load op to base offset) m) b [] 1
@@ -226,7 +226,7 @@ module _ (w : Setting) (law : IsSetting w) where
         good = subst (NeverBad w.low (placement_of w)) steps (always_next (low_machine w.low (placement_of w)) (λ s. s.ending ≡ Bad → ⊥) m matches.good);
         states = outcome.states;
       } in
-      stretch_of_path (selected w) m b outcome.after (outcome.walk.steps - 1) events outcome.walk.steps (path_of b outcome.after events (18 * price) outcome.walk) (subst (λ s. Matches w s outcome.after) (sym steps) after) shown (omega arith)
+      stretch_of_path (selected w) m b outcome.after (outcome.walk.steps - 1) events outcome.walk.steps (path_of b outcome.after events (most_steps * price) outcome.walk) (subst (λ s. Matches w s outcome.after) (sym steps) after) shown (omega arith)
 
   running_step_by : (m : LowState) (b : State) (now : List Instruction) → m.top.now ≡ now → m.ending ≡ Running → Matches w m b → Goes w m b → Stretch (selected w) m b
   unfolding step step_by_ending done shows cost code_items run

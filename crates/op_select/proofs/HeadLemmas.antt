@@ -1,49 +1,60 @@
 -- The head of a routine, stage by stage.
-use Rattle.std.proofs.Common.{◌≡◌, ◌≢◌, ℕ, pos, zero, suc, ◌+◌, ◌-◌, ◌*◌, ◌/◌, ◌%◌, ◌^◌, ◌-ℤ◌, ◌<◌, ◌≤◌, ◌⊎◌, inl, inr, Bool, true, false, cond, nat_eq, List, [], ◌∷◌, ◌++◌, length, get_or, refl, ap, sym, subst, ◌∙◌, arith}
-use Rattle.std.proofs.lemmas.Bool.{cases_lt}
+use Rattle.std.proofs.Common.{◌≡◌, ◌≢◌, ℕ, pos, zero, suc, ◌+◌, ◌-◌, ◌*◌, ◌/◌, ◌%◌, ◌^◌, ◌-ℤ◌, ◌<◌, ◌≤◌, ◌⊎◌, inl, inr, Bool, true, false, cond, nat_eq, nat_le, nat_lt, List, [], ◌∷◌, ◌++◌, length, get_or, refl, ap, sym, subst, ◌∙◌, arith}
+use Rattle.std.proofs.lemmas.Bool.{cases_lt, leb-true, ltb-false, ltb-true}
 use Rattle.std.proofs.lemmas.Bool.Decides.{nat_tests}
 use Rattle.std.specs.Int.{bytes_low_first}
 use Rattle.op_low.specs.declared.code.Routine.{Routine}
-use Rattle.op_rv.proofs.Memory.{can_access_word, four-bounded, with_bytes-outside, word_at-same, word_at-stored}
+use Rattle.op_rv.proofs.Memory.{with_bytes-outside, word_at-same, word_at-stored}
 use Rattle.op_rv.specs.Operation.{word_from}
-use Rattle.op_rv.specs.State.{State, register, advanced, faulted, with_bytes, word_at}
-use Rattle.op_rv.specs.Step.{act, store, can_access, offset_from}
-use Rattle.op_rv.specs.declared.fault.FaultKind.TheVariants.{Store as StoreFault}
+use Rattle.op_rv.specs.State.{State, register, with_bytes, word_at}
+use Rattle.op_rv.specs.Step.{act}
 use Rattle.op_rv.specs.declared.instruction.ImmOp.TheVariants.{Addi}
+use Rattle.op_rv.specs.declared.instruction.LoadOp.TheVariants.{Lw}
 use Rattle.op_rv.specs.declared.instruction.StoreOp.TheVariants.{Sw}
-use Rattle.op_rv.specs.declared.instruction.Instr.TheVariants.{Imm, Store}
+use Rattle.op_rv.specs.declared.instruction.Instr.TheVariants.{Imm, Load, Store}
 use Rattle.op_rv.specs.declared.objects.Item.TheVariants.{Plain}
-use Rattle.op_select.specs.Frames.{home, store_home, keep, received, cleared, cleared_registers, cleared_locals}
-use Rattle.op_select.specs.Going.{Setting, IsSetting, routine_in, locals_in, Sound, place_of}
+use Rattle.op_select.specs.Frames.{cleared, cleared_locals, cleared_registers, fresh_words, taken, taken_from, taken_one}
+use Rattle.op_select.specs.Going.{Setting, IsSetting, routine_in, locals_in, Sound}
 use Rattle.op_select.specs.Placing.{Stands}
 use Rattle.op_select.specs.RiscvMachine.{instr_shows}
-use Rattle.op_select.specs.Sequences.{below, sum}
-use Rattle.op_select.proofs.ClearLemmas.{stored, Clears, clears, no_distance}
-use Rattle.op_select.proofs.FrameLemmas.{sizes, sound_stored}
-use Rattle.op_select.proofs.ReturnSteps.{four_below, down_by, down-bounded}
-use Rattle.op_select.proofs.SequenceLemmas.{sums, stores}
-use Rattle.op_select.proofs.Walks.{Walk, walk_none, walk_join, walk_weaken, walk_step, advanced_pc, placed, sound_placed, becomes, plain_first, split, nothing_more}
-use Rattle.op_select.proofs.WordLemmas.{cond_true}
+use Rattle.op_select.specs.Sequences.{sum}
+use Rattle.op_select.proofs.ClearLemmas.{stored, Clears, clears}
+use Rattle.op_select.proofs.FrameLemmas.{sizes}
+use Rattle.op_select.proofs.SavingLemmas.{home_below, loads_below, stores_below}
+use Rattle.op_select.proofs.SequenceLemmas.{sums}
+use Rattle.op_select.proofs.Walks.{Walk, walk_none, walk_join, walk_weaken, placed, sound_placed, becomes, register_is, plain_first, split, nothing_more}
+use Rattle.op_select.proofs.WordLemmas.{no_distance}
 
--- the return address is saved, and sp is that of the routine
-pub record Saves (w : Setting) (b : State) (sp frame at : ℕ) : Type 0 where
-  pub registers : List ℕ
-  pub size : length registers ≡ 32
-  pub sp_is : get_or registers 2 0 ≡ sp - frame
-  pub others : (q : ℕ) → q ≢ 2 → q ≢ 1 → get_or registers q 0 ≡ get_or b.registers q 0
-  pub sound : Sound w (stored b registers at (with_bytes b.memory (sp - 4) (bytes_low_first 0 4 (get_or b.registers 1 0))))
-  pub walk : Walk b (stored b registers at (with_bytes b.memory (sp - 4) (bytes_low_first 0 4 (get_or b.registers 1 0)))) 1 4 []
+-- what the registers of a routine begin with, and where it comes
+pub record Comes (b : State) (routine : Routine) (sp : ℕ) (value : ℕ → ℕ) : Type 0 where
+  pub early : (k : ℕ) → k < routine.parameters → k < 8 → get_or b.registers (10 + k) 0 ≡ value k
+  pub late : (k : ℕ) → k < routine.parameters → 8 ≤ k → word_at b.memory (sp - (8 + 4 * k)) ≡ value k
+  pub fresh : (k : ℕ) → routine.parameters ≤ k → value k ≡ 0
+  pub words : (k : ℕ) → value k < 2 ^ 32
 
--- so many parameters are in their homes
-pub record Receives (w : Setting) (b : State) (routine : Routine) (sp count at : ℕ) : Type 0 where
+-- one home has been taken from the caller
+record TakesOne (w : Setting) (b : State) (sp k v most at : ℕ) : Type 0 where
+  registers : List ℕ
+  size : length registers ≡ 32
+  home_is : get_or registers (18 + k) 0 ≡ v
+  others : (q : ℕ) → q ≢ 10 → q ≢ 18 + k → get_or registers q 0 ≡ get_or b.registers q 0
+  argument : k < 8 → get_or registers 10 0 ≡ get_or b.registers 10 0
+  sound : Sound w (stored b registers at (with_bytes b.memory (sp - (8 + 4 * k)) (bytes_low_first 0 4 (get_or b.registers (18 + k) 0))))
+  walk : Walk b (stored b registers at (with_bytes b.memory (sp - (8 + 4 * k)) (bytes_low_first 0 4 (get_or b.registers (18 + k) 0)))) 0 most []
+
+-- so many homes have been taken
+pub record Takes (w : Setting) (b : State) (sp n : ℕ) (value : ℕ → ℕ) (at : ℕ) : Type 0 where
   pub registers : List ℕ
   pub memory : ℕ → ℕ
   pub size : length registers ≡ 32
-  pub others : (q : ℕ) → q ≢ 1 → get_or registers q 0 ≡ get_or b.registers q 0
-  pub homes : (v : ℕ) → v < count → word_at memory (place_of routine sp v) ≡ get_or b.registers (10 + v) 0
-  pub same : (x : ℕ) → (x < sp + 4 * (routine.registers - count)) ⊎ (sp + 4 * routine.registers ≤ x) → memory x ≡ b.memory x
+  pub homes : (k : ℕ) → k < n → get_or registers (18 + k) 0 ≡ value k
+  pub rest : (k : ℕ) → n ≤ k → get_or registers (18 + k) 0 ≡ get_or b.registers (18 + k) 0
+  pub low : (q : ℕ) → q < 18 → q ≢ 10 → get_or registers q 0 ≡ get_or b.registers q 0
+  pub argument : n ≤ 8 → get_or registers 10 0 ≡ get_or b.registers 10 0
+  pub saved : (k : ℕ) → k < n → get_or b.registers (18 + k) 0 < 2 ^ 32 → word_at memory (sp - (8 + 4 * k)) ≡ get_or b.registers (18 + k) 0
+  pub same : (x : ℕ) → (x + (4 * n + 4) < sp) ⊎ (sp ≤ x + 4) → memory x ≡ b.memory x
   pub sound : Sound w (stored b registers at memory)
-  pub walk : Walk b (stored b registers at memory) 0 (3 * count) []
+  pub walk : Walk b (stored b registers at memory) 0 (3 * n) []
 
 -- a stretch of memory is zeros
 pub record Zeroes (w : Setting) (b : State) (a bytes limit at most : ℕ) : Type 0 where
@@ -62,88 +73,141 @@ module _ (w : Setting) (law : IsSetting w) where
   clears_some (suc k) b r from until a end some sound from_some from_small until_some apart from_is until_is small whole writable stands =
       clears w law k b r from until a end sound from_some from_small until_some apart from_is until_is small whole writable stands
 
-  -- ---- the return address and sp
+  -- ---- homes
 
-  pub saves : (b : State) (r sp frame at : ℕ) → Sound w b → get_or b.registers 2 0 ≡ sp → sp % 4 ≡ 0 → 4 ≤ frame → frame ≤ sp → w.bottom + frame ≤ sp → sp ≤ w.top → Stands w.placing r b.pc (Plain (Store Sw 2 1 (pos 0 -ℤ pos 4)) ∷ sum 2 2 1 (below frame)) at → Saves w b sp frame at
-  unfolding act store instr_shows
-  saves b r sp frame at sound sp_is whole some fits bottom top stands =
+  takes_from : (b : State) (r sp k source v at : ℕ) → Sound w b → get_or b.registers 2 0 ≡ sp → sp % 4 ≡ 0 → k < 14 → w.bottom + 4 * k + 8 ≤ sp → sp ≤ w.top → register b source ≡ v → v < 2 ^ 32 → Stands w.placing r b.pc (taken_from k source) at → TakesOne w b sp k v 2 at
+  unfolding act instr_shows
+  takes_from b r sp k source v at sound sp_is whole few bottom top source_is fits stands =
       let low = law.low_top in
-      let i = Store Sw 2 1 (pos 0 -ℤ pos 4) in
-      let first = plain_first w.placing r b.pc i _ at stands in
-      let a = sp - 4 in
-      let back = get_or b.registers 1 0 in
-      let memory = with_bytes b.memory a (bytes_low_first 0 4 back) in
-      let address : offset_from (register b 2) (pos 0 -ℤ pos 4) ≡ a = ap (λ n. offset_from n (pos 0 -ℤ pos 4)) sp_is ∙ four_below sp (omega arith) (omega arith) in
-      let writable : (x : ℕ) → a ≤ x → x < a + 4 → w.rights.writable x ≡ true = λ x lower upper. law.writable x (omega arith) (omega arith) in
-      let may : can_access b.rights.writable a 4 ≡ true = can_access_word b.rights.writable a (omega arith) (λ x lower upper. subst (λ rights. rights.writable x ≡ true) (sym sound.rights) (writable x lower upper)) in
-      let done = ap (λ n. store Sw back n b) address ∙ cond_true (can_access b.rights.writable a 4) (advanced (record b { memory = memory })) (faulted StoreFault b) may ∙ ap (λ n. stored b b.registers n memory) (advanced_pc w law b i first.0) in
+      let a = sp - (8 + 4 * k) in
+      let x = get_or b.registers (18 + k) 0 in
+      let memory = with_bytes b.memory a (bytes_low_first 0 4 x) in
+      let first = plain_first w.placing r b.pc (Store Sw 2 (18 + k) (pos 0 -ℤ pos (4 * k + 8))) _ at stands in
+      let put = stores_below w law b (18 + k) sp a (pos 0 -ℤ pos (4 * k + 8)) sound sp_is (omega arith) (home_below sp k few (omega arith) (omega arith)) (omega arith) (omega arith) (omega arith) first.0 in
       let c = stored b b.registers (b.pc + 4) memory in
-      let one = walk_step w law b c i [] sound first.0 refl done in
-      let sound_c = sound_stored w law b b.registers (b.pc + 4) a (bytes_low_first 0 4 back) sound sound.size (four-bounded back) writable in
-      let made = sums w law c r 2 2 1 (below frame) at sound_c (omega arith) (omega arith) (omega arith) (omega arith) (omega arith) (omega arith) (down-bounded frame) first.1 in
+      let second = plain_first w.placing r c.pc (Imm Addi (18 + k) source (pos 0)) _ at first.1 in
+      let made = becomes w law c (Imm Addi (18 + k) source (pos 0)) (18 + k) ((register c source + word_from (pos 0)) % 2 ^ 32) put.sound second.0 (omega arith) (omega arith) refl refl in
+      let there = nothing_more w.placing r (c.pc + 4) at second.1 in
       record {
         registers = made.registers;
         size = made.size;
-        sp_is = made.value_is ∙ ap (λ n. (n + below frame) % 2 ^ 32) sp_is ∙ down_by sp frame (omega arith) (omega arith);
-        others = made.others;
-        sound = sound_placed w law c made.registers at sound_c made.size;
-        walk = walk_weaken b (placed c made.registers at) 2 4 1 4 [] (omega arith) (omega arith) (walk_join b c (placed c made.registers at) 1 1 1 3 [] [] one made.walk);
+        home_is = made.value_is ∙ ap (λ n. (n + word_from (pos 0)) % 2 ^ 32) source_is ∙ no_distance v fits;
+        others = λ q ten other. made.others q other other;
+        argument = λ early. made.others 10 (omega arith) (omega arith);
+        sound = sound_placed w law c made.registers at put.sound made.size;
+        walk = walk_weaken b (placed c made.registers at) 2 2 0 2 [] (omega arith) (omega arith) (subst (λ n. Walk b (placed c made.registers n) 2 2 []) there (walk_join b c (placed c made.registers (c.pc + 4)) 1 1 1 1 [] [] put.walk made.walk));
       }
 
-  -- ---- parameters
+  takes_late : (b : State) (r sp k v at : ℕ) → Sound w b → get_or b.registers 2 0 ≡ sp → sp % 4 ≡ 0 → k < 14 → 8 ≤ k → w.bottom + 4 * k + 8 ≤ sp → sp ≤ w.top → word_at b.memory (sp - (8 + 4 * k)) ≡ v → v < 2 ^ 32 → Stands w.placing r b.pc (Plain (Load Lw 10 2 (pos 0 -ℤ pos (4 * k + 8))) ∷ taken_from k 10) at → TakesOne w b sp k v 3 at
+  takes_late b r sp k v at sound sp_is whole few late bottom top word_is fits stands =
+      let low = law.low_top in
+      let a = sp - (8 + 4 * k) in
+      let first = plain_first w.placing r b.pc (Load Lw 10 2 (pos 0 -ℤ pos (4 * k + 8))) _ at stands in
+      let made = loads_below w law b 10 sp a (pos 0 -ℤ pos (4 * k + 8)) sound sp_is (omega arith) (omega arith) (home_below sp k few (omega arith) (omega arith)) (omega arith) (omega arith) (omega arith) first.0 in
+      let c = placed b made.registers (b.pc + 4) in
+      let sound_c = sound_placed w law b made.registers (b.pc + 4) sound made.size in
+      let same : get_or made.registers (18 + k) 0 ≡ get_or b.registers (18 + k) 0 = made.others (18 + k) (omega arith) (omega arith) in
+      let more = takes_from c r sp k 10 v at sound_c (made.others 2 (omega arith) (omega arith) ∙ sp_is) whole few bottom top (made.value_is ∙ word_is) fits first.1 in
+      let after : ℕ → State = λ n. stored b more.registers at (with_bytes b.memory a (bytes_low_first 0 4 n)) in
+      record {
+        registers = more.registers;
+        size = more.size;
+        home_is = more.home_is;
+        others = λ q ten other. more.others q ten other ∙ made.others q ten ten;
+        argument = λ early. absurd (omega arith);
+        sound = subst (λ n. Sound w (after n)) same more.sound;
+        walk = walk_weaken b (after (get_or b.registers (18 + k) 0)) 1 3 0 3 [] (omega arith) (omega arith) (walk_join b c (after (get_or b.registers (18 + k) 0)) 1 1 0 2 [] [] made.walk (subst (λ n. Walk c (after n) 0 2 []) same more.walk));
+      }
 
-  pub receives : (count : ℕ) (b : State) (r sp at : ℕ) → Sound w b → get_or b.registers 2 0 ≡ sp → sp % 4 ≡ 0 → count ≤ 8 → count ≤ (routine_in w r).registers → w.bottom ≤ sp → sp + 4 * (routine_in w r).registers ≤ w.top → ((v : ℕ) → v < count → get_or b.registers (10 + v) 0 < 2 ^ 32) → Stands w.placing r b.pc (received (routine_in w r) count) at → Receives w b (routine_in w r) sp count at
-  unfolding received keep home store_home
-  receives zero b r sp at sound sp_is whole few inside bottom top words stands =
+  takes_three : (b : State) (sp k v at : ℕ) → TakesOne w b sp k v 2 at → TakesOne w b sp k v 3 at
+  takes_three b sp k v at one =
+      record {
+        registers = one.registers;
+        size = one.size;
+        home_is = one.home_is;
+        others = one.others;
+        argument = one.argument;
+        sound = one.sound;
+        walk = walk_weaken b (stored b one.registers at (with_bytes b.memory (sp - (8 + 4 * k)) (bytes_low_first 0 4 (get_or b.registers (18 + k) 0)))) 0 2 0 3 [] (omega arith) (omega arith) one.walk;
+      }
+
+  takes_one : (b : State) (routine : Routine) (r sp k v at : ℕ) (none early : Bool) → nat_le routine.parameters k ≡ none → nat_lt k 8 ≡ early → Sound w b → get_or b.registers 2 0 ≡ sp → sp % 4 ≡ 0 → k < 14 → w.bottom + 4 * k + 8 ≤ sp → sp ≤ w.top → (routine.parameters ≤ k → v ≡ 0) → (k < routine.parameters → k < 8 → get_or b.registers (10 + k) 0 ≡ v) → (k < routine.parameters → 8 ≤ k → word_at b.memory (sp - (8 + 4 * k)) ≡ v) → v < 2 ^ 32 → Stands w.placing r b.pc (cond none (taken_from k 0) (cond early (taken_from k (10 + k)) (Plain (Load Lw 10 2 (pos 0 -ℤ pos (4 * k + 8))) ∷ taken_from k 10))) at → TakesOne w b sp k v 3 at
+  takes_one b routine r sp k v at true early test tested sound sp_is whole few bottom top fresh soon late fits stands =
+      takes_three b sp k v at (takes_from b r sp k 0 v at sound sp_is whole few bottom top (sym (fresh (leb-true routine.parameters k test))) fits stands)
+  takes_one b routine r sp k v at false true test tested sound sp_is whole few bottom top fresh soon late fits stands =
+      let given : k < routine.parameters = grind (arith, nat_tests) in
+      let first = ltb-true k 8 tested in
+      takes_three b sp k v at (takes_from b r sp k (10 + k) v at sound sp_is whole few bottom top (register_is b (10 + k) (omega arith) ∙ soon given first) fits stands)
+  takes_one b routine r sp k v at false false test tested sound sp_is whole few bottom top fresh soon late fits stands =
+      let given : k < routine.parameters = grind (arith, nat_tests) in
+      let ninth = ltb-false k 8 tested in
+      takes_late b r sp k v at sound sp_is whole few ninth bottom top (late given ninth) fits stands
+
+  pub takes : (n : ℕ) (b : State) (r sp : ℕ) (value : ℕ → ℕ) (at : ℕ) → Sound w b → get_or b.registers 2 0 ≡ sp → sp % 4 ≡ 0 → n ≤ 14 → w.bottom + 4 * n + 4 ≤ sp → sp ≤ w.top → Comes b (routine_in w r) sp value → Stands w.placing r b.pc (taken (routine_in w r) n) at → Takes w b sp n value at
+  unfolding taken taken_one
+  takes zero b r sp value at sound sp_is whole few bottom top comes stands =
       let there = nothing_more w.placing r b.pc at stands in
       record {
         registers = b.registers;
         memory = b.memory;
         size = sound.size;
-        others = λ q other. refl;
-        homes = λ v none. absurd (omega arith);
+        homes = λ k none. absurd (omega arith);
+        rest = λ k over. refl;
+        low = λ q less other. refl;
+        argument = λ few. refl;
+        saved = λ k none word. absurd (omega arith);
         same = λ x side. refl;
         sound = sound_placed w law b b.registers at sound sound.size;
         walk = subst (λ n. Walk b (placed b b.registers n) 0 0 []) there (walk_none b);
       }
-  receives (suc count) b r sp at sound sp_is whole few inside bottom top words stands =
+  takes (suc n) b r sp value at sound sp_is whole few bottom top comes stands =
       let routine = routine_in w r in
-      let low = law.low_top in
-      let parts = split w.placing r b.pc (received routine count) _ at stands in
-      let first = receives count b r sp parts.middle sound sp_is whole (omega arith) (omega arith) bottom top (λ v under. words v (omega arith)) parts.first in
+      let low_ = law.low_top in
+      let parts = split w.placing r b.pc (taken routine n) _ at stands in
+      let first = takes n b r sp value parts.middle sound sp_is whole (omega arith) (omega arith) top comes parts.first in
       let c = stored b first.registers parts.middle first.memory in
-      let a = place_of routine sp count in
-      let q = 10 + count in
-      let writable : (x : ℕ) → a ≤ x → x < a + 4 → w.rights.writable x ≡ true = λ x lower upper. law.writable x (omega arith) (omega arith) in
-      let sp_c : get_or first.registers 2 0 ≡ sp = first.others 2 (omega arith) ∙ sp_is in
-      let sum_is : (sp + 4 * (routine.registers - 1 - count)) % 2 ^ 32 ≡ a = omega arith in
-      let place = ap (λ n. (n + 4 * (routine.registers - 1 - count)) % 2 ^ 32) sp_c ∙ sum_is in
-      let put = stores w law c r q 2 1 (4 * (routine.registers - 1 - count)) at a first.sound (omega arith) (omega arith) (omega arith) (omega arith) (omega arith) (omega arith) (omega arith) place (omega arith) writable parts.second in
-      let x = get_or first.registers q 0 in
-      let bytes = bytes_low_first 0 4 x in
+      let a = sp - (8 + 4 * n) in
+      let early : n < routine.parameters → n < 8 → get_or first.registers (10 + n) 0 ≡ value n = λ given soon. argument_there b first.registers n first.low (first.argument (omega arith)) soon ∙ comes.early n given soon in
+      let late : n < routine.parameters → 8 ≤ n → word_at first.memory a ≡ value n = λ given ninth. word_at-same b.memory first.memory a (λ x from before. first.same x (inl (omega arith))) ∙ comes.late n given ninth in
+      let one = takes_one c routine r sp n (value n) at (nat_le routine.parameters n) (nat_lt n 8) refl refl first.sound (first.low 2 (omega arith) (omega arith) ∙ sp_is) whole (omega arith) (omega arith) top (comes.fresh n) early late (comes.words n) parts.second in
+      let home = get_or first.registers (18 + n) 0 in
+      let home_is : home ≡ get_or b.registers (18 + n) 0 = first.rest n (omega arith) in
+      let bytes = bytes_low_first 0 4 home in
       let memory = with_bytes first.memory a bytes in
-      let x_is : x ≡ get_or b.registers q 0 = first.others q (omega arith) in
-      let x_small : x < 2 ^ 32 = subst (λ n. n < 2 ^ 32) (sym x_is) (words count (omega arith)) in
       record {
-        registers = put.registers;
+        registers = one.registers;
         memory = memory;
-        size = put.size;
-        others = λ p other. put.others p other ∙ first.others p other;
-        homes = λ v under.
-            elim (cases_lt v count) [
-              | inl lower ↦ word_at-same first.memory memory (place_of routine sp v) (λ y from before. with_bytes-outside first.memory a bytes y (λ l u. absurd (omega arith))) ∙ first.homes v lower
+        size = one.size;
+        homes = λ k less.
+            elim (cases_lt k n) [
+              | inl lower ↦ one.others (18 + k) (omega arith) (omega arith) ∙ first.homes k lower
               | inr upper ↦
-                  let is : v ≡ count = omega arith in
-                  ap (λ k. word_at memory (place_of routine sp k)) is ∙ word_at-stored first.memory a x x_small ∙ x_is ∙ ap (λ k. get_or b.registers (10 + k) 0) (sym is)
+                  let is : k ≡ n = omega arith in
+                  ap (λ j. get_or one.registers (18 + j) 0) is ∙ one.home_is ∙ ap value (sym is)
             ];
-        same = λ y side.
+        rest = λ k over. one.others (18 + k) (omega arith) (omega arith) ∙ first.rest k (omega arith);
+        low = λ q less other. one.others q other (omega arith) ∙ first.low q less other;
+        argument = λ soon. one.argument (omega arith) ∙ first.argument (omega arith);
+        saved = λ k less word.
+            elim (cases_lt k n) [
+              | inl lower ↦ word_at-same first.memory memory (sp - (8 + 4 * k)) (λ y from before. with_bytes-outside first.memory a bytes y (λ l u. absurd (omega arith))) ∙ first.saved k lower word
+              | inr upper ↦
+                  let is : k ≡ n = omega arith in
+                  let fits : home < 2 ^ 32 = subst (λ v. v < 2 ^ 32) (sym home_is) (subst (λ j. get_or b.registers (18 + j) 0 < 2 ^ 32) is word) in
+                  ap (λ j. word_at memory (sp - (8 + 4 * j))) is ∙ word_at-stored first.memory a home fits ∙ home_is ∙ ap (λ j. get_or b.registers (18 + j) 0) (sym is)
+            ];
+        same = λ x side.
             elim side [
-              | inl under ↦ with_bytes-outside first.memory a bytes y (λ l u. absurd (omega arith)) ∙ first.same y (inl (omega arith))
-              | inr over ↦ with_bytes-outside first.memory a bytes y (λ l u. absurd (omega arith)) ∙ first.same y (inr over)
+              | inl under ↦ with_bytes-outside first.memory a bytes x (λ l u. absurd (omega arith)) ∙ first.same x (inl (omega arith))
+              | inr over ↦ with_bytes-outside first.memory a bytes x (λ l u. absurd (omega arith)) ∙ first.same x (inr over)
             ];
-        sound = sound_stored w law c put.registers at a bytes first.sound put.size (four-bounded x) writable;
-        walk = walk_weaken b (stored b put.registers at memory) 1 (3 * count + 3) 0 (3 * suc count) [] (omega arith) (omega arith) (walk_join b c (stored b put.registers at memory) 0 (3 * count) 1 3 [] [] first.walk put.walk);
+        sound = one.sound;
+        walk = walk_weaken b (stored b one.registers at memory) 0 (3 * n + 3) 0 (3 * suc n) [] (omega arith) (omega arith) (walk_join b c (stored b one.registers at memory) 0 (3 * n) 0 3 [] [] first.walk one.walk);
       }
+    where
+      argument_there : (b : State) (registers : List ℕ) (n : ℕ) → ((q : ℕ) → q < 18 → q ≢ 10 → get_or registers q 0 ≡ get_or b.registers q 0) → get_or registers 10 0 ≡ get_or b.registers 10 0 → n < 8 → get_or registers (10 + n) 0 ≡ get_or b.registers (10 + n) 0
+      argument_there b registers zero low first soon = first
+      argument_there b registers (suc n) low first soon = low (10 + suc n) (omega arith) (omega arith)
 
   -- ---- zeros
 
@@ -189,10 +253,10 @@ module _ (w : Setting) (law : IsSetting w) where
         walk = walk_weaken b (stored b loop.registers at loop.memory) 3 (4 + 3 * others) 0 (4 + 3 * others) [] (omega arith) (omega arith) (walk_join b d (stored b loop.registers at loop.memory) 2 4 1 (3 * others) [] [] (walk_join b c d 1 1 1 3 [] [] set.walk end_.walk) loop.walk);
       }
 
-  pub zeroes_registers : (b : State) (r sp limit at : ℕ) → Sound w b → get_or b.registers 2 0 ≡ sp → get_or b.registers 8 0 ≡ limit → sp % 4 ≡ 0 → w.bottom ≤ sp → sp + 4 * (routine_in w r).registers ≤ w.top → Stands w.placing r b.pc (cleared_registers (routine_in w r)) at → Zeroes w b sp (4 * ((routine_in w r).registers - (routine_in w r).parameters)) limit at (4 + 3 * ((routine_in w r).registers - (routine_in w r).parameters))
+  pub zeroes_registers : (b : State) (r sp limit at : ℕ) → Sound w b → get_or b.registers 2 0 ≡ sp → get_or b.registers 8 0 ≡ limit → sp % 4 ≡ 0 → w.bottom ≤ sp → sp + 4 * (routine_in w r).registers ≤ w.top → Stands w.placing r b.pc (cleared_registers (routine_in w r)) at → Zeroes w b sp (4 * fresh_words (routine_in w r)) limit at (4 + 3 * fresh_words (routine_in w r))
   unfolding cleared_registers
   zeroes_registers b r sp limit at sound sp_is limit_is whole bottom top stands =
-      zeroes_registers_by b r sp limit ((routine_in w r).registers - (routine_in w r).parameters) at (nat_eq ((routine_in w r).registers - (routine_in w r).parameters) 0) refl sound sp_is limit_is whole bottom (omega arith) stands
+      zeroes_registers_by b r sp limit (fresh_words (routine_in w r)) at (nat_eq (fresh_words (routine_in w r)) 0) refl sound sp_is limit_is whole bottom (omega arith) stands
 
   zeroes_locals_by : (b : State) (r limit locals at : ℕ) (none : Bool) → nat_eq locals 0 ≡ none → Sound w b → get_or b.registers 8 0 ≡ limit → limit % 4 ≡ 0 → locals % 4 ≡ 0 → w.bottom ≤ limit → limit + locals ≤ w.top → Stands w.placing r b.pc (cond none [] (Plain (Imm Addi 10 8 (pos 0)) ∷ sum 8 8 11 locals ++ cleared 10 8)) at → Zeroes w b limit locals (limit + locals) at (4 + locals)
   unfolding act instr_shows

@@ -12,6 +12,7 @@ mod Loops
 mod OperationLemmas
 mod OutsideSteps
 mod ReturnSteps
+mod SavingLemmas
 mod SequenceLemmas
 pub mod TransferLemmas
 mod ValueSteps

@@ -21,9 +21,9 @@ use Rattle.op_select.specs.RiscvMachine.{instr_shows, call_event, event_if, read
 use Rattle.op_select.specs.Selection.{items_of, code_items, transfer, descriptor_of}
 use Rattle.op_select.specs.Sequences.{small}
 use Rattle.op_select.proofs.ControlSteps.{stays_written}
-use Rattle.op_select.proofs.FrameLemmas.{stays_placed, keeps}
+use Rattle.op_select.proofs.FrameLemmas.{keeps, stays_placed, value-bounded}
 use Rattle.op_select.proofs.SequenceLemmas.{smalls}
-use Rattle.op_select.proofs.ValueSteps.{Steps, both_left, both_right, inside, value-bounded, usable_all}
+use Rattle.op_select.proofs.ValueSteps.{Steps, both_left, both_right, inside, usable_all}
 use Rattle.op_select.proofs.Walks.{Walk, walk_join, walk_weaken, walk_step, advanced_pc, placed, sound_placed, plain_first, split, nothing_more}
 use Rattle.op_select.proofs.FrameLemmas.{fetches}
 use Rattle.op_select.proofs.WordLemmas.{cond_true}
@@ -38,6 +38,7 @@ pub record Arguments (b : State) (a n descriptor number at : ℕ) : Type 0 where
   pub number_is : get_or registers 17 0 ≡ number
   pub sp_same : get_or registers 2 0 ≡ get_or b.registers 2 0
   pub limit_same : get_or registers 8 0 ≡ get_or b.registers 8 0
+  pub homes_same : (k : ℕ) → get_or registers (18 + k) 0 ≡ get_or b.registers (18 + k) 0
   pub walk : Walk b (placed b registers at) 4 8 []
 
 -- the state behind a write
@@ -128,7 +129,7 @@ module _ (w : Setting) (law : IsSetting w) where
       let one = split w.placing r b.pc (fetch routine 11 buffer) _ two.middle two.first in
       let first = fetches w law m b 11 buffer one.middle stays buffer_in (omega arith) (omega arith) (omega arith) one.first in
       let c = placed b first.registers one.middle in
-      let stays_c = stays_placed w law m b first.registers one.middle stays first.size (first.others 2 (omega arith) (omega arith)) (first.others 8 (omega arith) (omega arith)) in
+      let stays_c = stays_placed w law m b first.registers one.middle stays first.size (first.others 2 (omega arith) (omega arith)) (first.others 8 (omega arith) (omega arith)) (λ k. first.others (18 + k) (omega arith) (omega arith)) in
       let second = fetches w law m c 12 size two.middle stays_c size_in (omega arith) (omega arith) (omega arith) one.second in
       let d = placed b second.registers two.middle in
       let sound_d = sound_placed w law b second.registers two.middle stays.sound second.size in
@@ -146,6 +147,7 @@ module _ (w : Setting) (law : IsSetting w) where
         number_is = fourth.value_is;
         sp_same = keeps_ 2 (omega arith) (omega arith) (omega arith) (omega arith);
         limit_same = keeps_ 8 (omega arith) (omega arith) (omega arith) (omega arith);
+        homes_same = λ k. keeps_ (18 + k) (omega arith) (omega arith) (omega arith) (omega arith);
         walk = walk_join b e (placed b fourth.registers at) 3 7 1 1 [] [] (walk_join b d e 2 6 1 1 [] [] (walk_join b c d 1 3 1 3 [] [] first.walk second.walk) third.walk) fourth.walk;
       }
 
@@ -206,7 +208,7 @@ module _ (w : Setting) (law : IsSetting w) where
       let parts = split w.placing r b.pc (fetch routine 11 buffer ++ fetch routine 12 size ++ small 10 (descriptor_of output) ++ small 17 64) _ whole.middle whole.first in
       let args = arguments m b buffer size (descriptor_of output) 64 parts.middle stays (inside w law m buffer (both_left _ _ valid)) (inside w law m size (both_right (has routine buffer) _ valid)) (descriptor-bounded output) (omega arith) parts.first in
       let c = placed b args.registers parts.middle in
-      let stays_c = stays_placed w law m b args.registers parts.middle stays args.size args.sp_same args.limit_same in
+      let stays_c = stays_placed w law m b args.registers parts.middle stays args.size args.sp_same args.limit_same args.homes_same in
       let first = plain_first w.placing r parts.middle Ecall _ whole.middle parts.second in
       let there = nothing_more w.placing r (parts.middle + 4) whole.middle first.1 in
       let usable_ = usable_all w.rights.readable m a n can in
@@ -219,7 +221,7 @@ module _ (w : Setting) (law : IsSetting w) where
       let shows = write_shows output c args.number_is args.descriptor_is readable ∙ ap (λ bs. Written output bs ∷ []) bytes_is in
       let one = walk_step w law c (wrote output bytes d) Ecall (Written output bytes ∷ []) stays_c.sound first.0 shows does in
       let size_d = length-set c.registers 10 (register c 12) ∙ args.size in
-      let stays_d = stays_placed w law m c (set c.registers 10 (register c 12)) whole.middle stays_c size_d (get_or-set_other c.registers 10 2 (register c 12) 0 (omega arith)) (get_or-set_other c.registers 10 8 (register c 12) 0 (omega arith)) in
+      let stays_d = stays_placed w law m c (set c.registers 10 (register c 12)) whole.middle stays_c size_d (get_or-set_other c.registers 10 2 (register c 12) 0 (omega arith)) (get_or-set_other c.registers 10 8 (register c 12) 0 (omega arith)) (λ k. get_or-set_other c.registers 10 (18 + k) (register c 12) 0 (omega arith)) in
       let goes = wrote_ready output bytes m d (record { stays = stays_d; ready = record { end = end; stands = whole.second } }) in
       let steps : Steps w (written output bytes m) b 9 (Written output bytes ∷ []) = record {
         after = wrote output bytes d;
@@ -245,7 +247,7 @@ module _ (w : Setting) (law : IsSetting w) where
       let size_in = inside w law m size (both_right (has routine to && has routine buffer) _ valid) in
       let args = arguments m b buffer size 0 63 parts.middle stays (inside w law m buffer (both_right (has routine to) _ to_buffer)) size_in (omega arith) (omega arith) parts.first in
       let c = placed b args.registers parts.middle in
-      let stays_c = stays_placed w law m b args.registers parts.middle stays args.size args.sp_same args.limit_same in
+      let stays_c = stays_placed w law m b args.registers parts.middle stays args.size args.sp_same args.limit_same args.homes_same in
       let first = plain_first w.placing r parts.middle Ecall _ kept.middle parts.second in
       let there = nothing_more w.placing r (parts.middle + 4) kept.middle first.1 in
       let usable_ = usable_all w.rights.writable m a n can in
@@ -261,7 +263,7 @@ module _ (w : Setting) (law : IsSetting w) where
       let shows = read_shows c args.number_is args.descriptor_is writable ∙ ap (λ bs. Taken bs ∷ []) bytes_is in
       let one = walk_step w law c d Ecall (Taken bytes ∷ []) stays_c.sound first.0 shows does in
       let size_d = length-set c.registers 10 (length bytes) ∙ args.size in
-      let stored = stays_written w law m c (set c.registers 10 (length bytes)) kept.middle a bytes stays_c size_d (get_or-set_other c.registers 10 2 (length bytes) 0 (omega arith)) (get_or-set_other c.registers 10 8 (length bytes) 0 (omega arith)) (λ k. take-bounded n m.input k stays.input_bytes) (λ x from before. usable_ x from (omega arith)) in
+      let stored = stays_written w law m c (set c.registers 10 (length bytes)) kept.middle a bytes stays_c size_d (get_or-set_other c.registers 10 2 (length bytes) 0 (omega arith)) (get_or-set_other c.registers 10 8 (length bytes) 0 (omega arith)) (λ k. get_or-set_other c.registers 10 (18 + k) (length bytes) 0 (omega arith)) (λ k. take-bounded n m.input k stays.input_bytes) (λ x from before. usable_ x from (omega arith)) in
       let m' = record m { memory = with_bytes m.memory a bytes; input = drop n m.input } in
       let stays_d : Stays w m' d = record {
         sound = record { running = stored.sound.running; rights = stored.sound.rights; size = stored.sound.size; bytes = stored.sound.bytes; code = stored.sound.code };

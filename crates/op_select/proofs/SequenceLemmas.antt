@@ -18,7 +18,7 @@ use Rattle.op_select.specs.Placing.{Stands}
 use Rattle.op_select.specs.RiscvMachine.{instr_shows}
 use Rattle.op_select.specs.Sequences.{upper_of, lower_of, is_near, small, constant, reach, reached, sum, word_load, word_store}
 use Rattle.op_select.proofs.Walks.{Walk, walk_none, walk_join, walk_weaken, walk_step, advanced_pc, placed, sound_placed, Becomes, becomes, register_is, plain_first, split, nothing_more}
-use Rattle.op_select.proofs.WordLemmas.{cond_true, near_sum, far_sum, far_constant, near_constant}
+use Rattle.op_select.proofs.WordLemmas.{cond_true, near_sum, far_sum, far_constant, near_constant, no_distance}
 
 -- the place at a distance is reached
 pub record Reaches (b : State) (base via from word at : ℕ) : Type 0 where
@@ -146,6 +146,21 @@ module _ (w : Setting) (law : IsSetting w) where
         size = reaching.size;
         others = reaching.others;
         walk = subst (λ n. Walk b (record (after (get_or b.registers value 0)) { pc = n }) 1 3 []) there walk;
+      }
+
+  -- what another register has
+  pub moves : (b : State) (r to from at : ℕ) → Sound w b → to ≢ 0 → to < 32 → from ≢ 0 → get_or b.registers from 0 < 2 ^ 32 → Stands w.placing r b.pc (Plain (Imm Addi to from (pos 0)) ∷ []) at → Becomes b to to (get_or b.registers from 0) at 1 1
+  unfolding act instr_shows
+  moves b r to from at sound to_some to_small from_some fits stands =
+      let first = plain_first w.placing r b.pc (Imm Addi to from (pos 0)) _ at stands in
+      let set = becomes w law b (Imm Addi to from (pos 0)) to ((register b from + word_from (pos 0)) % 2 ^ 32) sound first.0 to_some to_small refl refl in
+      let there = nothing_more w.placing r (b.pc + 4) at first.1 in
+      record {
+        registers = set.registers;
+        size = set.size;
+        value_is = set.value_is ∙ ap (λ n. (n + word_from (pos 0)) % 2 ^ 32) (register_is b from from_some) ∙ no_distance (get_or b.registers from 0) fits;
+        others = set.others;
+        walk = subst (λ n. Walk b (placed b set.registers n) 1 1 []) there set.walk;
       }
 
   -- a word

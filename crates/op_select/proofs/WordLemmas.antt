@@ -52,6 +52,10 @@ near_constant w near fits =
     let e = lower_word w in
     omega arith
 
+-- the place itself
+pub no_distance : (a : ℕ) → a < 2 ^ 32 → (a + word_from (pos 0)) % 2 ^ 32 ≡ a
+no_distance a small = omega (arith, ints)
+
 -- ---- tests that hold together
 
 pub and_true : (a b : Bool) → a ≡ true → b ≡ true → (a && b) ≡ true

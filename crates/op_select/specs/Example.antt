@@ -62,7 +62,7 @@ example_setting =
           record {
             code = λ a. if nat_le 65536 a && nat_eq (a % 4) 0 then slice_get example_code ((a - 65536) / 4) else None;
             head = λ r. 65536;
-            block = λ r b. if nat_eq b 0 then 65564 else 65584;
+            block = λ r b. if nat_eq b 0 then 65552 else 65568;
             address = λ symbol. 65536;
           };
       rights =

@@ -26,7 +26,11 @@ pub record Matches (w : Setting) (m : LowState) (b : State) : Type 0 where
   pub good : NeverBad w.low (placement_of w) m
   pub states : MatchesBy w m.ending m b
 
--- the machine shows the same, never faults, and takes at most so many steps for a cost of one
+-- how many steps of the machine a cost of one takes at most
+abbrev pub most_steps : ℕ
+most_steps = 32
+
+-- the machine shows the same, never faults, and takes at most so many steps for a cost
 abbrev pub selected : (w : Setting) → Matching (low_machine w.low (placement_of w)) riscv_machine
 selected w =
-    record { states = Matches w; moments = λ m b. IsSafe b.ending; traces = λ xs ys. xs ≡ ys; factor = 18 }
+    record { states = Matches w; moments = λ m b. IsSafe b.ending; traces = λ xs ys. xs ≡ ys; factor = most_steps }

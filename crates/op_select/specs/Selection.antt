@@ -18,7 +18,7 @@ use Rattle.op_rv.specs.declared.objects.ObjectBlock.{ObjectBlock}
 use Rattle.op_rv.specs.declared.objects.ObjectRoutine.{ObjectRoutine}
 use Rattle.op_rv.specs.declared.objects.Objects.{Objects}
 use Rattle.op_rv.specs.declared.symbol.BlockId.{BlockId}
-use Rattle.op_select.specs.Frames.{fetch, keep, passed, head_of, epilogue}
+use Rattle.op_select.specs.Frames.{bring, fetch, keep, operand, passed, put, head_of, epilogue}
 use Rattle.op_select.specs.Sequences.{x0, ra, s0, a0, a1, a2, a7, below, constant, small, sum}
 
 -- ---- calls
@@ -49,27 +49,44 @@ transfer routine buffer size descriptor number =
 
 -- ---- instructions
 
--- what an instruction makes of a register, in a0
+-- the register that a result is written to
+abbrev pub target : Routine → VirtualRegister → ℕ
+target routine to = operand routine a0 to
+
+-- what an instruction makes of one operand
 abbrev pub computed : Routine → (from : VirtualRegister) → Instr → (to : VirtualRegister) → List Item
-computed routine from instr to = fetch routine a0 from ++ Plain instr ∷ keep routine to a0
+computed routine from instr to = bring routine a0 from ++ Plain instr ∷ put routine to
 
 unfoldable pub items_of : Routine → Instruction → List Item
-items_of routine (Const to n) = constant a0 n ++ keep routine to a0
-items_of routine (Address to symbol) = AddressItem a0 symbol ∷ keep routine to a0
-items_of routine (Local to offset) = sum a0 s0 a0 (below (routine.locals - offset)) ++ keep routine to a0
-items_of routine (Move to from) = fetch routine a0 from ++ keep routine to a0
+items_of routine (Const to n) = constant (target routine to) n ++ put routine to
+items_of routine (Address to symbol) = AddressItem (target routine to) symbol ∷ put routine to
+items_of routine (Local to offset) =
+    sum (target routine to) s0 (target routine to) (below (routine.locals - offset)) ++ put routine to
+items_of routine (Move to from) = fetch routine (target routine to) from ++ put routine to
 items_of routine (Alu op to left right) =
-    fetch routine a0 left ++ fetch routine a1 right ++ Plain (AluInstr op a0 a0 a1) ∷ keep routine to a0
-items_of routine (AluImm op to left imm) = computed routine left (ImmInstr op a0 a0 imm) to
-items_of routine (Shift op to left amount) = computed routine left (ShiftInstr op a0 a0 amount) to
-items_of routine (Load op to base offset) = computed routine base (LoadInstr op a0 a0 offset) to
+    bring routine a0 left
+    ++ bring routine a1 right
+    ++ Plain (AluInstr op (target routine to) (operand routine a0 left) (operand routine a1 right))
+    ∷ put routine to
+items_of routine (AluImm op to left imm) =
+    computed routine left (ImmInstr op (target routine to) (operand routine a0 left) imm) to
+items_of routine (Shift op to left amount) =
+    computed routine left (ShiftInstr op (target routine to) (operand routine a0 left) amount) to
+items_of routine (Load op to base offset) =
+    computed routine base (LoadInstr op (target routine to) (operand routine a0 base) offset) to
 items_of routine (Store op value base offset) =
-    fetch routine a0 base ++ fetch routine a1 value ++ Plain (StoreInstr op a0 a1 offset) ∷ []
+    bring routine a0 base
+    ++ bring routine a1 value
+    ++ Plain (StoreInstr op (operand routine a0 base) (operand routine a1 value) offset)
+    ∷ []
 items_of routine (Call id call) = passed routine 0 call.arguments ++ CallItem id call.landing ∷ answered routine call.to call.landing
 items_of routine (CallAt address call) =
     passed routine 0 call.arguments ++ fetch routine ra address ++ CallAtItem call.landing ∷ answered routine call.to call.landing
 items_of routine (Branch op left right block) =
-    fetch routine a0 left ++ fetch routine a1 right ++ BranchItem op a0 a1 block ∷ []
+    bring routine a0 left
+    ++ bring routine a1 right
+    ++ BranchItem op (operand routine a0 left) (operand routine a1 right) block
+    ∷ []
 items_of routine (Jump block) = JumpItem block ∷ []
 items_of routine (Return value) = fetch routine a0 value ++ small a1 0 ++ epilogue routine
 items_of routine Raise = small a1 1 ++ epilogue routine

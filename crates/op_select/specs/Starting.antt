@@ -33,7 +33,7 @@ pub record Starts (w : Setting) (memory : ℕ → ℕ) (input : List ℕ) (b : S
 pub record Begins (w : Setting) (memory : ℕ → ℕ) (input : List ℕ) (b : State) : Type 0 where
   pub after : State
   pub steps : ℕ
-  pub within : steps ≤ 36 + 3 * (routine_in w w.low.entry.0).registers + locals_in w w.low.entry.0
+  pub within : steps ≤ 12 + 3 * (routine_in w w.low.entry.0).registers + locals_in w w.low.entry.0
   pub path : Path riscv_machine (λ s. IsSafe s.ending) b after steps [] steps
   pub matches : NeverBad w.low (placement_of w) (start_in w memory input) → Matches w (start_in w memory input) after
 

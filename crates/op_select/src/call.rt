@@ -1,11 +1,11 @@
 //! Calls: how arguments are passed, and what stands behind a call.
 ghost use Rattle.std.specs.Prelude.{◌≡◌, ◌≤◌, ◌+◌, ◌*◌, ◌%◌, ◌<◌, ◌^◌, ◌∷◌, ◌++◌, [], OnOk, length, min};
 ghost use Rattle.op_low.specs.Valid.{most_registers};
-ghost use Rattle.op_select.specs.Frames.{fetch, passed, passed_in_memory, passed_one};
+ghost use Rattle.op_select.specs.Frames.{bring, fetch, operand, passed, passed_in_memory, passed_one};
 ghost use Rattle.op_select.specs.Selection.{answered, landing_of, raise_block};
 ghost use Rattle.op_select.specs.Sequences.{below};
 
-use crate::frame::{push_fetch, push_keep};
+use crate::frame::{operand, push_bring, push_fetch, push_keep};
 use crate::registers::{A0, A1, RA, SP, X0};
 use crate::sequence::{down, push_store};
 use op_low::{Call, Routine, VirtualRegister};
@@ -30,8 +30,9 @@ fn push_passed_in_memory(
     requires { routine.now.registers ≤ most_registers }
     ensures { OnOk result (items.new.items ≡ items.old.items ++ passed_in_memory routine.now k register) }
 {
-    push_fetch(items, routine, A0, register)?;
-    push_store(items, A0, SP, RA, argument_distance(k))
+    push_bring(items, routine, A0, register)?;
+    let value = operand(routine, A0, register);
+    push_store(items, value, SP, RA, argument_distance(k))
 }
 
 #[tactic(auto, unfolding(crate::specs::Frames::passed_one))]

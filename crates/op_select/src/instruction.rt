@@ -1,12 +1,12 @@
 //! The items of each instruction of low code.
 ghost use Rattle.std.specs.Prelude.{◌≡◌, ◌≤◌, ◌-◌, ◌∷◌, ◌++◌, [], OnOk};
 ghost use Rattle.op_low.specs.Valid.{most_registers};
-ghost use Rattle.op_select.specs.Frames.{epilogue, fetch, keep, passed};
-ghost use Rattle.op_select.specs.Selection.{answered, code_items, computed, descriptor_of, items_of, transfer};
+ghost use Rattle.op_select.specs.Frames.{bring, epilogue, fetch, keep, operand, passed, put};
+ghost use Rattle.op_select.specs.Selection.{answered, code_items, computed, descriptor_of, items_of, target, transfer};
 ghost use Rattle.op_select.specs.Sequences.{below, constant, small, sum};
 
 use crate::call::{push_answered, push_passed};
-use crate::frame::{push_epilogue, push_fetch, push_keep};
+use crate::frame::{operand, push_bring, push_epilogue, push_fetch, push_keep, push_put};
 use crate::registers::{A0, A1, A2, A7, RA, S0};
 use crate::sequence::{down, push, push_constant, push_item, push_small, push_sum};
 use op_low::{Call, Instruction, Output, Routine, VirtualRegister};
@@ -59,20 +59,20 @@ fn push_instruction(
             right,
         } => push_alu(items, routine, *op, *to, *left, *right),
         Instruction::AluImm { op, to, left, imm } => {
-            push_computed(items, routine, *left, immediate(*op, *imm), *to)
+            push_immediate(items, routine, *op, *to, *left, *imm)
         }
         Instruction::Shift {
             op,
             to,
             left,
             amount,
-        } => push_computed(items, routine, *left, shift(*op, *amount), *to),
+        } => push_shift(items, routine, *op, *to, *left, *amount),
         Instruction::Load {
             op,
             to,
             base,
             offset,
-        } => push_computed(items, routine, *base, load(*op, *offset), *to),
+        } => push_load_from(items, routine, *op, *to, *base, *offset),
         Instruction::Store {
             op,
             value,
@@ -102,40 +102,15 @@ fn push_instruction(
     }
 }
 
-fn immediate(op: ImmOp, imm: i32) -> Instr
-    ensures { result ≡ Instr.Imm op 10 10 imm }
+/// The register that a result is written to.
+fn target(routine: &Routine, to: VirtualRegister) -> u8
+    requires { routine.now.registers ≤ most_registers }
+    ensures { result ≡ target routine.now to }
 {
-    Instr::Imm {
-        op,
-        rd: A0,
-        rs1: A0,
-        imm,
-    }
+    operand(routine, A0, to)
 }
 
-fn shift(op: ShiftOp, amount: u8) -> Instr
-    ensures { result ≡ Instr.Shift op 10 10 amount }
-{
-    Instr::Shift {
-        op,
-        rd: A0,
-        rs1: A0,
-        amount,
-    }
-}
-
-fn load(op: LoadOp, offset: i32) -> Instr
-    ensures { result ≡ Instr.Load op 10 10 offset }
-{
-    Instr::Load {
-        op,
-        rd: A0,
-        rs1: A0,
-        offset,
-    }
-}
-
-/// A virtual register becomes what an instruction makes of another one, in a0.
+/// A virtual register becomes what an instruction makes of another one.
 fn push_computed(
     items: &mut Vec<Item>,
     routine: &Routine,
@@ -146,9 +121,72 @@ fn push_computed(
     requires { routine.now.registers ≤ most_registers }
     ensures { OnOk result (items.new.items ≡ items.old.items ++ computed routine.now from instr to) }
 {
-    push_fetch(items, routine, A0, from)?;
+    push_bring(items, routine, A0, from)?;
     push(items, instr)?;
-    push_keep(items, routine, to, A0)
+    push_put(items, routine, to)
+}
+
+#[tactic(auto, unfolding(crate::specs::Selection::items_of))]
+fn push_immediate(
+    items: &mut Vec<Item>,
+    routine: &Routine,
+    op: ImmOp,
+    to: VirtualRegister,
+    left: VirtualRegister,
+    imm: i32,
+) -> Result<(), AllocError>
+    requires { routine.now.registers ≤ most_registers }
+    ensures { OnOk result (items.new.items ≡ items.old.items ++ items_of routine.now (Instruction.AluImm op to left imm)) }
+{
+    let instr = Instr::Imm {
+        op,
+        rd: target(routine, to),
+        rs1: operand(routine, A0, left),
+        imm,
+    };
+    push_computed(items, routine, left, instr, to)
+}
+
+#[tactic(auto, unfolding(crate::specs::Selection::items_of))]
+fn push_shift(
+    items: &mut Vec<Item>,
+    routine: &Routine,
+    op: ShiftOp,
+    to: VirtualRegister,
+    left: VirtualRegister,
+    amount: u8,
+) -> Result<(), AllocError>
+    requires { routine.now.registers ≤ most_registers }
+    ensures { OnOk result (items.new.items ≡ items.old.items ++ items_of routine.now (Instruction.Shift op to left amount)) }
+{
+    let instr = Instr::Shift {
+        op,
+        rd: target(routine, to),
+        rs1: operand(routine, A0, left),
+        amount,
+    };
+    push_computed(items, routine, left, instr, to)
+}
+
+#[tactic(auto, unfolding(crate::specs::Selection::items_of))]
+fn push_load_from(
+    items: &mut Vec<Item>,
+    routine: &Routine,
+    op: LoadOp,
+    to: VirtualRegister,
+    base: VirtualRegister,
+    offset: i32,
+) -> Result<(), AllocError>
+    requires { routine.now.registers ≤ most_registers }
+    ensures { OnOk result (items.new.items ≡ items.old.items ++ items_of routine.now (Instruction.Load op to base offset)) }
+{
+    let instr = Instr::Load {
+        op,
+        rd: target(routine, to),
+        rs1: operand(routine, A0, base),
+        offset,
+    };
+    push_computed(items, routine, base, instr, to)
 }
 
 #[tactic(auto, unfolding(crate::specs::Selection::items_of))]
@@ -161,8 +199,8 @@ fn push_const(
     requires { routine.now.registers ≤ most_registers }
     ensures { OnOk result (items.new.items ≡ items.old.items ++ items_of routine.now (Instruction.Const to value)) }
 {
-    push_constant(items, A0, value)?;
-    push_keep(items, routine, to, A0)
+    push_constant(items, target(routine, to), value)?;
+    push_put(items, routine, to)
 }
 
 #[tactic(auto, unfolding(crate::specs::Selection::items_of))]
@@ -175,8 +213,11 @@ fn push_address(
     requires { routine.now.registers ≤ most_registers }
     ensures { OnOk result (items.new.items ≡ items.old.items ++ items_of routine.now (Instruction.Address to symbol)) }
 {
-    items.push(Item::Address { rd: A0, symbol })?;
-    push_keep(items, routine, to, A0)
+    items.push(Item::Address {
+        rd: target(routine, to),
+        symbol,
+    })?;
+    push_put(items, routine, to)
 }
 
 #[tactic(auto, unfolding(crate::specs::Selection::items_of))]
@@ -189,14 +230,10 @@ fn push_local(
     requires { routine.now.registers ≤ most_registers }
     ensures { OnOk result (items.new.items ≡ items.old.items ++ items_of routine.now (Instruction.Local to offset)) }
 {
-    push_sum(
-        items,
-        A0,
-        S0,
-        A0,
-        down(routine.locals.saturating_sub(offset)),
-    )?;
-    push_keep(items, routine, to, A0)
+    let register = target(routine, to);
+    let distance = down(routine.locals.saturating_sub(offset));
+    push_sum(items, register, S0, register, distance)?;
+    push_put(items, routine, to)
 }
 
 #[tactic(auto, unfolding(crate::specs::Selection::items_of))]
@@ -209,8 +246,22 @@ fn push_move(
     requires { routine.now.registers ≤ most_registers }
     ensures { OnOk result (items.new.items ≡ items.old.items ++ items_of routine.now (Instruction.Move to from)) }
 {
-    push_fetch(items, routine, A0, from)?;
-    push_keep(items, routine, to, A0)
+    push_fetch(items, routine, target(routine, to), from)?;
+    push_put(items, routine, to)
+}
+
+/// Brings two operands, by a0 and a1 where they are not in registers of the machine.
+fn push_two(
+    items: &mut Vec<Item>,
+    routine: &Routine,
+    left: VirtualRegister,
+    right: VirtualRegister,
+) -> Result<(), AllocError>
+    requires { routine.now.registers ≤ most_registers }
+    ensures { OnOk result (items.new.items ≡ items.old.items ++ bring routine.now 10 left ++ bring routine.now 11 right) }
+{
+    push_bring(items, routine, A0, left)?;
+    push_bring(items, routine, A1, right)
 }
 
 #[tactic(auto, unfolding(crate::specs::Selection::items_of))]
@@ -225,16 +276,15 @@ fn push_alu(
     requires { routine.now.registers ≤ most_registers }
     ensures { OnOk result (items.new.items ≡ items.old.items ++ items_of routine.now (Instruction.Alu op to left right)) }
 {
-    push_fetch(items, routine, A0, left)?;
-    push_fetch(items, routine, A1, right)?;
+    push_two(items, routine, left, right)?;
     let instr = Instr::Alu {
         op,
-        rd: A0,
-        rs1: A0,
-        rs2: A1,
+        rd: target(routine, to),
+        rs1: operand(routine, A0, left),
+        rs2: operand(routine, A1, right),
     };
     push(items, instr)?;
-    push_keep(items, routine, to, A0)
+    push_put(items, routine, to)
 }
 
 #[tactic(auto, unfolding(crate::specs::Selection::items_of))]
@@ -249,12 +299,11 @@ fn push_store_to(
     requires { routine.now.registers ≤ most_registers }
     ensures { OnOk result (items.new.items ≡ items.old.items ++ items_of routine.now (Instruction.Store op value base offset)) }
 {
-    push_fetch(items, routine, A0, base)?;
-    push_fetch(items, routine, A1, value)?;
+    push_two(items, routine, base, value)?;
     let instr = Instr::Store {
         op,
-        rs1: A0,
-        rs2: A1,
+        rs1: operand(routine, A0, base),
+        rs2: operand(routine, A1, value),
         offset,
     };
     push(items, instr)
@@ -308,12 +357,11 @@ fn push_branch(
     requires { routine.now.registers ≤ most_registers }
     ensures { OnOk result (items.new.items ≡ items.old.items ++ items_of routine.now (Instruction.Branch op left right block)) }
 {
-    push_fetch(items, routine, A0, left)?;
-    push_fetch(items, routine, A1, right)?;
+    push_two(items, routine, left, right)?;
     items.push(Item::Branch {
         op,
-        left: A0,
-        right: A1,
+        left: operand(routine, A0, left),
+        right: operand(routine, A1, right),
         block,
     })?;
     Ok(())

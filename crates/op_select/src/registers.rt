@@ -18,3 +18,6 @@ pub const A1: u8 = 11;
 pub const A2: u8 = 12;
 
 pub const A7: u8 = 17;
+
+/// The first of the homes of virtual registers.
+pub const S2: u8 = 18;

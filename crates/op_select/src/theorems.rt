@@ -12,7 +12,7 @@ ghost use Rattle.op_simulation.specs.System.{run};
 ghost use Rattle.std.specs.Prelude.{◌≡◌, List, ℕ};
 
 /// Selected code that stands in memory goes along with low code: one step of low code is one or more steps of the machine,
-/// with the same events, at most 18 for a cost of one, and the machine does not fault.
+/// with the same events, at most 32 for a cost of one, and the machine does not fault.
 pub fn selected_code_goes_along()
     ensures { (w : Setting) → IsSetting w → Follows (selected w) }
 {}

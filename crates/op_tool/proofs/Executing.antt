@@ -31,7 +31,7 @@ never_faults : (e : _) (kind : _) (pc : ℕ) → e ≡ Faulted kind pc → IsSaf
 unfolding IsSafe
 never_faults e kind pc is safe = subst IsSafe is safe
 
-module _ (words : List (List ℕ)) (stored : Option (List NamedFile)) (before now : ℕ) (image name : List ℕ) (made : Made stored name image) where
+module _ (words : List (List ℕ)) (stored : Option (List NamedFile)) (before now count count' : ℕ) (image name : List ℕ) (made : Made stored name image) where
   along : (done : Effect) → AreBytes done.input → GoesAlong (meant made.core) image done.input
   along done bytes = made.is_image.agrees.along done.input bytes
 
@@ -41,7 +41,7 @@ module _ (words : List (List ℕ)) (stored : Option (List NamedFile)) (before no
       subst (λ (s : State). EndsAsMeant (meant made.core) done.input status s.output s.errors s.input) same
       (ends_as_meant (meant made.core) image done.input (along done bytes) done.steps status (ap (λ (s : State). s.ending) same ∙ is))
 
-  exec_owes : (answer : Finish) (done : Effect) → AreBytes done.input → OwesImage image answer done → OwesExec (call words stored before now image) name answer done
+  exec_owes : (answer : Finish) (done : Effect) → AreBytes done.input → OwesImage image count count' answer done → OwesExec (call words stored before now count count' image) name answer done
   exec_owes (finish.Ended status) done bytes (few, (meets, (ended, left, (out, err)))) =
       let s = ends done status bytes ended in
       inr (record {
@@ -62,6 +62,6 @@ module _ (words : List (List ℕ)) (stored : Option (List NamedFile)) (before no
   exec_owes finish.Limit done bytes owes = absurd owes
 
 -- the run of an image that was made of a program
-pub exec_made : (words : List (List ℕ)) (stored : Option (List NamedFile)) (before now : ℕ) (image made name : List ℕ) → image ≡ made → Made stored name made → (answer : Finish) (done : Effect) → AreBytes done.input → OwesImage image answer done → OwesExec (call words stored before now made) name answer done
-exec_made words stored before now image made name same is answer done bytes owes =
-    exec_owes words stored before now made name is answer done bytes (subst (λ i. OwesImage i answer done) same owes)
+pub exec_made : (words : List (List ℕ)) (stored : Option (List NamedFile)) (before now count count' : ℕ) (image made name : List ℕ) → image ≡ made → Made stored name made → (answer : Finish) (done : Effect) → AreBytes done.input → OwesImage image count count' answer done → OwesExec (call words stored before now count count' made) name answer done
+exec_made words stored before now count count' image made name same is answer done bytes owes =
+    exec_owes words stored before now count count' made name is answer done bytes (subst (λ i. OwesImage i count count' answer done) same owes)

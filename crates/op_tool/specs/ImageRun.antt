@@ -1,5 +1,6 @@
 -- What the run of an image owes.
 use Rattle.std.specs.Prelude.{◌≡◌, ℕ, ◌+◌, ◌/◌, ◌%◌, ◌^◌, ◌<◌, ◌≤◌, Some, None, List, [], ◌∷◌, ◌++◌, map, codes, decimal, length, nat_lt, if◌then◌else◌, IsTrue}
+use Rattle.op_base.specs.Outside.{Rose}
 use Rattle.op_rv.specs.Environment.{read_call, is_writable}
 use Rattle.op_rv.specs.State.{State, Ending, Running, register}
 use Rattle.op_rv.specs.State as state
@@ -79,17 +80,17 @@ abbrev pub ComesTo : List ℕ → Ending → List ℕ → Effect → Type 0
 ComesTo image ending last done =
     (first_failing image ≡ None) × (let s = state_in image done in (s.ending ≡ ending) × (done.left ≡ s.input) × HasWritten s last done)
 
--- what each answer owes
-abbrev pub OwesImage : List ℕ → Finish → Effect → Type 0
-OwesImage image (Ended status) done = (done.steps ≤ step_limit) × ComesTo image (state.Ended status) [] done
-OwesImage image (Faulted kind pc) done = (done.steps ≤ step_limit) × ComesTo image (state.Faulted kind pc) (fault_line kind pc) done
-OwesImage image Spent done = (done.steps ≡ step_limit) × ComesTo image Running (line (codes "opc: step limit reached")) done
-OwesImage image ReadFault done =
-    (done.steps < step_limit) × (first_failing image ≡ None) × (taken : List ℕ) × (done.input ≡ taken ++ done.left) × FaultsReading image taken done
-OwesImage image (BadImage condition) done =
+-- what each answer owes; `before` and `now` are the counts of faults of the input
+abbrev pub OwesImage : List ℕ → ℕ → ℕ → Finish → Effect → Type 0
+OwesImage image before now (Ended status) done = (done.steps ≤ step_limit) × ComesTo image (state.Ended status) [] done
+OwesImage image before now (Faulted kind pc) done = (done.steps ≤ step_limit) × ComesTo image (state.Faulted kind pc) (fault_line kind pc) done
+OwesImage image before now Spent done = (done.steps ≡ step_limit) × ComesTo image Running (line (codes "opc: step limit reached")) done
+OwesImage image before now ReadFault done =
+    Rose before now × (done.steps < step_limit) × (first_failing image ≡ None) × (taken : List ℕ) × (done.input ≡ taken ++ done.left) × FaultsReading image taken done
+OwesImage image before now (BadImage condition) done =
     (first_failing image ≡ Some condition) × OnlyReports (line (codes "opc: bad image: Elf" ++ decimal condition)) done
-OwesImage image NoMemory done = OnlyReports (line (codes "opc: out of memory")) done
-OwesImage image Usage done = ⊥
-OwesImage image (Refused rule place) done = ⊥
-OwesImage image WriteFault done = ⊥
-OwesImage image Limit done = ⊥
+OwesImage image before now NoMemory done = OnlyReports (line (codes "opc: out of memory")) done
+OwesImage image before now Usage done = ⊥
+OwesImage image before now (Refused rule place) done = ⊥
+OwesImage image before now WriteFault done = ⊥
+OwesImage image before now Limit done = ⊥

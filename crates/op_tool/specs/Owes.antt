@@ -19,17 +19,19 @@ use Rattle.op_tool.specs.declared.finish.Finish.{Finish}
 use Rattle.op_tool.specs.declared.finish.Finish.TheVariants.{Ended, Usage, Refused, ReadFault, WriteFault, Spent, NoMemory, BadImage, Faulted, Limit}
 use Rattle.op_units.specs.Loads.{IsMissing}
 
--- a call of the tool: its words, its files before and after it, and the image that it left
+-- a call of the tool: its words, its files, how often these and its input had failed before and after it, and the image that it left
 pub record Call : Type 0 where
   pub words : List (List ℕ)
   pub stored : Option (List NamedFile)
   pub file_faults_before : ℕ
   pub file_faults_after : ℕ
+  pub input_faults_before : ℕ
+  pub input_faults_after : ℕ
   pub image : List ℕ
 
-abbrev pub call : List (List ℕ) → Option (List NamedFile) → ℕ → ℕ → List ℕ → Call
-call words stored before after image =
-    record { words = words; stored = stored; file_faults_before = before; file_faults_after = after; image = image }
+abbrev pub call : List (List ℕ) → Option (List NamedFile) → ℕ → ℕ → ℕ → ℕ → List ℕ → Call
+call words stored files files' input input' image =
+    record { words = words; stored = stored; file_faults_before = files; file_faults_after = files'; input_faults_before = input; input_faults_after = input'; image = image }
 
 -- opc: FILE:LINE:COL: Vn TEXT
 abbrev pub refusal_line : List ℕ → Place → Rule → List ℕ → List ℕ
@@ -68,10 +70,10 @@ ReportsBadImage condition answer before after count count' =
     ReportIs (BadImage condition) (line (codes "opc: bad image: Elf" ++ decimal condition)) answer before after count count'
     ⊎ ReportIs NoMemory (line (codes "opc: out of memory")) answer before after count count'
 
--- a file could not be read, and nothing else was done
+-- a file could not be read, and nothing else was done: the input has failed as often as before
 abbrev pub OnlyFailsToRead : Call → Effect → Type 0
 OnlyFailsToRead now done =
-    Rose now.file_faults_before now.file_faults_after × OnlyReports (line (codes "opc: read fault")) done
+    Rose now.file_faults_before now.file_faults_after × (now.input_faults_after ≡ now.input_faults_before) × OnlyReports (line (codes "opc: read fault")) done
 
 -- what is checked: accepted, or refused by the first rule that is broken
 abbrev pub OwesChecked : Call → List ℕ → Finish → Effect → Type 0
@@ -114,7 +116,7 @@ pub record Executes (now : Call) (name : List ℕ) (answer : Finish) (done : Eff
   pub made : Made now.stored name now.image
   pub means : Means made.core answer done
   pub is_end : IsEndOfRun answer
-  pub owes : OwesImage now.image answer done
+  pub owes : OwesImage now.image now.input_faults_before now.input_faults_after answer done
 
 -- `exec` of the file of this name
 abbrev pub OwesExec : Call → List ℕ → Finish → Effect → Type 0
@@ -138,19 +140,20 @@ IsTooLong stored name = IfSome stored (λ files. IsSomeAnd (file_named files nam
 
 -- the image is that file, and this is what its run owes
 abbrev pub RunsFile : Call → List ℕ → Finish → Effect → Type 0
-RunsFile now name finish done = IsFile now.stored name now.image × OwesImage now.image finish done
+RunsFile now name finish done =
+    IsFile now.stored name now.image × OwesImage now.image now.input_faults_before now.input_faults_after finish done
 
 -- `run` of the image of this name
 abbrev pub OwesRun : Call → List ℕ → Finish → Effect → Type 0
 OwesRun now name (Ended status) done = RunsFile now name (Ended status) done
 OwesRun now name (Faulted kind pc) done = RunsFile now name (Faulted kind pc) done
 OwesRun now name Spent done = RunsFile now name Spent done
-OwesRun now name ReadFault done = OnlyFailsToRead now done ⊎ RunsFile now name ReadFault done
+OwesRun now name ReadFault done = ((now.image ≡ []) × OnlyFailsToRead now done) ⊎ RunsFile now name ReadFault done
 OwesRun now name (BadImage condition) done =
-    (IsTooLong now.stored name × (condition ≡ 1) × OnlyReports (line (codes "opc: bad image: Elf" ++ decimal condition)) done)
+    ((now.image ≡ []) × IsTooLong now.stored name × (condition ≡ 1) × OnlyReports (line (codes "opc: bad image: Elf" ++ decimal condition)) done)
     ⊎ RunsFile now name (BadImage condition) done
 OwesRun now name (Refused rule place) done =
-    (rule ≡ file_missing) × (place ≡ main_start) × IsMissing now.stored name × OnlyRefuses name place rule done
+    (now.image ≡ []) × (rule ≡ file_missing) × (place ≡ main_start) × IsMissing now.stored name × OnlyRefuses name place rule done
 OwesRun now name NoMemory done = OnlyReports (line (codes "opc: out of memory")) done
 OwesRun now name Usage done = ⊥
 OwesRun now name WriteFault done = ⊥

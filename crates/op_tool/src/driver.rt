@@ -1,8 +1,11 @@
 //! The call that the program `opc` makes.
-ghost use Rattle.std.specs.Prelude.{◌≡◌, ◌≤◌, List, Option, ℕ, [], map, string_bytes};
+ghost use Rattle.std.specs.Prelude.{◌≡◌, ◌≤◌, IsTrue, List, Option, ℕ, [], map, string_bytes};
 ghost use Rattle.op_emu.specs.Acts.{streams, faults, Rises};
+ghost use Rattle.op_tool.specs.Command.{IsNoCommand};
 ghost use Rattle.op_tool.specs.Effects.{Says};
+ghost use Rattle.op_tool.specs.Leaves.{LeavesErrors, LeavesInput, LeavesOutput, RunsNothing, only_reports};
 ghost use Rattle.op_tool.specs.Owes.{call, Owes, OwesBuild, OwesCheck, OwesExec, OwesRun};
+ghost use Rattle.op_tool.specs.declared.finish.Finish.{Finish};
 
 use crate::command::{Command, command_of};
 use crate::compiler::{MAIN_START, checked};
@@ -27,10 +30,12 @@ fn exec<F: Files, R: Source, W: Sink, E: Sink>(
 ) -> Finish
     requires { image.old.items ≡ [] }
     ensures says { (words : List (List ℕ)) →
-        Says (OwesExec (call words (F.stored files.old) (F.faults files.old) (F.faults files.new) image.new.items) file.now) result
+        Says (OwesExec (call words (F.stored files.old) (F.faults files.old) (F.faults files.new) (R.faults input.old) (R.faults input.new) image.new.items) file.now) result
         (streams (R.left input.old) (R.left input.new) (W.written out.old) (W.written out.new) (E.written err.old) (E.written err.new))
         (faults (R.faults input.old) (R.faults input.new) (W.faults out.old) (W.faults out.new) (E.faults err.old) (E.faults err.new)) }
     ensures counts { Rises (faults (R.faults input.old) (R.faults input.new) (W.faults out.old) (W.faults out.new) (E.faults err.old) (E.faults err.new)) }
+    ensures leaves_input { RunsNothing result (R.faults input.old) (R.faults input.new) → input.new ≡ input.old }
+    ensures leaves_output { RunsNothing result (R.faults input.old) (R.faults input.new) → out.new ≡ out.old }
     ensures file_counts { F.faults files.old ≤ F.faults files.new }
     ensures unchanged { F.stored files.new ≡ F.stored files.old }
 {
@@ -54,10 +59,12 @@ fn build<F: Files, W: Sink, E: Sink>(
 ) -> Finish
     requires { image.old.items ≡ [] }
     ensures says { (words : List (List ℕ)) (left : Option (List ℕ)) (count : ℕ) →
-        Says (OwesBuild (call words (F.stored files.old) (F.faults files.old) (F.faults files.new) image.new.items) file.now) result
+        Says (OwesBuild (call words (F.stored files.old) (F.faults files.old) (F.faults files.new) count count image.new.items) file.now) result
         (streams left left (W.written out.old) (W.written out.new) (E.written err.old) (E.written err.new))
         (faults count count (W.faults out.old) (W.faults out.new) (E.faults err.old) (E.faults err.new)) }
     ensures counts { (W.faults out.old ≤ W.faults out.new) × (E.faults err.old ≤ E.faults err.new) }
+    ensures leaves_output { IsTrue (only_reports result) → out.new ≡ out.old }
+    ensures leaves_errors { (status : ℕ) → result ≡ Finish.Ended status → err.new ≡ err.old }
     ensures file_counts { F.faults files.old ≤ F.faults files.new }
     ensures unchanged { F.stored files.new ≡ F.stored files.old }
 {
@@ -82,10 +89,12 @@ fn check<F: Files, W: Sink, E: Sink>(
     err: &mut E,
 ) -> Finish
     ensures says { (words : List (List ℕ)) (left : Option (List ℕ)) (count : ℕ) →
-        Says (OwesCheck (call words (F.stored files.old) (F.faults files.old) (F.faults files.new) []) file.now) result
+        Says (OwesCheck (call words (F.stored files.old) (F.faults files.old) (F.faults files.new) count count []) file.now) result
         (streams left left (W.written out.old) (W.written out.new) (E.written err.old) (E.written err.new))
         (faults count count (W.faults out.old) (W.faults out.new) (E.faults err.old) (E.faults err.new)) }
     ensures counts { (W.faults out.old ≤ W.faults out.new) × (E.faults err.old ≤ E.faults err.new) }
+    ensures leaves_output { IsTrue (only_reports result) → out.new ≡ out.old }
+    ensures leaves_errors { (status : ℕ) → result ≡ Finish.Ended status → err.new ≡ err.old }
     ensures file_counts { F.faults files.old ≤ F.faults files.new }
     ensures unchanged { F.stored files.new ≡ F.stored files.old }
 {
@@ -108,11 +117,14 @@ fn run<F: Files, R: Source, W: Sink, E: Sink>(
     err: &mut E,
     image: &mut Vec<u8>,
 ) -> Finish
+    requires { image.old.items ≡ [] }
     ensures says { (words : List (List ℕ)) →
-        Says (OwesRun (call words (F.stored files.old) (F.faults files.old) (F.faults files.new) image.new.items) name.now) result
+        Says (OwesRun (call words (F.stored files.old) (F.faults files.old) (F.faults files.new) (R.faults input.old) (R.faults input.new) image.new.items) name.now) result
         (streams (R.left input.old) (R.left input.new) (W.written out.old) (W.written out.new) (E.written err.old) (E.written err.new))
         (faults (R.faults input.old) (R.faults input.new) (W.faults out.old) (W.faults out.new) (E.faults err.old) (E.faults err.new)) }
     ensures counts { Rises (faults (R.faults input.old) (R.faults input.new) (W.faults out.old) (W.faults out.new) (E.faults err.old) (E.faults err.new)) }
+    ensures leaves_input { RunsNothing result (R.faults input.old) (R.faults input.new) → input.new ≡ input.old }
+    ensures leaves_output { RunsNothing result (R.faults input.old) (R.faults input.new) → out.new ≡ out.old }
     ensures file_counts { F.faults files.old ≤ F.faults files.new }
     ensures unchanged { F.stored files.new ≡ F.stored files.old }
 {
@@ -142,7 +154,7 @@ fn run<F: Files, R: Source, W: Sink, E: Sink>(
 /// from `input`. All other words are `Usage`.
 ///
 /// An answer but `Ended` and `WriteFault` writes one line to `err` as its last act. `image` gets the image that was made
-/// or found, and is empty where none was made.
+/// or found, and is empty where none was made. What a command does not touch stays as it was.
 pub fn tool<F: Files, R: Source, W: Sink, E: Sink>(
     alloc: Global,
     words: &[String],
@@ -152,10 +164,14 @@ pub fn tool<F: Files, R: Source, W: Sink, E: Sink>(
     err: &mut E,
     image: &mut Vec<u8>,
 ) -> Finish
-    ensures says { Says (Owes (call (map string_bytes words.now) (F.stored files.old) (F.faults files.old) (F.faults files.new) image.new.items)) result
+    ensures says { Says (Owes (call (map string_bytes words.now) (F.stored files.old) (F.faults files.old) (F.faults files.new) (R.faults input.old) (R.faults input.new) image.new.items)) result
         (streams (R.left input.old) (R.left input.new) (W.written out.old) (W.written out.new) (E.written err.old) (E.written err.new))
         (faults (R.faults input.old) (R.faults input.new) (W.faults out.old) (W.faults out.new) (E.faults err.old) (E.faults err.new)) }
     ensures counts { Rises (faults (R.faults input.old) (R.faults input.new) (W.faults out.old) (W.faults out.new) (E.faults err.old) (E.faults err.new)) }
+    ensures leaves_input { LeavesInput (map string_bytes words.now) result (R.faults input.old) (R.faults input.new) → input.new ≡ input.old }
+    ensures leaves_output { LeavesOutput (map string_bytes words.now) result (R.faults input.old) (R.faults input.new) → out.new ≡ out.old }
+    ensures leaves_errors { LeavesErrors (map string_bytes words.now) result → err.new ≡ err.old }
+    ensures leaves_files { IsNoCommand (map string_bytes words.now) → files.new ≡ files.old }
     ensures file_counts { F.faults files.old ≤ F.faults files.new }
     ensures unchanged { F.stored files.new ≡ F.stored files.old }
 {

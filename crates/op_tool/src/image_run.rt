@@ -1,7 +1,9 @@
 //! The run of an image.
+ghost use Rattle.std.specs.Prelude.{◌≡◌};
 ghost use Rattle.op_emu.specs.Acts.{streams, faults, Rises};
 ghost use Rattle.op_tool.specs.Effects.{Says};
 ghost use Rattle.op_tool.specs.ImageRun.{OwesImage};
+ghost use Rattle.op_tool.specs.Leaves.{RunsNothing};
 
 use crate::Finish;
 use crate::report::{report, report_bad_image, report_fault, report_no_memory};
@@ -20,10 +22,12 @@ pub(crate) fn run_image<R: Source, W: Sink, E: Sink>(
     out: &mut W,
     err: &mut E,
 ) -> Finish
-    ensures says { Says (OwesImage image.now) result
+    ensures says { Says (OwesImage image.now (R.faults input.old) (R.faults input.new)) result
         (streams (R.left input.old) (R.left input.new) (W.written out.old) (W.written out.new) (E.written err.old) (E.written err.new))
         (faults (R.faults input.old) (R.faults input.new) (W.faults out.old) (W.faults out.new) (E.faults err.old) (E.faults err.new)) }
     ensures counts { Rises (faults (R.faults input.old) (R.faults input.new) (W.faults out.old) (W.faults out.new) (E.faults err.old) (E.faults err.new)) }
+    ensures leaves_input { RunsNothing result (R.faults input.old) (R.faults input.new) → input.new ≡ input.old }
+    ensures leaves_output { RunsNothing result (R.faults input.old) (R.faults input.new) → out.new ≡ out.old }
 {
     match load(alloc, image) {
         Ok(mut machine) => match machine.run(STEP_LIMIT, input, out, err) {

@@ -1,5 +1,5 @@
 -- Which constants are values of which types, and that operators and functions give such.
-use Rattle.std.proofs.Common.{◌≡◌, ◌⊎◌, inl, inr, ℕ, zero, suc, ◌<◌, ◌≤◌, ◌+◌, ◌-◌, ◌*◌, ◌/◌, ◌%◌, ◌^◌, ℤ, pos, negsuc, ◌-ℤ◌, ◌+ℤ◌, ◌*ℤ◌, ◌≤ℤ◌, unsigned_abs, Bool, true, false, not, ◌&&◌, ◌||◌, nat_eq, List, [], ◌∷◌, ◌++◌, length, get_or, Option, Some, None, if◌then◌else◌, w32, to_z, refl, sym, ap, subst, ◌∙◌, arith}
+use Rattle.std.proofs.Common.{◌≡◌, ◌⊎◌, inl, inr, ℕ, zero, suc, ◌<◌, ◌≤◌, ◌+◌, ◌-◌, ◌*◌, ◌/◌, ◌%◌, ◌^◌, ℤ, pos, negsuc, ◌-ℤ◌, ◌+ℤ◌, ◌*ℤ◌, ◌≤ℤ◌, unsigned_abs, Bool, true, false, not, ◌&&◌, ◌||◌, nat_eq, nat_le, List, [], ◌∷◌, ◌++◌, length, get_or, Option, Some, None, if◌then◌else◌, w32, to_z, refl, sym, ap, subst, ◌∙◌, arith}
 use Rattle.std.specs.Prelude.{neg_ℤ, int_le, int_lt}
 use Rattle.std.specs.Bool.{IsTrue}
 use Rattle.std.specs.Int.{bit_not, cast_unsigned, int_bit_and, int_bit_or, int_bit_xor, int_rem_euclid}
@@ -34,7 +34,7 @@ use Rattle.op_types.proofs.TypeFacts.{InKind, IsSmall, Rooted, Takes, boolean_ki
 use Rattle.op_types.specs.Operators as table
 use Rattle.op_types.specs.Sets.{combined, common_set, elements, has, is_kept, is_part, only, those_from}
 use Rattle.op_types.specs.Sorts.{are_sets, is_text, kind_of, same_kind, sort_of}
-use Rattle.op_types.specs.Values.{applied, before, bound_of, by_values, bytes_of, cast, compared_by, contains, end_by, if_zero, in_range, index_by, is_in, low_bits, number_of, on_numbers, on_sets, on_texts, operated, precedes_bytes, truth, within}
+use Rattle.op_types.specs.Values.{applied, before, bound_of, by_values, bytes_of, cast, compared_by, contains, end_by, if_zero, in_range, index_by, is_in, low_bits, most_text_bytes, number_of, on_numbers, on_sets, on_texts, operated, precedes_bytes, text_within, truth, within}
 use Rattle.op_types.specs.declared.sort.OrdinalKind.{OrdinalKind}
 use Rattle.op_types.specs.declared.sort.OrdinalKind.TheVariants.{Integer, Boolean, Char, Enumeration}
 use Rattle.op_types.specs.declared.sort.Sort.{Sort}
@@ -462,12 +462,19 @@ set_arithmetic_fits {core} o s t to x y v f i g p q e h = go (are_sets (sort_of 
 truths : {core : Core} (o : Operator) (s t to : TypeId) (x y v : Const) (b : Bool) → ((a b : List ℕ) → on_texts o a b ≡ Some v → Fits core v table.boolean) → ((a b : List ℕ) → on_sets o a b ≡ Some v → Fits core v table.boolean) → ((a b : ℤ) → on_numbers o a b ≡ Some v → Fits core v table.boolean) → IsFounded core → table.compared b ≡ Some to → operated o (sort_of core s) (sort_of core t) x y ≡ Some v → Fits core v to
 truths {core} o s t to x y v b l m n f e h = subst (Fits core v) (compared_is b to e).1 (compare_fits o (sort_of core s) (sort_of core t) x y v l m n f h)
 
+text_is : (bytes : List ℕ) (v : Const) → text_within bytes ≡ Some v → const.Text bytes ≡ v
+text_is bytes v e = go (nat_le (length bytes) most_text_bytes) e
+  where
+    go : (b : Bool) → (if b then Some (const.Text bytes) else None) ≡ Some v → const.Text bytes ≡ v
+    go true e = cc
+    go false e = absurd (cc)
+
 pub operation_fits : {core : Core} (o : Operator) (s t to : TypeId) (x y v : Const) → IsFounded core → Fits core x s → Fits core y t → table.operation o (sort_of core s) (sort_of core t) (common_set core s t) ≡ Some to → operated o (sort_of core s) (sort_of core t) x y ≡ Some v → Fits core v to
 unfolding is_arithmetic
 operation_fits {core} Add s t to x y v f p q e h = go (is_text (sort_of core s) && is_text (sort_of core t)) refl e h
   where
     go : (b : Bool) → (is_text (sort_of core s) && is_text (sort_of core t)) ≡ b → (if b then Some table.string else table.set_arithmetic (sort_of core s) (sort_of core t) (common_set core s t)) ≡ Some to → (if b then on_texts Add (bytes_of x) (bytes_of y) else by_values Add x y) ≡ Some v → Fits core v to
-    go true c e k = subst (Fits core v) (let d : table.string ≡ to = cc in d) (subst (λ v. Fits core v table.string) (let d : const.Text (bytes_of x ++ bytes_of y) ≡ v = cc in d) (string_kind f))
+    go true c e k = subst (Fits core v) (let d : table.string ≡ to = cc in d) (subst (λ v. Fits core v table.string) (text_is (bytes_of x ++ bytes_of y) v k) (string_kind f))
     go false c e k = set_arithmetic_fits Add s t to x y v f refl (λ a b. refl) p q e h
 operation_fits Subtract s t to x y v f p q e h = set_arithmetic_fits Subtract s t to x y v f refl (λ a b. refl) p q e h
 operation_fits Multiply s t to x y v f p q e h = set_arithmetic_fits Multiply s t to x y v f refl (λ a b. refl) p q e h

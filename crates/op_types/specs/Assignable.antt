@@ -20,7 +20,7 @@ use Rattle.op_types.specs.declared.sort.Sort.TheVariants.{Ordinal, String, Set, 
 -- ---- what is assignable
 
 -- A value of the one sort to a variable of the other: any integer or subrange of integers to another, a subrange and its base both
--- ways; a Char to a string; a set to a set of the same base; nil to a class, an interface or a dynamic array; a class to its
+-- ways, and two subranges of one base; a Char to a string; a set to a set of the same base; nil to a class, an interface or a dynamic array; a class to its
 -- ancestors and to the interfaces that it implements; an interface to its ancestors.
 pub data Fits (core : Core) : Sort → Sort → Type 0 where
   ordinals : {a b : OrdinalKind} → same_kind a b ≡ true → Fits core (Ordinal a) (Ordinal b)

@@ -1,5 +1,5 @@
 -- The values of constant expressions (Free Pascal Reference Guide, "Ordinary constants" and "Operators").
-use Rattle.std.specs.Prelude.{ℕ, zero, suc, ◌/◌, ◌%◌, ◌^◌, ℤ, pos, negsuc, ◌+ℤ◌, ◌-ℤ◌, ◌*ℤ◌, neg_ℤ, ◌≤ℤ◌, unsigned_abs, int_lt, int_le, int_div, int_rem, nat_lt, nat_eq, Bool, true, false, not, ◌&&◌, ◌||◌, List, [], ◌∷◌, ◌++◌, length, Option, Some, None, if◌then◌else◌}
+use Rattle.std.specs.Prelude.{ℕ, zero, suc, ◌/◌, ◌%◌, ◌^◌, ℤ, pos, negsuc, ◌+ℤ◌, ◌-ℤ◌, ◌*ℤ◌, neg_ℤ, ◌≤ℤ◌, unsigned_abs, int_lt, int_le, int_div, int_rem, nat_le, nat_lt, nat_eq, Bool, true, false, not, ◌&&◌, ◌||◌, List, [], ◌∷◌, ◌++◌, length, Option, Some, None, if◌then◌else◌}
 use Rattle.std.specs.Int.{w32, cast_unsigned, cast_signed, int_bit_and, int_bit_or, int_bit_xor, int_bit_not, int_shl, int_rem_euclid}
 use Rattle.std.specs.List.{list_any}
 use Rattle.std.specs.Ordering.{int_eq}
@@ -82,8 +82,16 @@ precedes_bytes xs [] = false
 precedes_bytes [] (y ∷ ys) = true
 precedes_bytes (x ∷ xs) (y ∷ ys) = nat_lt x y || (nat_eq x y && precedes_bytes xs ys)
 
+-- the most bytes of a text, as of a literal
+abbrev pub most_text_bytes : ℕ
+most_text_bytes = 65535
+
+-- a text, where it is not too long
+abbrev pub text_within : List ℕ → Option Const
+text_within bytes = if nat_le (length bytes) most_text_bytes then Some (Text bytes) else None
+
 abbrev pub on_texts : Operator → List ℕ → List ℕ → Option Const
-on_texts Add a b = Some (Text (a ++ b))
+on_texts Add a b = text_within (a ++ b)
 on_texts o a b = compared_by o (precedes_bytes a b) (precedes_bytes b a)
 
 -- ---- sets
@@ -116,7 +124,7 @@ by_values o (Set a) (Set b) = on_sets o a b
 by_values o (Ordinal n) (Set b) = Some (truth (is_in n b))
 by_values o a b = on_numbers o (number_of a) (number_of b)
 
--- what an operator gives between two constants of these sorts, if that is in range and no divisor is 0
+-- what an operator gives between two constants of these sorts, if that is in range, no divisor is 0 and no text too long
 abbrev pub operated : Operator → Sort → Sort → Const → Const → Option Const
 operated o s t a b = if is_text s && is_text t then on_texts o (bytes_of a) (bytes_of b) else by_values o a b
 

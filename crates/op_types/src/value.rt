@@ -1,7 +1,7 @@
 //! The values of constant expressions (Free Pascal Reference Guide, "Ordinary constants" and "Operators").
 ghost use Rattle.std.specs.Prelude.{◌≡◌, ◌≤ℤ◌, ◌-ℤ◌, pos, IfOk, if◌then◌else◌};
 ghost use Rattle.op_core.specs.Sizes.{range_of, type_at};
-ghost use Rattle.op_types.specs.Values.{IsRange, applied, before, bound_of, by_values, bytes_of, cast, compared_by, contains, in_range, is_in, low_bits, number_of, on_numbers, on_sets, on_texts, operated, precedes_bytes, truth, within};
+ghost use Rattle.op_types.specs.Values.{IsRange, applied, before, bound_of, by_values, bytes_of, cast, compared_by, contains, in_range, is_in, low_bits, number_of, on_numbers, on_sets, on_texts, operated, precedes_bytes, text_within, truth, within};
 
 use crate::set::{combined, is_part};
 use crate::size::{integer_range, range_of, type_at};
@@ -12,7 +12,10 @@ use op_scan::CompactText;
 use op_tree::{Operator, PrefixOperator};
 use std::alloc::Global;
 
-/// What an operator gives between two constants of these sorts; None where that is out of range or a divisor is 0.
+/// The most bytes of a text, as of a literal.
+const MOST_TEXT_BYTES: usize = 65_535;
+
+/// What an operator gives between two constants of these sorts; None where that is out of range, a divisor is 0, or a text too long.
 pub fn operated(
     alloc: Global,
     operator: Operator,
@@ -75,12 +78,23 @@ fn on_texts(
         Operator::Add => {
             let mut both = a;
             both.extend_from_slice(b)?;
-            Ok(Some(Const::Text(CompactText::copy_of(alloc, both.as_slice())?)))
+            text_within(alloc, both.as_slice())
         }
         _ => {
             let (less, more) = (precedes_bytes(&a, b), precedes_bytes(b, &a));
             Ok(compared_by(operator, less, more))
         }
+    }
+}
+
+/// A text, where it is not too long.
+fn text_within(alloc: Global, bytes: &[u8]) -> Result<Option<Const>, NoMemory>
+    ensures { IfOk result (λ v. v ≡ text_within bytes.now) }
+{
+    if bytes.len() <= MOST_TEXT_BYTES {
+        Ok(Some(Const::Text(CompactText::copy_of(alloc, bytes)?)))
+    } else {
+        Ok(None)
     }
 }
 

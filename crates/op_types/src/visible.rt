@@ -39,6 +39,8 @@ pub enum BuiltIn {
     Continue,
     /// A function of one value.
     Function(Function),
+    /// A type that is not in this profile, by the number of the feature.
+    LeftOut(u8),
 }
 
 /// What a name stands for.

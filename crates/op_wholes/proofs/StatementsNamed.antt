@@ -207,6 +207,6 @@ module _ (core : Core) (r : ℕ) (wholes : List Root) (blocks : ℕ) (sees : See
     branches_in : (bs : Branches) (around : Around) (here : Here) (of : TypeId) → AreBranches core sees around of bs → AreSimpleBranches core bs → AreCountedBranches bs → AreListed wholes (branches_wholes core here.whole bs) → AreMadeCases (AreWholesIn wholes) blocks (cases_of (env_at core r) here bs)
     branches_in no_branches around here of h p c w = tt
     branches_in (branches labels s bs) around here of h p c w = (
-      statement_in s around here h.1 p.0 c.0 (front_listed wholes (statement_wholes core here.whole s) (branches_wholes core here.whole bs) w),
-      branches_in bs around here of h.2 p.1 c.1 (back_listed wholes (statement_wholes core here.whole s) (branches_wholes core here.whole bs) w),
+      statement_in s around here h.1 p.0 c.1 (front_listed wholes (statement_wholes core here.whole s) (branches_wholes core here.whole bs) w),
+      branches_in bs around here of h.2 p.1 c.2 (back_listed wholes (statement_wholes core here.whole s) (branches_wholes core here.whole bs) w),
     )

@@ -1,9 +1,15 @@
-use Rattle.std.proofs.Common.{◌≡◌, ◌∷◌, [], IfOk, true, ap, subst, sym, ◌∙◌}
+use Rattle.std.proofs.Common.{◌≡◌, ◌⊎◌, inl, inr, ℕ, ◌∷◌, [], IfOk, true, ap, subst, sym, ◌∙◌}
 use Rattle.std.specs.Option.{option_map}
+use Rattle.op_base.specs.declared.place.Place.{Place}
 use Rattle.op_check_expr.specs.Words.{Reports, changed, followed}
 use Rattle.op_check_unit.proofs.Beginning.{alone, bracketed_means, one_listed}
 use Rattle.op_check_unit.specs.Initials.{by_brackets, counted, first_expression, is_bracketed, one_value, shape_of, single, unless_wrong, wrong_count}
-use Rattle.op_core.specs.Initial.{first_value_of}
+use Rattle.op_check_unit.specs.declared.initial.Shape.{Shape}
+use Rattle.op_check_unit.specs.declared.initial.Shape.TheVariants.{Single, Fields}
+use Rattle.op_core.specs.Faults.{Checked}
+use Rattle.op_core.specs.Initial.{FirstValue, first_value_of}
+use Rattle.op_core.specs.declared.ids.Run.{Run}
+use Rattle.op_core.specs.declared.ids.TypeId.{TypeId}
 use Rattle.op_tree.proofs.Rows.{designated_says}
 use Rattle.op_tree.specs.Expression.{designated, designator, bracketed, expr_of, root_of}
 use Rattle.op_tree.specs.Statement.{selectors_of}
@@ -41,3 +47,24 @@ in_brackets-returns-in_ok-part-in-Elements t c =
     (one_listed c.one_part.result (first_expression core names a.element inner) wrong old mid new part
     (subst (λ e. Reports (first_expression core names a.element (expr_of e)) old mid (option_map first_value_of part)) c.deref.ensures c.in_ok-part-in-Elements.ensures)
     c.one_part.ensures))
+
+-- what has no list takes the expression as a single value
+no_list : (bracket : Place) (x : Checked FirstValue) (f : ℕ → TypeId → Checked FirstValue) (s : Shape) → (s ≡ Single) ⊎ ((r : Run) × (s ≡ Fields r)) → by_brackets bracket x f s ≡ x
+no_list bracket x f s (inl e) = ap (by_brackets bracket x f) e
+no_list bracket x f s (inr r) = ap (by_brackets bracket x f) r.1
+
+pub in_brackets-returns-in-Single : goal.in_brackets-returns-in-Single
+in_brackets-returns-in-Single t c =
+    let core = c.args.setting.core.now in
+    let names = c.args.setting.visible.now in
+    let of = c.args.of in
+    let called = c.in-Designator.called in
+    let p = c.in-Bracketed.position in
+    let inner = expr_of c.in-Bracketed.inside.value in
+    let ss = selectors_of called.selectors.items in
+    let whole : expr_of c.args.e.now ≡ designated (designator (bracketed p inner) ss) =
+    ap expr_of c.in-Designator.is ∙ designated_says called ∙ ap (λ r. designated (designator (root_of r) ss)) c.in-Bracketed.is in
+    let means = ap (first_expression core names of) whole ∙ bracketed_means core names of p inner ss (subst (λ e. is_bracketed e ≡ true) whole c.requires.bracketed)
+    ∙ ap (by_brackets p.place (single core names of (designated (designator (bracketed p inner) ss))) (λ count element. counted p.place count (start_of inner ∷ []) (changed one_value (first_expression core names element inner)))) (sym c.shape_of.ensures)
+    ∙ no_list p.place _ _ c.shape_of.result c.in-Single.is ∙ ap (single core names of) (sym whole) in
+    subst (λ g. IfOk c.single.result (λ v. Reports g c.args.sink.now c.single.new.sink (option_map first_value_of v))) (sym means) c.single.ensures

@@ -19,4 +19,4 @@ returns-in-Failed-clause-says g c words left count =
 
 pub returns-in-Err-clause-says : goal.returns-in-Err-clause-says
 returns-in-Err-clause-says g c words left count =
-    says_build_error (call words (g.F.Files.stored c.args.files.now) (g.F.Files.faults c.args.files.now) (g.F.Files.faults c.compile.new.files) c.args.image.now.items) c.args.file.now c.in-Err.error c.report_error.result _ _ _ _ _ _ _ _ _ c.in-Err.ensures.failed c.requires c.report_error.ensures.says
+    says_build_error (call words (g.F.Files.stored c.args.files.now) (g.F.Files.faults c.args.files.now) (g.F.Files.faults c.compile.new.files) count count c.args.image.now.items) c.args.file.now c.in-Err.error c.report_error.result _ _ _ _ _ _ _ _ _ c.in-Err.ensures.failed refl c.requires c.report_error.ensures.says

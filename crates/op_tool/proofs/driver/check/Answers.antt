@@ -15,4 +15,4 @@ returns-in-Ok-clause-says g c words left count =
 
 pub returns-clause-says : goal.returns-clause-says
 returns-clause-says g c words left count =
-    says_check_error (call words (g.F.Files.stored c.args.files.now) (g.F.Files.faults c.args.files.now) (g.F.Files.faults c.checked.new.files) []) c.args.file.now c.in-Err.error c.report_error.result _ _ _ _ _ _ _ _ _ c.in-Err.ensures.failed refl c.report_error.ensures.says
+    says_check_error (call words (g.F.Files.stored c.args.files.now) (g.F.Files.faults c.args.files.now) (g.F.Files.faults c.checked.new.files) count count []) c.args.file.now c.in-Err.error c.report_error.result _ _ _ _ _ _ _ _ _ c.in-Err.ensures.failed refl refl c.report_error.ensures.says

@@ -11,21 +11,21 @@ pub returns-in-Some-Exec-clause-says : goal.returns-in-Some-Exec-clause-says
 returns-in-Some-Exec-clause-says g c =
     let words = map string_bytes c.args.words.now in
     let is = subst (IsCommand words) c.in-Some-Exec.field-0-is c.in-Some-Exec.ensures in
-    let now = call words (g.F.Files.stored c.args.files.now) (g.F.Files.faults c.args.files.now) (g.F.Files.faults c.exec.new.files) c.exec.new.image.items in
+    let now = call words (g.F.Files.stored c.args.files.now) (g.F.Files.faults c.args.files.now) (g.F.Files.faults c.exec.new.files) (g.R.Source.faults c.args.input.now) (g.R.Source.faults c.exec.new.input) c.exec.new.image.items in
     says_also (OwesExec now c.in-Some-Exec.file.now) (Owes now) c.exec.result _ _ (λ answer done bytes owes. Owes.by_exec c.in-Some-Exec.file.now is owes) (c.exec.ensures.says words)
 
 pub returns-in-Some-Build-clause-says : goal.returns-in-Some-Build-clause-says
 returns-in-Some-Build-clause-says g c =
     let words = map string_bytes c.args.words.now in
     let is = subst (IsCommand words) c.in-Some-Build.field-0-is c.in-Some-Build.ensures in
-    let now = call words (g.F.Files.stored c.args.files.now) (g.F.Files.faults c.args.files.now) (g.F.Files.faults c.build.new.files) c.build.new.image.items in
+    let now = call words (g.F.Files.stored c.args.files.now) (g.F.Files.faults c.args.files.now) (g.F.Files.faults c.build.new.files) (g.R.Source.faults c.args.input.now) (g.R.Source.faults c.args.input.now) c.build.new.image.items in
     says_also (OwesBuild now c.in-Some-Build.file.now) (Owes now) c.build.result _ _ (λ answer done bytes owes. Owes.by_build c.in-Some-Build.file.now is owes) (c.build.ensures.says words (g.R.Source.left c.args.input.now) (g.R.Source.faults c.args.input.now))
 
 pub returns-in-Some-Check-clause-says : goal.returns-in-Some-Check-clause-says
 returns-in-Some-Check-clause-says g c =
     let words = map string_bytes c.args.words.now in
     let is = subst (IsCommand words) c.in-Some-Check.field-0-is c.in-Some-Check.ensures in
-    let now = call words (g.F.Files.stored c.args.files.now) (g.F.Files.faults c.args.files.now) (g.F.Files.faults c.check.new.files) in
+    let now = call words (g.F.Files.stored c.args.files.now) (g.F.Files.faults c.args.files.now) (g.F.Files.faults c.check.new.files) (g.R.Source.faults c.args.input.now) (g.R.Source.faults c.args.input.now) in
     let told = streams (g.R.Source.left c.args.input.now) (g.R.Source.left c.args.input.now) (g.W.Sink.written c.args.out.now) (g.W.Sink.written c.check.new.out) (g.E.Sink.written c.args.err.now) (g.E.Sink.written c.check.new.err) in
     let counts = faults (g.R.Source.faults c.args.input.now) (g.R.Source.faults c.args.input.now) (g.W.Sink.faults c.args.out.now) (g.W.Sink.faults c.check.new.out) (g.E.Sink.faults c.args.err.now) (g.E.Sink.faults c.check.new.err) in
     subst (λ image. Says (Owes (now image)) c.check.result told counts) (sym c.clear.ensures.items)
@@ -35,7 +35,7 @@ pub returns-in-Some-Run-clause-says : goal.returns-in-Some-Run-clause-says
 returns-in-Some-Run-clause-says g c =
     let words = map string_bytes c.args.words.now in
     let is = subst (IsCommand words) c.in-Some-Run.field-0-is c.in-Some-Run.ensures in
-    let now = call words (g.F.Files.stored c.args.files.now) (g.F.Files.faults c.args.files.now) (g.F.Files.faults c.run.new.files) c.run.new.image.items in
+    let now = call words (g.F.Files.stored c.args.files.now) (g.F.Files.faults c.args.files.now) (g.F.Files.faults c.run.new.files) (g.R.Source.faults c.args.input.now) (g.R.Source.faults c.run.new.input) c.run.new.image.items in
     says_also (OwesRun now c.in-Some-Run.name.now) (Owes now) c.run.result _ _ (λ answer done bytes owes. Owes.by_run c.in-Some-Run.name.now is owes) (c.run.ensures.says words)
 
 pub returns-in-None-clause-says : goal.returns-in-None-clause-says

@@ -23,7 +23,7 @@ returns-in-ReadFault-clause-says g c =
 
 pub returns-in-Err-NoMemory-clause-says : goal.returns-in-Err-NoMemory-clause-says
 returns-in-Err-NoMemory-clause-says g c =
-    says_no_memory (OwesImage c.args.image.now) c.report_no_memory.result _ _ _ _ _ _ _ _ _ (λ done only. only) c.report_no_memory.ensures.says
+    says_no_memory (OwesImage c.args.image.now (g.R.Source.faults c.args.input.now) (g.R.Source.faults c.args.input.now)) c.report_no_memory.result _ _ _ _ _ _ _ _ _ (λ done only. only) c.report_no_memory.ensures.says
 
 pub returns-in-Ok-clause-says : goal.returns-in-Ok-clause-says
 returns-in-Ok-clause-says g c =
@@ -31,4 +31,4 @@ returns-in-Ok-clause-says g c =
 
 pub returns-clause-says : goal.returns-clause-says
 returns-clause-says g c =
-    says_bad_image (OwesImage c.args.image.now) c.in-Err-Bad.condition c.report_bad_image.result _ _ _ _ _ _ _ _ _ (λ done only. (subst (IsNotLoaded c.args.image.now) c.in-Err-Bad.field-0-is c.in-Err-Bad.ensures.refused, only)) (λ done only. only) c.report_bad_image.ensures.says
+    says_bad_image (OwesImage c.args.image.now (g.R.Source.faults c.args.input.now) (g.R.Source.faults c.args.input.now)) c.in-Err-Bad.condition c.report_bad_image.result _ _ _ _ _ _ _ _ _ (λ done only. (subst (IsNotLoaded c.args.image.now) c.in-Err-Bad.field-0-is c.in-Err-Bad.ensures.refused, only)) (λ done only. only) c.report_bad_image.ensures.says

@@ -1,0 +1,11 @@
+use Rattle.op_sizes.proofs.ComputingSmall.{lengths_covered}
+use Rattle.op_sizes.proofs.RoutinesSmall.{instructions_light, program_light, routine_light}
+use Rattle.op_sizes.proofs.theorems.low_code_is_small.Goals as goal
+
+pub returns : goal.returns
+returns c = record {
+  lengths = lengths_covered;
+  instructions = instructions_light;
+  routines = λ core mir stack r id routine is counted written. routine_light core stack r counted written mir id routine is;
+  program = program_light;
+}

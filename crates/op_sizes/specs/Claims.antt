@@ -1,0 +1,50 @@
+-- What is proved of the size of low code.
+use Rattle.std.specs.Prelude.{◌≡◌, ◌≤◌, ℕ, ◌+◌, ◌*◌, List, Some, length, slice_get}
+use Rattle.op_core.specs.declared.program.Core.{Core}
+use Rattle.op_core.specs.declared.routine.Routine.{Routine as Row}
+use Rattle.op_expand.specs.Routines.{instruction_code, low_routine}
+use Rattle.op_expand.specs.declared.frame.Frame.{Frame}
+use Rattle.op_frames.specs.Counted.{AreCountedStatements}
+use Rattle.op_frames.specs.Made.{Every}
+use Rattle.op_low.specs.declared.instruction.Instruction.{Instruction as LowInstruction}
+use Rattle.op_lower.specs.Lowers.{IsProgram, IsRoutine}
+use Rattle.op_meaning.specs.Charge.{charge_of, nodes_of, statements_weight}
+use Rattle.op_meaning.specs.Frames.{program_of}
+use Rattle.op_meaning.specs.Shapes.{variables_of}
+use Rattle.op_mir.specs.declared.code.Mir.{Mir}
+use Rattle.op_mir.specs.declared.code.Routine.{Routine}
+use Rattle.op_mir.specs.declared.instruction.Instruction.{Instruction}
+use Rattle.op_sizes.specs.Weights.{blocks_weight, code_weight}
+use Rattle.op_sizes.specs.Written.{AreWrittenStatements}
+
+-- code has no more instructions than it counts for
+abbrev pub WeightsCoverLengths : Type 0
+WeightsCoverLengths = (code : List LowInstruction) → length code ≤ code_weight code
+
+-- the low code of the instruction counts for so much at most, whatever the frame and the literals in front
+abbrev pub IsSmall : Core → Mir → (most : ℕ) → Instruction → Type 0
+IsSmall core mir most i = (frame : Frame) (id : ℕ) → code_weight (instruction_code core mir frame id i) ≤ most
+
+-- that of each instruction of a routine's managed code does
+abbrev pub AreSmall : Core → Mir → (most : ℕ) → Routine → Type 0
+AreSmall core mir most routine = Every (λ b. Every (IsSmall core mir most) b.code) routine.blocks
+
+-- one instruction of a routine's managed code gets no more low code than three times what the routine is charged
+abbrev pub InstructionsAreSmall : Type 0
+InstructionsAreSmall =
+    (core : Core) (mir : Mir) (stack r : ℕ) (row : Row) (routine : Routine) → slice_get core.routines r ≡ Some row → IsRoutine core r routine
+    → AreCountedStatements ((program_of core stack).body r) → AreWrittenStatements ((program_of core stack).body r)
+    → AreSmall core mir (3 * charge_of core (record { 0 = r })) routine
+
+-- all blocks of a routine, with its beginning and the blocks of errors: 44 for each node of its body, 17 for each of its variables
+abbrev pub RoutinesAreSmall : Type 0
+RoutinesAreSmall =
+    (core : Core) (mir : Mir) (stack r id : ℕ) (routine : Routine) → IsRoutine core r routine
+    → AreCountedStatements ((program_of core stack).body r) → AreWrittenStatements ((program_of core stack).body r)
+    → blocks_weight (low_routine core mir r id routine).blocks ≤ 44 * nodes_of (statements_weight core ((program_of core stack).body r)) + 17 * (variables_of core r).count + 44
+
+-- what stands below all routines: one instruction, and all blocks by the units whose parts it enters
+abbrev pub ProgramIsSmall : Type 0
+ProgramIsSmall =
+    (core : Core) (mir : Mir) (r id : ℕ) (routine : Routine) → IsProgram core.units routine
+    → AreSmall core mir 20 routine × (blocks_weight (low_routine core mir r id routine).blocks ≤ 7 * length core.units + 17 * (variables_of core r).count + 64)

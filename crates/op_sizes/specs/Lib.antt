@@ -1,0 +1,4 @@
+pub mod Claims
+pub mod Sizes
+pub mod Weights
+pub mod Written
