@@ -27,7 +27,7 @@ use Rattle.op_check_expr.specs.declared.denoted.Meant.TheVariants as rust
 use Rattle.op_types.specs.Constants.{name_means}
 use Rattle.op_types.specs.declared.constant.Constant.{Constant}
 use Rattle.op_types.specs.declared.visible.BuiltIn.{BuiltIn}
-use Rattle.op_types.specs.declared.visible.BuiltIn.TheVariants.{Read, ReadLn, Eof, Eoln, SetLength, Copy, Val, Str, Pos, Delete, Insert, StringOfChar, Halt, Function, LeftOut}
+use Rattle.op_types.specs.declared.visible.BuiltIn.TheVariants.{Read, ReadLn, Eof, Eoln, SetLength, Copy, Val, Str, Pos, Delete, Insert, StringOfChar, Function, LeftOut}
 use Rattle.op_types.specs.declared.visible.Meaning.{Meaning}
 use Rattle.op_types.specs.declared.visible.Meaning.TheVariants as meaning
 
@@ -75,7 +75,6 @@ feature_of Pos = Some 40
 feature_of Delete = Some 40
 feature_of Insert = Some 40
 feature_of StringOfChar = Some 40
-feature_of Halt = Some 39
 feature_of (Function Assigned) = Some 41
 feature_of (LeftOut feature) = Some feature
 feature_of _ = None

@@ -148,7 +148,6 @@ fn feature_of(b: BuiltIn) -> Option<u8>
         | BuiltIn::Delete
         | BuiltIn::Insert
         | BuiltIn::StringOfChar => Some(40),
-        BuiltIn::Halt => Some(39),
         BuiltIn::Function(Function::Assigned) => Some(41),
         BuiltIn::LeftOut(feature) => Some(feature),
         _ => None,
