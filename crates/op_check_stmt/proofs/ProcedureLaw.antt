@@ -1,6 +1,6 @@
 -- What is checked of the built-in procedures is what the relations say.
 use Rattle.std.proofs.Common.{◌≡◌, Bool, true, false, [], Option, Some, None, subst}
-use Rattle.std.specs.Prelude.{is_some, slice_get}
+use Rattle.std.specs.Prelude.{pos, is_some, slice_get}
 use Rattle.op_base.specs.declared.place.Place.{Place}
 use Rattle.op_check_expr.proofs.Law.{call_law, element_law, given_law, value_of_law, variable_law}
 use Rattle.op_check_expr.specs.Expressions.{position_of}
@@ -9,7 +9,7 @@ use Rattle.op_check_expr.specs.Rules.{ElementBreaks, ElementIs}
 use Rattle.op_check_expr.specs.Scopes.{Here}
 use Rattle.op_core.proofs.Agreeing.{agrees_behind, agrees_changed, agrees_entry, agrees_fine, agrees_refused, agrees_rule, agrees_test, agrees_test_fine, agrees_untyped, agrees_with, holds_entry}
 use Rattle.op_core.specs.Relations.{Agrees, Entry, Through}
-use Rattle.op_core.specs.Statement.{built_in, count}
+use Rattle.op_core.specs.Statement.{built_in, count, halt}
 use Rattle.op_core.specs.Typing as typing
 use Rattle.op_core.specs.declared.ids.TypeId.{TypeId}
 use Rattle.op_core.specs.declared.ids.VariableId.{VariableId}
@@ -27,8 +27,8 @@ use Rattle.op_types.specs.declared.visible.Meaning.TheVariants.{Variable, Spoile
 use Rattle.op_check_stmt.proofs.Combining.{agrees_two, agrees_two_fine, agrees_upon}
 use Rattle.op_check_stmt.proofs.LeavingLaw.{leaving_law}
 use Rattle.op_check_stmt.specs.Leaving.{jump_of}
-use Rattle.op_check_stmt.specs.ProcedureRules.{CalledBreaks, CalledIs, ChangeBreaks, ChangeIs, CountBreaks, CountIs, CountedBreaks, CountedIs, ExitBreaks, ExitIs, ItemBreaks, ItemIs, ItemsAre, ItemsBreak, JumpBreaks, JumpIs, ProcedureBreaks, ProcedureIs, SetBreaks, SetIs, TextBreaks, TextIs}
-use Rattle.op_check_stmt.specs.Procedures.{Called, Values, base_in, base_of, called_means, change_means, count_means, counted, exit_means, item, items, jump_means, member, none, one, procedure, set, text, two, values}
+use Rattle.op_check_stmt.specs.ProcedureRules.{CalledBreaks, CalledIs, ChangeBreaks, ChangeIs, CountBreaks, CountIs, CountedBreaks, CountedIs, ExitBreaks, ExitIs, HaltBreaks, HaltIs, ItemBreaks, ItemIs, ItemsAre, ItemsBreak, JumpBreaks, JumpIs, ProcedureBreaks, ProcedureIs, SetBreaks, SetIs, TextBreaks, TextIs}
+use Rattle.op_check_stmt.specs.Procedures.{Called, Values, base_in, base_of, called_means, change_means, count_means, counted, exit_means, halt_means, item, items, jump_means, member, none, one, procedure, set, text, two, unwritten, values}
 use Rattle.op_check_stmt.specs.VariableRules.{CounterBreaks, CounterIs, MeaningBreaks, MeaningCounts, RowBreaks, RowCounts}
 use Rattle.op_check_stmt.specs.Variables.{counter, counter_named, counter_row}
 use Rattle.op_check_stmt.specs.declared.leaving.Jump.{Jump}
@@ -86,12 +86,17 @@ change_law here includes n (two s e) =
     (λ p t. member_law here (base_of here.core (typing.type_of p)) e (subst (λ p. is_some (base_of here.core (typing.type_of p)) ≡ true) t.2.1 t.2.0)) (value_of_law here None e).1
 change_law here includes n _ = agrees_refused 26 n.position.place
 
--- ---- Exit, Break and Continue
+-- ---- Exit, Halt, Break and Continue
 
 exit_law : (here : Here) (n : Name) (v : Values) → Agrees (exit_means here n v) (ExitIs here v) (ExitBreaks here n v)
 exit_law here n none = agrees_test_fine
 exit_law here n (one e) = agrees_entry (λ of t. agrees_test (λ may. agrees_changed (given_law here of (position_of e).switches.r e)))
 exit_law here n _ = agrees_refused 26 n.position.place
+
+halt_law : (here : Here) (n : Name) (v : Values) → Agrees (halt_means here n v) (HaltIs here v) (HaltBreaks here n v)
+halt_law here n none = agrees_fine (halt (unwritten (pos 0)))
+halt_law here n (one e) = agrees_changed (given_law here table.integer false e)
+halt_law here n _ = agrees_refused 26 n.position.place
 
 jump_law : (here : Here) (jump : Jump) (n : Name) (v : Values) → Agrees (jump_means here jump n v) (JumpIs here jump v) (JumpBreaks here n v)
 jump_law here jump n none = leaving_law n.position.place (jump_of jump) here.around
@@ -107,6 +112,7 @@ procedure_law here d name.Dec c = count_law here Downto c.name (values c.given)
 procedure_law here d name.Include c = change_law here true c.name (values c.given)
 procedure_law here d name.Exclude c = change_law here false c.name (values c.given)
 procedure_law here d name.Exit c = exit_law here c.name (values c.given)
+procedure_law here d name.Halt c = halt_law here c.name (values c.given)
 procedure_law here d name.Break c = jump_law here Break c.name (values c.given)
 procedure_law here d name.Continue c = jump_law here Continue c.name (values c.given)
 procedure_law here d _ c = agrees_changed (call_law here d)

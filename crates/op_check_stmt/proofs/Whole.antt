@@ -7,7 +7,7 @@ use Rattle.std.proofs.lemmas.List.Folds.{list_any-append}
 use Rattle.std.proofs.lemmas.List.Sums.{fold-append}
 use Rattle.std.specs.List.{All}
 use Rattle.std.specs.Option.{IsSomeAnd, option_map}
-use Rattle.std.specs.Prelude.{int_le}
+use Rattle.std.specs.Prelude.{pos, int_le}
 use Rattle.op_base.specs.declared.place.Place.{Place}
 use Rattle.op_check_expr.proofs.Trees.{as_type_value, as_typed, tree_typed}
 use Rattle.op_check_expr.proofs.Whole.{called_alone_whole, element_whole, given_to_whole, target_whole, value_of_whole, variable_whole}
@@ -23,7 +23,7 @@ use Rattle.op_check_stmt.specs.Cases.{both_bounds, bound, bound_means, label, la
 use Rattle.op_check_stmt.specs.Leaving.{entered, in_finally, is_finally, jump_of, leaving_means, reach_of}
 use Rattle.op_check_stmt.specs.Parts.{both_typed, of_two, paired}
 use Rattle.op_check_stmt.specs.Procedures as procedures
-use Rattle.op_check_stmt.specs.Procedures.{Called, Values, base_by, base_in, called, called_means, change, change_means, count_means, exit_means, exits, is_text, item, items, jump_means, member, plain_call, procedure, result_of, set, text, unit_amount, values, written}
+use Rattle.op_check_stmt.specs.Procedures.{Called, Values, base_by, base_in, called, called_means, change, change_means, count_means, exit_means, exits, halt_means, is_text, item, items, jump_means, member, plain_call, procedure, result_of, set, text, unwritten, values, written}
 use Rattle.op_check_stmt.specs.Statements.{all_spots, bound_of, branches, case_statement, condition, first_class, for_statement, head_means, looped, statement, statements, stored, tried, try_all, type_in, with_branch, within}
 use Rattle.op_check_stmt.specs.Surrounding.{Surrounds}
 use Rattle.op_check_stmt.specs.Variables.{counter, counter_named, counter_row, host_of, is_ordinal}
@@ -40,7 +40,7 @@ use Rattle.op_core.specs.Members.{Kind}
 use Rattle.op_core.specs.Relations.{Filled, Whole, filled, typed, faulty}
 use Rattle.op_core.specs.Sizes.{range_of, type_at}
 use Rattle.op_core.specs.Sound.{IsFounded, Row, is_whole}
-use Rattle.op_core.specs.Statement.{plain, padded, write, count, Statement, block, if_then, if_else, while_do, repeat_until, try_finally, assign, call as call_statement, exit, exit_with, built_in, Branches, no_branches, Statements, no_statements, statements as core_statements}
+use Rattle.op_core.specs.Statement.{plain, padded, write, count, Statement, block, if_then, if_else, while_do, repeat_until, try_finally, assign, call as call_statement, exit, exit_with, halt, built_in, Branches, no_branches, Statements, no_statements, statements as core_statements}
 use Rattle.op_core.specs.StatementTyping as place
 use Rattle.op_core.specs.StatementTyping.{AreBranches, AreStatements, Bounds, Has, IsElementOf, IsItem, IsLabel, IsStatement, IsTarget, IsTargetOf, IsText, IsVariable}
 use Rattle.op_core.specs.Typing as typing
@@ -251,12 +251,15 @@ counted_whole {sees} {here} s checked e =
     let k = ordinal_sort (sort_of here.core (typing.type_of t)) a in
     whole_gives ((h.0, (stands_as here.core (typing.type_of t) (Ordinal k.0) k.1).0), place_with_characters here.core t h.1)))
 
-unit_integer : {core : Core} (sees : Sees) → IsFounded core → Has IsInteger core sees unit_amount
+unit_integer : {core : Core} (sees : Sees) → IsFounded core → Has IsInteger core sees (unwritten (pos 1))
 unit_integer sees f = ((rw (integer_kind f) (omega (arith, ints), omega (arith, ints)), tt), integer_kind f)
+
+zero_integer : {core : Core} (sees : Sees) → IsFounded core → Has IsInteger core sees (unwritten (pos 0))
+zero_integer sees f = ((rw (integer_kind f) (omega (arith, ints), omega (arith, ints)), tt), integer_kind f)
 
 count_whole : {sees : Sees} {here : Here} (at : place.Here) → IsSettled sees here → (direction : Direction) (n : Name) (given : Values) → Whole (Is sees here at) (count_means here direction n given)
 count_whole {sees} {here} at s direction n (procedures.one e) =
-    whole_two (λ t m. built_in (count direction t m n.position.switches.q)) (counted_whole s (position_of e).switches.r e) (whole_gives {P = Has IsInteger here.core sees} {a = unit_amount} (unit_integer sees s.founded)) (λ t m h k. (h, k))
+    whole_two (λ t m. built_in (count direction t m n.position.switches.q)) (counted_whole s (position_of e).switches.r e) (whole_gives {P = Has IsInteger here.core sees} {a = unwritten (pos 1)} (unit_integer sees s.founded)) (λ t m h k. (h, k))
 count_whole {sees} at s direction n (procedures.two e f) =
     whole_two (λ t m. built_in (count direction t m n.position.switches.q)) (counted_whole s (position_of e).switches.r e) (given_to_whole s table.integer false f) (λ t m h k. (h, has_integer sees s.founded m k))
 count_whole at s direction n procedures.none = whole_refused
@@ -300,6 +303,12 @@ exit_whole {sees} {here} s r n (procedures.one e) =
 exit_whole s r n (procedures.two e f) = whole_refused
 exit_whole s r n procedures.others = whole_refused
 
+halt_whole : {sees : Sees} {here : Here} (at : place.Here) → IsSettled sees here → (n : Name) (given : Values) → Whole (Is sees here at) (halt_means here n given)
+halt_whole {sees} at s n procedures.none = whole_gives (zero_integer sees s.founded)
+halt_whole {sees} at s n (procedures.one e) = whole_changed_so halt (given_to_whole s table.integer false e) (λ t h. has_integer sees s.founded t h)
+halt_whole at s n (procedures.two e f) = whole_refused
+halt_whole at s n procedures.others = whole_refused
+
 leaving_whole : {P : Statement → Type 0} (at : Place) (s : Statement) (reach : Reach) → (reach ≡ Inside → P s) → Whole P (leaving_means at s reach)
 leaving_whole at s Nowhere h = whole_refused
 leaving_whole at s Inside h = whole_gives (h refl)
@@ -326,6 +335,7 @@ procedure_whole at s r d name.Dec c = count_whole at s Downto c.name (values c.g
 procedure_whole at s r d name.Include c = change_whole at s true c.name (values c.given)
 procedure_whole at s r d name.Exclude c = change_whole at s false c.name (values c.given)
 procedure_whole at s r d name.Exit c = exit_whole s r c.name (values c.given)
+procedure_whole at s r d name.Halt c = halt_whole at s c.name (values c.given)
 procedure_whole at s r d name.Break c = jump_whole r Break c.name (values c.given)
 procedure_whole at s r d name.Continue c = jump_whole r Continue c.name (values c.given)
 procedure_whole at s r d b c = plain_whole at s d

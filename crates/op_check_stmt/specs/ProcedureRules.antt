@@ -1,5 +1,5 @@
 -- What calls of the built-in procedures are and which rules they break, as relations.
-use Rattle.std.specs.Prelude.{Bool, true, false, List, [], ◌∷◌, Option, Some, None, is_some}
+use Rattle.std.specs.Prelude.{pos, Bool, true, false, List, [], ◌∷◌, Option, Some, None, is_some}
 use Rattle.op_base.specs.declared.rule.Refusal.{Refusal}
 use Rattle.op_check_expr.specs.Expressions.{position_of}
 use Rattle.op_check_expr.specs.RuleWords.{LeftOut}
@@ -8,7 +8,7 @@ use Rattle.op_check_expr.specs.Scopes.{Here}
 use Rattle.op_check_expr.specs.Values.{tree_of, type_of}
 use Rattle.op_core.specs.Expression.{Expression as Tree}
 use Rattle.op_core.specs.Relations.{At, Either, Entry, Fails, Lacks, Never, Only, Through}
-use Rattle.op_core.specs.Statement.{Item, plain, padded, Target, write, count, Statement, call as call_statement, exit, exit_with, built_in}
+use Rattle.op_core.specs.Statement.{Item, plain, padded, Target, write, count, Statement, call as call_statement, exit, exit_with, halt, built_in}
 use Rattle.op_core.specs.Typing as typing
 use Rattle.op_core.specs.declared.ids.TypeId.{TypeId}
 use Rattle.op_tree.specs.Expression.{Expression, Argument, value as value_argument, padded as padded_argument, rounded, Arguments, no_arguments, arguments, Designator}
@@ -21,7 +21,7 @@ use Rattle.op_types.specs.Sorts.{sort_of}
 use Rattle.op_types.specs.declared.visible.BuiltIn as types
 use Rattle.op_types.specs.declared.visible.BuiltIn.TheVariants as name
 use Rattle.op_check_stmt.specs.Leaving.{jump_of}
-use Rattle.op_check_stmt.specs.Procedures.{Called, Values, base_of, change, is_text, none, one, place_counted, result_of, two, unit_amount, values}
+use Rattle.op_check_stmt.specs.Procedures.{Called, Values, base_of, change, is_text, none, one, place_counted, result_of, two, unwritten, values}
 use Rattle.op_check_stmt.specs.RuleWords.{ByMeaning, If, OfOne, OfTwo}
 use Rattle.op_check_stmt.specs.VariableRules.{Leaves, LeavingBreaks, may_leave}
 use Rattle.op_check_stmt.specs.Variables.{is_ordinal}
@@ -75,7 +75,7 @@ CountedBreaks here e =
 
 abbrev pub CountIs : Here → Direction → Name → Values → Statement → Type 0
 CountIs here direction n (one e) =
-    OfOne (λ t. built_in (count direction t unit_amount n.position.switches.q)) (CountedIs here (position_of e).switches.r e)
+    OfOne (λ t. built_in (count direction t (unwritten (pos 1)) n.position.switches.q)) (CountedIs here (position_of e).switches.r e)
 CountIs here direction n (two e f) =
     OfTwo (λ t amount. built_in (count direction t amount n.position.switches.q))
     (CountedIs here (position_of e).switches.r e) (GivenIs here table.integer false f)
@@ -114,7 +114,7 @@ ChangeBreaks here n (two s e) =
     (ByMeaning (SetIs here s) (λ p. Through (BaseIs here p) (λ base. ElementBreaks here base e)) (ValueBreaks here None e))
 ChangeBreaks here n _ = At 26 n.position.place
 
--- ---- Exit, Break and Continue
+-- ---- Exit, Halt, Break and Continue
 
 -- no finally part is left: rule 59
 abbrev pub ExitIs : Here → Values → Statement → Type 0
@@ -132,6 +132,18 @@ ExitBreaks here n (one e) =
     (Through (Entry (result_of here)) (λ of.
     Either (Fails (may_leave here.around) 59 n.position.place) (If (may_leave here.around) (GivenBreaks here of (position_of e).switches.r e))))
 ExitBreaks here n _ = At 26 n.position.place
+
+-- from every place, a finally part too: the status is an Integer, and 0 where none is given
+abbrev pub HaltIs : Here → Values → Statement → Type 0
+HaltIs here none = Only (halt (unwritten (pos 0)))
+HaltIs here (one e) = OfOne halt (GivenIs here table.integer false e)
+HaltIs here _ = Never
+
+-- rule 26 where more values are given
+abbrev pub HaltBreaks : Here → Name → Values → Refusal → Type 0
+HaltBreaks here n none = Never
+HaltBreaks here n (one e) = GivenBreaks here table.integer false e
+HaltBreaks here n _ = At 26 n.position.place
 
 abbrev pub JumpIs : Here → Jump → Values → Statement → Type 0
 JumpIs here jump none = Leaves (jump_of jump) here.around
@@ -151,6 +163,7 @@ ProcedureIs here d name.Dec c = CountIs here Downto c.name (values c.given)
 ProcedureIs here d name.Include c = ChangeIs here true (values c.given)
 ProcedureIs here d name.Exclude c = ChangeIs here false (values c.given)
 ProcedureIs here d name.Exit c = ExitIs here (values c.given)
+ProcedureIs here d name.Halt c = HaltIs here (values c.given)
 ProcedureIs here d name.Break c = JumpIs here Break (values c.given)
 ProcedureIs here d name.Continue c = JumpIs here Continue (values c.given)
 ProcedureIs here d _ c = OfOne call_statement (CallIs here d)
@@ -163,6 +176,7 @@ ProcedureBreaks here d name.Dec c = CountBreaks here c.name (values c.given)
 ProcedureBreaks here d name.Include c = ChangeBreaks here c.name (values c.given)
 ProcedureBreaks here d name.Exclude c = ChangeBreaks here c.name (values c.given)
 ProcedureBreaks here d name.Exit c = ExitBreaks here c.name (values c.given)
+ProcedureBreaks here d name.Halt c = HaltBreaks here c.name (values c.given)
 ProcedureBreaks here d name.Break c = JumpBreaks here c.name (values c.given)
 ProcedureBreaks here d name.Continue c = JumpBreaks here c.name (values c.given)
 ProcedureBreaks here d _ c = CallBreaks here d

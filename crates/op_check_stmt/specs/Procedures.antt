@@ -1,5 +1,5 @@
 -- The built-in procedures (Free Pascal Reference Guide, "Write", and "Inc", "Include", "Exit" .. of unit System).
-use Rattle.std.specs.Prelude.{pos, Bool, true, false, not, List, [], ◌∷◌, Option, Some, None, slice_get, unwrap_or, is_some}
+use Rattle.std.specs.Prelude.{ℤ, pos, Bool, true, false, not, List, [], ◌∷◌, Option, Some, None, slice_get, unwrap_or, is_some}
 use Rattle.std.specs.Option.{option_and_then, option_map}
 use Rattle.op_base.specs.declared.place.Place.{Place}
 use Rattle.op_check_expr.specs.Expressions.{position_of}
@@ -10,7 +10,7 @@ use Rattle.op_check_expr.specs.Words.{changed, followed, left_out}
 use Rattle.op_core.specs.Expression.{Expression as Tree, expression, constant, no_steps}
 use Rattle.op_core.specs.Faults.{Checked, by_entry, by_test, fine, refused, with_part}
 use Rattle.op_core.specs.Sizes.{type_at}
-use Rattle.op_core.specs.Statement.{Item, plain, padded, Target, write, count, include, exclude, Statement, call as call_statement, exit, exit_with, built_in}
+use Rattle.op_core.specs.Statement.{Item, plain, padded, Target, write, count, include, exclude, Statement, call as call_statement, exit, exit_with, halt, built_in}
 use Rattle.op_core.specs.Typing as typing
 use Rattle.op_core.specs.declared.constant.Const.TheVariants.{Ordinal as OrdinalConstant}
 use Rattle.op_core.specs.declared.ids.RoutineId.{RoutineId}
@@ -95,9 +95,9 @@ written here ends_line args = changed (λ xs. built_in (write xs ends_line)) (it
 
 -- ---- Inc and Dec
 
--- what is not written, and so is no node of the text
-abbrev pub unit_amount : Tree
-unit_amount = expression (constant (OrdinalConstant (pos 1)) 0 0) table.integer no_steps
+-- an Integer that is not written, and so is no node of the text
+abbrev pub unwritten : ℤ → Tree
+unwritten n = expression (constant (OrdinalConstant n) 0 0) table.integer no_steps
 
 -- the place, and how an Integer is stored there
 abbrev pub place_counted : Core → Bool → Tree → Target
@@ -114,7 +114,7 @@ count_by direction checked target amount = of_two (λ t n. built_in (count direc
 
 -- at the procedure's name
 abbrev pub count_means : Here → Direction → Name → Values → Checked Statement
-count_means here direction n (one e) = count_by direction n.position.switches.q (counted here (position_of e).switches.r e) (fine unit_amount)
+count_means here direction n (one e) = count_by direction n.position.switches.q (counted here (position_of e).switches.r e) (fine (unwritten (pos 1)))
 count_means here direction n (two e f) = count_by direction n.position.switches.q (counted here (position_of e).switches.r e) (given here table.integer false f)
 count_means here direction n _ = refused 26 n.position.place
 
@@ -152,7 +152,7 @@ abbrev pub change_means : Here → Bool → Name → Values → Checked Statemen
 change_means here includes n (two s e) = of_two (change includes) (set here s) (member here (base_in here.core (set here s).typed) e)
 change_means here includes n _ = refused 26 n.position.place
 
--- ---- Exit, Break and Continue
+-- ---- Exit, Halt, Break and Continue
 
 abbrev pub result_at : Core → RoutineId → Option TypeId
 result_at core id = option_and_then (λ r. r.result) (slice_get core.routines id.0)
@@ -169,6 +169,12 @@ abbrev pub exit_means : Here → Name → Values → Checked Statement
 exit_means here n none = exits here n.position.place (fine exit)
 exit_means here n (one e) = by_entry 26 n.position.place (λ of. exits here n.position.place (changed exit_with (given here of (position_of e).switches.r e))) (result_of here)
 exit_means here n _ = refused 26 n.position.place
+
+-- the program ends with this status, or with 0
+abbrev pub halt_means : Here → Name → Values → Checked Statement
+halt_means here n none = fine (halt (unwritten (pos 0)))
+halt_means here n (one e) = changed halt (given here table.integer false e)
+halt_means here n _ = refused 26 n.position.place
 
 abbrev pub jump_means : Here → Jump → Name → Values → Checked Statement
 jump_means here jump n none = leaving_means n.position.place (jump_of jump) (reach_of here.around)
@@ -219,6 +225,7 @@ procedure here d name.Dec c = count_means here Downto c.name (values c.given)
 procedure here d name.Include c = change_means here true c.name (values c.given)
 procedure here d name.Exclude c = change_means here false c.name (values c.given)
 procedure here d name.Exit c = exit_means here c.name (values c.given)
+procedure here d name.Halt c = halt_means here c.name (values c.given)
 procedure here d name.Break c = jump_means here Break c.name (values c.given)
 procedure here d name.Continue c = jump_means here Continue c.name (values c.given)
 procedure here d _ c = plain_call here d

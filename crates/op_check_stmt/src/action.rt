@@ -5,7 +5,7 @@ ghost use Rattle.op_check_expr.specs.Scopes.{here_of};
 ghost use Rattle.op_check_expr.specs.Values.{value_of};
 ghost use Rattle.op_check_expr.specs.Words.{Reports};
 ghost use Rattle.op_check_stmt.specs.Parts.{items_of};
-ghost use Rattle.op_check_stmt.specs.Procedures.{base_in, change, base_of, change_means, count_means, counted, counted_means, is_text, item, items, member, place_counted, set, set_means, text, text_means, unit_amount, values_of, written};
+ghost use Rattle.op_check_stmt.specs.Procedures.{base_in, change, base_of, change_means, count_means, counted, counted_means, is_text, item, items, member, place_counted, set, set_means, text, text_means, unwritten, values_of, written};
 ghost use Rattle.op_core.specs.Expression.{expr_of as typed_of};
 ghost use Rattle.op_core.specs.Statement.{built_in, count, item_of, padded, stmt_of, target_of};
 ghost use Rattle.op_tree.specs.Expression.{argument_of, expr_of};
@@ -140,7 +140,7 @@ pub fn count(
     match values {
         Given::One(e) => {
             let target = counted(here, sink, position_of(e).switches.r, e)?;
-            let amount = unit_amount(here.alloc);
+            let amount = unwritten(here.alloc, 1);
             count_by(here.alloc, direction, checked, pair(target, Some(amount)))
         }
         Given::Two(e, by) => {
@@ -174,12 +174,12 @@ fn count_by(
     }
 }
 
-/// What is not written, and so is no node of the text.
-fn unit_amount(alloc: Global) -> CoreExpr
-    ensures { typed_of result ≡ unit_amount }
+/// An Integer that is not written, and so is no node of the text.
+pub fn unwritten(alloc: Global, n: i32) -> CoreExpr
+    ensures { typed_of result ≡ unwritten n }
 {
     let root = Root::Constant {
-        value: Const::Ordinal(1),
+        value: Const::Ordinal(n),
         nodes: 0,
         words: 0,
     };

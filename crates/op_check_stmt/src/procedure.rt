@@ -3,7 +3,7 @@ ghost use Rattle.std.specs.Prelude.{◌≡◌, IfOk};
 ghost use Rattle.std.specs.Option.{option_and_then, option_copied, option_map};
 ghost use Rattle.op_check_expr.specs.Scopes.{here_of};
 ghost use Rattle.op_check_expr.specs.Words.{Reports};
-ghost use Rattle.op_check_stmt.specs.Procedures.{arguments_behind, call_means, called, called_behind, called_of, exit_means, jump_means, plain_call, procedure, result_at, values_of};
+ghost use Rattle.op_check_stmt.specs.Procedures.{arguments_behind, call_means, called, called_behind, called_of, exit_means, halt_means, jump_means, plain_call, procedure, result_at, values_of};
 ghost use Rattle.op_core.specs.Statement.{stmt_of};
 ghost use Rattle.op_tree.specs.Expression.{selector_of, selectors};
 ghost use Rattle.op_tree.specs.Lists.{arguments_of};
@@ -11,7 +11,7 @@ ghost use Rattle.op_tree.specs.Statement.{designator_of, selectors_of};
 ghost use Rattle.op_types.specs.Constants.{joined_name};
 ghost use Rattle.op_types.specs.Names.{lower};
 
-use crate::action::{change, count, write};
+use crate::action::{change, count, unwritten, write};
 use crate::given::{Given, values};
 use crate::leaving::{Jump, in_finally, leaving};
 use op_base::NoMemory;
@@ -73,6 +73,7 @@ fn procedure(
         BuiltIn::Include => change(here, sink, true, c.name, values(c.given)),
         BuiltIn::Exclude => change(here, sink, false, c.name, values(c.given)),
         BuiltIn::Exit => exit(here, sink, c.name, values(c.given)),
+        BuiltIn::Halt => halt(here, sink, c.name, values(c.given)),
         BuiltIn::Break => Ok(check_jump(here, sink, Jump::Break, c.name, values(c.given))),
         BuiltIn::Continue => Ok(check_jump(here, sink, Jump::Continue, c.name, values(c.given))),
         _ => plain_call(here, sink, d),
@@ -194,6 +195,25 @@ fn result_of(core: &Core, routine: Option<RoutineId>) -> Option<TypeId>
 {
     let id = routine?;
     core.routines.as_slice().get(id.0 as usize)?.result
+}
+
+/// Halt: the program ends with a status that is an Integer, or with 0.
+fn halt(
+    here: Checker,
+    sink: &mut FirstRefusal,
+    name: &Name,
+    values: Given,
+) -> Result<Option<CoreStmt>, NoMemory>
+    ensures { IfOk result (λ t. Reports (halt_means (here_of here.entry.scope) name.now (values_of values.entry)) sink.old sink.new (option_map stmt_of t)) }
+{
+    match values {
+        Given::Nothing => Ok(Some(CoreStmt::Halt(unwritten(here.alloc, 0)))),
+        Given::One(e) => match here.given(sink, TypeId::INTEGER, false, e)? {
+            None => Ok(None),
+            Some(status) => Ok(Some(CoreStmt::Halt(status))),
+        },
+        _ => Ok(refuse(sink, 26, name.position.place)),
+    }
 }
 
 /// Break or Continue: rule 58 where there is no loop, 59 where a finally part would be left.
