@@ -298,8 +298,8 @@ module _ (blocks top room : ℕ) where
     work_well env here break c t r = (omega arith, tt)
     work_well env here continue c t r = (omega arith, tt)
     work_well env here (halt_with e) c t r =
-        let w = make_well blocks top room env here e c (omega (arith, t)) (omega (arith, r)) in
-        both (make env here e).items (only (halt here.temp)) w.items (omega (arith, t), tt)
+        let w = amount_well env here e c (omega (arith, t)) (omega (arith, r)) in
+        both (make env here e).items (only (halt here.temp)) w (omega (arith, t), tt)
     work_well env here (built_in b) c t r = built_in_well env here b c t r
     work_well env here (try_on ss hs) c t r = absurd c
     work_well env here (try_on_else ss hs ts) c t r = absurd c

@@ -54,7 +54,7 @@ abbrev mutual
   IsCountedArgument (array e) = IsCounted e
   IsCountedArgument (listed of es) = Unit {0}
 
--- an amount that is not written is a constant that counts for nothing
+-- an amount or a status that is not written is a constant that counts for nothing
 pub record IsBare (e : Expression) : Type 0 where
   pub value : Const
   pub nodes : ℕ
@@ -113,7 +113,7 @@ abbrev mutual
   IsCountedStatement (exit_with e) = IsCounted e
   IsCountedStatement break = Unit {0}
   IsCountedStatement continue = Unit {0}
-  IsCountedStatement (halt e) = IsCounted e
+  IsCountedStatement (halt e) = IsCountedAmount e
   IsCountedStatement (built_in action) = IsCountedBuiltIn action
 
   pub AreCountedStatements : Statements → Type 0

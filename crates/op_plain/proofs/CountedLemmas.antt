@@ -121,7 +121,7 @@ module _ (core : Core) where
     statement_counted (exit_with a) e = expression_counted a e
     statement_counted break e = tt
     statement_counted continue e = tt
-    statement_counted (halt a) e = expression_counted a e
+    statement_counted (halt a) e = amount_counted a e
     statement_counted (built_in action) e = built_in_counted action e
 
     pub statements_counted : (ss : Statements) → are_plain_statements core ss ≡ true → AreCountedStatements ss

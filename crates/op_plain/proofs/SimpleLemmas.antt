@@ -123,7 +123,7 @@ module _ (core : Core) where
     statement_simple (call_statement a) e = expression_simple a e
     statement_simple (assign target a) e = both (expression_simple target) (expression_simple a) e
     statement_simple (exit_with a) e = expression_simple a e
-    statement_simple (halt a) e = expression_simple a e
+    statement_simple (halt a) e = amount_simple a e
     statement_simple (built_in action) e = built_in_simple action e
     statement_simple _ e = refl
 

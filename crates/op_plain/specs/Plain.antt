@@ -80,7 +80,7 @@ abbrev pub is_plain_item : Core → Item → Bool
 is_plain_item core (plain e) = is_plain_expression core e
 is_plain_item core (padded e width) = is_plain_expression core e && is_plain_expression core width
 
--- an amount that is not written is a constant that counts for nothing
+-- an amount or a status that is not written is a constant that counts for nothing
 abbrev pub is_plain_bare : Core → Root → TypeId → Bool
 is_plain_bare core (constant v nodes words) of = is_plain_constant core v of
 is_plain_bare core root of = is_plain_root core root of
@@ -118,7 +118,7 @@ abbrev mutual
   is_plain_statement core (call_statement e) = is_plain_expression core e
   is_plain_statement core (assign target e) = is_plain_expression core target && is_plain_expression core e
   is_plain_statement core (exit_with e) = is_plain_expression core e
-  is_plain_statement core (halt e) = is_plain_expression core e
+  is_plain_statement core (halt e) = is_plain_amount core e
   is_plain_statement core (built_in action) = is_plain_built_in core action
   is_plain_statement core _ = true
 

@@ -86,7 +86,7 @@ fn is_plain_statement(core: &Core, stmt: &CoreStmt) -> bool
         CoreStmt::ExitWith(value) => is_plain_expression(core, value),
         CoreStmt::Break => true,
         CoreStmt::Continue => true,
-        CoreStmt::Halt(status) => is_plain_expression(core, status),
+        CoreStmt::Halt(status) => is_plain_amount(core, status),
         CoreStmt::Do(action) => is_plain_built_in(core, action),
     }
 }
@@ -161,7 +161,7 @@ fn is_plain_amount(core: &Core, amount: &CoreExpr) -> bool
     }
 }
 
-/// An amount that is not written is a constant that stands for no node.
+/// An amount or a status that is not written is a constant that stands for no node.
 fn is_plain_bare(core: &Core, root: &Root, of: TypeId) -> bool
     ensures { result ≡ is_plain_bare core.now (root_of root.now) of }
 {

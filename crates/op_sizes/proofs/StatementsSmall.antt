@@ -260,7 +260,7 @@ mutual
   work_small env here break c w = omega arith
   work_small env here continue c w = omega arith
   work_small env here (halt_with e) c w =
-      let i = make_small env here e c w in
+      let i = amount_small env here e c w in
       let all = both_size (make env here e).items (only (halt here.temp)) in
       omega (arith, i, all)
   work_small env here (built_in b) c w = built_in_small env here b c w

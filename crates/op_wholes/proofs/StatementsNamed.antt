@@ -190,7 +190,7 @@ module _ (core : Core) (r : ℕ) (wholes : List Root) (blocks : ℕ) (sees : See
         both wholes blocks (stored_by (shape_of core (type_of e)) (type_of e) here (make (env_at core r) here e) (found none (at_path (result_path (env_at core r))))) (only (leave 0)) stores (omega arith, tt)
     statement_in break around here h p c w = (omega arith, tt)
     statement_in continue around here h p c w = (omega arith, tt)
-    statement_in (halt_with e) around here h p c w = both wholes blocks (make (env_at core r) here e).items (only (halt here.temp)) (made e here h.0 p c w) (tt, tt)
+    statement_in (halt_with e) around here h p c w = both wholes blocks (make (env_at core r) here e).items (only (halt here.temp)) (amount_in e here h.0 p c w) (tt, tt)
     statement_in (built_in b) around here h p c w = procedure_in b here h p c w
     statement_in (try_on ss hs) around here h p c w = absurd c
     statement_in (try_on_else ss hs ts) around here h p c w = absurd c
