@@ -2,8 +2,8 @@
 
 What the language leaves open, or Free Pascal does otherwise, does not come up: expressions change nothing, so that their order is not seen; indices,
 casts and what goes to a subrange without range checks are within bounds; products, shifts and `not` are of Integers; errors come up where overflow or
-range checks are on alone, and nowhere within a `try`; a const parameter that is a whole is given what no var parameter stands for; locals and results
-are set before they are read, and no counter is read behind its loop."""
+range checks are on alone, and nowhere within a `try`; what a function does ends no program; a const parameter that is a whole is given what no var
+parameter stands for; locals and results are set before they are read, and no counter is read behind its loop."""
 import random
 
 NARROW = {"ShortInt": (-128, 127), "Byte": (0, 255), "SmallInt": (-32768, 32767), "Word": (0, 65535)}
@@ -230,6 +230,7 @@ class Program:
             plain = [self.assignment] * 8 + [self.call] * 3 + [self.changing, self.printing] * 2
             nested = [self.choice] * 2 + [self.case] + [self.counted] * 2 + [self.fuelled] * 2 + [self.finally_]
             leaving = [self.leaving] if loop or leaves and scope.routine else []
+            leaving += [self.halting] if not (scope.routine and scope.routine.result) and self.often(0.15) else []
             self.one(plain + leaving + (nested if self.margin <= 5 and self.weight <= 200 else []))(scope, loop, leaves)
 
     def turns(self, most, scope, loop, leaves, turns=1, first=None):
@@ -325,6 +326,11 @@ class Program:
         way = self.one((["Break", "Continue"] if loop else []) + (["Exit"] if leaves and scope.routine else []))
         value = self.value(scope.routine.result, 1, scope) if way == "Exit" and scope.routine.result and self.often(0.6) else None
         self.line(f"if {self.condition(1, scope)} then {way}" + (f"({value});" if value else ";"))
+
+    def halting(self, scope, loop, leaves):
+        """The program's end, which the main part tells of. It is in no function, since the order within an expression is left open."""
+        halt = self.one(["Halt;", f"Halt({self.number(1, scope)} and 255);"])
+        self.line(f"if {self.condition(1, scope)} then " + (halt if scope.routine else f"begin Show; {halt} end;"))
 
     def body(self, scope, count, beginning=(), end=()):
         """The counters of a body and its block, which is made first."""
