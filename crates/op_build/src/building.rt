@@ -59,15 +59,15 @@ fn low_code_of(
 }
 
 /// The image of low code with its constants, which is that of the programs that they are made of.
-fn image_of(alloc: Global, code: &LowCode, settings: &Settings) -> Result<Vec<u8>, BuildError>
+fn image_of(alloc: Global, code: LowCode, settings: &Settings) -> Result<Vec<u8>, BuildError>
     requires settings { IsTrue (are_in_range settings.now) }
-    ensures made { (core : Core) (mir : Mir) → IsLowCode core mir settings.now code.now.low code.now.layout → IfOk result (λ image. IsBuilt core mir settings.now image.items) }
-    ensures failed { (core : Core) (mir : Mir) → IsLowCode core mir settings.now code.now.low code.now.layout → IfErr result (IsNotBuilt core mir settings.now) }
+    ensures made { (core : Core) (mir : Mir) → IsLowCode core mir settings.now code.low code.layout → IfOk result (λ image. IsBuilt core mir settings.now image.items) }
+    ensures failed { (core : Core) (mir : Mir) → IsLowCode core mir settings.now code.low code.layout → IfErr result (IsNotBuilt core mir settings.now) }
 {
     if !buildable(&code.low, &code.layout) {
         return Err(BuildError::Unbuildable);
     }
-    match op_image::build(alloc, &code.low, &code.layout, settings) {
+    match op_image::build(alloc, code.low, &code.layout, settings) {
         Ok(image) => Ok(image),
         Err(LinkError::Limit) => Err(BuildError::Limit),
         Err(LinkError::NoMemory) => Err(BuildError::NoMemory),
@@ -89,5 +89,5 @@ pub fn build(
     ensures failed { IfErr result (IsNotBuilt core mir settings.now) }
 {
     let code = low_code_of(alloc, core, mir, settings)?;
-    image_of(alloc, &code, settings)
+    image_of(alloc, code, settings)
 }

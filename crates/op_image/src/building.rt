@@ -5,11 +5,14 @@ ghost use Rattle.op_image.specs.Means.{AreBytes, Means};
 ghost use Rattle.op_link.specs.Linking.{image_of, linked_size};
 ghost use Rattle.op_link.specs.Memory.{are_in_range, most_linked};
 ghost use Rattle.op_link.specs.declared.linker.LinkError.{LinkError};
+ghost use Rattle.op_low.specs.Valid.{is_valid};
 ghost use Rattle.op_select.specs.Selection.{select_of};
 
+use op_base::NoMemory;
 use op_layout::Layout;
 use op_link::{LinkError, Settings, link};
 use op_low::Low;
+use op_rv::Objects;
 use op_select::select;
 use std::alloc::Global;
 
@@ -18,22 +21,30 @@ fn are_bytes(image: &[u8])
     ensures { AreBytes image.now }
 {}
 
-/// The image of a program in low code. `Limit` comes exactly where its code, constants and initial globals take more than
-/// 67,108,864 bytes, and `NoMemory` only where the allocator has no room. The image does what the low code does.
+/// The objects of low code, which is freed.
+fn objects_of(alloc: Global, low: Low) -> Result<Objects, NoMemory>
+    requires { IsTrue (is_valid low) }
+    ensures { IfOk result (λ objects. objects ≡ select_of low) }
+{
+    select(alloc, &low)
+}
+
+/// The image of a program in low code, which is freed once objects are made of it. `Limit` comes exactly where code, constants and initial
+/// globals take more than 67,108,864 bytes, and `NoMemory` only where the allocator has no room. The image does what the low code does.
 pub fn build(
     alloc: Global,
-    low: &Low,
+    low: Low,
     layout: &Layout,
     settings: &Settings,
 ) -> Result<Vec<u8>, LinkError>
-    requires buildable { IsTrue (is_buildable low.now layout.now) }
+    requires buildable { IsTrue (is_buildable low layout.now) }
     requires settings { IsTrue (are_in_range settings.now) }
-    ensures image { IfOk result (λ image. image.items ≡ image_of (select_of low.now) layout.now settings.now) }
-    ensures within { OnOk result (linked_size (select_of low.now) layout.now settings.now ≤ most_linked) }
-    ensures means { IfOk result (λ image. Means low.now layout.now settings.now image.items) }
-    ensures limit { IfErr result (λ error. error ≡ LinkError.Limit → most_linked < linked_size (select_of low.now) layout.now settings.now) }
+    ensures image { IfOk result (λ image. image.items ≡ image_of (select_of low) layout.now settings.now) }
+    ensures within { OnOk result (linked_size (select_of low) layout.now settings.now ≤ most_linked) }
+    ensures means { IfOk result (λ image. Means low layout.now settings.now image.items) }
+    ensures limit { IfErr result (λ error. error ≡ LinkError.Limit → most_linked < linked_size (select_of low) layout.now settings.now) }
 {
-    let objects = select(alloc, low)?;
+    let objects = objects_of(alloc, low)?;
     let image = link(alloc, &objects, layout, settings)?;
     are_bytes(image.as_slice());
     Ok(image)

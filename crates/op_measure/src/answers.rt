@@ -59,15 +59,15 @@ fn of_low_code(alloc: Global, command: &str, lines: &[&str]) -> Result<String, N
         return Ok(format!(in alloc; "not valid")?);
     }
     match command {
-        "execute" => executed(alloc, &low, &layout),
+        "execute" => executed(alloc, low, &layout),
         "select" | "frame" => selected(alloc, &low, command == "frame"),
         _ => Ok(format!(in alloc; "valid")?),
     }
 }
 
 /// How the image of low code ends, and what it writes.
-fn executed(alloc: Global, low: &Low, layout: &Layout) -> Result<String, NoMemory> {
-    if !buildable(low, layout) {
+fn executed(alloc: Global, low: Low, layout: &Layout) -> Result<String, NoMemory> {
+    if !buildable(&low, layout) {
         return Ok(format!(in alloc; "not buildable")?);
     }
     match build(alloc, low, layout, &FOR_LOW_CODE) {
@@ -88,7 +88,7 @@ pub fn built(alloc: Global, text: &str, builds: bool) -> Result<Vec<u8>, NoMemor
     if !buildable(&low, &layout) || !builds {
         return Ok(none);
     }
-    Ok(build(alloc, &low, &layout, &FOR_LOW_CODE).unwrap_or(none))
+    Ok(build(alloc, low, &layout, &FOR_LOW_CODE).unwrap_or(none))
 }
 
 /// The items of the last routine: those of its first block, or its head and its last block.
