@@ -1,0 +1,4 @@
+pub mod Digits
+pub mod Instruction
+pub mod Listing
+pub mod Names
