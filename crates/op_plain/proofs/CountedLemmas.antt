@@ -10,14 +10,14 @@ use Rattle.op_frames.proofs.ExpressionsWithin.{expression_some}
 use Rattle.op_frames.specs.Counted.{AreCountedArguments, AreCountedBranches, AreCountedElements, AreCountedItems, AreCountedStatements, AreCountedSteps, IsCounted, IsCountedAction, IsCountedAmount, IsCountedArgument, IsCountedBuiltIn, IsCountedElement, IsCountedItem, IsCountedRoot, IsCountedStatement, AreCountedLabels}
 use Rattle.op_meaning.specs.Charge.{built_in_weight, nodes_of, statement_weight, statements_weight}
 use Rattle.op_plain.proofs.Parts.{below, failed}
-use Rattle.op_plain.specs.Plain.{are_plain_arguments, are_plain_branches, are_plain_elements, are_plain_statements, are_plain_steps, has_work, is_plain_amount, is_plain_argument, is_plain_bare, is_plain_built_in, is_plain_element, is_plain_expression, is_plain_item, is_plain_root, is_plain_statement, is_plain_step, is_work, are_plain_labels}
+use Rattle.op_plain.specs.Plain.{are_nodes, are_plain_arguments, are_plain_branches, are_plain_elements, are_plain_statements, are_plain_steps, has_work, is_plain_amount, is_plain_argument, is_plain_bare, is_plain_built_in, is_plain_element, is_plain_expression, is_plain_item, is_plain_root, is_plain_statement, is_plain_step, is_work}
 use Rattle.op_typing.specs.Simple.{is_text, text_after}
 use Rattle.op_core.specs.declared.statement.Label.{Label}
 
-both : {a b : Bool} {P Q : Type 0} → (a ≡ true → P) → (b ≡ true → Q) → (a && b) ≡ true → P × Q
+pub both : {a b : Bool} {P Q : Type 0} → (a ≡ true → P) → (b ≡ true → Q) → (a && b) ≡ true → P × Q
 both f g e = let parts = and_parts _ _ e in (f parts.0, g parts.1)
 
-three : {a b c : Bool} {P Q R : Type 0} → (a ≡ true → P) → (b ≡ true → Q) → (c ≡ true → R) → (a && (b && c)) ≡ true → P × Q × R
+pub three : {a b c : Bool} {P Q R : Type 0} → (a ≡ true → P) → (b ≡ true → Q) → (c ≡ true → R) → (a && (b && c)) ≡ true → P × Q × R
 three f g h e =
     let first = and_parts _ _ e in
     let others = and_parts _ _ first.1 in
@@ -26,7 +26,7 @@ three f g h e =
 module _ (core : Core) where
   mutual
     expression_counted : (e : Expression) → is_plain_expression core e ≡ true → IsCounted e
-    expression_counted (expression root of others) e = both (root_counted root of) (steps_counted others (is_text root)) e
+    expression_counted (expression root of others) e = both (root_counted root of) (λ f. steps_counted others (is_text root) (and_parts _ _ f).1) e
 
     root_counted : (root : Root) (of : TypeId) → is_plain_root core root of ≡ true → IsCountedRoot root
     root_counted (constant v nodes words) of e = below 0 nodes (and_parts _ _ e).0
@@ -95,7 +95,7 @@ module _ (core : Core) where
   built_in_counted (free a empties) e = failed e
   built_in_counted (destroy a) e = failed e
 
-  labels_counted : (labels : List Label) → are_plain_labels labels ≡ true → AreCountedLabels labels
+  labels_counted : (labels : List Label) → are_nodes labels ≡ true → AreCountedLabels labels
   labels_counted [] e = tt
   labels_counted (l ∷ ls) e = (below 0 l.nodes (and_parts _ _ e).0, labels_counted ls (and_parts _ _ e).1)
 
@@ -130,7 +130,7 @@ module _ (core : Core) where
 
     branches_counted : (bs : Branches) → are_plain_branches core bs ≡ true → AreCountedBranches bs
     branches_counted no_branches e = tt
-    branches_counted (branches labels s bs) e = three (labels_counted labels) (statement_counted s) (branches_counted bs) e
+    branches_counted (branches labels s bs) e = three (λ f. labels_counted labels (and_parts _ _ f).1) (statement_counted s) (branches_counted bs) e
 
   -- ---- nodes
 

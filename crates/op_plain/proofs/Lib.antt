@@ -5,3 +5,4 @@ pub mod PlainLemmas
 mod PlainRuns
 pub mod SimpleLemmas
 mod Texts
+pub mod WrittenLemmas

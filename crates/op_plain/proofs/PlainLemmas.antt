@@ -34,8 +34,10 @@ use Rattle.op_mir.specs.Plain.{ArePlainUnits, IfExists}
 use Rattle.op_plain.proofs.CountedLemmas.{statements_counted, statements_some}
 use Rattle.op_plain.proofs.Parts.{Tests, below, failed, tests_of}
 use Rattle.op_plain.proofs.SimpleLemmas.{simple_test}
+use Rattle.op_plain.proofs.WrittenLemmas.{statements_written}
 use Rattle.op_plain.specs.Claims.{IsPlainCore, PlainByItems}
 use Rattle.op_plain.specs.Plain.{are_plain_statements, has_work, is_plain_body, is_plain_program, is_plain_result, is_plain_role, is_plain_routine, is_plain_unit, is_plain_variable, takes_few}
+use Rattle.op_sizes.specs.Written.{AreWrittenStatements}
 use Rattle.op_typing.proofs.SimpleTestLemmas.{simple_by_test}
 use Rattle.op_typing.specs.SimpleTests.{begins_itself, gives_nothing, is_none, is_of_unit, is_procedure, is_solid_type}
 
@@ -193,6 +195,14 @@ module _ (core : Core) (tests : Tests core) where
   counted_by stack r None there = rw there tt
   counted_by stack r (Some x) there = counted_by_body stack r x there x.body refl (body_at x (routine_at r x there))
 
+  written_by_body : (stack r : ℕ) (x : Routine) → slice_get core.routines r ≡ Some x → (b : Option Body) → x.body ≡ b → is_plain_body core x.parameters.count b ≡ true → AreWrittenStatements ((program_of core stack).body r)
+  written_by_body stack r x there None is e = rw (there, is) tt
+  written_by_body stack r x there (Some b) is e = rw (there, is) (statements_written core (stmts_of b.statements.items) (and_parts _ _ e).1)
+
+  written_by : (stack r : ℕ) (x : Option Routine) → slice_get core.routines r ≡ x → AreWrittenStatements ((program_of core stack).body r)
+  written_by stack r None there = rw there tt
+  written_by stack r (Some x) there = written_by_body stack r x there x.body refl (body_at x (routine_at r x there))
+
   -- ---- parameters
 
   none_more : (n : ℕ) → 0 + n ≡ n
@@ -235,6 +245,7 @@ plain_by_test core e =
     record {
       simple = simple_by_test core (simple_test core tests);
       counted = λ stack r. counted_by core tests stack r (slice_get core.routines r) refl;
+      written = λ stack r. written_by core tests stack r (slice_get core.routines r) refl;
       exceptions = none_is core.exceptions tests.exceptions;
       endings = λ r. ending_by_row core tests r (slice_get core.routines r) refl;
       units = λ stack. units_plain core tests stack core.units tests.units;

@@ -3,7 +3,7 @@ use Rattle.std.proofs.Common.{◌≡◌, ℕ, Bool, true, false, ◌&&◌, List,
 use Rattle.std.proofs.lemmas.Bool.{and_from, and_parts}
 use Rattle.std.specs.List.{list_all}
 use Rattle.op_core.specs.Expression.{Expression, expression, Root, constant, variable, object, call, construct, set, eof, eoln, Steps, no_steps, steps, Action, bracket, index, method, operate, apply, Elements, no_elements, elements, Element, one, range, Arguments, no_arguments, arguments, Argument, value, place, array, listed}
-use Rattle.op_core.specs.Statement.{Item, plain, padded, BuiltIn, write, count, include, exclude, free, destroy, Statement, block, if_then, if_else, case_of, while_do, repeat_until, for_to, for_in, try_finally, raise, call as call_statement, assign, exit_with, halt, built_in, Statements, no_statements, statements, Branches, no_branches, branches, stmts_of}
+use Rattle.op_core.specs.Statement.{Item, plain, padded, BuiltIn, write, count, include, exclude, Statement, block, if_then, if_else, case_of, while_do, repeat_until, for_to, for_in, try_finally, raise, call as call_statement, assign, exit_with, halt, built_in, Statements, no_statements, statements, Branches, no_branches, branches, stmts_of}
 use Rattle.op_core.specs.declared.constant.Const.{Const}
 use Rattle.op_core.specs.declared.constant.Const.TheVariants.{Ordinal, Text, Set as SetOf, Nil as NilOf}
 use Rattle.op_core.specs.declared.ids.RoutineId.{RoutineId}
@@ -45,7 +45,7 @@ module _ (core : Core) where
 
   mutual
     expression_simple : (e : Expression) → is_plain_expression core e ≡ true → is_simple core e ≡ true
-    expression_simple (expression root of others) e = both (root_simple root of) (steps_simple others (is_text root)) e
+    expression_simple (expression root of others) e = both (root_simple root of) (λ f. steps_simple others (is_text root) (and_parts _ _ f).1) e
 
     root_simple : (root : Root) (of : TypeId) → is_plain_root core root of ≡ true → is_simple_root core root of ≡ true
     root_simple (constant v nodes words) of e = constant_simple v nodes words of (and_parts _ _ e).1

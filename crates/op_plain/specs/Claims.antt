@@ -17,6 +17,7 @@ use Rattle.op_meaning.specs.Start.{first_pending}
 use Rattle.op_mir.specs.Code.{items_of}
 use Rattle.op_mir.specs.Plain.{ArePlain, ArePlainUnits, IsPlain}
 use Rattle.op_plain.specs.Plain.{is_plain_program}
+use Rattle.op_sizes.specs.Written.{AreWrittenStatements}
 use Rattle.op_typing.specs.Simple.{IsSimpleProgram}
 
 -- The class that the theorems of the compiler are about.
@@ -25,6 +26,8 @@ pub record IsPlainCore (core : Core) : Type 0 where
   pub simple : IsSimpleProgram core
   -- constants count for a node at least, and there are no exceptions and no instances
   pub counted : (stack r : ℕ) → AreCountedStatements ((program_of core stack).body r)
+  -- conversions that are not written stand apart, and each branch of a case has a label
+  pub written : (stack r : ℕ) → AreWrittenStatements ((program_of core stack).body r)
   -- errors end the program, nothing has to be ended behind a routine or the program, and units have a first part alone, which is there
   pub exceptions : core.exceptions ≡ None
   pub endings : (r : ℕ) → ending_of core r ≡ []

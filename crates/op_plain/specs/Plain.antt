@@ -1,10 +1,10 @@
 -- A test of whether a program is of the class that the theorems of the compiler are about: it works on numbers, sets, records and arrays
 -- with bounds, and on texts only as they are written in it; its routines stand in no other one, nothing is read, and nothing is raised. Each node of a tree
 -- is asked once for all of it. (Free Pascal Reference Guide, "Types", "Expressions" and "Statements".)
-use Rattle.std.specs.Prelude.{ℕ, Bool, true, false, not, ◌&&◌, ◌||◌, Option, Some, None, nat_eq, nat_lt, List}
+use Rattle.std.specs.Prelude.{ℕ, Bool, true, false, not, ◌&&◌, ◌||◌, Option, Some, None, nat_eq, nat_lt, List, length}
 use Rattle.std.specs.List.{list_all}
 use Rattle.op_core.specs.Expression.{Expression, expression, Root, constant, variable, object, call, construct, set, eof, eoln, Steps, no_steps, steps, Action, bracket, index, method, operate, apply, Elements, no_elements, elements, Element, one, range, Arguments, no_arguments, arguments, Argument, value, place, array, listed}
-use Rattle.op_core.specs.Statement.{Item, plain, padded, BuiltIn, write, count, include, exclude, free, destroy, Statement, empty, block, if_then, if_else, case_of, while_do, repeat_until, for_to, for_in, try_finally, try_on, try_on_else, raise, reraise, call as call_statement, assign, exit_with, halt, built_in, Statements, no_statements, statements, Branches, no_branches, branches, stmts_of}
+use Rattle.op_core.specs.Statement.{Item, plain, padded, BuiltIn, write, count, include, exclude, Statement, empty, block, if_then, if_else, case_of, while_do, repeat_until, for_to, for_in, try_finally, try_on, try_on_else, raise, reraise, call as call_statement, assign, exit_with, halt, built_in, Statements, no_statements, statements, Branches, no_branches, branches, stmts_of}
 use Rattle.op_core.specs.declared.constant.Const.{Const}
 use Rattle.op_core.specs.declared.constant.Const.TheVariants.{Text}
 use Rattle.op_core.specs.declared.ids.TypeId.{TypeId}
@@ -16,6 +16,7 @@ use Rattle.op_core.specs.declared.routine.Role.TheVariants.{Object, Handler}
 use Rattle.op_core.specs.declared.routine.Routine.{Routine}
 use Rattle.op_core.specs.declared.routine.Variable.{Variable}
 use Rattle.op_meaning.specs.Shapes.{is_managed, no_type}
+use Rattle.op_sizes.specs.Written.{is_implied}
 use Rattle.op_typing.specs.Simple.{asks_text, is_text, text_after}
 use Rattle.op_typing.specs.SimpleTests.{begins_itself, is_counted, is_none, is_of_unit, is_procedure, is_short_text, is_solid_parameter, is_solid_type}
 use Rattle.op_core.specs.declared.statement.Label.{Label}
@@ -26,9 +27,14 @@ abbrev pub is_plain_constant : Core → Const → TypeId → Bool
 is_plain_constant core (Text bytes) of = is_short_text bytes
 is_plain_constant core _ of = is_solid_type core of
 
+-- no conversion that is not written stands behind another one; `implied` says whether one stands in front
+abbrev pub are_apart : (implied : Bool) → Steps → Bool
+are_apart implied no_steps = true
+are_apart implied (steps action next others) = not (implied && is_implied action) && are_apart (is_implied action) others
+
 abbrev mutual
   pub is_plain_expression : Core → Expression → Bool
-  is_plain_expression core (expression root of others) = is_plain_root core root of && are_plain_steps core (is_text root) others
+  is_plain_expression core (expression root of others) = is_plain_root core root of && (are_apart false others && are_plain_steps core (is_text root) others)
 
   -- a constant stands for a node of the text at least
   pub is_plain_root : Core → Root → TypeId → Bool
@@ -96,9 +102,12 @@ is_plain_built_in core (include s e) = is_plain_expression core s && is_plain_ex
 is_plain_built_in core (exclude s e) = is_plain_expression core s && is_plain_expression core e
 is_plain_built_in core _ = false
 
--- each label stands for a node of the text at least
+-- each label stands for a node of the text at least, and there is one
+abbrev pub are_nodes : List Label → Bool
+are_nodes labels = list_all (λ l. nat_lt 0 l.nodes) labels
+
 abbrev pub are_plain_labels : List Label → Bool
-are_plain_labels labels = list_all (λ l. nat_lt 0 l.nodes) labels
+are_plain_labels labels = nat_lt 0 (length labels) && are_nodes labels
 
 abbrev mutual
   pub is_plain_statement : Core → Statement → Bool

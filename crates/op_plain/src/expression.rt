@@ -1,18 +1,24 @@
 //! The test of expressions.
 ghost use Rattle.std.specs.Prelude.{◌≡◌, true, false};
 ghost use Rattle.op_core.specs.Expression.{action_of, argument_of, element_of, expr_of, root_of};
-ghost use Rattle.op_core.specs.Nodes.{arguments_of, elements_of};
-ghost use Rattle.op_plain.specs.Plain.{are_plain_arguments, are_plain_elements, is_plain_argument, is_plain_element, is_plain_expression, is_plain_root, is_plain_step};
+ghost use Rattle.op_core.specs.Nodes.{arguments_of, elements_of, steps_of};
+ghost use Rattle.op_plain.specs.Plain.{are_apart, are_plain_arguments, are_plain_elements, is_plain_argument, is_plain_element, is_plain_expression, is_plain_root, is_plain_step};
+ghost use Rattle.op_sizes.specs.Written.{is_implied};
 ghost use Rattle.op_typing.specs.Simple.{is_text, text_after};
 
 use crate::types::{asks_text, is_plain_constant, is_solid_type};
-use op_core::{Action, Const, Core, CoreArgument, CoreElement, CoreExpr, Root, TypeId};
+use op_core::{
+    Action, Const, Core, CoreArgument, CoreElement, CoreExpr, Origin, Root, Step, TypeId,
+};
 
 #[cycle(expression)]
 pub fn is_plain_expression(core: &Core, e: &CoreExpr) -> bool
     ensures { result ≡ is_plain_expression core.now (expr_of e.now) }
 {
     if !is_plain_root(core, &e.root, e.of) {
+        return false;
+    }
+    if !are_apart(&e.steps) {
         return false;
     }
     let mut text = is_text(&e.root);
@@ -41,6 +47,34 @@ pub fn is_plain_root(core: &Core, root: &Root, of: TypeId) -> bool
         Root::Set(elements) => is_solid_type(core, of) && are_plain_elements(core, elements),
         Root::Eof => false,
         Root::Eoln => false,
+    }
+}
+
+/// Whether no conversion that is not written stands behind another one.
+fn are_apart(steps: &[Step]) -> bool
+    ensures { result ≡ are_apart false (steps_of steps.now) }
+{
+    let mut implied = false;
+    for each in steps {
+        let here = is_implied(&each.action);
+        if implied && here {
+            return false;
+        }
+        implied = here;
+    }
+    true
+}
+
+/// Whether it is a conversion that is not written.
+fn is_implied(action: &Action) -> bool
+    ensures { result ≡ is_implied (action_of action.now) }
+{
+    match action {
+        Action::Convert {
+            origin: Origin::Implied,
+            ..
+        } => true,
+        _ => false,
     }
 }
 

@@ -4,7 +4,7 @@ ghost use Rattle.std.specs.List.{list_all};
 ghost use Rattle.op_core.specs.Expression.{expr_of, root_of};
 ghost use Rattle.op_core.specs.Nodes.{branches_of};
 ghost use Rattle.op_core.specs.Statement.{built_in_of, item_of, stmt_of, stmts_of};
-ghost use Rattle.op_plain.specs.Plain.{are_plain_branches, are_plain_labels, are_plain_statements, has_work, is_plain_amount, is_plain_bare, is_plain_built_in, is_plain_item, is_plain_statement, is_work};
+ghost use Rattle.op_plain.specs.Plain.{are_nodes, are_plain_branches, are_plain_labels, are_plain_statements, has_work, is_plain_amount, is_plain_bare, is_plain_built_in, is_plain_item, is_plain_statement, is_work};
 
 use crate::expression::{is_plain_expression, is_plain_root};
 use crate::types::is_plain_constant;
@@ -108,6 +108,13 @@ fn are_plain_branches(core: &Core, list: &[CoreBranch]) -> bool
 
 fn are_plain_labels(labels: &[Label]) -> bool
     ensures { result ≡ are_plain_labels labels.now }
+{
+    0 < labels.len() && are_nodes(labels)
+}
+
+/// Whether each label stands for a node of the text at least.
+fn are_nodes(labels: &[Label]) -> bool
+    ensures { result ≡ are_nodes labels.now }
 {
     labels.iter().all(|label| 0 < label.nodes)
 }

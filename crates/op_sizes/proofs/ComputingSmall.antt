@@ -21,7 +21,7 @@ use Rattle.op_core.specs.declared.types.IntegerKind.{IntegerKind}
 use Rattle.op_core.specs.declared.types.IntegerKind.TheVariants.{Signed8, Unsigned8, Signed16, Unsigned16, Signed32}
 use Rattle.op_low.specs.declared.ids.VirtualRegister.{VirtualRegister}
 use Rattle.op_low.specs.declared.instruction.Instruction.{Instruction}
-use Rattle.op_low.specs.declared.instruction.Instruction.TheVariants.{Const, Move, Alu, AluImm, Branch, Call, CallAt, Jump}
+use Rattle.op_low.specs.declared.instruction.Instruction.TheVariants.{Const, Move, Alu, AluImm, Branch, Call, CallAt, Jump, Return, Raise, Read}
 use Rattle.op_mir.specs.View.{view_arm, view_computation}
 use Rattle.op_mir.specs.declared.action.Computation.{Computation}
 use Rattle.op_mir.specs.declared.action.Computation.TheVariants.{Arithmetic, Compare, Negate, Complement, Invert, Absolute, Odd, Upper, LowBits, Check, Neighbour, Single, Span, Combine, Contains, CheckSet}
@@ -46,6 +46,9 @@ join (i ∷ a) b = let e = join a b in omega (arith, e)
 counts_some : (i : Instruction) → 1 ≤ low_weight i
 counts_some (Call id operands) = omega arith
 counts_some (CallAt address operands) = omega arith
+counts_some (Return value) = omega arith
+counts_some Raise = omega arith
+counts_some (Read to buffer size) = omega arith
 counts_some _ = omega arith
 
 pub lengths_covered : (code : List Instruction) → length code ≤ code_weight code

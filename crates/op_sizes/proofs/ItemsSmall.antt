@@ -142,7 +142,7 @@ mutual
       omega (arith, rest, here, all, joined)
 
 -- all blocks of a routine
-pub blocks_small : (items : Items) → blocks_size (blocks_of items) ≤ 21 + items_size items
+pub blocks_small : (items : Items) → blocks_size (blocks_of items) ≤ 23 + items_size items
 blocks_small items =
     let all = code_small routine_exits items 2 (jump 1 ∷ []) (λ reason. let one : code_size (jump 1 ∷ []) ≤ 2 = omega arith in one) in
     omega (arith, all)

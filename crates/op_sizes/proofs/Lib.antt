@@ -1,6 +1,14 @@
+pub mod BytesSmall
 pub mod ComputingSmall
 pub mod ExpressionsSmall
+pub mod ExpressionTexts
+pub mod FirstValues
 pub mod ItemsSmall
+pub mod LinkedSmall
 pub mod MovesSmall
+pub mod NamesCounted
+pub mod ProgramsSmall
 pub mod RoutinesSmall
 pub mod StatementsSmall
+pub mod StatementTexts
+pub mod TextsKept

@@ -273,10 +273,10 @@ module _ (core : Core) (frame : Frame) where
 
   -- ---- returns
 
-  number_small : (kind : IntegerKind) (v : LocalId) → code_weight (number_code core frame kind v) ≤ 20
+  number_small : (kind : IntegerKind) (v : LocalId) → code_weight (number_code core frame kind v) ≤ 22
   number_small kind v = by (held core frame (Local v) []) refl
     where
-      by : (o : Option VirtualRegister) → held core frame (Local v) [] ≡ o → code_weight (number_code core frame kind v) ≤ 20
+      by : (o : Option VirtualRegister) → held core frame (Local v) [] ≡ o → code_weight (number_code core frame kind v) ≤ 22
       by (Some r) e = rw e (omega arith)
       by None e = rw e (
           let l = load_small kind left (Local v) [] left in
@@ -284,7 +284,7 @@ module _ (core : Core) (frame : Frame) where
           omega (arith, l, all)
           )
 
-  parts_small : (of : TypeId) (v : LocalId) → code_weight (parts_code core frame of v) ≤ 20
+  parts_small : (of : TypeId) (v : LocalId) → code_weight (parts_code core frame of v) ≤ 22
   unfolding parts_code
   parts_small of v =
       let words = by_words core of in
@@ -297,10 +297,10 @@ module _ (core : Core) (frame : Frame) where
       let two = join front bytes in
       omega (arith, p, b, one, two)
 
-  return_small : (returning : Returning) → code_weight (return_code core frame returning) ≤ 20
+  return_small : (returning : Returning) → code_weight (return_code core frame returning) ≤ 22
   return_small Ending = omega arith
   return_small Nothing = omega arith
-  return_small (Result of v) = either (is_composite (shape_of core of)) (parts_code core frame of v) (number_code core frame (kind_of core of) v) 20 (parts_small of v) (number_small (kind_of core of) v)
+  return_small (Result of v) = either (is_composite (shape_of core of)) (parts_code core frame of v) (number_code core frame (kind_of core of) v) 22 (parts_small of v) (number_small (kind_of core of) v)
 
   -- ---- instructions
 

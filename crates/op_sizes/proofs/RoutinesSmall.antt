@@ -151,7 +151,7 @@ module _ (core : Core) (stack r : ℕ) (counted : AreCountedStatements ((program
       let all = both_size firsts work in
       omega (arith, a, b, all)
 
-  blocks_all : (mir : Mir) (id : ℕ) (routine : Routine) → IsRoutine core r routine → blocks_weight (all_blocks core mir r id routine) ≤ 44 * nodes + 17 * (variables_of core r).count + 44
+  blocks_all : (mir : Mir) (id : ℕ) (routine : Routine) → IsRoutine core r routine → blocks_weight (all_blocks core mir r id routine) ≤ 44 * nodes + 17 * (variables_of core r).count + 46
   blocks_all mir id routine is =
       let frame = frame_of core r routine in
       let front = beginning core frame r in
@@ -163,8 +163,8 @@ module _ (core : Core) (stack r : ℕ) (counted : AreCountedStatements ((program
       let all = low_join (low_blocks core mir frame r id front routine.blocks) error_blocks in
       omega (arith, begins, light, seen, small, items, all)
 
-  pub routine_light : (mir : Mir) (id : ℕ) (routine : Routine) → IsRoutine core r routine → blocks_weight (low_routine core mir r id routine).blocks ≤ 44 * nodes + 17 * (variables_of core r).count + 44
-  routine_light mir id routine is = low_light core mir r id routine (44 * nodes + 17 * (variables_of core r).count + 44) (omega arith) (blocks_all mir id routine is)
+  pub routine_light : (mir : Mir) (id : ℕ) (routine : Routine) → IsRoutine core r routine → blocks_weight (low_routine core mir r id routine).blocks ≤ 44 * nodes + 17 * (variables_of core r).count + 46
+  routine_light mir id routine is = low_light core mir r id routine (44 * nodes + 17 * (variables_of core r).count + 46) (omega arith) (blocks_all mir id routine is)
 
 -- ---- single instructions
 
@@ -217,7 +217,7 @@ module _ (most : ℕ) where
       subst (λ x. Every IsLight (code out (then_do x (others & b)) k behind).now × Every (Every IsLight) (code out (then_do x (others & b)) k behind).blocks) (sym here.are)
       ((less, rest.0), every_append (Every IsLight) (code out (others & b) k behind).blocks [] rest.1 tt)
 
-  all_light : (a b : Items) → 20 ≤ most → AreFew a → 1 + items_size b ≤ most → Every (Every IsLight) (blocks_of (a & b))
+  all_light : (a b : Items) → 22 ≤ most → AreFew a → 1 + items_size b ≤ most → Every (Every IsLight) (blocks_of (a & b))
   all_light a b some few less =
       let one : code_size (jump 1 ∷ []) ≤ 2 = omega arith in
       let c = code_small routine_exits b 2 (jump 1 ∷ []) (λ reason. one) in
@@ -278,15 +278,15 @@ units_light (u ∷ us) =
     let e = ap code_size (flat_map-cons unit_code u us) in
     omega (arith, a, b, one, rest, all, e)
 
-units_each : (us : List UnitRow) → Every (IsLight 20) (flat_map unit_code us)
+units_each : (us : List UnitRow) → Every (IsLight 22) (flat_map unit_code us)
 units_each [] = tt
 units_each (u ∷ us) =
     let a = entering_light u.initialization in
     let b = due_light u.finalization in
     let one = code_join (entering u.initialization) (becoming_due u.finalization) in
-    subst (Every (IsLight 20)) (sym (flat_map-cons unit_code u us)) (every_append (IsLight 20) (unit_code u) (flat_map unit_code us) (each_light 20 (unit_code u) (omega (arith, a, b, one))) (units_each us))
+    subst (Every (IsLight 22)) (sym (flat_map-cons unit_code u us)) (every_append (IsLight 22) (unit_code u) (flat_map unit_code us) (each_light 22 (unit_code u) (omega (arith, a, b, one))) (units_each us))
 
-pub program_light : (core : Core) (mir : Mir) (r id : ℕ) (routine : Routine) → IsProgram core.units routine → AreSmall core mir 20 routine × (blocks_weight (low_routine core mir r id routine).blocks ≤ 7 * length core.units + 17 * (variables_of core r).count + 64)
+pub program_light : (core : Core) (mir : Mir) (r id : ℕ) (routine : Routine) → IsProgram core.units routine → AreSmall core mir 22 routine × (blocks_weight (low_routine core mir r id routine).blocks ≤ 7 * length core.units + 17 * (variables_of core r).count + 68)
 program_light core mir r id routine is =
     let frame = frame_of core r routine in
     let front = beginning core frame r in
@@ -296,9 +296,9 @@ program_light core mir r id routine is =
     let units = units_light core.units in
     let whole = code_join (flat_map unit_code core.units) (ret ∷ []) in
     let all = low_join (low_blocks core mir frame r id front routine.blocks) error_blocks in
-    let returns : 20 ≤ 20 = omega arith in
-    let each = every_append (IsLight 20) (flat_map unit_code core.units) (ret ∷ []) (units_each core.units) (returns, tt) in
-    let most = 7 * length core.units + 17 * (variables_of core r).count + 64 in (
-      blocks_of_each core mir r 20 routine.blocks (subst (Every (Every (IsLight 20))) (sym (is.blocks core r)) (each, ((returns, tt), tt))),
+    let returns : 22 ≤ 22 = omega arith in
+    let each = every_append (IsLight 22) (flat_map unit_code core.units) (ret ∷ []) (units_each core.units) (returns, tt) in
+    let most = 7 * length core.units + 17 * (variables_of core r).count + 68 in (
+      blocks_of_each core mir r 22 routine.blocks (subst (Every (Every (IsLight 22))) (sym (is.blocks core r)) (each, ((returns, tt), tt))),
       low_light core mir r id routine most (omega arith) (omega (arith, begins, light, seen, units, whole, all)),
     )

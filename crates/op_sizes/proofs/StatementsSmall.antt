@@ -1,5 +1,5 @@
 -- The items of a statement come to no more code than its nodes allow, and those of first values than their variables do.
-use Rattle.std.proofs.Common.{◌≡◌, ◌<◌, ◌≤◌, ℕ, zero, suc, ◌+◌, ◌*◌, Bool, true, false, List, [], ◌∷◌, length, Option, Some, None, slice_get, inl, inr, refl, sym, subst, arith}
+use Rattle.std.proofs.Common.{◌≡◌, ◌≤◌, ℕ, zero, suc, ◌+◌, ◌*◌, Bool, true, false, List, [], ◌∷◌, length, Option, Some, None, slice_get, inl, inr, refl, sym, subst, arith}
 use Rattle.op_core.specs.Expression.{Expression, expression, constant as fixed, no_steps}
 use Rattle.op_core.specs.Initial.{FirstValue}
 use Rattle.op_core.specs.Sizes.{type_at}
@@ -17,8 +17,7 @@ use Rattle.op_core.specs.declared.statement.Label.{Label}
 use Rattle.op_core.specs.declared.types.CoreType.{CoreType}
 use Rattle.op_core.specs.declared.types.CoreType.TheVariants.{Array, Boolean, Char, Set}
 use Rattle.op_core.specs.declared.types.IntegerKind.TheVariants.{Signed32}
-use Rattle.op_frames.specs.Counted.{IsCounted, IsCountedAmount, IsCountedItem, AreCountedItems, IsCountedBuiltIn, IsCountedStatement, AreCountedStatements, AreCountedBranches}
-use Rattle.op_frames.specs.Made.{Every}
+use Rattle.op_frames.specs.Counted.{IsCounted, IsCountedAmount, IsCountedItem, AreCountedItems, IsCountedBuiltIn, IsCountedStatement, AreCountedStatements, AreCountedBranches, AreCountedLabels}
 use Rattle.op_meaning.specs.Actions.{load, store, copy, begin_with, arithmetic, single as lone, combine, write_text}
 use Rattle.op_meaning.specs.Charge.{nodes_of, valued, expression_weight, item_weight, items_weight, built_in_weight, labels_weight, counter_weight, statement_weight, statements_weight, branches_weight}
 use Rattle.op_meaning.specs.Expressions.{Here, past, past_whole, Env, Now, ready, at_path, a_text, Found, found, whole_path, path_of, own, then_acts, element_step, converted, find, make}
@@ -186,12 +185,12 @@ collection_small env here of _ v into body = omega arith
 
 -- ---- labels
 
-labels_counted : (labels : List Label) → Every (λ label. 0 < label.nodes) labels → length labels ≤ nodes_of (labels_weight labels)
-labels_counted [] w = omega arith
-labels_counted (l ∷ ls) w = let e = labels_counted ls w.1 in let n = w.0 in omega (arith, e, n)
+labels_counted : (labels : List Label) → AreCountedLabels labels → length labels ≤ nodes_of (labels_weight labels)
+labels_counted [] c = omega arith
+labels_counted (l ∷ ls) c = let e = labels_counted ls c.1 in let n = c.0 in omega (arith, e, n)
 
-labels_small : (labels : List Label) → AreWrittenLabels labels → 1 + 4 * length labels ≤ 44 * nodes_of (labels_weight labels)
-labels_small labels w = let e = labels_counted labels w.1 in let n = w.0 in omega (arith, e, n)
+labels_small : (labels : List Label) → AreCountedLabels labels → AreWrittenLabels labels → 1 + 4 * length labels ≤ 44 * nodes_of (labels_weight labels)
+labels_small labels c w = let e = labels_counted labels c in omega (arith, e, w)
 
 -- ---- statements
 
@@ -280,7 +279,7 @@ mutual
   branches_small : (env : Env) (here : Here) (bs : Branches) → AreCountedBranches bs → AreWrittenBranches bs → cases_size (cases_of env here bs) ≤ 44 * nodes_of (branches_weight env.core bs)
   branches_small env here no_branches c w = omega arith
   branches_small env here (branches labels s bs) c w =
-      let l = labels_small labels w.0 in
+      let l = labels_small labels c.0 w.0 in
       let first = work_small env here s c.1 w.1 in
       let rest = branches_small env here bs c.2 w.2 in
       omega (arith, l, first, rest)

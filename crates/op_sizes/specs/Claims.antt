@@ -1,19 +1,29 @@
--- What is proved of the size of low code.
+-- What is proved of the size of low code and of images.
 use Rattle.std.specs.Prelude.{◌≡◌, ◌≤◌, ℕ, ◌+◌, ◌*◌, List, Some, length, slice_get}
+use Rattle.std.specs.List.{All}
+use Rattle.op_constants.specs.Literals.{literals_of}
+use Rattle.op_core.specs.Sound.{IsSound}
 use Rattle.op_core.specs.declared.program.Core.{Core}
+use Rattle.op_core.specs.declared.routine.Owner.TheVariants.{Unit as OfUnit}
 use Rattle.op_core.specs.declared.routine.Routine.{Routine as Row}
+use Rattle.op_expand.specs.Programs.{low_of}
 use Rattle.op_expand.specs.Routines.{instruction_code, low_routine}
 use Rattle.op_expand.specs.declared.frame.Frame.{Frame}
 use Rattle.op_frames.specs.Counted.{AreCountedStatements}
 use Rattle.op_frames.specs.Made.{Every}
+use Rattle.op_layout.specs.Places.{layout_of}
+use Rattle.op_link.specs.Linking.{linked_size}
+use Rattle.op_link.specs.declared.memory_map.Settings.{Settings}
 use Rattle.op_low.specs.declared.instruction.Instruction.{Instruction as LowInstruction}
-use Rattle.op_lower.specs.Lowers.{IsProgram, IsRoutine}
+use Rattle.op_lower.specs.Lowers.{IsProgram, IsRoutine, Lowers}
 use Rattle.op_meaning.specs.Charge.{charge_of, nodes_of, statements_weight}
 use Rattle.op_meaning.specs.Frames.{program_of}
 use Rattle.op_meaning.specs.Shapes.{variables_of}
 use Rattle.op_mir.specs.declared.code.Mir.{Mir}
 use Rattle.op_mir.specs.declared.code.Routine.{Routine}
 use Rattle.op_mir.specs.declared.instruction.Instruction.{Instruction}
+use Rattle.op_select.specs.Selection.{select_of}
+use Rattle.op_sizes.specs.ProgramSize.{program_size}
 use Rattle.op_sizes.specs.Weights.{blocks_weight, code_weight}
 use Rattle.op_sizes.specs.Written.{AreWrittenStatements}
 
@@ -41,10 +51,17 @@ abbrev pub RoutinesAreSmall : Type 0
 RoutinesAreSmall =
     (core : Core) (mir : Mir) (stack r id : ℕ) (routine : Routine) → IsRoutine core r routine
     → AreCountedStatements ((program_of core stack).body r) → AreWrittenStatements ((program_of core stack).body r)
-    → blocks_weight (low_routine core mir r id routine).blocks ≤ 44 * nodes_of (statements_weight core ((program_of core stack).body r)) + 17 * (variables_of core r).count + 44
+    → blocks_weight (low_routine core mir r id routine).blocks ≤ 44 * nodes_of (statements_weight core ((program_of core stack).body r)) + 17 * (variables_of core r).count + 46
 
 -- what stands below all routines: one instruction, and all blocks by the units whose parts it enters
 abbrev pub ProgramIsSmall : Type 0
 ProgramIsSmall =
     (core : Core) (mir : Mir) (r id : ℕ) (routine : Routine) → IsProgram core.units routine
-    → AreSmall core mir 20 routine × (blocks_weight (low_routine core mir r id routine).blocks ≤ 7 * length core.units + 17 * (variables_of core r).count + 64)
+    → AreSmall core mir 22 routine × (blocks_weight (low_routine core mir r id routine).blocks ≤ 7 * length core.units + 17 * (variables_of core r).count + 68)
+
+-- what is linked of a program without methods takes no more bytes than the size of the program
+abbrev pub ImagesAreSmall : Type 0
+ImagesAreSmall =
+    (core : Core) (mir : Mir) (stack : ℕ) (settings : Settings) → Lowers core mir → IsSound core → All (λ x. x.owner ≡ OfUnit) core.routines
+    → ((r : ℕ) → AreCountedStatements ((program_of core stack).body r)) → ((r : ℕ) → AreWrittenStatements ((program_of core stack).body r))
+    → linked_size (select_of (low_of core mir stack)) (layout_of (literals_of core mir)) settings ≤ program_size core

@@ -65,7 +65,7 @@ instruction_size (switch t arms) = 1 + arms_size arms
 instruction_size (dispatch t k) = 6
 instruction_size (make_due f) = 1
 instruction_size (stop t) = 2
-instruction_size ret = 20
+instruction_size ret = 22
 
 abbrev pub code_size : List Instr → ℕ
 code_size [] = 0

@@ -4,7 +4,6 @@ use Rattle.op_core.specs.Expression.{Expression, expression, Root, constant, var
 use Rattle.op_core.specs.Statement.{Item, plain, padded, BuiltIn, write, read, count, set_length, include, exclude, val, str, free, destroy, Statement, empty, block, if_then, if_else, case_of, while_do, repeat_until, for_to, for_in, try_finally, try_on, try_on_else, raise, reraise, call as call_statement, assign, exit, exit_with, break, continue, halt, built_in, Statements, no_statements, statements, Branches, no_branches, branches}
 use Rattle.op_core.specs.declared.operation.Origin.TheVariants.{Implied}
 use Rattle.op_core.specs.declared.statement.Label.{Label}
-use Rattle.op_frames.specs.Made.{Every}
 
 -- a conversion that is not written
 abbrev pub is_implied : Action → Bool
@@ -85,9 +84,9 @@ IsWrittenBuiltIn (str v target) = Unit {0}
 IsWrittenBuiltIn (free e empties) = Unit {0}
 IsWrittenBuiltIn (destroy e) = Unit {0}
 
--- a label counts for a node at least, and there is one
+-- there is one
 abbrev pub AreWrittenLabels : List Label → Type 0
-AreWrittenLabels labels = (0 < length labels) × Every (λ label. 0 < label.nodes) labels
+AreWrittenLabels labels = 0 < length labels
 
 abbrev mutual
   pub IsWrittenStatement : Statement → Type 0

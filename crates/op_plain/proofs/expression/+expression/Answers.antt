@@ -9,6 +9,10 @@ pub is_plain_expression-returns-then-not-is_plain_root :
     goal.is_plain_expression-returns-then-not-is_plain_root
 is_plain_expression-returns-then-not-is_plain_root t c = grind (arith, ap (is_plain_expression c.args.core.now) (list_nodes.expr_says c.args.e.now))
 
+pub is_plain_expression-returns-then-not-are_apart :
+    goal.is_plain_expression-returns-then-not-are_apart
+is_plain_expression-returns-then-not-are_apart t c = grind (arith, ap (is_plain_expression c.args.core.now) (list_nodes.expr_says c.args.e.now))
+
 pub is_plain_expression-loop-each-init : goal.is_plain_expression-loop-each-init
 is_plain_expression-loop-each-init t c = record { gives = grind (arith, ap (is_plain_expression c.args.core.now) (list_nodes.expr_says c.args.e.now)) }
 

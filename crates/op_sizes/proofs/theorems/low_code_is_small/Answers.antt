@@ -1,4 +1,5 @@
 use Rattle.op_sizes.proofs.ComputingSmall.{lengths_covered}
+use Rattle.op_sizes.proofs.ProgramsSmall.{image_less}
 use Rattle.op_sizes.proofs.RoutinesSmall.{instructions_light, program_light, routine_light}
 use Rattle.op_sizes.proofs.theorems.low_code_is_small.Goals as goal
 
@@ -8,4 +9,5 @@ returns c = record {
   instructions = instructions_light;
   routines = λ core mir stack r id routine is counted written. routine_light core stack r counted written mir id routine is;
   program = program_light;
+  images = λ core mir stack settings lowers sound owners counted written. image_less core mir lowers sound owners counted written stack settings;
 }
