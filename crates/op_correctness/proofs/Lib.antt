@@ -18,6 +18,7 @@ pub mod PlainItems
 pub mod ProgramCode
 pub mod RoutineCode
 pub mod Settling
+pub mod Sized
 pub mod Space
 pub mod Spending
 pub mod Targeting

@@ -1,6 +1,7 @@
 -- What is proved of the image of a program.
-use Rattle.std.specs.Prelude.{◌≡◌, ◌≤◌, ℕ, ◌*◌, true, List, length}
-use Rattle.op_build.specs.Built.{IsBuilt}
+use Rattle.std.specs.Prelude.{◌≡◌, ◌<◌, ◌≤◌, ℕ, ◌*◌, true, List, length}
+use Rattle.op_build.specs.Built.{IsBuilt, IsNotBuilt, program_layout, program_low}
+use Rattle.op_build.specs.declared.building.BuildError.TheVariants.{Limit}
 use Rattle.op_constants.specs.Literals.{literals_of}
 use Rattle.op_core.specs.Sound.{IsSound, IsSoundNesting}
 use Rattle.op_core.specs.declared.program.Core.{Core}
@@ -8,7 +9,8 @@ use Rattle.op_expand.specs.Programs.{low_of}
 use Rattle.op_image.specs.Building.{is_buildable}
 use Rattle.op_image.specs.Means.{image_run}
 use Rattle.op_layout.specs.Places.{layout_of}
-use Rattle.op_link.specs.Memory.{are_in_range}
+use Rattle.op_link.specs.Linking.{linked_size}
+use Rattle.op_link.specs.Memory.{are_in_range, most_linked}
 use Rattle.op_link.specs.declared.memory_map.Settings.{Settings}
 use Rattle.op_lower.specs.Lowers.{Lowers}
 use Rattle.op_managed.specs.Managed.{Manages}
@@ -16,6 +18,8 @@ use Rattle.op_meaning.specs.Frames.{Program, program_of}
 use Rattle.op_mir.specs.declared.code.Mir.{Mir}
 use Rattle.op_plain.specs.Plain.{is_plain_program}
 use Rattle.op_rv.specs.State.{Ended}
+use Rattle.op_select.specs.Selection.{select_of}
+use Rattle.op_sizes.specs.ProgramSize.{program_size}
 use Rattle.op_correctness.specs.Agrees.{Agrees, EndsAsMeant, GoesAlong}
 
 -- the image that is built of the managed code of a sound program of the class agrees with the program
@@ -35,3 +39,15 @@ abbrev pub LowCodeIsBuildable : Type 0
 LowCodeIsBuildable =
     (core : Core) (mir : Mir) (stack : ℕ) → is_plain_program core ≡ true → IsSound core → IsSoundNesting core → Lowers core mir → length core.globals ≤ 2446676
     → is_buildable (low_of core mir stack) (layout_of (literals_of core mir)) ≡ true
+
+-- the code, the constants and the initial globals of the image of such a program take together no more bytes than the program's size
+abbrev pub ImageIsSmall : Type 0
+ImageIsSmall =
+    (core : Core) (mir : Mir) (settings : Settings) → is_plain_program core ≡ true → IsSound core → Lowers core mir
+    → linked_size (select_of (program_low core mir settings)) (program_layout core mir) settings ≤ program_size core
+
+-- so there is no image for its size only where the program's size is more than an image may take
+abbrev pub LimitIsPassed : Type 0
+LimitIsPassed =
+    (core : Core) (mir : Mir) (settings : Settings) → is_plain_program core ≡ true → IsSound core → Lowers core mir
+    → IsNotBuilt core mir settings Limit → most_linked < program_size core
