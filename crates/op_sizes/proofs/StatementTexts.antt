@@ -238,7 +238,7 @@ module _ (g : Core) where
     work_keeps env here break c = omega arith
     work_keeps env here continue c = omega arith
     work_keeps env here (halt_with e) c =
-        let i = make_keeps g env here e c in
+        let i = amount_keeps env here e c in
         let all = both_text g (make env here e).items (only (halt here.temp)) in
         omega (arith, i, all)
     work_keeps env here (built_in b) c = built_in_keeps env here b c
