@@ -129,7 +129,7 @@ module _ (core : Core) where
     statement_written (exit_with a) e = expression_written a e
     statement_written break e = tt
     statement_written continue e = tt
-    statement_written (halt a) e = expression_written a e
+    statement_written (halt a) e = amount_written a e
     statement_written (built_in action) e = built_in_written action e
 
     pub statements_written : (ss : Statements) → are_plain_statements core ss ≡ true → AreWrittenStatements ss
