@@ -1,11 +1,11 @@
 -- What checking and compiling a file give. `stored` are the files, as far as they tell.
-use Rattle.std.specs.Prelude.{◌≡◌, ℕ, ◌*◌, ◌⊎◌, false, Option, Some, None, Result, Ok, Err, List, ⊤, map}
+use Rattle.std.specs.Prelude.{◌≡◌, ◌<◌, ◌≤◌, ℕ, ◌*◌, ◌⊎◌, false, Option, Some, None, Result, Ok, Err, List, ⊤, map}
 use Rattle.op_base.specs.Outside.{Rose}
 use Rattle.op_base.specs.declared.files.NamedFile.{NamedFile}
 use Rattle.op_base.specs.declared.place.Place.{Place}
 use Rattle.op_base.specs.declared.rule.Refusal.{Refusal}
 use Rattle.op_base.specs.declared.rule.Rule.{Rule}
-use Rattle.op_build.specs.Built.{IsBuilt, IsNotBuilt}
+use Rattle.op_build.specs.Built.{IsBuilt, IsNotBuilt, program_layout, program_low}
 use Rattle.op_build.specs.declared.building.BuildError.{BuildError}
 use Rattle.op_build.specs.declared.building.BuildError.TheVariants as build
 use Rattle.op_check_unit.specs.Checking.{CheckIs}
@@ -17,10 +17,14 @@ use Rattle.op_core.specs.declared.error.CheckError.TheVariants as check
 use Rattle.op_core.specs.declared.program.Core.{Core}
 use Rattle.op_correctness.specs.Agrees.{Agrees}
 use Rattle.op_lower.specs.Lowers.{Lowers}
+use Rattle.op_link.specs.Linking.{linked_size}
+use Rattle.op_link.specs.Memory.{most_linked}
 use Rattle.op_link.specs.declared.memory_map.Settings.{Settings}
 use Rattle.op_meaning.specs.Frames.{Program, program_of}
 use Rattle.op_mir.specs.declared.code.Mir.{Mir}
 use Rattle.op_plain.specs.Plain.{is_plain_program}
+use Rattle.op_select.specs.Selection.{select_of}
+use Rattle.op_sizes.specs.ProgramSize.{program_size}
 use Rattle.op_tool.specs.declared.compiler.CompileError.{CompileError}
 use Rattle.op_tool.specs.declared.compiler.CompileError.TheVariants.{Refused, ReadFault, Limit, NoMemory}
 use Rattle.op_tree.specs.File.{file_of}
@@ -61,12 +65,13 @@ abbrev pub meant : Core → Program
 meant core = program_of core (1024 * default.stack)
 
 -- The image is that of the program's managed code, and it agrees with the program: over every input it writes and ends as the program does,
--- step by step and for ever.
+-- step by step and for ever. Its code, its constants and its initial globals take together no more bytes than the program's size.
 pub record IsImage (core : Core) (image : List ℕ) : Type 0 where
   pub mir : Mir
   pub lowers : Lowers core mir
   pub built : IsBuilt core mir default image
   pub agrees : Agrees (meant core) image
+  pub small : linked_size (select_of (program_low core mir default)) (program_layout core mir) default ≤ program_size core
 
 -- an image of the program in the file
 pub record Made (stored : Option (List NamedFile)) (name image : List ℕ) : Type 0 where
@@ -105,9 +110,13 @@ IsNotCompiled core = (is_plain_program core ≡ false) ⊎ FailsToBuild core bui
 abbrev pub IsRefused : Option (List NamedFile) → List ℕ → Refusal → Type 0
 IsRefused stored name refusal = IsBroken stored name refusal ⊎ (refusal ≡ not_compiled) × (core : Core) × IsTypedProgram stored name core × IsNotCompiled core
 
--- code, constants and initial globals of its image have more bytes than an image may have
+-- code, constants and initial globals of its image have more bytes than an image may have, which the program's size passes too
+pub record PassesLimit (core : Core) : Type 0 where
+  pub fails : FailsToBuild core build.Limit
+  pub size : most_linked < program_size core
+
 abbrev pub IsTooLarge : Option (List NamedFile) → List ℕ → Type 0
-IsTooLarge stored name = (core : Core) × IsTypedProgram stored name core × FailsToBuild core build.Limit
+IsTooLarge stored name = (core : Core) × IsTypedProgram stored name core × PassesLimit core
 
 -- ---- errors
 
@@ -142,5 +151,5 @@ error_of load.NoMemory = NoMemory
 abbrev pub HasNoImage : Core → List ℕ → CompileError → Type 0
 HasNoImage core name (Refused refusal file) = (file ≡ name) × (refusal ≡ not_compiled) × IsNotCompiled core
 HasNoImage core name ReadFault = ⊥
-HasNoImage core name Limit = FailsToBuild core build.Limit
+HasNoImage core name Limit = PassesLimit core
 HasNoImage core name NoMemory = ⊤
