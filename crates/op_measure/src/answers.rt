@@ -3,7 +3,7 @@ ghost use Rattle.std.specs.Prelude.{IsTrue};
 ghost use Rattle.op_low.specs.Valid.{is_valid};
 ghost use Rattle.op_link.specs.Linking.{is_linkable};
 
-use crate::images::{contents, header, image, run};
+use crate::images::{contents, header, image, listed, run};
 use crate::items::lines_of;
 use crate::low_text::low_code;
 use crate::object_text::objects;
@@ -33,7 +33,7 @@ const FOR_OBJECTS: Settings = Settings {
 /// The answer that a command asks for.
 pub fn answer(alloc: Global, command: &str, lines: &[&str]) -> Result<String, NoMemory> {
     match command {
-        "decode" | "header" | "run" => of_image(alloc, command, lines),
+        "decode" | "header" | "lines" | "run" => of_image(alloc, command, lines),
         "linkable" | "link" | "segments" => of_objects(alloc, command, lines),
         _ => of_low_code(alloc, command, lines),
     }
@@ -45,6 +45,7 @@ fn of_image(alloc: Global, command: &str, lines: &[&str]) -> Result<String, NoMe
     match command {
         "decode" => Ok(row(alloc, word_of(bytes))?),
         "header" => Ok(header(alloc, bytes)?),
+        "lines" => listed(alloc, bytes),
         _ => run(alloc, bytes, true),
     }
 }

@@ -7,6 +7,7 @@ use crate::words::word_of;
 use op_base::{MemSink, MemSource, NoMemory};
 use op_emu::{Stop, load};
 use op_link::{read_header, segment};
+use op_listing::listing;
 use std::alloc::{AllocError, Global};
 
 /// The most steps that an image runs, and the most bytes that it writes.
@@ -114,6 +115,23 @@ pub fn contents(alloc: Global, image: &[u8]) -> Result<String, AllocError> {
                 push_words(&mut told, bytes)?;
             }
         }
+    }
+    Ok(told)
+}
+
+/// The lines of an image's listing.
+pub fn listed(alloc: Global, image: &[u8]) -> Result<String, NoMemory> {
+    let listing = listing(alloc, image)?;
+    let text = str::from_utf8(listing.as_slice()).unwrap_or("no text");
+    if text.is_empty() {
+        return Ok(format!(in alloc; "no lines")?);
+    }
+    let mut told = String::new(alloc);
+    for line in text.lines() {
+        if !told.is_empty() {
+            told.push_str("; ")?;
+        }
+        told.push_str(line)?;
     }
     Ok(told)
 }

@@ -1,9 +1,10 @@
 //! What the scripts in `bench/` and `tests/` ask of parts of the compiler.
 //!
 //! A word that is a command says what is told of the files behind it. `count` tells how many tokens a file has, and `list` each token
-//! with its place. `parse` tells what a file is, and `print` prints its tree. `words` decodes the words of code. `make` reads low
-//! code, and `build` writes its image. The others tell of each case of a file (`cases`): `decode` of a word, `header` and `run` of an
-//! image, `valid`, `select`, `frame` and `execute` of low code, and `linkable`, `link` and `segments` of objects.
+//! with its place. `parse` tells what a file is, and `print` prints its tree. `words` decodes the words of code, and `listing` lists an
+//! image. `make` reads low code, and `build` writes its image. The others tell of each case of a file (`cases`): `decode` of a word,
+//! `header`, `lines` and `run` of an image, `valid`, `select`, `frame` and `execute` of low code, and `linkable`, `link` and `segments`
+//! of objects.
 #![tactic(auto)]
 
 mod answers;
@@ -20,11 +21,12 @@ mod words;
 
 use crate::answers::built;
 use op_base::{FileAnswer, Files, StdFiles};
+use op_listing::listing;
 use std::io::{self, Write};
 
-const COMMANDS: [&str; 17] = [
-    "count", "list", "parse", "print", "words", "make", "build", "decode", "header", "run",
-    "valid", "select", "frame", "execute", "linkable", "link", "segments",
+const COMMANDS: [&str; 19] = [
+    "count", "list", "parse", "print", "words", "listing", "make", "build", "decode", "header",
+    "lines", "run", "valid", "select", "frame", "execute", "linkable", "link", "segments",
 ];
 
 /// The most bytes that are read.
@@ -35,6 +37,7 @@ fn tell_file(rt: &HostRuntime, command: &str, name: &str) -> io::Result<()> {
     match files.read(rt.alloc(), name, MOST_BYTES) {
         Ok(FileAnswer::Found(text)) => match command {
             "words" => words::tell(rt, text.as_slice()),
+            "listing" => tell_listing(rt, text.as_slice()),
             "parse" | "print" => trees::tell(rt, name, text.as_slice(), command == "print"),
             "count" | "list" => tokens::tell(rt, name, text.as_slice(), command == "list"),
             _ => match str::from_utf8(text.as_slice()) {
@@ -43,6 +46,13 @@ fn tell_file(rt: &HostRuntime, command: &str, name: &str) -> io::Result<()> {
             },
         },
         _ => println!(rt; "not read"),
+    }
+}
+
+fn tell_listing(rt: &HostRuntime, image: &[u8]) -> io::Result<()> {
+    match listing(rt.alloc(), image) {
+        Ok(listing) => rt.stdout().write_all(listing.as_slice()),
+        Err(error) => println!(rt; "{error}"),
     }
 }
 
