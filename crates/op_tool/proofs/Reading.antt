@@ -8,9 +8,9 @@ use Rattle.std.specs.Option.{option_and_then, option_map}
 use Rattle.op_link.specs.Memory.{are_in_range}
 use Rattle.op_tool.proofs.Numbers.{both, both_are, if_some, if_true, number_found, number_read}
 use Rattle.op_tool.specs.Command.{Asked, IsAtMostOneCommand, IsCommand, IsGiven, IsNoCommand, Piece, Range, heap_of, heap_range, is_name, is_operand, is_source_name, operands_of, stack_of, stack_range, step_range, steps_of, makes_image, runs_image, the_heap, the_operand, the_stack, the_steps, word_of, words_of}
-use Rattle.op_tool.specs.Reading.{Said, action_of, asked_by, asked_in, asked_of, command_in, first_given, name_in, nothing, number_in, read, takes, with_heap, with_operand, with_option, with_stack, with_steps}
-use Rattle.op_tool.specs.declared.command.Action.{Action}
-use Rattle.op_tool.specs.declared.command.Action.TheVariants as action
+use Rattle.op_tool.specs.Reading.{Said, verb_of, asked_by, asked_in, asked_of, command_in, first_given, name_in, nothing, number_in, read, takes, with_heap, with_operand, with_option, with_stack, with_steps}
+use Rattle.op_tool.specs.declared.command.Verb.{Verb}
+use Rattle.op_tool.specs.declared.command.Verb.TheVariants as verb
 use Rattle.op_tool.specs.declared.command.Command.{Command}
 
 -- ---- one value
@@ -229,12 +229,12 @@ is_given taken range (digits ∷ again ∷ more) number never = absurd never
 
 -- ---- commands
 
-word_of_action : (act : Action) → action_of (word_of act) ≡ Some act
-word_of_action action.Exec = refl
-word_of_action action.Build = refl
-word_of_action action.Check = refl
-word_of_action action.List = refl
-word_of_action action.Run = refl
+word_of_verb : (verb : Verb) → verb_of (word_of verb) ≡ Some verb
+word_of_verb verb.Exec = refl
+word_of_verb verb.Build = refl
+word_of_verb verb.Check = refl
+word_of_verb verb.List = refl
+word_of_verb verb.Run = refl
 
 by_words : {A : Type 0} {P : Type 0} (a b c d e : Bool) (v w x y z value : A) → (if a then Some v else (if b then Some w else (if c then Some x else (if d then Some y else (if e then Some z else None))))) ≡ Some value → (a ≡ true → v ≡ value → P) → (b ≡ true → w ≡ value → P) → (c ≡ true → x ≡ value → P) → (d ≡ true → y ≡ value → P) → (e ≡ true → z ≡ value → P) → P
 by_words true b c d e v w x y z value is first second third fourth fifth = first refl cc
@@ -244,11 +244,11 @@ by_words false false false true e v w x y z value is first second third fourth f
 by_words false false false false true v w x y z value is first second third fourth fifth = fifth refl cc
 by_words false false false false false v w x y z value is first second third fourth fifth = absurd cc
 
-action_word : (word : List ℕ) (act : Action) → action_of word ≡ Some act → word ≡ word_of act
-action_word word act is =
-    let by : (one : Action) → bytes_eq word (word_of one) ≡ true → one ≡ act → word ≡ word_of act = λ one same is_act. (bytes_eq-Decides word (word_of one)).0 same ∙ ap word_of is_act in
-    by_words (bytes_eq word (word_of action.Exec)) (bytes_eq word (word_of action.Build)) (bytes_eq word (word_of action.Check)) (bytes_eq word (word_of action.List)) (bytes_eq word (word_of action.Run)) action.Exec action.Build action.Check action.List action.Run act is
-    (by action.Exec) (by action.Build) (by action.Check) (by action.List) (by action.Run)
+verb_word : (word : List ℕ) (its : Verb) → verb_of word ≡ Some its → word ≡ word_of its
+verb_word word its is =
+    let by : (one : Verb) → bytes_eq word (word_of one) ≡ true → one ≡ its → word ≡ word_of its = λ one same is_verb. (bytes_eq-Decides word (word_of one)).0 same ∙ ap word_of is_verb in
+    by_words (bytes_eq word (word_of verb.Exec)) (bytes_eq word (word_of verb.Build)) (bytes_eq word (word_of verb.Check)) (bytes_eq word (word_of verb.List)) (bytes_eq word (word_of verb.Run)) verb.Exec verb.Build verb.Check verb.List verb.Run its is
+    (by verb.Exec) (by verb.Build) (by verb.Check) (by verb.List) (by verb.Run)
 
 one_name : (values : List (List ℕ)) (name : List ℕ) → Fills name_in None values (Some name) → values ≡ name ∷ []
 one_name [] name same = absurd cc
@@ -256,28 +256,28 @@ one_name (v ∷ []) name (none, meant, some) = ap (λ n. n ∷ []) (if_some (is_
 one_name (v ∷ w ∷ more) name never = absurd never
 
 -- what a command asks for, by what was said
-abbrev pub asking : Action → List ℕ → Said → Asked
-asking act name said =
+abbrev pub asking : Verb → List ℕ → Said → Asked
+asking verb name said =
     record {
-      action = act;
+      verb = verb;
       operand = name;
       settings = record { heap = unwrap_or said.heap heap_range.default; stack = unwrap_or said.stack stack_range.default };
       steps = unwrap_or said.steps step_range.default;
     }
 
-asks : (act : Action) (name : List ℕ) (said : Said) (rest : List (List ℕ)) → said.operand ≡ Some name → takes act name said ≡ true → Adds nothing rest said → IsCommand (word_of act ∷ rest) (asking act name said)
-asks act name said rest is fits adds =
-    let first = both (is_operand act name) ((runs_image act || is_none said.steps) && (makes_image act || is_none said.heap && is_none said.stack)) fits in
-    let second = both (runs_image act || is_none said.steps) (makes_image act || is_none said.heap && is_none said.stack) first.1 in
-    let third = each (makes_image act) (is_none said.heap) (is_none said.stack) second.1 in
+asks : (verb : Verb) (name : List ℕ) (said : Said) (rest : List (List ℕ)) → said.operand ≡ Some name → takes verb name said ≡ true → Adds nothing rest said → IsCommand (word_of verb ∷ rest) (asking verb name said)
+asks verb name said rest is fits adds =
+    let first = both (is_operand verb name) ((runs_image verb || is_none said.steps) && (makes_image verb || is_none said.heap && is_none said.stack)) fits in
+    let second = both (runs_image verb || is_none said.steps) (makes_image verb || is_none said.heap && is_none said.stack) first.1 in
+    let third = each (makes_image verb) (is_none said.heap) (is_none said.stack) second.1 in
     record {
       pieces = adds.pieces;
-      are = ap (λ words. word_of act ∷ words) adds.are;
+      are = ap (λ words. word_of verb ∷ words) adds.are;
       one = one_name (flat_map operands_of adds.pieces) name (subst (Fills name_in None (flat_map operands_of adds.pieces)) is adds.operand);
       operand = first.0;
-      steps = was_given (runs_image act) step_range (flat_map steps_of adds.pieces) said.steps second.0 adds.steps;
-      heap = was_given (makes_image act) heap_range (flat_map heap_of adds.pieces) said.heap third.0 adds.heap;
-      stack = was_given (makes_image act) stack_range (flat_map stack_of adds.pieces) said.stack third.1 adds.stack;
+      steps = was_given (runs_image verb) step_range (flat_map steps_of adds.pieces) said.steps second.0 adds.steps;
+      heap = was_given (makes_image verb) heap_range (flat_map heap_of adds.pieces) said.heap third.0 adds.heap;
+      stack = was_given (makes_image verb) stack_range (flat_map stack_of adds.pieces) said.stack third.1 adds.stack;
     }
   where
     each : (taken a b : Bool) → (taken || a && b) ≡ true → ((taken || a) ≡ true) × ((taken || b) ≡ true)
@@ -288,27 +288,27 @@ pub found : (words : List (List ℕ)) (asked : Asked) → command_in words ≡ S
 unfolding command_in asked_by
 found [] asked is = absurd cc
 found (word ∷ rest) asked is =
-    option_and_then_some (λ act. asked_in act rest) (action_of word) asked is (λ act is_act in_act.
-    option_and_then_some (λ said. option_and_then (asked_by act said) said.operand) (read None nothing rest) asked in_act (λ said is_said by_said.
-    option_and_then_some (asked_by act said) said.operand asked by_said (λ name is_name asks_so.
-    let made = if_some (takes act name said) (asking act name said) asked asks_so in
-    subst (λ w. IsCommand (w ∷ rest) asked) (sym (action_word word act is_act))
-    (subst (IsCommand (word_of act ∷ rest)) made.1 (asks act name said rest is_name made.0 (was_said rest None nothing said is_said))))))
+    option_and_then_some (λ verb. asked_in verb rest) (verb_of word) asked is (λ verb is_verb in_verb.
+    option_and_then_some (λ said. option_and_then (asked_by verb said) said.operand) (read None nothing rest) asked in_verb (λ said is_said by_said.
+    option_and_then_some (asked_by verb said) said.operand asked by_said (λ name is_name asks_so.
+    let made = if_some (takes verb name said) (asking verb name said) asked asks_so in
+    subst (λ w. IsCommand (w ∷ rest) asked) (sym (verb_word word verb is_verb))
+    (subst (IsCommand (word_of verb ∷ rest)) made.1 (asks verb name said rest is_name made.0 (was_said rest None nothing said is_said))))))
 
-is_named : (act : Action) (name : List ℕ) → is_operand act name ≡ true → is_name name ≡ true
-is_named action.Exec name is = (both _ _ is).0
-is_named action.Build name is = (both _ _ is).0
-is_named action.Check name is = (both _ _ is).0
-is_named action.List name is = (both _ _ is).0
-is_named action.Run name is = is
+is_named : (verb : Verb) (name : List ℕ) → is_operand verb name ≡ true → is_name name ≡ true
+is_named verb.Exec name is = (both _ _ is).0
+is_named verb.Build name is = (both _ _ is).0
+is_named verb.Check name is = (both _ _ is).0
+is_named verb.List name is = (both _ _ is).0
+is_named verb.Run name is = is
 
-finds_in : (act : Action) (name : List ℕ) (rest : List (List ℕ)) (said : Said) (asked : Asked) → read None nothing rest ≡ Some said → said.operand ≡ Some name → takes act name said ≡ true → asking act name said ≡ asked → command_in (word_of act ∷ rest) ≡ Some asked
+finds_in : (verb : Verb) (name : List ℕ) (rest : List (List ℕ)) (said : Said) (asked : Asked) → read None nothing rest ≡ Some said → said.operand ≡ Some name → takes verb name said ≡ true → asking verb name said ≡ asked → command_in (word_of verb ∷ rest) ≡ Some asked
 unfolding command_in asked_by
-finds_in act name rest said asked is_said is_name fits same =
-    ap (option_and_then (λ one. asked_in one rest)) (word_of_action act)
-    ∙ ap (option_and_then (λ one. option_and_then (asked_by act one) one.operand)) is_said
-    ∙ ap (option_and_then (asked_by act said)) is_name
-    ∙ if_true (takes act name said) (asking act name said) asked fits same
+finds_in verb name rest said asked is_said is_name fits same =
+    ap (option_and_then (λ one. asked_in one rest)) (word_of_verb verb)
+    ∙ ap (option_and_then (λ one. option_and_then (asked_by verb one) one.operand)) is_said
+    ∙ ap (option_and_then (asked_by verb said)) is_name
+    ∙ if_true (takes verb name said) (asking verb name said) asked fits same
 
 both_taken : (taken a b : Bool) → (taken || a) ≡ true → (taken || b) ≡ true → (taken || a && b) ≡ true
 both_taken true a b p q = refl
@@ -316,19 +316,19 @@ both_taken false a b p q = both_are a b p q
 
 pub finds : (words : List (List ℕ)) (asked : Asked) → IsCommand words asked → command_in words ≡ Some asked
 finds words asked is =
-    let act = asked.action in
+    let verb = asked.verb in
     let name = asked.operand in
-    let steps = is_given (runs_image act) step_range (flat_map steps_of is.pieces) asked.steps is.steps in
-    let heap = is_given (makes_image act) heap_range (flat_map heap_of is.pieces) asked.settings.heap is.heap in
-    let stack = is_given (makes_image act) stack_range (flat_map stack_of is.pieces) asked.settings.stack is.stack in
+    let steps = is_given (runs_image verb) step_range (flat_map steps_of is.pieces) asked.steps is.steps in
+    let heap = is_given (makes_image verb) heap_range (flat_map heap_of is.pieces) asked.settings.heap is.heap in
+    let stack = is_given (makes_image verb) stack_range (flat_map stack_of is.pieces) asked.settings.stack is.stack in
     let said : Said = record { operand = Some name; steps = steps.0; heap = heap.0; stack = stack.0 } in
-    let fills : Fills name_in None (flat_map operands_of is.pieces) (Some name) = subst (λ values. Fills name_in None values (Some name)) (sym is.one) (refl, if_true (is_name name) name name (is_named act name is.operand) refl, refl) in
-    let fits = both_are (is_operand act name) ((runs_image act || is_none steps.0) && (makes_image act || is_none heap.0 && is_none stack.0)) is.operand
-    (both_are (runs_image act || is_none steps.0) (makes_image act || is_none heap.0 && is_none stack.0) steps.2 (both_taken (makes_image act) (is_none heap.0) (is_none stack.0) heap.2 stack.2)) in
-    let make : ℕ → ℕ → ℕ → Asked = λ h t s. record { action = act; operand = name; settings = record { heap = h; stack = t }; steps = s } in
+    let fills : Fills name_in None (flat_map operands_of is.pieces) (Some name) = subst (λ values. Fills name_in None values (Some name)) (sym is.one) (refl, if_true (is_name name) name name (is_named verb name is.operand) refl, refl) in
+    let fits = both_are (is_operand verb name) ((runs_image verb || is_none steps.0) && (makes_image verb || is_none heap.0 && is_none stack.0)) is.operand
+    (both_are (runs_image verb || is_none steps.0) (makes_image verb || is_none heap.0 && is_none stack.0) steps.2 (both_taken (makes_image verb) (is_none heap.0) (is_none stack.0) heap.2 stack.2)) in
+    let make : ℕ → ℕ → ℕ → Asked = λ h t s. record { verb = verb; operand = name; settings = record { heap = h; stack = t }; steps = s } in
     let same = ap (λ h. make h (unwrap_or stack.0 stack_range.default) (unwrap_or steps.0 step_range.default)) heap.3
     ∙ ap (λ t. make asked.settings.heap t (unwrap_or steps.0 step_range.default)) stack.3 ∙ ap (make asked.settings.heap asked.settings.stack) steps.3 in
-    subst (λ ws. command_in ws ≡ Some asked) (sym is.are) (finds_in act name (flat_map words_of is.pieces) said asked (is_read is.pieces nothing said fills steps.1 heap.1 stack.1) refl fits same)
+    subst (λ ws. command_in ws ≡ Some asked) (sym is.are) (finds_in verb name (flat_map words_of is.pieces) said asked (is_read is.pieces nothing said fills steps.1 heap.1 stack.1) refl fits same)
 
 pub exact : (words : List (List ℕ)) (result : Option Command) → option_map asked_of result ≡ command_in words → MatchOption result (IsNoCommand words) (λ command. IsCommand words (asked_of command))
 exact words None is = λ asked is_command. (let never = is ∙ finds words asked is_command in absurd cc)
@@ -349,8 +349,8 @@ range_test heap stack from to least most = grind (arith, nat_tests)
 
 pub settings_in_range : (words : List (List ℕ)) (asked : Asked) → IsCommand words asked → are_in_range asked.settings ≡ true
 settings_in_range words asked is =
-    let heap = in_range_of (makes_image asked.action) heap_range (flat_map heap_of is.pieces) asked.settings.heap (omega arith) (omega arith) is.heap in
-    let stack = in_range_of (makes_image asked.action) stack_range (flat_map stack_of is.pieces) asked.settings.stack (omega arith) (omega arith) is.stack in
+    let heap = in_range_of (makes_image asked.verb) heap_range (flat_map heap_of is.pieces) asked.settings.heap (omega arith) (omega arith) is.heap in
+    let stack = in_range_of (makes_image asked.verb) stack_range (flat_map stack_of is.pieces) asked.settings.stack (omega arith) (omega arith) is.stack in
     range_test asked.settings.heap asked.settings.stack heap.0 heap.1 stack.0 stack.1
 
 pub found_in_range : (words : List (List ℕ)) (result : Option Command) → option_map asked_of result ≡ command_in words → IfSome result (λ command. are_in_range command.settings ≡ true)

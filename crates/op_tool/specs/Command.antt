@@ -4,18 +4,18 @@ use Rattle.std.specs.Prelude.{◌≡◌, ℕ, ◌≤◌, Bool, true, false, ◌&
 use Rattle.std.specs.List.{ends_with, flat_map, starts_with}
 use Rattle.std.specs.Str.Parse.{IsNumeral, digits_value}
 use Rattle.op_link.specs.declared.memory_map.Settings.{Settings}
-use Rattle.op_tool.specs.declared.command.Action.{Action}
-use Rattle.op_tool.specs.declared.command.Action.TheVariants as action
+use Rattle.op_tool.specs.declared.command.Verb.{Verb}
+use Rattle.op_tool.specs.declared.command.Verb.TheVariants as verb
 
 -- ---- commands
 
 -- the word of each
-abbrev pub word_of : Action → List ℕ
-word_of action.Exec = codes "exec"
-word_of action.Build = codes "build"
-word_of action.Check = codes "check"
-word_of action.List = codes "list"
-word_of action.Run = codes "run"
+abbrev pub word_of : Verb → List ℕ
+word_of verb.Exec = codes "exec"
+word_of verb.Build = codes "build"
+word_of verb.Check = codes "check"
+word_of verb.List = codes "list"
+word_of verb.Run = codes "run"
 
 -- a file's name is not empty and does not begin with `-`
 abbrev pub is_name : List ℕ → Bool
@@ -26,25 +26,25 @@ abbrev pub is_source_name : List ℕ → Bool
 is_source_name name = is_name name && ends_with nat_eq name (codes ".pas")
 
 -- the operand of each: an image for `run`, a source file for the others
-abbrev pub is_operand : Action → List ℕ → Bool
-is_operand action.Run name = is_name name
+abbrev pub is_operand : Verb → List ℕ → Bool
+is_operand verb.Run name = is_name name
 is_operand other name = is_source_name name
 
 -- it runs an image, and may be told how many steps that may do
-abbrev pub runs_image : Action → Bool
-runs_image action.Exec = true
-runs_image action.Build = false
-runs_image action.Check = false
-runs_image action.List = false
-runs_image action.Run = true
+abbrev pub runs_image : Verb → Bool
+runs_image verb.Exec = true
+runs_image verb.Build = false
+runs_image verb.Check = false
+runs_image verb.List = false
+runs_image verb.Run = true
 
 -- it makes an image, and may be told the size of its heap and of its stack
-abbrev pub makes_image : Action → Bool
-makes_image action.Exec = true
-makes_image action.Build = true
-makes_image action.Check = false
-makes_image action.List = true
-makes_image action.Run = false
+abbrev pub makes_image : Verb → Bool
+makes_image verb.Exec = true
+makes_image verb.Build = true
+makes_image verb.Check = false
+makes_image verb.List = true
+makes_image verb.Run = false
 
 -- ---- numbers
 
@@ -112,7 +112,7 @@ IsGiven taken range (digits ∷ again ∷ more) number = ⊥
 
 -- what a line asks for: a command, its operand, what the program gets to run, and how many steps it may do
 pub record Asked : Type 0 where
-  pub action : Action
+  pub verb : Verb
   pub operand : List ℕ
   pub settings : Settings
   pub steps : ℕ
@@ -120,12 +120,12 @@ pub record Asked : Type 0 where
 -- the words ask for this
 pub record IsCommand (words : List (List ℕ)) (asked : Asked) : Type 0 where
   pub pieces : List Piece
-  pub are : words ≡ word_of asked.action ∷ flat_map words_of pieces
+  pub are : words ≡ word_of asked.verb ∷ flat_map words_of pieces
   pub one : flat_map operands_of pieces ≡ asked.operand ∷ []
-  pub operand : IsTrue (is_operand asked.action asked.operand)
-  pub steps : IsGiven (runs_image asked.action) step_range (flat_map steps_of pieces) asked.steps
-  pub heap : IsGiven (makes_image asked.action) heap_range (flat_map heap_of pieces) asked.settings.heap
-  pub stack : IsGiven (makes_image asked.action) stack_range (flat_map stack_of pieces) asked.settings.stack
+  pub operand : IsTrue (is_operand asked.verb asked.operand)
+  pub steps : IsGiven (runs_image asked.verb) step_range (flat_map steps_of pieces) asked.steps
+  pub heap : IsGiven (makes_image asked.verb) heap_range (flat_map heap_of pieces) asked.settings.heap
+  pub stack : IsGiven (makes_image asked.verb) stack_range (flat_map stack_of pieces) asked.settings.stack
 
 -- the words are no command
 abbrev pub IsNoCommand : List (List ℕ) → Type 0

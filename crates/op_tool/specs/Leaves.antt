@@ -26,16 +26,16 @@ pub record RunsNothing (answer : Finish) (before now : ℕ) : Type 0 where
 
 -- the input stays as it was, with its count of faults: of a command that runs no image, of none, and by the answer
 pub data LeavesInput (words : List (List ℕ)) (answer : Finish) (before now : ℕ) : Type 0 where
-  by_command : (asked : Asked) → IsCommand words asked → runs_image asked.action ≡ false → LeavesInput words answer before now
+  by_command : (asked : Asked) → IsCommand words asked → runs_image asked.verb ≡ false → LeavesInput words answer before now
   by_none : IsNoCommand words → LeavesInput words answer before now
   by_answer : RunsNothing answer before now → LeavesInput words answer before now
 
 -- the output stays as it was
 pub data LeavesOutput (words : List (List ℕ)) (answer : Finish) (before now : ℕ) : Type 0 where
-  by_command : (asked : Asked) → IsCommand words asked → runs_image asked.action ≡ false → IsTrue (only_reports answer) → LeavesOutput words answer before now
+  by_command : (asked : Asked) → IsCommand words asked → runs_image asked.verb ≡ false → IsTrue (only_reports answer) → LeavesOutput words answer before now
   by_none : IsNoCommand words → LeavesOutput words answer before now
   by_answer : RunsNothing answer before now → LeavesOutput words answer before now
 
 -- the errors stay as they were
 pub data LeavesErrors (words : List (List ℕ)) (answer : Finish) : Type 0 where
-  by_command : (asked : Asked) (status : ℕ) → IsCommand words asked → runs_image asked.action ≡ false → answer ≡ Ended status → LeavesErrors words answer
+  by_command : (asked : Asked) (status : ℕ) → IsCommand words asked → runs_image asked.verb ≡ false → answer ≡ Ended status → LeavesErrors words answer

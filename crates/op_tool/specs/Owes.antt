@@ -15,8 +15,8 @@ use Rattle.op_tool.specs.Command.{Asked, IsCommand, IsNoCommand}
 use Rattle.op_tool.specs.Compiles.{IsAccepted, IsBroken, IsRefused, IsTooLarge, Made, file_missing, main_start, meant}
 use Rattle.op_tool.specs.Effects.{Effect, OnlyReports, OnlyWrites, ReportIs, line}
 use Rattle.op_tool.specs.ImageRun.{OwesImage}
-use Rattle.op_tool.specs.declared.command.Action.{Action}
-use Rattle.op_tool.specs.declared.command.Action.TheVariants as action
+use Rattle.op_tool.specs.declared.command.Verb.{Verb}
+use Rattle.op_tool.specs.declared.command.Verb.TheVariants as verb
 use Rattle.op_tool.specs.declared.compiler.CompileError.{CompileError}
 use Rattle.op_tool.specs.declared.compiler.CompileError.TheVariants as errors
 use Rattle.op_tool.specs.declared.finish.Finish.{Finish}
@@ -181,14 +181,14 @@ OwesUsage Usage done = OnlyReports (line (codes "opc: bad command line")) done
 OwesUsage finish done = ⊥
 
 -- what each command owes
-abbrev pub OwesCommand : Action → Call → Asked → Finish → Effect → Type 0
-OwesCommand action.Exec now asked finish done = OwesExec now asked finish done
-OwesCommand action.Build now asked finish done = OwesBuild now asked finish done
-OwesCommand action.Check now asked finish done = OwesCheck now asked.operand finish done
-OwesCommand action.List now asked finish done = OwesList now asked finish done
-OwesCommand action.Run now asked finish done = OwesRun now asked.operand asked.steps finish done
+abbrev pub OwesCommand : Verb → Call → Asked → Finish → Effect → Type 0
+OwesCommand verb.Exec now asked finish done = OwesExec now asked finish done
+OwesCommand verb.Build now asked finish done = OwesBuild now asked finish done
+OwesCommand verb.Check now asked finish done = OwesCheck now asked.operand finish done
+OwesCommand verb.List now asked finish done = OwesList now asked finish done
+OwesCommand verb.Run now asked finish done = OwesRun now asked.operand asked.steps finish done
 
 -- each answer with its cause, by what the words ask for
 pub data Owes (now : Call) (finish : Finish) (done : Effect) : Type 0 where
-  by_command : (asked : Asked) → IsCommand now.words asked → OwesCommand asked.action now asked finish done → Owes now finish done
+  by_command : (asked : Asked) → IsCommand now.words asked → OwesCommand asked.verb now asked finish done → Owes now finish done
   by_none : IsNoCommand now.words → (now.image ≡ []) → OwesUsage finish done → Owes now finish done

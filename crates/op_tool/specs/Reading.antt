@@ -5,8 +5,8 @@ use Rattle.std.specs.List.{list_all}
 use Rattle.std.specs.Option.{option_and_then, option_map}
 use Rattle.std.specs.Str.Parse.{digits_value}
 use Rattle.op_tool.specs.Command.{Asked, Range, heap_range, is_name, is_operand, stack_range, step_range, makes_image, runs_image, word_of}
-use Rattle.op_tool.specs.declared.command.Action.{Action}
-use Rattle.op_tool.specs.declared.command.Action.TheVariants as action
+use Rattle.op_tool.specs.declared.command.Verb.{Verb}
+use Rattle.op_tool.specs.declared.command.Verb.TheVariants as verb
 use Rattle.op_tool.specs.declared.command.Command.{Command}
 use Rattle.op_tool.specs.declared.command.Said.{Said as Told}
 
@@ -71,36 +71,36 @@ read (Some option) said (digits ∷ rest) = option_and_then (λ more. read None 
 
 -- ---- commands
 
-abbrev pub action_of : List ℕ → Option Action
-action_of word =
-    if bytes_eq word (word_of action.Exec) then Some action.Exec
-    else (if bytes_eq word (word_of action.Build) then Some action.Build
-    else (if bytes_eq word (word_of action.Check) then Some action.Check
-    else (if bytes_eq word (word_of action.List) then Some action.List
-    else (if bytes_eq word (word_of action.Run) then Some action.Run else None))))
+abbrev pub verb_of : List ℕ → Option Verb
+verb_of word =
+    if bytes_eq word (word_of verb.Exec) then Some verb.Exec
+    else (if bytes_eq word (word_of verb.Build) then Some verb.Build
+    else (if bytes_eq word (word_of verb.Check) then Some verb.Check
+    else (if bytes_eq word (word_of verb.List) then Some verb.List
+    else (if bytes_eq word (word_of verb.Run) then Some verb.Run else None))))
 
 -- the command takes what was said
-abbrev pub takes : Action → List ℕ → Said → Bool
-takes action name said =
-    is_operand action name && ((runs_image action || is_none said.steps) && (makes_image action || is_none said.heap && is_none said.stack))
+abbrev pub takes : Verb → List ℕ → Said → Bool
+takes verb name said =
+    is_operand verb name && ((runs_image verb || is_none said.steps) && (makes_image verb || is_none said.heap && is_none said.stack))
 
-unfoldable pub asked_by : Action → Said → List ℕ → Option Asked
-asked_by action said name =
-    if takes action name said then Some (record {
-      action = action;
+unfoldable pub asked_by : Verb → Said → List ℕ → Option Asked
+asked_by verb said name =
+    if takes verb name said then Some (record {
+      verb = verb;
       operand = name;
       settings = record { heap = unwrap_or said.heap heap_range.default; stack = unwrap_or said.stack stack_range.default };
       steps = unwrap_or said.steps step_range.default;
     })
     else None
 
-abbrev pub asked_in : Action → List (List ℕ) → Option Asked
-asked_in action rest =
-    option_and_then (λ said. option_and_then (asked_by action said) said.operand) (read None nothing rest)
+abbrev pub asked_in : Verb → List (List ℕ) → Option Asked
+asked_in verb rest =
+    option_and_then (λ said. option_and_then (asked_by verb said) said.operand) (read None nothing rest)
 
 unfoldable pub command_in : List (List ℕ) → Option Asked
 command_in [] = None
-command_in (word ∷ rest) = option_and_then (λ action. asked_in action rest) (action_of word)
+command_in (word ∷ rest) = option_and_then (λ verb. asked_in verb rest) (verb_of word)
 
 -- ---- as the program has them
 
@@ -108,4 +108,4 @@ abbrev pub said_of : Told → Said
 said_of told = record { operand = option_map (λ name. name.now) told.operand; steps = told.steps; heap = told.heap; stack = told.stack }
 
 abbrev pub asked_of : Command → Asked
-asked_of command = record { action = command.action; operand = command.operand.now; settings = command.settings; steps = command.steps }
+asked_of command = record { verb = command.verb; operand = command.operand.now; settings = command.settings; steps = command.steps }

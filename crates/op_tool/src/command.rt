@@ -3,13 +3,13 @@ ghost use Rattle.std.specs.Prelude.{◌≡◌, ℕ, List, None, Option, map, str
 ghost use Rattle.op_link.specs.Memory.{are_in_range};
 ghost use Rattle.std.specs.Option.{option_map};
 ghost use Rattle.op_tool.specs.Command.{IsAtMostOneCommand, IsCommand, IsNoCommand, Range, is_name, is_operand, is_source_name, makes_image, runs_image};
-ghost use Rattle.op_tool.specs.Reading.{action_of, asked_by, asked_of, command_in, number_in, read, said_of, takes, with_heap, with_operand, with_option, with_stack, with_steps};
+ghost use Rattle.op_tool.specs.Reading.{verb_of, asked_by, asked_of, command_in, number_in, read, said_of, takes, with_heap, with_operand, with_option, with_stack, with_steps};
 
 use op_link::Settings;
 
 /// What is done with the operand.
 #[derive(Clone, Copy)]
-pub(crate) enum Action {
+pub(crate) enum Verb {
     /// Compiles the program in the file and runs it.
     Exec,
     /// Compiles the program in the file and writes its image.
@@ -25,7 +25,7 @@ pub(crate) enum Action {
 /// What a line asks for.
 #[derive(Clone, Copy)]
 pub(crate) struct Command<'a> {
-    pub(crate) action: Action,
+    pub(crate) verb: Verb,
     /// The name of a file.
     pub(crate) operand: &'a str,
     /// What the program gets to run.
@@ -180,34 +180,34 @@ fn read<'a>(said: Said<'a>, words: &'a [String]) -> Option<Said<'a>>
 }
 
 /// The command with this word.
-fn action_of(word: &str) -> Option<Action>
-    ensures { result ≡ action_of word.now }
+fn verb_of(word: &str) -> Option<Verb>
+    ensures { result ≡ verb_of word.now }
 {
     if word == "exec" {
-        return Some(Action::Exec);
+        return Some(Verb::Exec);
     }
     if word == "build" {
-        return Some(Action::Build);
+        return Some(Verb::Build);
     }
     if word == "check" {
-        return Some(Action::Check);
+        return Some(Verb::Check);
     }
     if word == "list" {
-        return Some(Action::List);
+        return Some(Verb::List);
     }
     if word == "run" {
-        return Some(Action::Run);
+        return Some(Verb::Run);
     }
     None
 }
 
-impl Action {
+impl Verb {
     /// Whether this may be its operand.
     fn is_operand(self, name: &str) -> bool
         ensures { result ≡ is_operand self name.now }
     {
         match self {
-            Action::Run => is_name(name),
+            Verb::Run => is_name(name),
             _ => is_source_name(name),
         }
     }
@@ -216,36 +216,36 @@ impl Action {
     fn runs_image(self) -> bool
         ensures { result ≡ runs_image self }
     {
-        matches!(self, Action::Exec | Action::Run)
+        matches!(self, Verb::Exec | Verb::Run)
     }
 
     /// It makes an image, and may be told the size of its heap and of its stack.
     fn makes_image(self) -> bool
         ensures { result ≡ makes_image self }
     {
-        matches!(self, Action::Exec | Action::Build | Action::List)
+        matches!(self, Verb::Exec | Verb::Build | Verb::List)
     }
 }
 
 /// Whether a command takes this operand and what was said.
-fn takes(action: Action, name: &str, said: Said<'_>) -> bool
-    ensures { result ≡ takes action name.now (said_of said.entry) }
+fn takes(verb: Verb, name: &str, said: Said<'_>) -> bool
+    ensures { result ≡ takes verb name.now (said_of said.entry) }
 {
-    action.is_operand(name)
-        && (action.runs_image() || said.steps.is_none())
-        && (action.makes_image() || said.heap.is_none() && said.stack.is_none())
+    verb.is_operand(name)
+        && (verb.runs_image() || said.steps.is_none())
+        && (verb.makes_image() || said.heap.is_none() && said.stack.is_none())
 }
 
 /// What is asked for, if the command takes it.
 #[tactic(auto, unfolding(crate::specs::Reading::asked_by))]
-fn asked_by<'a>(action: Action, said: Said<'a>, operand: &'a str) -> Option<Command<'a>>
-    ensures { option_map asked_of result ≡ asked_by action (said_of said.entry) operand.now }
+fn asked_by<'a>(verb: Verb, said: Said<'a>, operand: &'a str) -> Option<Command<'a>>
+    ensures { option_map asked_of result ≡ asked_by verb (said_of said.entry) operand.now }
 {
-    if !takes(action, operand, said) {
+    if !takes(verb, operand, said) {
         return None;
     }
     Some(Command {
-        action,
+        verb,
         operand,
         settings: Settings {
             heap: said.heap.unwrap_or(Settings::DEFAULT.heap),
@@ -261,9 +261,9 @@ fn command_in(words: &[String]) -> Option<Command<'_>>
     ensures { option_map asked_of result ≡ command_in (map string_bytes words.now) }
 {
     let (word, rest) = words.split_first()?;
-    let action = action_of(word.as_str())?;
+    let verb = verb_of(word.as_str())?;
     let said = read(NOTHING, rest)?;
-    asked_by(action, said, said.operand?)
+    asked_by(verb, said, said.operand?)
 }
 
 /// The command that the words ask for, if they do.

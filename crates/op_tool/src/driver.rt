@@ -9,7 +9,7 @@ ghost use Rattle.op_tool.specs.Owes.{call, Owes, OwesBuild, OwesCheck, OwesExec,
 ghost use Rattle.op_tool.specs.Reading.{asked_of};
 ghost use Rattle.op_tool.specs.declared.finish.Finish.{Finish};
 
-use crate::command::{Action, Command, command_of};
+use crate::command::{Command, Verb, command_of};
 use crate::compiler::{MAIN_START, checked};
 use crate::image_run::run_image;
 use crate::report::{report, report_bad_image, report_error, report_no_memory, report_refusal};
@@ -222,12 +222,12 @@ pub fn tool<F: Files, R: Source, W: Sink, E: Sink>(
 {
     image.clear();
     match command_of(words) {
-        Some(command) => match command.action {
-            Action::Exec => exec(alloc, &command, files, input, out, err, image),
-            Action::Build => build(alloc, &command, files, out, err, image),
-            Action::Check => check(alloc, command.operand, files, out, err),
-            Action::List => list(alloc, &command, files, out, err, image),
-            Action::Run => run(alloc, &command, files, input, out, err, image),
+        Some(command) => match command.verb {
+            Verb::Exec => exec(alloc, &command, files, input, out, err, image),
+            Verb::Build => build(alloc, &command, files, out, err, image),
+            Verb::Check => check(alloc, command.operand, files, out, err),
+            Verb::List => list(alloc, &command, files, out, err, image),
+            Verb::Run => run(alloc, &command, files, input, out, err, image),
         },
         None => report(err, b"opc: bad command line\n", Finish::Usage),
     }

@@ -3,7 +3,7 @@ use Rattle.op_tool.proofs.Compiling.{err_also, fails_as, made_of, not_compiled_b
 use Rattle.op_tool.proofs.compiler.compile.Goals as goal
 
 pub image_of-requires : goal.image_of-requires
-image_of-requires g c = let is = c.in_ok-core.ensures.made.1 in record { sound = (is.sound, is.nesting); settings = c.requires }
+image_of-requires g c = let is = c.in_ok-core.ensures.made.1 in record { sound = (is.sound, is.nesting); settings = c.requires.settings }
 
 pub returns-in_err-core-clause-failed : goal.returns-in_err-core-clause-failed
 returns-in_err-core-clause-failed g c =

@@ -12,14 +12,14 @@ returns-in-Exec-clause-says g c =
     let words = map string_bytes c.args.words.now in
     let asked = asked_of c.in-Some.command in
     let now = call words (g.F.Files.stored c.args.files.now) (g.F.Files.faults c.args.files.now) (g.F.Files.faults c.exec.new.files) (g.R.Source.faults c.args.input.now) (g.R.Source.faults c.exec.new.input) c.exec.new.image.items in
-    says_also (OwesExec now asked) (Owes now) c.exec.result _ _ (λ answer done bytes owes. Owes.by_command asked c.in-Some.ensures.is (subst (λ action. OwesCommand action now asked answer done) (sym c.in-Exec.is) owes)) (c.exec.ensures.says words)
+    says_also (OwesExec now asked) (Owes now) c.exec.result _ _ (λ answer done bytes owes. Owes.by_command asked c.in-Some.ensures.is (subst (λ verb. OwesCommand verb now asked answer done) (sym c.in-Exec.is) owes)) (c.exec.ensures.says words)
 
 pub returns-in-Build-clause-says : goal.returns-in-Build-clause-says
 returns-in-Build-clause-says g c =
     let words = map string_bytes c.args.words.now in
     let asked = asked_of c.in-Some.command in
     let now = call words (g.F.Files.stored c.args.files.now) (g.F.Files.faults c.args.files.now) (g.F.Files.faults c.build.new.files) (g.R.Source.faults c.args.input.now) (g.R.Source.faults c.args.input.now) c.build.new.image.items in
-    says_also (OwesBuild now asked) (Owes now) c.build.result _ _ (λ answer done bytes owes. Owes.by_command asked c.in-Some.ensures.is (subst (λ action. OwesCommand action now asked answer done) (sym c.in-Build.is) owes)) (c.build.ensures.says words (g.R.Source.left c.args.input.now) (g.R.Source.faults c.args.input.now))
+    says_also (OwesBuild now asked) (Owes now) c.build.result _ _ (λ answer done bytes owes. Owes.by_command asked c.in-Some.ensures.is (subst (λ verb. OwesCommand verb now asked answer done) (sym c.in-Build.is) owes)) (c.build.ensures.says words (g.R.Source.left c.args.input.now) (g.R.Source.faults c.args.input.now))
 
 pub returns-in-Check-clause-says : goal.returns-in-Check-clause-says
 returns-in-Check-clause-says g c =
@@ -29,21 +29,21 @@ returns-in-Check-clause-says g c =
     let told = streams (g.R.Source.left c.args.input.now) (g.R.Source.left c.args.input.now) (g.W.Sink.written c.args.out.now) (g.W.Sink.written c.check.new.out) (g.E.Sink.written c.args.err.now) (g.E.Sink.written c.check.new.err) in
     let counts = faults (g.R.Source.faults c.args.input.now) (g.R.Source.faults c.args.input.now) (g.W.Sink.faults c.args.out.now) (g.W.Sink.faults c.check.new.out) (g.E.Sink.faults c.args.err.now) (g.E.Sink.faults c.check.new.err) in
     subst (λ image. Says (Owes (now image)) c.check.result told counts) (sym c.clear.ensures.items)
-    (says_also (OwesCheck (now []) asked.operand) (Owes (now [])) c.check.result told counts (λ answer done bytes owes. Owes.by_command asked c.in-Some.ensures.is (subst (λ action. OwesCommand action (now []) asked answer done) (sym c.in-Check.is) owes)) (c.check.ensures.says words (g.R.Source.left c.args.input.now) (g.R.Source.faults c.args.input.now)))
+    (says_also (OwesCheck (now []) asked.operand) (Owes (now [])) c.check.result told counts (λ answer done bytes owes. Owes.by_command asked c.in-Some.ensures.is (subst (λ verb. OwesCommand verb (now []) asked answer done) (sym c.in-Check.is) owes)) (c.check.ensures.says words (g.R.Source.left c.args.input.now) (g.R.Source.faults c.args.input.now)))
 
 pub returns-in-List-clause-says : goal.returns-in-List-clause-says
 returns-in-List-clause-says g c =
     let words = map string_bytes c.args.words.now in
     let asked = asked_of c.in-Some.command in
     let now = call words (g.F.Files.stored c.args.files.now) (g.F.Files.faults c.args.files.now) (g.F.Files.faults c.list.new.files) (g.R.Source.faults c.args.input.now) (g.R.Source.faults c.args.input.now) c.list.new.image.items in
-    says_also (OwesList now asked) (Owes now) c.list.result _ _ (λ answer done bytes owes. Owes.by_command asked c.in-Some.ensures.is (subst (λ action. OwesCommand action now asked answer done) (sym c.in-List.is) owes)) (c.list.ensures.says words (g.R.Source.left c.args.input.now) (g.R.Source.faults c.args.input.now))
+    says_also (OwesList now asked) (Owes now) c.list.result _ _ (λ answer done bytes owes. Owes.by_command asked c.in-Some.ensures.is (subst (λ verb. OwesCommand verb now asked answer done) (sym c.in-List.is) owes)) (c.list.ensures.says words (g.R.Source.left c.args.input.now) (g.R.Source.faults c.args.input.now))
 
 pub returns-in-Run-clause-says : goal.returns-in-Run-clause-says
 returns-in-Run-clause-says g c =
     let words = map string_bytes c.args.words.now in
     let asked = asked_of c.in-Some.command in
     let now = call words (g.F.Files.stored c.args.files.now) (g.F.Files.faults c.args.files.now) (g.F.Files.faults c.run.new.files) (g.R.Source.faults c.args.input.now) (g.R.Source.faults c.run.new.input) c.run.new.image.items in
-    says_also (OwesRun now asked.operand asked.steps) (Owes now) c.run.result _ _ (λ answer done bytes owes. Owes.by_command asked c.in-Some.ensures.is (subst (λ action. OwesCommand action now asked answer done) (sym c.in-Run.is) owes)) (c.run.ensures.says words)
+    says_also (OwesRun now asked.operand asked.steps) (Owes now) c.run.result _ _ (λ answer done bytes owes. Owes.by_command asked c.in-Some.ensures.is (subst (λ verb. OwesCommand verb now asked answer done) (sym c.in-Run.is) owes)) (c.run.ensures.says words)
 
 pub returns-in-None-clause-says : goal.returns-in-None-clause-says
 returns-in-None-clause-says g c =
