@@ -1,1 +1,2 @@
+pub mod LinkedLines
 pub mod Segments

@@ -1,4 +1,5 @@
 pub mod Digits
 pub mod Instruction
+pub mod Linked
 pub mod Listing
 pub mod Names

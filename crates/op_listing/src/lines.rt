@@ -1,6 +1,7 @@
 //! The lines of a listing.
 ghost use Rattle.std.specs.Prelude.{◌≡◌, ◌++◌, IfOk, IfSome, IsTrue, OnOk, codes};
 ghost use Rattle.op_link.specs.Image.{has_file_bytes};
+ghost use Rattle.op_listing.specs.Linked.{ListsLinked};
 ghost use Rattle.op_listing.specs.Listing.{code_segment_of, line_of, lines_of, listing_of, segment_lines, word_text, words_in};
 
 use crate::digits::eight_digits;
@@ -80,19 +81,29 @@ fn code_segment(image: &[u8]) -> Option<Segment>
     }
 }
 
+/// The bytes of the listing of an image.
+#[tactic(auto, unfolding(crate::specs::Listing::listing_of))]
+fn listed(alloc: Global, image: &[u8]) -> Result<Vec<u8>, AllocError>
+    ensures { IfOk result (λ text. text.items ≡ listing_of image.now) }
+{
+    let mut text = Vec::new(alloc);
+    if let Some(segment) = code_segment(image) {
+        push_segment(&mut text, image, &segment)?;
+    }
+    Ok(text)
+}
+
 /// The listing of an image: a line for each word that it has for its code, in order of address.
 ///
 /// The code is the first segment that may be executed; of an image of the linker it is the first segment, at 0x00010000. A
 /// line has the address and the word, in eight lower-case hexadecimal digits each, and the instruction, parted by one blank,
 /// and ends with a line feed, as in `00010008 fe000ee3 beq x0, x0, 00010004`. A word that is no instruction is written as data,
 /// as in `0001000c 00000000 .word 0x00000000`. Bytes that do not meet the conditions on images have the empty listing.
-#[tactic(auto, unfolding(crate::specs::Listing::listing_of))]
 pub fn listing(alloc: Global, image: &[u8]) -> Result<Text, NoMemory>
-    ensures { IfOk result (λ text. text ≡ listing_of image.now) }
+    ensures is { IfOk result (λ text. text ≡ listing_of image.now) }
+
+    // Of a linked image these are the lines of the instructions that objects became.
+    ensures linked { IfOk result (λ text. ListsLinked image.now text) }
 {
-    let mut text = Vec::new(alloc);
-    if let Some(segment) = code_segment(image) {
-        push_segment(&mut text, image, &segment)?;
-    }
-    Ok(Text::from(text))
+    Ok(Text::from(listed(alloc, image)?))
 }
