@@ -108,7 +108,7 @@ type Case = (
     usize,
 );
 
-const CASES: [Case; 10] = [
+const CASES: [Case; 13] = [
     (
         EXEC,
         NO_FILES,
@@ -134,6 +134,30 @@ const CASES: [Case; 10] = [
         Finish::WriteFault,
         123,
         ("\x7fELF", ""),
+        6,
+    ),
+    (
+        &["list", "h.pas", "--heap", "64"],
+        ROOM_FOR_4,
+        Finish::WriteFault,
+        123,
+        ("0001", ""),
+        6,
+    ),
+    (
+        &["exec", "h.pas", "--steps", "1"],
+        SOUND,
+        Finish::Spent,
+        124,
+        ("", "opc: step limit reached\n"),
+        6,
+    ),
+    (
+        &["run", "--steps", "1", "i"],
+        SOUND,
+        Finish::Spent,
+        124,
+        ("", "opc: step limit reached\n"),
         6,
     ),
     (EXEC, LATER, Finish::Ended(0), 0, ("Hello\n", ""), 0),

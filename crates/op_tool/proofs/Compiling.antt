@@ -8,6 +8,7 @@ use Rattle.op_check_unit.specs.Programs.{program_means}
 use Rattle.op_check_unit.specs.Rules.{Obeys, ProgramBreaks}
 use Rattle.op_core.specs.declared.error.CheckError.{CheckError}
 use Rattle.op_core.specs.declared.program.Core.{Core}
+use Rattle.op_link.specs.declared.memory_map.Settings.{Settings}
 use Rattle.op_tree.specs.File.{file_of}
 use Rattle.op_tree.specs.declared.file.Tree.{Tree}
 use Rattle.op_plain.specs.Plain.{is_plain_program}
@@ -31,11 +32,11 @@ not_loaded stored name before after load.ReadFault rose = rose
 not_loaded stored name before after load.NoMemory free = free
 
 -- what fails to be checked is not compiled
-pub not_compiled_by : (stored : Option (List NamedFile)) (name : List ℕ) (before after : ℕ) (error : CompileError) → FailsToCheck stored name before after error → FailsAs stored name before after error
-not_compiled_by stored name before after (Refused refusal file) (is_file, is_broken) = (is_file, inl is_broken)
-not_compiled_by stored name before after ReadFault rose = rose
-not_compiled_by stored name before after Limit never = absurd never
-not_compiled_by stored name before after NoMemory free = free
+pub not_compiled_by : (stored : Option (List NamedFile)) (name : List ℕ) (settings : Settings) (before after : ℕ) (error : CompileError) → FailsToCheck stored name before after error → FailsAs stored name settings before after error
+not_compiled_by stored name settings before after (Refused refusal file) (is_file, is_broken) = (is_file, inl is_broken)
+not_compiled_by stored name settings before after ReadFault rose = rose
+not_compiled_by stored name settings before after Limit never = absurd never
+not_compiled_by stored name settings before after NoMemory free = free
 
 -- a refusal by the check, or want of memory
 pub not_checked : (stored : Option (List NamedFile)) (name : List ℕ) (before after : ℕ) (refusal : Refusal) (error : CompileError) → IsBroken stored name refusal → RefusesBy name refusal error → FailsToCheck stored name before after error
@@ -51,29 +52,29 @@ ok_also (Err e) f holds = holds
 -- ---- the image of a program
 
 -- an image of a typed program is one of the program in the file
-pub made_of : (stored : Option (List NamedFile)) (name : List ℕ) (core : Core) (image : List ℕ) → IsTypedProgram stored name core → IsImage core image → Made stored name image
-made_of stored name core image is is_image = record { core = core; is_program = is; is_image = is_image }
+pub made_of : (stored : Option (List NamedFile)) (name : List ℕ) (settings : Settings) (core : Core) (image : List ℕ) → IsTypedProgram stored name core → IsImage core settings image → Made stored name settings image
+made_of stored name settings core image is is_image = record { core = core; is_program = is; is_image = is_image }
 
 -- why a program has none
-pub fails_as : (stored : Option (List NamedFile)) (name : List ℕ) (before after : ℕ) (core : Core) (error : CompileError) → IsTypedProgram stored name core → HasNoImage core name error → FailsAs stored name before after error
-fails_as stored name before after core (Refused refusal file) is (is_file, is_refusal, no_image) = (is_file, inr (is_refusal, core, is, no_image))
-fails_as stored name before after core ReadFault is never = absurd never
-fails_as stored name before after core Limit is no_image = (core, is, no_image)
-fails_as stored name before after core NoMemory is free = free
+pub fails_as : (stored : Option (List NamedFile)) (name : List ℕ) (settings : Settings) (before after : ℕ) (core : Core) (error : CompileError) → IsTypedProgram stored name core → HasNoImage core name settings error → FailsAs stored name settings before after error
+fails_as stored name settings before after core (Refused refusal file) is (is_file, is_refusal, no_image) = (is_file, inr (is_refusal, core, is, no_image))
+fails_as stored name settings before after core ReadFault is never = absurd never
+fails_as stored name settings before after core Limit is no_image = (core, is, no_image)
+fails_as stored name settings before after core NoMemory is free = free
 
 -- a typed program that is refused is not of the class that is compiled
-pub not_plain : (core : Core) (name : List ℕ) (error : CompileError) → is_plain_program core ≡ false → RefusesBy name not_compiled error → HasNoImage core name error
-not_plain core name (Refused refusal file) is (is_file, is_refusal) = (is_file, is_refusal, inl is)
-not_plain core name ReadFault is never = never
-not_plain core name Limit is never = absurd never
-not_plain core name NoMemory is free = free
+pub not_plain : (core : Core) (name : List ℕ) (settings : Settings) (error : CompileError) → is_plain_program core ≡ false → RefusesBy name not_compiled error → HasNoImage core name settings error
+not_plain core name settings (Refused refusal file) is (is_file, is_refusal) = (is_file, is_refusal, inl is)
+not_plain core name settings ReadFault is never = never
+not_plain core name settings Limit is never = absurd never
+not_plain core name settings NoMemory is free = free
 
 -- nor is one whose low code names what does not exist
-pub not_built : (core : Core) (name : List ℕ) (error : CompileError) → FailsToBuild core build.Unbuildable → RefusesBy name not_compiled error → HasNoImage core name error
-not_built core name (Refused refusal file) fails (is_file, is_refusal) = (is_file, is_refusal, inr fails)
-not_built core name ReadFault fails never = never
-not_built core name Limit fails never = absurd never
-not_built core name NoMemory fails free = free
+pub not_built : (core : Core) (name : List ℕ) (settings : Settings) (error : CompileError) → FailsToBuild core settings build.Unbuildable → RefusesBy name not_compiled error → HasNoImage core name settings error
+not_built core name settings (Refused refusal file) fails (is_file, is_refusal) = (is_file, is_refusal, inr fails)
+not_built core name settings ReadFault fails never = never
+not_built core name settings Limit fails never = absurd never
+not_built core name settings NoMemory fails free = free
 
 pub err_also : {A E : Type 0} {P Q : E → Type 0} (r : Result A E) → ((e : E) → P e → Q e) → IfErr r P → IfErr r Q
 err_also (Ok a) f holds = holds

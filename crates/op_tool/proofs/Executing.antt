@@ -11,6 +11,7 @@ use Rattle.op_rv.specs.Step.{after}
 use Rattle.op_select.specs.Going.{IsSafe}
 use Rattle.op_select.specs.RiscvMachine.{riscv_machine}
 use Rattle.op_simulation.specs.System.{run}
+use Rattle.op_tool.specs.Command.{Asked}
 use Rattle.op_tool.specs.Compiles.{Made, meant}
 use Rattle.op_tool.specs.Effects.{Effect}
 use Rattle.op_tool.specs.ImageRun.{OwesImage}
@@ -31,17 +32,17 @@ never_faults : (e : _) (kind : _) (pc : ℕ) → e ≡ Faulted kind pc → IsSaf
 unfolding IsSafe
 never_faults e kind pc is safe = subst IsSafe is safe
 
-module _ (words : List (List ℕ)) (stored : Option (List NamedFile)) (before now count count' : ℕ) (image name : List ℕ) (made : Made stored name image) where
-  along : (done : Effect) → AreBytes done.input → GoesAlong (meant made.core) image done.input
+module _ (words : List (List ℕ)) (stored : Option (List NamedFile)) (before now count count' : ℕ) (image : List ℕ) (asked : Asked) (made : Made stored asked.operand asked.settings image) where
+  along : (done : Effect) → AreBytes done.input → GoesAlong (meant made.core asked.settings) image done.input
   along done bytes = made.is_image.agrees.along done.input bytes
 
-  ends : (done : Effect) (status : ℕ) → AreBytes done.input → (after done.steps (start image done.input)).ending ≡ Ended status → let s = after done.steps (start image done.input) in EndsAsMeant (meant made.core) done.input status s.output s.errors s.input
+  ends : (done : Effect) (status : ℕ) → AreBytes done.input → (after done.steps (start image done.input)).ending ≡ Ended status → let s = after done.steps (start image done.input) in EndsAsMeant (meant made.core asked.settings) done.input status s.output s.errors s.input
   ends done status bytes is =
       let same : image_run image done.input done.steps ≡ after done.steps (start image done.input) = runs_so done.steps (start image done.input) in
-      subst (λ (s : State). EndsAsMeant (meant made.core) done.input status s.output s.errors s.input) same
-      (ends_as_meant (meant made.core) image done.input (along done bytes) done.steps status (ap (λ (s : State). s.ending) same ∙ is))
+      subst (λ (s : State). EndsAsMeant (meant made.core asked.settings) done.input status s.output s.errors s.input) same
+      (ends_as_meant (meant made.core asked.settings) image done.input (along done bytes) done.steps status (ap (λ (s : State). s.ending) same ∙ is))
 
-  exec_owes : (answer : Finish) (done : Effect) → AreBytes done.input → OwesImage image count count' answer done → OwesExec (call words stored before now count count' image) name answer done
+  exec_owes : (answer : Finish) (done : Effect) → AreBytes done.input → OwesImage image asked.steps count count' answer done → OwesExec (call words stored before now count count' image) asked answer done
   exec_owes (finish.Ended status) done bytes (few, (meets, (ended, left, (out, err)))) =
       let s = ends done status bytes ended in
       inr (record {
@@ -62,6 +63,6 @@ module _ (words : List (List ℕ)) (stored : Option (List NamedFile)) (before no
   exec_owes finish.Limit done bytes owes = absurd owes
 
 -- the run of an image that was made of a program
-pub exec_made : (words : List (List ℕ)) (stored : Option (List NamedFile)) (before now count count' : ℕ) (image made name : List ℕ) → image ≡ made → Made stored name made → (answer : Finish) (done : Effect) → AreBytes done.input → OwesImage image count count' answer done → OwesExec (call words stored before now count count' made) name answer done
-exec_made words stored before now count count' image made name same is answer done bytes owes =
-    exec_owes words stored before now count count' made name is answer done bytes (subst (λ i. OwesImage i count count' answer done) same owes)
+pub exec_made : (words : List (List ℕ)) (stored : Option (List NamedFile)) (before now count count' : ℕ) (image made : List ℕ) (asked : Asked) → image ≡ made → Made stored asked.operand asked.settings made → (answer : Finish) (done : Effect) → AreBytes done.input → OwesImage image asked.steps count count' answer done → OwesExec (call words stored before now count count' made) asked answer done
+exec_made words stored before now count count' image made asked same is answer done bytes owes =
+    exec_owes words stored before now count count' made asked is answer done bytes (subst (λ i. OwesImage i asked.steps count count' answer done) same owes)

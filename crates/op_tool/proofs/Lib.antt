@@ -3,6 +3,8 @@ pub mod Compiling
 pub mod Executing
 pub mod Failing
 pub mod Grows
+pub mod Numbers
+pub mod Reading
 pub mod Running
 pub mod RunningFiles
 pub mod Saying

@@ -17,7 +17,7 @@ use Rattle.op_emu.specs.declared.stop.Stepped.{Stepped}
 use Rattle.op_emu.specs.declared.stop.Stepped.TheVariants as stepped
 use Rattle.op_emu.specs.declared.stop.Stop.TheVariants as stop
 use Rattle.op_tool.specs.Effects.{Effect, effect, Intake, ReportIs, Says, WritesAll, line}
-use Rattle.op_tool.specs.ImageRun.{ComesTo, OwesImage, fault_line, step_limit}
+use Rattle.op_tool.specs.ImageRun.{ComesTo, OwesImage, fault_line}
 use Rattle.op_tool.specs.declared.finish.Finish.{Finish}
 use Rattle.op_tool.specs.declared.finish.Finish.TheVariants as finish
 use Rattle.op_tool.proofs.After.{after-add}
@@ -66,12 +66,12 @@ last_line (state.Faulted kind pc) = fault_line kind pc
 abbrev pub effect_at : ℕ → List ℕ → State → List ℕ → Effect
 effect_at steps input s last = effect steps input s.input s.output (s.errors ++ last)
 
-pub owes_at : (image : List ℕ) (before now : ℕ) (steps : ℕ) (input : List ℕ) (ending : Ending) → first_failing image ≡ None → steps ≡ step_limit → (after steps (start image input)).ending ≡ ending → OwesImage image before now (answer_at ending) (effect_at steps input (after steps (start image input)) (last_line ending))
-owes_at image before now steps input Running meets limit is = (limit, (meets, (is, refl, (refl, refl))))
-owes_at image before now steps input (state.Ended status) meets limit is = (omega arith, (meets, (is, refl, (refl, refl))))
-owes_at image before now steps input (state.Faulted kind pc) meets limit is = (omega arith, (meets, (is, refl, (refl, refl))))
+pub owes_at : (image : List ℕ) (most before now : ℕ) (steps : ℕ) (input : List ℕ) (ending : Ending) → first_failing image ≡ None → steps ≡ most → (after steps (start image input)).ending ≡ ending → OwesImage image most before now (answer_at ending) (effect_at steps input (after steps (start image input)) (last_line ending))
+owes_at image most before now steps input Running meets limit is = (limit, (meets, (is, refl, (refl, refl))))
+owes_at image most before now steps input (state.Ended status) meets limit is = (omega arith, (meets, (is, refl, (refl, refl))))
+owes_at image most before now steps input (state.Faulted kind pc) meets limit is = (omega arith, (meets, (is, refl, (refl, refl))))
 
-module _ (image : List ℕ) (old : Machine) (loaded : IsLoaded image old) where
+module _ (image : List ℕ) (most : ℕ) (old : Machine) (loaded : IsLoaded image old) where
   begins : (input : List ℕ) → state_of (moment_of old) input [] [] ≡ start image input
   begins input = ap (λ last. state_of (moment old.hart (ending_of last)) input [] []) loaded.fresh ∙ loaded.begins.begins input
 
@@ -110,38 +110,38 @@ module _ (image : List ℕ) (old : Machine) (loaded : IsLoaded image old) where
         errors = acts.errors;
       }
 
-  pub run_ended : (status : ℕ) (new : Machine) (told : Streams) (counts : Faults) → stop.Ended status ≡ stop_of new.last → RunIs step_limit (stop.Ended status) old new told counts → Says (OwesImage image counts.input_before counts.input_after) (finish.Ended status) told counts
+  pub run_ended : (status : ℕ) (new : Machine) (told : Streams) (counts : Faults) → stop.Ended status ≡ stop_of new.last → RunIs most (stop.Ended status) old new told counts → Says (OwesImage image most counts.input_before counts.input_after) (finish.Ended status) told counts
   unfolding Says
   run_ended status new told counts stands (m, le, does) =
       let acts = subst (λ e. Acts (after m) (moment_of old) (moment new.hart e) told) (ap ending_of (ended_last new.last status stands)) does.acts in
-      writes_all (OwesImage image counts.input_before counts.input_after (finish.Ended status)) m new.hart (state.Ended status) told acts (λ left may. (
+      writes_all (OwesImage image most counts.input_before counts.input_after (finish.Ended status)) m new.hart (state.Ended status) told acts (λ left may. (
         le,
         subst (λ err. ComesTo image (state.Ended status) [] (effect m (acts.taken ++ left) left acts.written err)) (append-nil acts.reported) (comes_to m new.hart (state.Ended status) told acts [] left may),
       ))
 
-  all_steps : (m : ℕ) (new : Machine) (told : Streams) → DoesSteps m old new told → ((m ≡ step_limit) ⊎ (m ≤ step_limit) × (new.steps ≡ 2 ^ 64 - 1)) → m ≡ step_limit
-  all_steps m new told does (inl all) = all
-  all_steps m new told does (inr (le, full)) =
+  all_steps : most < 2 ^ 64 → (m : ℕ) (new : Machine) (told : Streams) → DoesSteps m old new told → ((m ≡ most) ⊎ (m ≤ most) × (new.steps ≡ 2 ^ 64 - 1)) → m ≡ most
+  all_steps small m new told does (inl all) = all
+  all_steps small m new told does (inr (le, full)) =
       let counted = does.counted in
       let fresh = loaded.uncounted in
-      absurd (omega arith)
+      omega arith
 
-  pub run_spent : (new : Machine) (answer : Finish) (i i' o o' e e' e'' : Option (List ℕ)) (r r' n n' c c' c'' : ℕ) → stop.Spent ≡ stop_of new.last → c ≤ c' → RunIs step_limit stop.Spent old new (streams i i' o o' e e') (faults r r' n n' c c') → ReportIs finish.Spent (line (codes "opc: step limit reached")) answer e' e'' c' c'' → Says (OwesImage image r r') answer (streams i i' o o' e e'') (faults r r' n n' c c'')
-  run_spent new answer i i' o o' e e' e'' r r' n n' c c' c'' stands le (m, does, why) is =
+  pub run_spent : most < 2 ^ 64 → (new : Machine) (answer : Finish) (i i' o o' e e' e'' : Option (List ℕ)) (r r' n n' c c' c'' : ℕ) → stop.Spent ≡ stop_of new.last → c ≤ c' → RunIs most stop.Spent old new (streams i i' o o' e e') (faults r r' n n' c c') → ReportIs finish.Spent (line (codes "opc: step limit reached")) answer e' e'' c' c'' → Says (OwesImage image most r r') answer (streams i i' o o' e e'') (faults r r' n n' c c'')
+  run_spent small new answer i i' o o' e e' e'' r r' n n' c c' c'' stands le (m, does, why) is =
       let told = streams i i' o o' e e' in
       let acts = subst (λ e. Acts (after m) (moment_of old) (moment new.hart e) told) (ap ending_of (went_last new.last stands)) does.acts in
-      let all = all_steps m new told does why in
+      let all = all_steps small m new told does why in
       let last = line (codes "opc: step limit reached") in
-      says_behind (OwesImage image r r') finish.Spent answer last i i' o o' e e' e'' r r' n n' c c' c'' (λ same. cc) le (writes_all (λ done. OwesImage image r r' finish.Spent (reporting last done)) m new.hart Running told acts (λ left may. (all, comes_to m new.hart Running told acts last left may))) is
+      says_behind (OwesImage image most r r') finish.Spent answer last i i' o o' e e' e'' r r' n n' c c' c'' (λ same. cc) le (writes_all (λ done. OwesImage image most r r' finish.Spent (reporting last done)) m new.hart Running told acts (λ left may. (all, comes_to m new.hart Running told acts last left may))) is
 
-  pub run_faulted : (kind : FaultKind) (pc : ℕ) (new : Machine) (answer : Finish) (i i' o o' e e' e'' : Option (List ℕ)) (r r' n n' c c' c'' : ℕ) → stop.Fault kind pc ≡ stop_of new.last → c ≤ c' → RunIs step_limit (stop.Fault kind pc) old new (streams i i' o o' e e') (faults r r' n n' c c') → ReportIs (finish.Faulted kind pc) (fault_line kind pc) answer e' e'' c' c'' → Says (OwesImage image r r') answer (streams i i' o o' e e'') (faults r r' n n' c c'')
+  pub run_faulted : (kind : FaultKind) (pc : ℕ) (new : Machine) (answer : Finish) (i i' o o' e e' e'' : Option (List ℕ)) (r r' n n' c c' c'' : ℕ) → stop.Fault kind pc ≡ stop_of new.last → c ≤ c' → RunIs most (stop.Fault kind pc) old new (streams i i' o o' e e') (faults r r' n n' c c') → ReportIs (finish.Faulted kind pc) (fault_line kind pc) answer e' e'' c' c'' → Says (OwesImage image most r r') answer (streams i i' o o' e e'') (faults r r' n n' c c'')
   run_faulted kind pc new answer i i' o o' e e' e'' r r' n n' c c' c'' stands le (m, lt, does) is =
       let told = streams i i' o o' e e' in
       let acts = subst (λ e. Acts (after (suc m)) (moment_of old) (moment new.hart e) told) (ap ending_of (faulted_last new.last kind pc stands)) does.acts in
       let last = fault_line kind pc in
-      says_behind (OwesImage image r r') (finish.Faulted kind pc) answer last i i' o o' e e' e'' r r' n n' c c' c'' (λ same. cc) le (writes_all (λ done. OwesImage image r r' (finish.Faulted kind pc) (reporting last done)) (suc m) new.hart (state.Faulted kind pc) told acts (λ left may. (omega arith, comes_to (suc m) new.hart (state.Faulted kind pc) told acts last left may))) is
+      says_behind (OwesImage image most r r') (finish.Faulted kind pc) answer last i i' o o' e e' e'' r r' n n' c c' c'' (λ same. cc) le (writes_all (λ done. OwesImage image most r r' (finish.Faulted kind pc) (reporting last done)) (suc m) new.hart (state.Faulted kind pc) told acts (λ left may. (omega arith, comes_to (suc m) new.hart (state.Faulted kind pc) told acts last left may))) is
 
-  pub run_not_read : (new : Machine) (answer : Finish) (i i' o o' e e' e'' : Option (List ℕ)) (r r' n n' c c' c'' : ℕ) → c ≤ c' → RunIs step_limit stop.ReadFault old new (streams i i' o o' e e') (faults r r' n n' c c') → ReportIs finish.ReadFault (line (codes "opc: read fault")) answer e' e'' c' c'' → Says (OwesImage image r r') answer (streams i i' o o' e e'') (faults r r' n n' c c'')
+  pub run_not_read : (new : Machine) (answer : Finish) (i i' o o' e e' e'' : Option (List ℕ)) (r r' n n' c c' c'' : ℕ) → c ≤ c' → RunIs most stop.ReadFault old new (streams i i' o o' e e') (faults r r' n n' c c') → ReportIs finish.ReadFault (line (codes "opc: read fault")) answer e' e'' c' c'' → Says (OwesImage image most r r') answer (streams i i' o o' e e'') (faults r r' n n' c c'')
   run_not_read new answer i i' o o' e e' e'' r r' n n' c c' c'' le (m, lt, does, failed) is =
       let acts = does.acts in
       let reads = does.reads in
@@ -150,7 +150,7 @@ module _ (image : List ℕ) (old : Machine) (loaded : IsLoaded image old) where
       let at : (left : List ℕ) → after m (start image (all ++ left)) ≡ state_of (moment does.hart Running) (reads.taken ++ left) acts.written acts.reported =
       λ left. ap (λ bytes. after m (start image bytes)) (append_assoc acts.taken reads.taken left) ∙ state_at m does.hart Running _ acts (reads.taken ++ left) (λ ended. absurd (true_not_false does.hart.input_ended ended reads.wants.asks))
       in
-      says_behind (OwesImage image r r') finish.ReadFault answer last i i' o o' e e' e'' r r' n n' c c' c'' (λ same. cc) le (record {
+      says_behind (OwesImage image most r r') finish.ReadFault answer last i i' o o' e e' e'' r r' n n' c c' c'' (λ same. cc) le (record {
         intake = record {
           taken = all;
           ended = false;
@@ -185,13 +185,13 @@ module _ (image : List ℕ) (old : Machine) (loaded : IsLoaded image old) where
       }) is
 
   -- what has been written by the next step is a front of what is written in the end
-  grows_to_end : (m : ℕ) (s : State) → m < step_limit → Grows (after (suc m) s) (after step_limit s)
+  grows_to_end : (m : ℕ) (s : State) → m < most → Grows (after (suc m) s) (after most s)
   unfolding after
   grows_to_end m s lt =
-      let e : step_limit ≡ suc m + (step_limit - suc m) = omega arith in
-      subst (λ t. Grows (after (suc m) s) t) (sym (after-add (suc m) (step_limit - suc m) s) ∙ ap (λ n. after n s) (sym e)) (after_grows (step_limit - suc m) (after (suc m) s))
+      let e : most ≡ suc m + (most - suc m) = omega arith in
+      subst (λ t. Grows (after (suc m) s) t) (sym (after-add (suc m) (most - suc m) s) ∙ ap (λ n. after n s) (sym e)) (after_grows (most - suc m) (after (suc m) s))
 
-  pub run_failed : (new : Machine) (told : Streams) (counts : Faults) → RunIs step_limit stop.WriteFault old new told counts → Says (OwesImage image counts.input_before counts.input_after) finish.WriteFault told counts
+  pub run_failed : (new : Machine) (told : Streams) (counts : Faults) → RunIs most stop.WriteFault old new told counts → Says (OwesImage image most counts.input_before counts.input_after) finish.WriteFault told counts
   unfolding Says intake_of
   run_failed new told counts (m, lt, acts, failed, counted) =
       record {
@@ -199,7 +199,7 @@ module _ (image : List ℕ) (old : Machine) (loaded : IsLoaded image old) where
         would = λ left may. (
             let input = acts.taken ++ left in
             let s = start image input in
-            let last = after step_limit s in
+            let last = after most s in
             let grows = grows_to_end m s lt in
             let begun = ap (after (suc m)) (sym (begins input)) in
             let out : last.output ≡ acts.written ++ grows.written =
@@ -210,8 +210,8 @@ module _ (image : List ℕ) (old : Machine) (loaded : IsLoaded image old) where
             in
             record {
               finish = answer_at last.ending;
-              done = effect_at step_limit input last (last_line last.ending);
-              is_owed = owes_at image counts.input_before counts.input_after step_limit input last.ending loaded.meets refl refl;
+              done = effect_at most input last (last_line last.ending);
+              is_owed = owes_at image most counts.input_before counts.input_after most input last.ending loaded.meets refl refl;
               over = refl;
               output = front_of_front told.output_before told.output_after acts.written grows.written last.output out acts.output;
               errors = front_of_front told.errors_before told.errors_after acts.reported (grows.reported ++ last_line last.ending) (last.errors ++ last_line last.ending) err acts.errors;

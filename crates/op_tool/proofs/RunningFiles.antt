@@ -9,18 +9,18 @@ use Rattle.op_tool.specs.declared.finish.Finish.{Finish}
 use Rattle.op_tool.specs.declared.finish.Finish.TheVariants as finish
 
 -- what the run of the image owes is what the command owes
-run_owes_of : (words : List (List ℕ)) (stored : Option (List NamedFile)) (before now count count' : ℕ) (image name : List ℕ) → IsFile stored name image → (answer : Finish) (done : Effect) → OwesImage image count count' answer done → OwesRun (call words stored before now count count' image) name answer done
-run_owes_of words stored before now count count' image name is (finish.Ended status) done owes = (is, owes)
-run_owes_of words stored before now count count' image name is (finish.Faulted kind pc) done owes = (is, owes)
-run_owes_of words stored before now count count' image name is finish.Spent done owes = (is, owes)
-run_owes_of words stored before now count count' image name is finish.ReadFault done owes = inr (is, owes)
-run_owes_of words stored before now count count' image name is (finish.BadImage condition) done owes = inr (is, owes)
-run_owes_of words stored before now count count' image name is finish.NoMemory done owes = owes
-run_owes_of words stored before now count count' image name is finish.Usage done owes = absurd owes
-run_owes_of words stored before now count count' image name is (finish.Refused rule place) done owes = absurd owes
-run_owes_of words stored before now count count' image name is finish.WriteFault done owes = absurd owes
-run_owes_of words stored before now count count' image name is finish.Limit done owes = absurd owes
+run_owes_of : (words : List (List ℕ)) (stored : Option (List NamedFile)) (before now count count' most : ℕ) (image name : List ℕ) → IsFile stored name image → (answer : Finish) (done : Effect) → OwesImage image most count count' answer done → OwesRun (call words stored before now count count' image) name most answer done
+run_owes_of words stored before now count count' most image name is (finish.Ended status) done owes = (is, owes)
+run_owes_of words stored before now count count' most image name is (finish.Faulted kind pc) done owes = (is, owes)
+run_owes_of words stored before now count count' most image name is finish.Spent done owes = (is, owes)
+run_owes_of words stored before now count count' most image name is finish.ReadFault done owes = inr (is, owes)
+run_owes_of words stored before now count count' most image name is (finish.BadImage condition) done owes = inr (is, owes)
+run_owes_of words stored before now count count' most image name is finish.NoMemory done owes = owes
+run_owes_of words stored before now count count' most image name is finish.Usage done owes = absurd owes
+run_owes_of words stored before now count count' most image name is (finish.Refused rule place) done owes = absurd owes
+run_owes_of words stored before now count count' most image name is finish.WriteFault done owes = absurd owes
+run_owes_of words stored before now count count' most image name is finish.Limit done owes = absurd owes
 
-pub run_owes : (words : List (List ℕ)) (stored : Option (List NamedFile)) (before now count count' : ℕ) (image found name : List ℕ) → image ≡ found → IsFile stored name found → (answer : Finish) (done : Effect) → AreBytes done.input → OwesImage image count count' answer done → OwesRun (call words stored before now count count' found) name answer done
-run_owes words stored before now count count' image found name same is answer done bytes owes =
-    run_owes_of words stored before now count count' found name is answer done (subst (λ bytes. OwesImage bytes count count' answer done) same owes)
+pub run_owes : (words : List (List ℕ)) (stored : Option (List NamedFile)) (before now count count' most : ℕ) (image found name : List ℕ) → image ≡ found → IsFile stored name found → (answer : Finish) (done : Effect) → AreBytes done.input → OwesImage image most count count' answer done → OwesRun (call words stored before now count count' found) name most answer done
+run_owes words stored before now count count' most image found name same is answer done bytes owes =
+    run_owes_of words stored before now count count' most found name is answer done (subst (λ bytes. OwesImage bytes most count count' answer done) same owes)

@@ -56,28 +56,25 @@ IsAccepted stored name = (core : Core) × IsTypedProgram stored name core
 
 -- ---- images
 
--- 8 MiB of heap and 1 MiB of stack
-abbrev pub default : Settings
-default = record { heap = 8192; stack = 1024 }
-
 -- what a typed program means, with the stack that it gets
-abbrev pub meant : Core → Program
-meant core = program_of core (1024 * default.stack)
+abbrev pub meant : Core → Settings → Program
+meant core settings = program_of core (1024 * settings.stack)
 
--- The image is that of the program's managed code, and it agrees with the program: over every input it writes and ends as the program does,
--- step by step and for ever. Its code, its constants and its initial globals take together no more bytes than the program's size.
-pub record IsImage (core : Core) (image : List ℕ) : Type 0 where
+-- The image is that of the program's managed code and of what the program gets, and it agrees with the program: over every input it writes and
+-- ends as the program does, step by step and for ever. Its code, its constants and its initial globals take together no more bytes than the
+-- program's size.
+pub record IsImage (core : Core) (settings : Settings) (image : List ℕ) : Type 0 where
   pub mir : Mir
   pub lowers : Lowers core mir
-  pub built : IsBuilt core mir default image
-  pub agrees : Agrees (meant core) image
-  pub small : linked_size (select_of (program_low core mir default)) (program_layout core mir) default ≤ program_size core
+  pub built : IsBuilt core mir settings image
+  pub agrees : Agrees (meant core settings) image
+  pub small : linked_size (select_of (program_low core mir settings)) (program_layout core mir) settings ≤ program_size core
 
--- an image of the program in the file
-pub record Made (stored : Option (List NamedFile)) (name image : List ℕ) : Type 0 where
+-- an image of the program in the file, with what it gets to run
+pub record Made (stored : Option (List NamedFile)) (name : List ℕ) (settings : Settings) (image : List ℕ) : Type 0 where
   pub core : Core
   pub is_program : IsTypedProgram stored name core
-  pub is_image : IsImage core image
+  pub is_image : IsImage core settings image
 
 -- ---- refusals
 
@@ -97,26 +94,27 @@ abbrev pub not_compiled : Refusal
 not_compiled = record { rule = record { number = 13; feature = 38 }; place = main_start }
 
 -- the managed code of a typed program has no image, for this cause
-pub record FailsToBuild (core : Core) (error : BuildError) : Type 0 where
+pub record FailsToBuild (core : Core) (settings : Settings) (error : BuildError) : Type 0 where
   pub mir : Mir
   pub lowers : Lowers core mir
-  pub why : IsNotBuilt core mir default error
+  pub why : IsNotBuilt core mir settings error
 
 -- it is not of the class that is compiled, or its low code may not be built
-abbrev pub IsNotCompiled : Core → Type 0
-IsNotCompiled core = (is_plain_program core ≡ false) ⊎ FailsToBuild core build.Unbuildable
+abbrev pub IsNotCompiled : Core → Settings → Type 0
+IsNotCompiled core settings = (is_plain_program core ≡ false) ⊎ FailsToBuild core settings build.Unbuildable
 
 -- the program breaks this rule first, or it breaks none and is not compiled
-abbrev pub IsRefused : Option (List NamedFile) → List ℕ → Refusal → Type 0
-IsRefused stored name refusal = IsBroken stored name refusal ⊎ (refusal ≡ not_compiled) × (core : Core) × IsTypedProgram stored name core × IsNotCompiled core
+abbrev pub IsRefused : Option (List NamedFile) → List ℕ → Settings → Refusal → Type 0
+IsRefused stored name settings refusal =
+    IsBroken stored name refusal ⊎ (refusal ≡ not_compiled) × (core : Core) × IsTypedProgram stored name core × IsNotCompiled core settings
 
 -- code, constants and initial globals of its image have more bytes than an image may have, which the program's size passes too
-pub record PassesLimit (core : Core) : Type 0 where
-  pub fails : FailsToBuild core build.Limit
+pub record PassesLimit (core : Core) (settings : Settings) : Type 0 where
+  pub fails : FailsToBuild core settings build.Limit
   pub size : most_linked < program_size core
 
-abbrev pub IsTooLarge : Option (List NamedFile) → List ℕ → Type 0
-IsTooLarge stored name = (core : Core) × IsTypedProgram stored name core × PassesLimit core
+abbrev pub IsTooLarge : Option (List NamedFile) → List ℕ → Settings → Type 0
+IsTooLarge stored name settings = (core : Core) × IsTypedProgram stored name core × PassesLimit core settings
 
 -- ---- errors
 
@@ -128,11 +126,11 @@ FailsToCheck stored name before after Limit = ⊥
 FailsToCheck stored name before after NoMemory = ⊤
 
 -- an error with its cause
-abbrev pub FailsAs : Option (List NamedFile) → List ℕ → ℕ → ℕ → CompileError → Type 0
-FailsAs stored name before after (Refused refusal file) = (file ≡ name) × IsRefused stored name refusal
-FailsAs stored name before after ReadFault = Rose before after
-FailsAs stored name before after Limit = IsTooLarge stored name
-FailsAs stored name before after NoMemory = ⊤
+abbrev pub FailsAs : Option (List NamedFile) → List ℕ → Settings → ℕ → ℕ → CompileError → Type 0
+FailsAs stored name settings before after (Refused refusal file) = (file ≡ name) × IsRefused stored name settings refusal
+FailsAs stored name settings before after ReadFault = Rose before after
+FailsAs stored name settings before after Limit = IsTooLarge stored name settings
+FailsAs stored name settings before after NoMemory = ⊤
 
 -- this refusal of the file, but for want of memory
 abbrev pub RefusesBy : List ℕ → Refusal → CompileError → Type 0
@@ -148,8 +146,8 @@ error_of load.ReadFault = ReadFault
 error_of load.NoMemory = NoMemory
 
 -- why a typed program in this file has no image
-abbrev pub HasNoImage : Core → List ℕ → CompileError → Type 0
-HasNoImage core name (Refused refusal file) = (file ≡ name) × (refusal ≡ not_compiled) × IsNotCompiled core
-HasNoImage core name ReadFault = ⊥
-HasNoImage core name Limit = PassesLimit core
-HasNoImage core name NoMemory = ⊤
+abbrev pub HasNoImage : Core → List ℕ → Settings → CompileError → Type 0
+HasNoImage core name settings (Refused refusal file) = (file ≡ name) × (refusal ≡ not_compiled) × IsNotCompiled core settings
+HasNoImage core name settings ReadFault = ⊥
+HasNoImage core name settings Limit = PassesLimit core settings
+HasNoImage core name settings NoMemory = ⊤

@@ -13,10 +13,6 @@ use Rattle.op_tool.specs.Effects.{Effect, OnlyReports, line}
 use Rattle.op_tool.specs.declared.finish.Finish.{Finish}
 use Rattle.op_tool.specs.declared.finish.Finish.TheVariants.{Ended, Usage, Refused, ReadFault, WriteFault, Spent, NoMemory, BadImage, Faulted, Limit}
 
--- the most steps that an image may do
-abbrev pub step_limit : ℕ
-step_limit = 4000000000
-
 -- a hexadecimal digit
 abbrev pub hex_digit : ℕ → ℕ
 hex_digit d = if nat_lt d 10 then 48 + d else 87 + d
@@ -80,17 +76,17 @@ abbrev pub ComesTo : List ℕ → Ending → List ℕ → Effect → Type 0
 ComesTo image ending last done =
     (first_failing image ≡ None) × (let s = state_in image done in (s.ending ≡ ending) × (done.left ≡ s.input) × HasWritten s last done)
 
--- what each answer owes; `before` and `now` are the counts of faults of the input
-abbrev pub OwesImage : List ℕ → ℕ → ℕ → Finish → Effect → Type 0
-OwesImage image before now (Ended status) done = (done.steps ≤ step_limit) × ComesTo image (state.Ended status) [] done
-OwesImage image before now (Faulted kind pc) done = (done.steps ≤ step_limit) × ComesTo image (state.Faulted kind pc) (fault_line kind pc) done
-OwesImage image before now Spent done = (done.steps ≡ step_limit) × ComesTo image Running (line (codes "opc: step limit reached")) done
-OwesImage image before now ReadFault done =
-    Rose before now × (done.steps < step_limit) × (first_failing image ≡ None) × (taken : List ℕ) × (done.input ≡ taken ++ done.left) × FaultsReading image taken done
-OwesImage image before now (BadImage condition) done =
+-- what each answer owes; `most` is how many steps the image may do, `before` and `now` are the counts of faults of the input
+abbrev pub OwesImage : List ℕ → ℕ → ℕ → ℕ → Finish → Effect → Type 0
+OwesImage image most before now (Ended status) done = (done.steps ≤ most) × ComesTo image (state.Ended status) [] done
+OwesImage image most before now (Faulted kind pc) done = (done.steps ≤ most) × ComesTo image (state.Faulted kind pc) (fault_line kind pc) done
+OwesImage image most before now Spent done = (done.steps ≡ most) × ComesTo image Running (line (codes "opc: step limit reached")) done
+OwesImage image most before now ReadFault done =
+    Rose before now × (done.steps < most) × (first_failing image ≡ None) × (taken : List ℕ) × (done.input ≡ taken ++ done.left) × FaultsReading image taken done
+OwesImage image most before now (BadImage condition) done =
     (first_failing image ≡ Some condition) × OnlyReports (line (codes "opc: bad image: Elf" ++ decimal condition)) done
-OwesImage image before now NoMemory done = OnlyReports (line (codes "opc: out of memory")) done
-OwesImage image before now Usage done = ⊥
-OwesImage image before now (Refused rule place) done = ⊥
-OwesImage image before now WriteFault done = ⊥
-OwesImage image before now Limit done = ⊥
+OwesImage image most before now NoMemory done = OnlyReports (line (codes "opc: out of memory")) done
+OwesImage image most before now Usage done = ⊥
+OwesImage image most before now (Refused rule place) done = ⊥
+OwesImage image most before now WriteFault done = ⊥
+OwesImage image most before now Limit done = ⊥

@@ -1,7 +1,7 @@
 -- What a call leaves as it was, by its words and its answer.
 use Rattle.std.specs.Prelude.{◌≡◌, ℕ, Bool, true, false, List, IsTrue}
 use Rattle.op_base.specs.Outside.{Rose}
-use Rattle.op_tool.specs.Command.{IsBuild, IsCheck, IsNoCommand}
+use Rattle.op_tool.specs.Command.{Asked, IsCommand, IsNoCommand, runs_image}
 use Rattle.op_tool.specs.declared.finish.Finish.{Finish}
 use Rattle.op_tool.specs.declared.finish.Finish.TheVariants.{Ended, Usage, Refused, ReadFault, WriteFault, Spent, NoMemory, BadImage, Faulted, Limit}
 
@@ -24,21 +24,18 @@ pub record RunsNothing (answer : Finish) (before now : ℕ) : Type 0 where
   pub reports : IsTrue (only_reports answer)
   pub reads : answer ≡ ReadFault → Rose before now → ⊥
 
--- the input stays as it was, with its count of faults
+-- the input stays as it was, with its count of faults: of a command that runs no image, of none, and by the answer
 pub data LeavesInput (words : List (List ℕ)) (answer : Finish) (before now : ℕ) : Type 0 where
-  by_build : (name : List ℕ) → IsBuild words name → LeavesInput words answer before now
-  by_check : (name : List ℕ) → IsCheck words name → LeavesInput words answer before now
+  by_command : (asked : Asked) → IsCommand words asked → runs_image asked.verb ≡ false → LeavesInput words answer before now
   by_none : IsNoCommand words → LeavesInput words answer before now
   by_answer : RunsNothing answer before now → LeavesInput words answer before now
 
 -- the output stays as it was
 pub data LeavesOutput (words : List (List ℕ)) (answer : Finish) (before now : ℕ) : Type 0 where
-  by_build : (name : List ℕ) → IsBuild words name → IsTrue (only_reports answer) → LeavesOutput words answer before now
-  by_check : (name : List ℕ) → IsCheck words name → IsTrue (only_reports answer) → LeavesOutput words answer before now
+  by_command : (asked : Asked) → IsCommand words asked → runs_image asked.verb ≡ false → IsTrue (only_reports answer) → LeavesOutput words answer before now
   by_none : IsNoCommand words → LeavesOutput words answer before now
   by_answer : RunsNothing answer before now → LeavesOutput words answer before now
 
 -- the errors stay as they were
 pub data LeavesErrors (words : List (List ℕ)) (answer : Finish) : Type 0 where
-  by_build : (name : List ℕ) (status : ℕ) → IsBuild words name → answer ≡ Ended status → LeavesErrors words answer
-  by_check : (name : List ℕ) (status : ℕ) → IsCheck words name → answer ≡ Ended status → LeavesErrors words answer
+  by_command : (asked : Asked) (status : ℕ) → IsCommand words asked → runs_image asked.verb ≡ false → answer ≡ Ended status → LeavesErrors words answer

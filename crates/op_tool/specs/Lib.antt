@@ -4,4 +4,5 @@ pub mod Effects
 pub mod ImageRun
 pub mod Leaves
 pub mod Owes
+pub mod Reading
 pub mod Status

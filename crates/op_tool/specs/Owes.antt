@@ -9,10 +9,14 @@ use Rattle.op_base.specs.declared.rule.Refusal.{Refusal}
 use Rattle.op_base.specs.declared.rule.Rule.{Rule}
 use Rattle.op_core.specs.declared.program.Core.{Core}
 use Rattle.op_correctness.specs.Agrees.{EndsAsMeant}
-use Rattle.op_tool.specs.Command.{IsBuild, IsCheck, IsExec, IsRun, IsNoCommand}
+use Rattle.op_link.specs.declared.memory_map.Settings.{Settings}
+use Rattle.op_listing.specs.Listing.{listing_of}
+use Rattle.op_tool.specs.Command.{Asked, IsCommand, IsNoCommand}
 use Rattle.op_tool.specs.Compiles.{IsAccepted, IsBroken, IsRefused, IsTooLarge, Made, file_missing, main_start, meant}
 use Rattle.op_tool.specs.Effects.{Effect, OnlyReports, OnlyWrites, ReportIs, line}
 use Rattle.op_tool.specs.ImageRun.{OwesImage}
+use Rattle.op_tool.specs.declared.command.Verb.{Verb}
+use Rattle.op_tool.specs.declared.command.Verb.TheVariants as verb
 use Rattle.op_tool.specs.declared.compiler.CompileError.{CompileError}
 use Rattle.op_tool.specs.declared.compiler.CompileError.TheVariants as errors
 use Rattle.op_tool.specs.declared.finish.Finish.{Finish}
@@ -89,18 +93,18 @@ abbrev pub OwesCheck : Call → List ℕ → Finish → Effect → Type 0
 OwesCheck now name answer done = (now.image ≡ []) × OwesChecked now name answer done
 
 -- a file of this name that is not compiled
-abbrev pub OwesError : Call → List ℕ → Finish → Effect → Type 0
-OwesError now name (Refused rule place) done =
-    IsRefused now.stored name (record { rule = rule; place = place }) × (now.image ≡ []) × OnlyRefuses name place rule done
-OwesError now name ReadFault done = (now.image ≡ []) × OnlyFailsToRead now done
-OwesError now name Limit done = IsTooLarge now.stored name × (now.image ≡ []) × OnlyReports (line (codes "opc: image too large")) done
-OwesError now name NoMemory done = (now.image ≡ []) × OnlyReports (line (codes "opc: out of memory")) done
-OwesError now name _ done = ⊥
+abbrev pub OwesError : Call → List ℕ → Settings → Finish → Effect → Type 0
+OwesError now name settings (Refused rule place) done =
+    IsRefused now.stored name settings (record { rule = rule; place = place }) × (now.image ≡ []) × OnlyRefuses name place rule done
+OwesError now name settings ReadFault done = (now.image ≡ []) × OnlyFailsToRead now done
+OwesError now name settings Limit done = IsTooLarge now.stored name settings × (now.image ≡ []) × OnlyReports (line (codes "opc: image too large")) done
+OwesError now name settings NoMemory done = (now.image ≡ []) × OnlyReports (line (codes "opc: out of memory")) done
+OwesError now name settings _ done = ⊥
 
 -- the program has ended with that status, and this is what it has written and left
-abbrev pub Means : Core → Finish → Effect → Type 0
-Means core (Ended status) done = EndsAsMeant (meant core) done.input status done.out done.err done.left
-Means core _ done = Unit {0}
+abbrev pub Means : Core → Settings → Finish → Effect → Type 0
+Means core settings (Ended status) done = EndsAsMeant (meant core settings) done.input status done.out done.err done.left
+Means core settings _ done = Unit {0}
 
 -- an image that agrees with a program is never bad, and never faults
 abbrev pub IsEndOfRun : Finish → Type 0
@@ -112,23 +116,35 @@ IsEndOfRun _ = ⊥
 
 -- What a program did that was compiled and run: its image agrees with it, and this is what the run of the image owes. Where that has ended, so has the
 -- program.
-pub record Executes (now : Call) (name : List ℕ) (answer : Finish) (done : Effect) : Type 0 where
-  pub made : Made now.stored name now.image
-  pub means : Means made.core answer done
+pub record Executes (now : Call) (asked : Asked) (answer : Finish) (done : Effect) : Type 0 where
+  pub made : Made now.stored asked.operand asked.settings now.image
+  pub means : Means made.core asked.settings answer done
   pub is_end : IsEndOfRun answer
-  pub owes : OwesImage now.image now.input_faults_before now.input_faults_after answer done
+  pub owes : OwesImage now.image asked.steps now.input_faults_before now.input_faults_after answer done
 
--- `exec` of the file of this name
-abbrev pub OwesExec : Call → List ℕ → Finish → Effect → Type 0
-OwesExec now name answer done = OwesError now name answer done ⊎ Executes now name answer done
+-- `exec`
+abbrev pub OwesExec : Call → Asked → Finish → Effect → Type 0
+OwesExec now asked answer done = OwesError now asked.operand asked.settings answer done ⊎ Executes now asked answer done
 
 -- an image of the program was written, and nothing else was done
-abbrev pub WritesImage : Call → List ℕ → Finish → Effect → Type 0
-WritesImage now name answer done = (answer ≡ Ended 0) × Made now.stored name now.image × OnlyWrites now.image done
+abbrev pub WritesImage : Call → Asked → Finish → Effect → Type 0
+WritesImage now asked answer done = (answer ≡ Ended 0) × Made now.stored asked.operand asked.settings now.image × OnlyWrites now.image done
 
--- `build` of the file of this name
-abbrev pub OwesBuild : Call → List ℕ → Finish → Effect → Type 0
-OwesBuild now name answer done = OwesError now name answer done ⊎ WritesImage now name answer done
+-- `build`
+abbrev pub OwesBuild : Call → Asked → Finish → Effect → Type 0
+OwesBuild now asked answer done = OwesError now asked.operand asked.settings answer done ⊎ WritesImage now asked answer done
+
+-- the listing of an image of the program was written, and nothing else was done, unless there was no room for it
+abbrev pub WritesListing : Call → Asked → Finish → Effect → Type 0
+WritesListing now asked (Ended status) done =
+    (status ≡ 0) × Made now.stored asked.operand asked.settings now.image × OnlyWrites (listing_of now.image) done
+WritesListing now asked NoMemory done =
+    Made now.stored asked.operand asked.settings now.image × OnlyReports (line (codes "opc: out of memory")) done
+WritesListing now asked _ done = ⊥
+
+-- `list`
+abbrev pub OwesList : Call → Asked → Finish → Effect → Type 0
+OwesList now asked answer done = OwesError now asked.operand asked.settings answer done ⊎ WritesListing now asked answer done
 
 -- these are the bytes of the file of this name
 abbrev pub IsFile : Option (List NamedFile) → List ℕ → List ℕ → Type 0
@@ -139,35 +155,40 @@ abbrev pub IsTooLong : Option (List NamedFile) → List ℕ → Type 0
 IsTooLong stored name = IfSome stored (λ files. IsSomeAnd (file_named files name) (λ bytes. 100663296 < length bytes))
 
 -- the image is that file, and this is what its run owes
-abbrev pub RunsFile : Call → List ℕ → Finish → Effect → Type 0
-RunsFile now name finish done =
-    IsFile now.stored name now.image × OwesImage now.image now.input_faults_before now.input_faults_after finish done
+abbrev pub RunsFile : Call → List ℕ → ℕ → Finish → Effect → Type 0
+RunsFile now name most finish done =
+    IsFile now.stored name now.image × OwesImage now.image most now.input_faults_before now.input_faults_after finish done
 
--- `run` of the image of this name
-abbrev pub OwesRun : Call → List ℕ → Finish → Effect → Type 0
-OwesRun now name (Ended status) done = RunsFile now name (Ended status) done
-OwesRun now name (Faulted kind pc) done = RunsFile now name (Faulted kind pc) done
-OwesRun now name Spent done = RunsFile now name Spent done
-OwesRun now name ReadFault done = ((now.image ≡ []) × OnlyFailsToRead now done) ⊎ RunsFile now name ReadFault done
-OwesRun now name (BadImage condition) done =
+-- `run` of the image of this name, which may do so many steps
+abbrev pub OwesRun : Call → List ℕ → ℕ → Finish → Effect → Type 0
+OwesRun now name most (Ended status) done = RunsFile now name most (Ended status) done
+OwesRun now name most (Faulted kind pc) done = RunsFile now name most (Faulted kind pc) done
+OwesRun now name most Spent done = RunsFile now name most Spent done
+OwesRun now name most ReadFault done = ((now.image ≡ []) × OnlyFailsToRead now done) ⊎ RunsFile now name most ReadFault done
+OwesRun now name most (BadImage condition) done =
     ((now.image ≡ []) × IsTooLong now.stored name × (condition ≡ 1) × OnlyReports (line (codes "opc: bad image: Elf" ++ decimal condition)) done)
-    ⊎ RunsFile now name (BadImage condition) done
-OwesRun now name (Refused rule place) done =
+    ⊎ RunsFile now name most (BadImage condition) done
+OwesRun now name most (Refused rule place) done =
     (now.image ≡ []) × (rule ≡ file_missing) × (place ≡ main_start) × IsMissing now.stored name × OnlyRefuses name place rule done
-OwesRun now name NoMemory done = OnlyReports (line (codes "opc: out of memory")) done
-OwesRun now name Usage done = ⊥
-OwesRun now name WriteFault done = ⊥
-OwesRun now name Limit done = ⊥
+OwesRun now name most NoMemory done = OnlyReports (line (codes "opc: out of memory")) done
+OwesRun now name most Usage done = ⊥
+OwesRun now name most WriteFault done = ⊥
+OwesRun now name most Limit done = ⊥
 
 -- words that are no command
 abbrev pub OwesUsage : Finish → Effect → Type 0
 OwesUsage Usage done = OnlyReports (line (codes "opc: bad command line")) done
 OwesUsage finish done = ⊥
 
--- each answer with its cause, by the command that the words are
+-- what each command owes
+abbrev pub OwesCommand : Verb → Call → Asked → Finish → Effect → Type 0
+OwesCommand verb.Exec now asked finish done = OwesExec now asked finish done
+OwesCommand verb.Build now asked finish done = OwesBuild now asked finish done
+OwesCommand verb.Check now asked finish done = OwesCheck now asked.operand finish done
+OwesCommand verb.List now asked finish done = OwesList now asked finish done
+OwesCommand verb.Run now asked finish done = OwesRun now asked.operand asked.steps finish done
+
+-- each answer with its cause, by what the words ask for
 pub data Owes (now : Call) (finish : Finish) (done : Effect) : Type 0 where
-  by_exec : (name : List ℕ) → IsExec now.words name → OwesExec now name finish done → Owes now finish done
-  by_build : (name : List ℕ) → IsBuild now.words name → OwesBuild now name finish done → Owes now finish done
-  by_check : (name : List ℕ) → IsCheck now.words name → OwesCheck now name finish done → Owes now finish done
-  by_run : (name : List ℕ) → IsRun now.words name → OwesRun now name finish done → Owes now finish done
+  by_command : (asked : Asked) → IsCommand now.words asked → OwesCommand asked.verb now asked finish done → Owes now finish done
   by_none : IsNoCommand now.words → (now.image ≡ []) → OwesUsage finish done → Owes now finish done

@@ -1,6 +1,7 @@
 //! From a source file to its image.
-ghost use Rattle.std.specs.Prelude.{◌≡◌, ◌≤◌, IfErr, IfOk};
+ghost use Rattle.std.specs.Prelude.{◌≡◌, ◌≤◌, IfErr, IfOk, IsTrue};
 ghost use Rattle.op_core.specs.Sound.{IsSound, IsSoundNesting};
+ghost use Rattle.op_link.specs.Memory.{are_in_range};
 ghost use Rattle.op_tool.specs.Compiles.{FailsAs, FailsToCheck, HasNoImage, IsImage, IsTypedProgram, Made, RefusesBy};
 
 use op_base::{Files, NoMemory, Place, Refusal, Rule, Text};
@@ -65,18 +66,24 @@ impl From<LoadError> for CompileError {
     }
 }
 
-/// The image of the program in this file, which does what the program means.
+/// The image of the program in this file, which does what the program means with these sizes of heap and stack.
 ///
 /// `Refused` tells the first rule that the program breaks, as `load` and then `check` have them, or that it is not of the class that is
 /// compiled or that its low code may not be built. `Limit` comes where code, constants and initial globals would take more than 67,108,864 bytes.
-pub fn compile<F: Files>(alloc: Global, files: &mut F, main: &str) -> Result<Vec<u8>, CompileError>
-    ensures made { IfOk result (λ image. Made (F.stored files.old) main.now image.items) }
-    ensures failed { IfErr result (FailsAs (F.stored files.old) main.now (F.faults files.old) (F.faults files.new)) }
+pub fn compile<F: Files>(
+    alloc: Global,
+    files: &mut F,
+    main: &str,
+    settings: &Settings,
+) -> Result<Vec<u8>, CompileError>
+    requires settings { IsTrue (are_in_range settings.now) }
+    ensures made { IfOk result (λ image. Made (F.stored files.old) main.now settings.now image.items) }
+    ensures failed { IfErr result (FailsAs (F.stored files.old) main.now settings.now (F.faults files.old) (F.faults files.new)) }
     ensures counts { F.faults files.old ≤ F.faults files.new }
     ensures unchanged { F.stored files.new ≡ F.stored files.old }
 {
     let core = checked(alloc, files, main)?;
-    image_of(alloc, main, core)
+    image_of(alloc, main, core, settings)
 }
 
 /// The typed form of the program in this file, or the first rule that it breaks, as `load` and then `check` have them.
@@ -99,16 +106,22 @@ pub(crate) fn checked<F: Files>(
 }
 
 /// The image of a typed program, which is in this file.
-fn image_of(alloc: Global, main: &str, core: Core) -> Result<Vec<u8>, CompileError>
+fn image_of(
+    alloc: Global,
+    main: &str,
+    core: Core,
+    settings: &Settings,
+) -> Result<Vec<u8>, CompileError>
     requires sound { IsSound core × IsSoundNesting core }
-    ensures made { IfOk result (λ image. IsImage core image.items) }
-    ensures failed { IfErr result (HasNoImage core main.now) }
+    requires settings { IsTrue (are_in_range settings.now) }
+    ensures made { IfOk result (λ image. IsImage core settings.now image.items) }
+    ensures failed { IfErr result (HasNoImage core main.now settings.now) }
 {
     if !is_plain(&core) {
         return Err(refused(alloc, main, NOT_COMPILED));
     }
     let mir = middle(alloc, &core)?;
-    match build(alloc, core, mir, &Settings::DEFAULT) {
+    match build(alloc, core, mir, settings) {
         Ok(image) => Ok(image),
         Err(BuildError::Limit) => Err(CompileError::Limit),
         Err(BuildError::Unbuildable) => Err(refused(alloc, main, NOT_COMPILED)),

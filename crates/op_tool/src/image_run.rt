@@ -11,18 +11,16 @@ use op_base::{Sink, Source};
 use op_emu::{MachineError, Stop, load};
 use std::alloc::Global;
 
-/// The most steps that an image may do.
-const STEP_LIMIT: u64 = 4_000_000_000;
-
-/// Loads an image and runs it. Once it runs no memory is taken.
+/// Loads an image and runs it for at most so many steps. Once it runs no memory is taken.
 pub(crate) fn run_image<R: Source, W: Sink, E: Sink>(
     alloc: Global,
     image: &[u8],
+    steps: u64,
     input: &mut R,
     out: &mut W,
     err: &mut E,
 ) -> Finish
-    ensures says { Says (OwesImage image.now (R.faults input.old) (R.faults input.new)) result
+    ensures says { Says (OwesImage image.now steps (R.faults input.old) (R.faults input.new)) result
         (streams (R.left input.old) (R.left input.new) (W.written out.old) (W.written out.new) (E.written err.old) (E.written err.new))
         (faults (R.faults input.old) (R.faults input.new) (W.faults out.old) (W.faults out.new) (E.faults err.old) (E.faults err.new)) }
     ensures counts { Rises (faults (R.faults input.old) (R.faults input.new) (W.faults out.old) (W.faults out.new) (E.faults err.old) (E.faults err.new)) }
@@ -30,7 +28,7 @@ pub(crate) fn run_image<R: Source, W: Sink, E: Sink>(
     ensures leaves_output { RunsNothing result (R.faults input.old) (R.faults input.new) → out.new ≡ out.old }
 {
     match load(alloc, image) {
-        Ok(mut machine) => match machine.run(STEP_LIMIT, input, out, err) {
+        Ok(mut machine) => match machine.run(steps, input, out, err) {
             Stop::Ended(status) => Finish::Ended(status),
             Stop::Spent => report(err, b"opc: step limit reached\n", Finish::Spent),
             Stop::Fault(kind, pc) => report_fault(kind, pc, err),

@@ -11,4 +11,5 @@ mod report;
 pub use compiler::{CompileError, compile};
 pub use driver::tool;
 pub use finish::{Finish, status};
+pub use op_listing::listing;
 pub use report::report_no_memory;

@@ -3,17 +3,17 @@ use Rattle.op_tool.proofs.Compiling.{err_also, fails_as, made_of, not_compiled_b
 use Rattle.op_tool.proofs.compiler.compile.Goals as goal
 
 pub image_of-requires : goal.image_of-requires
-image_of-requires g c = let is = c.in_ok-core.ensures.made.1 in record { sound = (is.sound, is.nesting) }
+image_of-requires g c = let is = c.in_ok-core.ensures.made.1 in record { sound = (is.sound, is.nesting); settings = c.requires.settings }
 
 pub returns-in_err-core-clause-failed : goal.returns-in_err-core-clause-failed
 returns-in_err-core-clause-failed g c =
     let p = err_from_is_err_and c.from_residual.result c.from_residual.ensures.1 in
-    rw (p.1, p.2) (not_compiled_by (g.F.Files.stored c.args.files.now) c.args.main.now (g.F.Files.faults c.args.files.now) (g.F.Files.faults c.checked.new.files) c.in_err-core.field-0.0 c.in_err-core.ensures.failed)
+    rw (p.1, p.2) (not_compiled_by (g.F.Files.stored c.args.files.now) c.args.main.now c.args.settings.now (g.F.Files.faults c.args.files.now) (g.F.Files.faults c.checked.new.files) c.in_err-core.field-0.0 c.in_err-core.ensures.failed)
 
 pub returns-clause-made : goal.returns-clause-made
 returns-clause-made g c =
-    ok_also c.image_of.result (λ image is. made_of (g.F.Files.stored c.args.files.now) c.args.main.now c.in_ok-core.core image.items c.in_ok-core.ensures.made is) c.image_of.ensures.made
+    ok_also c.image_of.result (λ image is. made_of (g.F.Files.stored c.args.files.now) c.args.main.now c.args.settings.now c.in_ok-core.core image.items c.in_ok-core.ensures.made is) c.image_of.ensures.made
 
 pub returns-clause-failed : goal.returns-clause-failed
 returns-clause-failed g c =
-    err_also c.image_of.result (λ error why. fails_as (g.F.Files.stored c.args.files.now) c.args.main.now (g.F.Files.faults c.args.files.now) (g.F.Files.faults c.checked.new.files) c.in_ok-core.core error c.in_ok-core.ensures.made why) c.image_of.ensures.failed
+    err_also c.image_of.result (λ error why. fails_as (g.F.Files.stored c.args.files.now) c.args.main.now c.args.settings.now (g.F.Files.faults c.args.files.now) (g.F.Files.faults c.checked.new.files) c.in_ok-core.core error c.in_ok-core.ensures.made why) c.image_of.ensures.failed

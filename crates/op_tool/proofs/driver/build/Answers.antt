@@ -1,6 +1,7 @@
 use Rattle.std.proofs.Common.{ap, inl, inr, refl, subst, ◌∙◌}
 use Rattle.op_base.specs.Outside.{AppendsFront, appended}
 use Rattle.op_tool.specs.Owes.{call}
+use Rattle.op_tool.specs.Reading.{asked_of}
 use Rattle.op_tool.specs.declared.finish.Finish.TheVariants.{Ended}
 use Rattle.op_tool.proofs.Failing.{says_build_error}
 use Rattle.op_tool.proofs.Saying.{says_written, says_written_in_part}
@@ -19,4 +20,4 @@ returns-in-Failed-clause-says g c words left count =
 
 pub returns-in-Err-clause-says : goal.returns-in-Err-clause-says
 returns-in-Err-clause-says g c words left count =
-    says_build_error (call words (g.F.Files.stored c.args.files.now) (g.F.Files.faults c.args.files.now) (g.F.Files.faults c.compile.new.files) count count c.args.image.now.items) c.args.file.now c.in-Err.error c.report_error.result _ _ _ _ _ _ _ _ _ c.in-Err.ensures.failed refl c.requires c.report_error.ensures.says
+    says_build_error (call words (g.F.Files.stored c.args.files.now) (g.F.Files.faults c.args.files.now) (g.F.Files.faults c.compile.new.files) count count c.args.image.now.items) (asked_of c.args.command.now) c.in-Err.error c.report_error.result _ _ _ _ _ _ _ _ _ c.in-Err.ensures.failed refl c.requires.empty c.report_error.ensures.says
