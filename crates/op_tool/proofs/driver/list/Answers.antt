@@ -11,13 +11,13 @@ use Rattle.op_tool.proofs.driver.list.Goals as goal
 pub returns-in-Done-clause-says : goal.returns-in-Done-clause-says
 returns-in-Done-clause-says g c words left count =
     let made = c.in-Ok.ensures.made in
-    let text : c.as_slice-in-Ok-listing.result.now ≡ listing_of c.in-Ok.made.items = c.as_slice-in-Ok-listing.ensures ∙ c.in-Ok-listing.ensures ∙ ap listing_of c.as_slice.ensures.value in
+    let text : c.as_slice-in-Ok-listing.result.now ≡ listing_of c.in-Ok.made.items = c.as_slice-in-Ok-listing.ensures ∙ c.in-Ok-listing.ensures.is ∙ ap listing_of c.as_slice.ensures.value in
     says_written _ (Ended 0) _ left (g.W.Sink.written c.args.out.now) (g.W.Sink.written c.put.new.self) (g.E.Sink.written c.args.err.now) _ (λ same. cc) (λ input. inr (refl, made, (refl, refl, refl))) (c.in-Done.ensures.done refl ∙ ap (appended (g.W.Sink.written c.args.out.now)) text)
 
 pub returns-in-Ok-listing-clause-says : goal.returns-in-Ok-listing-clause-says
 returns-in-Ok-listing-clause-says g c words left count =
     let made = c.in-Ok.ensures.made in
-    let text : c.as_slice-in-Ok-listing.result.now ≡ listing_of c.in-Ok.made.items = c.as_slice-in-Ok-listing.ensures ∙ c.in-Ok-listing.ensures ∙ ap listing_of c.as_slice.ensures.value in
+    let text : c.as_slice-in-Ok-listing.result.now ≡ listing_of c.in-Ok.made.items = c.as_slice-in-Ok-listing.ensures ∙ c.in-Ok-listing.ensures.is ∙ ap listing_of c.as_slice.ensures.value in
     let front = subst (λ bytes. AppendsFront (g.W.Sink.written c.args.out.now) bytes (g.W.Sink.written c.put.new.self)) text (c.in-Failed.ensures.front refl) in
     says_written_in_part _ (Ended 0) _ left (g.W.Sink.written c.args.out.now) (g.W.Sink.written c.put.new.self) (g.E.Sink.written c.args.err.now) _ (λ input. inr (refl, made, (refl, refl, refl))) front (inl (c.in-Failed.ensures.failed refl))
 
