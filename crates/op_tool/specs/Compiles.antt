@@ -76,10 +76,10 @@ pub record Made (stored : Option (List NamedFile)) (name image : List ℕ) : Typ
 
 -- ---- refusals
 
--- the first rule that the program breaks: of its files, else one that the check finds in them
-pub data IsBroken (stored : Option (List NamedFile)) (name : List ℕ) (refusal : Refusal) : Type 0 where
-  by_files : IsRefusedFile stored name refusal → IsBroken stored name refusal
-  by_check : (forest : Forest) → Loads stored name forest → Checks forest (Err (check.Refused refusal)) → IsBroken stored name refusal
+-- the first rule that the program breaks, and the name of the file where it does: of its files, else one that the check finds in them
+pub data IsBroken (stored : Option (List NamedFile)) (name file : List ℕ) (refusal : Refusal) : Type 0 where
+  by_files : IsRefusedFile stored name file refusal → IsBroken stored name file refusal
+  by_check : (forest : Forest) → Loads stored name forest → Checks forest (Err (check.Refused refusal)) → file ≡ name → IsBroken stored name file refusal
 
 abbrev pub file_missing : Rule
 file_missing = record { number = 10; feature = 0 }
@@ -101,9 +101,9 @@ pub record FailsToBuild (core : Core) (error : BuildError) : Type 0 where
 abbrev pub IsNotCompiled : Core → Type 0
 IsNotCompiled core = (is_plain_program core ≡ false) ⊎ FailsToBuild core build.Unbuildable
 
--- the program breaks this rule first, or it breaks none and is not compiled
-abbrev pub IsRefused : Option (List NamedFile) → List ℕ → Refusal → Type 0
-IsRefused stored name refusal = IsBroken stored name refusal ⊎ (refusal ≡ not_compiled) × (core : Core) × IsTypedProgram stored name core × IsNotCompiled core
+-- the program breaks this rule first, in the file of this name, or it breaks none and is not compiled
+abbrev pub IsRefused : Option (List NamedFile) → List ℕ → List ℕ → Refusal → Type 0
+IsRefused stored name file refusal = IsBroken stored name file refusal ⊎ (file ≡ name) × (refusal ≡ not_compiled) × (core : Core) × IsTypedProgram stored name core × IsNotCompiled core
 
 -- code, constants and initial globals of its image have more bytes than an image may have
 abbrev pub IsTooLarge : Option (List NamedFile) → List ℕ → Type 0
@@ -113,14 +113,14 @@ IsTooLarge stored name = (core : Core) × IsTypedProgram stored name core × Fai
 
 -- an error before or in the check, with its cause; `before` and `after` are the counts of faults of the files
 abbrev pub FailsToCheck : Option (List NamedFile) → List ℕ → ℕ → ℕ → CompileError → Type 0
-FailsToCheck stored name before after (Refused refusal file) = (file ≡ name) × IsBroken stored name refusal
+FailsToCheck stored name before after (Refused refusal file) = IsBroken stored name file refusal
 FailsToCheck stored name before after ReadFault = Rose before after
 FailsToCheck stored name before after Limit = ⊥
 FailsToCheck stored name before after NoMemory = ⊤
 
 -- an error with its cause
 abbrev pub FailsAs : Option (List NamedFile) → List ℕ → ℕ → ℕ → CompileError → Type 0
-FailsAs stored name before after (Refused refusal file) = (file ≡ name) × IsRefused stored name refusal
+FailsAs stored name before after (Refused refusal file) = IsRefused stored name file refusal
 FailsAs stored name before after ReadFault = Rose before after
 FailsAs stored name before after Limit = IsTooLarge stored name
 FailsAs stored name before after NoMemory = ⊤
