@@ -47,14 +47,17 @@ visited_by w unit interface implementation (Some k) h = by_closing w unit interf
 -- ---- a file
 
 pub enters : (w new : Walked) (file : List ℕ) (unit : Option (List ℕ)) (bytes : List ℕ) (t : Tree) (closing : Option ℕ) (interface implementation : List Use) (frame : Frame) → Reads (length w.trees) bytes t → misnamed unit t ≡ None → used_again (own_names unit) (interface ++ implementation) ≡ None → interface ≡ interface_uses t → implementation ≡ implementation_uses t → ClosingIs w (unit_name unit) interface closing → new ≡ with_parts w file unit (length bytes) t (map name_of interface) → FrameIs file unit closing interface implementation frame → EnterIs file unit bytes w new (Ok frame)
-enters w new file unit bytes t closing interface implementation frame reads named once i j c n f =
-    (f.file_is, f.unit_is, record {
-      main = t;
-      is_file = record { reads = reads; named = named; once = ap (used_again (own_names unit)) (sym (ap (λ us. us ++ implementation) i ∙ ap (λ us. interface_uses t ++ us) j)) ∙ once };
-      visited = subst (λ us. AreVisited w (unit_name unit) (interface_uses t) us frame.uses.items frame.closing) j (subst (λ us. AreVisited w (unit_name unit) us implementation frame.uses.items frame.closing) i
-          (subst (λ p. AreVisited w (unit_name unit) interface implementation frame.uses.items p) (sym f.closing_is) (subst (λ us. AreVisited w (unit_name unit) interface implementation us (closing_at closing interface)) (sym f.uses_are) (visited_by w (unit_name unit) interface implementation closing c))));
-      new_is = n ∙ ap (λ us. with_parts w file unit (length bytes) t (map name_of us)) i;
-    })
+enters w new file unit bytes t closing interface implementation frame reads named once i j c n f = (
+  f.file_is,
+  f.unit_is,
+  record {
+    main = t;
+    is_file = record { reads = reads; named = named; once = ap (used_again (own_names unit)) (sym (ap (λ us. us ++ implementation) i ∙ ap (λ us. interface_uses t ++ us) j)) ∙ once };
+    visited = subst (λ us. AreVisited w (unit_name unit) (interface_uses t) us frame.uses.items frame.closing) j (subst (λ us. AreVisited w (unit_name unit) us implementation frame.uses.items frame.closing) i
+        (subst (λ p. AreVisited w (unit_name unit) interface implementation frame.uses.items p) (sym f.closing_is) (subst (λ us. AreVisited w (unit_name unit) interface implementation us (closing_at closing interface)) (sym f.uses_are) (visited_by w (unit_name unit) interface implementation closing c))));
+    new_is = n ∙ ap (λ us. with_parts w file unit (length bytes) t (map name_of us)) i;
+  },
+)
 
 -- ---- a name
 

@@ -88,7 +88,7 @@ any_items p (k ∷ ks) = ap (λ b. p k.items || b) (any_items p ks)
 
 front_items : (p : List ℕ → Bool) (keys : List (Vec ℕ Global)) → prefix_len (λ k. p k.items) keys ≡ prefix_len p (map (λ k. k.items) keys)
 front_items p [] = refl
-front_items p (k ∷ ks) = ap (λ n. if p k.items then suc n else 0) (front_items p ks)
+front_items p (k ∷ ks) = ap (λ n. if p k.items then 1 + n else 0) (front_items p ks)
 
 pub position_items : (p : List ℕ → Bool) (keys : List (Vec ℕ Global)) → position (λ k. p k.items) keys ≡ position p (map (λ k. k.items) keys)
 position_items p keys =

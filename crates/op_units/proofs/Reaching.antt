@@ -1,6 +1,6 @@
 -- The search along interface uses.
-use Rattle.std.proofs.Common.{◌≡◌, ℕ, zero, suc, ◌+◌, ◌<◌, ◌≤◌, Bool, true, false, List, [], ◌∷◌, ◌++◌, length, slice_get, take, drop, get_or, Option, Some, None, refl, sym, ap, subst, ◌∙◌, ◌⊎◌, inl, inr, arith, append_assoc}
-use Rattle.std.proofs.lemmas.Bool.{false≢true}
+use Rattle.std.proofs.Common.{◌≡◌, ℕ, zero, suc, ◌+◌, ◌<◌, ◌≤◌, Bool, true, false, List, [], ◌∷◌, ◌++◌, length, slice_get, take, drop, get_or, Option, Some, None, if◌then◌else◌, refl, sym, ap, subst, ◌∙◌, ◌⊎◌, inl, inr, arith, append_assoc}
+use Rattle.std.proofs.lemmas.Bool.{cases_lt, false≢true}
 use Rattle.std.proofs.lemmas.Option.{slice_get_cases, slice_get_past, slice_get_within}
 use Rattle.op_units.specs.Names.{is_among}
 use Rattle.op_units.specs.Cycles.{ClosedAt, ClosesAt, Reached, with_name, with_names}
@@ -24,8 +24,9 @@ pub with_names_has : (xs names : List (List ℕ)) (b : List ℕ) → is_among b 
 with_names_has xs [] b h = absurd (false≢true h)
 with_names_has xs (n ∷ ns) b h =
     elim (among_cases b (n ∷ []) ns h) [
-      inl e ↦ still_among b (with_name xs n) (with_names (with_name xs n) ns) (with_names_grows (with_name xs n) ns) (subst (λ x. is_among x (with_name xs n) ≡ true) (sym (among_one b n e)) (with_name_has xs n))
-    | inr e ↦ with_names_has (with_name xs n) ns b e ]
+      | inl e ↦ still_among b (with_name xs n) (with_names (with_name xs n) ns) (with_names_grows (with_name xs n) ns) (subst (λ x. is_among x (with_name xs n) ≡ true) (sym (among_one b n e)) (with_name_has xs n))
+      | inr e ↦ with_names_has (with_name xs n) ns b e
+    ]
 
 last_or : (xs : List (List ℕ)) (n : List ℕ) (k : ℕ) (a : List ℕ) → slice_get (xs ++ n ∷ []) k ≡ Some a → (slice_get xs k ≡ Some a) ⊎ (a ≡ n)
 last_or [] n zero a h = inr (same h)
@@ -47,8 +48,9 @@ pub with_names_only : (xs names : List (List ℕ)) (k : ℕ) (a : List ℕ) → 
 with_names_only xs [] k a h = inl h
 with_names_only xs (n ∷ ns) k a h =
     elim (with_names_only (with_name xs n) ns k a h) [
-      inl e ↦ elim (with_name_only xs n k a (is_among n xs) e) [ inl f ↦ inl f | inr f ↦ inr (among_front a (n ∷ []) ns (subst (λ x. is_among x (n ∷ []) ≡ true) (sym f) (among_itself n))) ]
-    | inr e ↦ inr (among_back a (n ∷ []) ns e) ]
+      | inl e ↦ elim (with_name_only xs n k a (is_among n xs) e) [ inl f ↦ inl f | inr f ↦ inr (among_front a (n ∷ []) ns (subst (λ x. is_among x (n ∷ []) ≡ true) (sym f) (among_itself n))) ]
+      | inr e ↦ inr (among_back a (n ∷ []) ns e)
+    ]
 
 pub among_at : (xs : List (List ℕ)) (k : ℕ) (a : List ℕ) → slice_get xs k ≡ Some a → is_among a xs ≡ true
 among_at [] k a h = absurd (omega (arith, slice_get_within [] k a h))
@@ -61,7 +63,7 @@ among_at (x ∷ xs) (suc k) a h = among_back a (x ∷ []) xs (among_at xs k a h)
 -- ---- closed names
 
 below_or : (k n : ℕ) → (k < n) ⊎ (n ≤ k)
-below_or k n = omega arith
+below_or k n = cases_lt k n
 
 module _ (units : List (List ℕ)) (interfaces : List (List (List ℕ))) where
   same_some : {a b : List ℕ} → Some a ≡ Some b → a ≡ b
@@ -70,8 +72,9 @@ module _ (units : List (List ℕ)) (interfaces : List (List (List ℕ))) where
   still_closed : (xs ys : List (List ℕ)) (k : ℕ) → Grows xs ys → k < length xs → ClosedAt units interfaces xs k → ClosedAt units interfaces ys k
   still_closed xs ys k (grows m e) w h a b names s i t =
       elim (slice_get_cases xs k).1 [
-        inl f ↦ still_among b xs ys (grows m e) (h a b names (f.2.0 ∙ sym (subst (λ us. slice_get us k ≡ Some f.0) (sym e) (front_stays xs m k f.0 f.2.0)) ∙ s) i t)
-      | inr f ↦ absurd (omega (arith, w, f.0)) ]
+        | inl f ↦ still_among b xs ys (grows m e) (h a b names (f.2 ∙ sym (subst (λ us. slice_get us k ≡ Some f.0) (sym e) (front_stays xs m k f.0 f.2)) ∙ s) i t)
+        | inr f ↦ absurd (omega (arith, w, f.0))
+      ]
 
   -- what leads from one of the names is among them
   pub leads_among : (seen : List (List ℕ)) (a c : List ℕ) → ((k : ℕ) → ClosedAt units interfaces seen k) → Lead units interfaces a c → is_among a seen ≡ true → is_among c seen ≡ true
@@ -113,10 +116,14 @@ module _ (units : List (List ℕ)) (interfaces : List (List (List ℕ))) where
     sound = h.sound;
   }
     where
+      last : (k : ℕ) → k < number + 1 → number ≤ k → k ≡ number
+      last k v e = omega (arith, v, e)
+
       closed_at : (k : ℕ) → length old ≤ k → k < number + 1 → ClosedAt units interfaces seen k
-      closed_at k w v = let d : (k < number) ⊎ (k ≡ number) = omega (arith, v) in elim d [
-          inl e ↦ h.front k w e
-        | inr e ↦ λ a b names t j u. absurd (not_both (sym i ∙ ap (λ x. interface_of units interfaces x) (same_some (sym s ∙ ap (λ n. slice_get seen n) (sym e) ∙ t)) ∙ j)) ]
+      closed_at k w v = elim (below_or k number) [
+        | inl e ↦ h.front k w e
+        | inr e ↦ λ a b names t j u. absurd (not_both (sym i ∙ ap (λ x. interface_of units interfaces x) (same_some (sym s ∙ ap (λ n. slice_get seen n) (sym (last k v e)) ∙ t)) ∙ j))
+      ]
 
   -- the names that it uses are added
   pub reaching_adds : (old : List (List ℕ)) (start : List ℕ) (seen : List (List ℕ)) (number : ℕ) (name : List ℕ) (names : List (List ℕ)) → Reaching old start seen number → length old ≤ number → slice_get seen number ≡ Some name → interface_of units interfaces name ≡ Some names → Reaching old start (with_names seen names) (number + 1)
@@ -127,44 +134,59 @@ module _ (units : List (List ℕ)) (interfaces : List (List (List ℕ))) where
     sound = λ k a w t. sound_at k a w t;
   }
     where
+      last : (k : ℕ) → k < number + 1 → number ≤ k → k ≡ number
+      last k v e = omega (arith, v, e)
+
       here : ClosedAt units interfaces (with_names seen names) number
       here a b others t j u = with_names_has seen names b (subst (λ ns. is_among b ns ≡ true) (same_list (sym j ∙ ap (λ x. interface_of units interfaces x) (same_some (sym t ∙ stays)) ∙ i)) u)
         where
           same_list : {x y : List (List ℕ)} → Some x ≡ Some y → x ≡ y
           same_list e = cc
+
           stays_by : Grows seen (with_names seen names) → slice_get (with_names seen names) number ≡ Some name
           stays_by (grows m e) = subst (λ us. slice_get us number ≡ Some name) (sym e) (front_stays seen m number name s)
+
           stays : slice_get (with_names seen names) number ≡ Some name
           stays = stays_by (with_names_grows seen names)
+
       closed_at : (k : ℕ) → length old ≤ k → k < number + 1 → ClosedAt units interfaces (with_names seen names) k
-      closed_at k w v = let d : (k < number) ⊎ (k ≡ number) = omega (arith, v) in elim d [
-          inl e ↦ still_closed seen (with_names seen names) k (with_names_grows seen names) (omega (arith, e, slice_get_within seen number name s)) (h.front k w e)
-        | inr e ↦ subst (λ n. ClosedAt units interfaces (with_names seen names) n) (sym e) here ]
+      closed_at k w v = elim (below_or k number) [
+        | inl e ↦ still_closed seen (with_names seen names) k (with_names_grows seen names) (omega (arith, e, slice_get_within seen number name s)) (h.front k w e)
+        | inr e ↦ subst (λ n. ClosedAt units interfaces (with_names seen names) n) (sym (last k v e)) here
+      ]
+
       sound_at : (k : ℕ) (a : List ℕ) → length old ≤ k → slice_get (with_names seen names) k ≡ Some a → Lead units interfaces start a
       sound_at k a w t = elim (with_names_only seen names k a t) [
-          inl e ↦ h.sound k a w e
-        | inr e ↦ lead_on a names (h.sound number name after s) i e ]
+        | inl e ↦ h.sound k a w e
+        | inr e ↦ lead_on a names (h.sound number name after s) i e
+      ]
 
   -- no name is left
   pub reached : (old : List (List ℕ)) (start : List ℕ) (seen : List (List ℕ)) (number : ℕ) → Reaching old start seen number → slice_get seen number ≡ None → Reached units interfaces old start seen
   reached old start seen number h s = by_growth h.grown
     where
       past : length seen ≤ number
-      past = elim (slice_get_cases seen number).1 [ inl f ↦ absurd (not_both (sym s ∙ f.2.0)) | inr f ↦ f.0 ]
+      past = elim (slice_get_cases seen number).1 [ inl f ↦ absurd (not_both (sym s ∙ f.2)) | inr f ↦ f.0 ]
+
       sound_of : (name : List ℕ) → Grows old seen → is_among name seen ≡ true → (is_among name old ≡ true) ⊎ Lead units interfaces start name
       sound_of name g t = let r = number_among name seen t in
           elim (slice_get_cases old r.0).1 [
-            inl f ↦ inl (among_at old r.0 name (f.2.0 ∙ sym (stays_in g f.0 f.2.0) ∙ r.1))
-          | inr f ↦ inr (h.sound r.0 name f.0 r.1) ]
+            | inl f ↦ inl (among_at old r.0 name (f.2 ∙ sym (stays_in g f.0 f.2) ∙ r.1))
+            | inr f ↦ inr (h.sound r.0 name f.0 r.1)
+          ]
         where
           stays_in : Grows old seen → (k : ℕ) → (a : List ℕ) → slice_get old k ≡ Some a → slice_get seen k ≡ Some a
           stays_in (grows m e) k a q = subst (λ us. slice_get us k ≡ Some a) (sym e) (front_stays old m k a q)
+
       closed_of : ((k : ℕ) → ClosedAt units interfaces old k) → (k : ℕ) → ClosedAt units interfaces seen k
       closed_of c k = elim (slice_get_cases old k).1 [
-          inl f ↦ still_closed old seen k h.grown f.1 (c k)
+        | inl f ↦ still_closed old seen k h.grown f.1 (c k)
         | inr f ↦ elim (below_or k number) [
-            inl e ↦ h.front k f.0 e
-          | inr e ↦ λ a b names t j u. absurd (omega (arith, past, e, slice_get_within seen k a t)) ] ]
+          | inl e ↦ h.front k f.0 e
+          | inr e ↦ λ a b names t j u. absurd (omega (arith, past, e, slice_get_within seen k a t))
+        ]
+      ]
+
       by_growth : Grows old seen → Reached units interfaces old start seen
       by_growth (grows m e) = record { more = m; grows = e; has = h.has; closed = closed_of; sound = λ name t. sound_of name (grows m e) t }
 

@@ -65,8 +65,8 @@ module _ (stored : Option (List NamedFile)) (folder : List ℕ) where
   pub goes_on_in : (whole : Ends → Type 0) (frames rest after_frames : List Frame) (f g : Frame) (used : Use) (w new : Walked) (before after : ℕ) (inner : Option Frame) → frames ≡ f ∷ rest → g.file ≡ f.file → g.unit ≡ f.unit → g.closing ≡ f.closing → f.uses.items ≡ used ∷ g.uses.items → UseIs stored folder f.file used w new before after (Ok inner) → after_frames ≡ with_frame inner (g ∷ rest) → Completes whole frames w → Completes whole after_frames new
   goes_on_in whole frames rest after_frames f g used w new before after inner is file unit closing uses u put completes end goes =
       completes end (subst (λ fs. Goes fs w end) (sym is) (subst (λ us. At f.file f.unit f.closing us rest w end) (sym uses)
-          (subst (λ c. At f.file f.unit c (used ∷ g.uses.items) rest w end) closing (subst (λ n. At f.file n g.closing (used ∷ g.uses.items) rest w end) unit (subst (λ n. At n g.unit g.closing (used ∷ g.uses.items) rest w end) file
-              (goes_in g used rest w new before after inner end (subst (λ n. UseIs stored folder n used w new before after (Ok inner)) (sym file) u) (subst (λ fs. Goes fs new end) put goes)))))))
+      (subst (λ c. At f.file f.unit c (used ∷ g.uses.items) rest w end) closing (subst (λ n. At f.file n g.closing (used ∷ g.uses.items) rest w end) unit (subst (λ n. At n g.unit g.closing (used ∷ g.uses.items) rest w end) file
+      (goes_in g used rest w new before after inner end (subst (λ n. UseIs stored folder n used w new before after (Ok inner)) (sym file) u) (subst (λ fs. Goes fs new end) put goes)))))))
 
   -- ---- a refusal
 
@@ -84,7 +84,7 @@ module _ (stored : Option (List NamedFile)) (folder : List ℕ) where
   pub closed : (frames rest : List Frame) (first f : Frame) (place : Place) (start w : Walked) (initial after : ℕ) (error : LoadError) → frames ≡ f ∷ rest → f.uses.items ≡ [] → f.closing ≡ Some place → RefusesBy f.file (broken 11 place) error → Completes (Visits stored folder first.file first.closing start first.uses.items) frames w → StopsAt stored folder first start initial after error
   closed frames rest first f place start w initial after (Refused refusal name) is us c (file, given) completes =
       subst (λ r. Visits stored folder first.file first.closing start first.uses.items (refused r name)) (sym given) (subst (λ n. Visits stored folder first.file first.closing start first.uses.items (refused (broken 11 place) n)) (sym file)
-          (completes (refused (broken 11 place) f.file) (subst (λ fs. Goes fs w (refused (broken 11 place) f.file)) (sym is) (by_parts f.closing f.uses.items c us))))
+      (completes (refused (broken 11 place) f.file) (subst (λ fs. Goes fs w (refused (broken 11 place) f.file)) (sym is) (by_parts f.closing f.uses.items c us))))
     where
       by_parts : (closing : Option Place) (uses : List Use) → closing ≡ Some place → uses ≡ [] → At f.file f.unit closing uses rest w (refused (broken 11 place) f.file)
       by_parts closing uses c u = subst (λ x. At f.file f.unit x uses rest w (refused (broken 11 place) f.file)) (sym c) (subst (λ us. At f.file f.unit (Some place) us rest w (refused (broken 11 place) f.file)) (sym u) (refused (broken 11 place) f.file, is_cycle, refl))

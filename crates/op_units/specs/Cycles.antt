@@ -1,5 +1,5 @@
 -- How the walk is done: the search for cycles, and what the steps of the code answer.
-use Rattle.std.specs.Prelude.{◌≡◌, ℕ, suc, ◌+◌, ◌<◌, ◌≤◌, Bool, true, false, ⊤, ◌⊎◌, Option, Some, None, Result, Ok, Err, List, [], ◌∷◌, ◌++◌, if◌then◌else◌, length, map, slice_get, slice_index_or, take}
+use Rattle.std.specs.Prelude.{◌≡◌, ℕ, zero, suc, ◌+◌, ◌<◌, ◌≤◌, Bool, true, false, ⊤, ◌⊎◌, Option, Some, None, Result, Ok, Err, List, [], ◌∷◌, ◌++◌, if◌then◌else◌, length, map, slice_get, slice_index_or, take}
 use Rattle.op_base.specs.Outside.{Rose}
 use Rattle.op_base.specs.declared.files.NamedFile.{NamedFile}
 use Rattle.op_base.specs.declared.place.Place.{Place}
@@ -81,7 +81,7 @@ uses_up_to (Some k) interface implementation = take k interface
 
 abbrev pub use_at : List Use → ℕ → Option Place
 use_at [] k = None
-use_at (used ∷ uses) 0 = Some used.place
+use_at (used ∷ uses) zero = Some used.place
 use_at (used ∷ uses) (suc k) = use_at uses k
 
 abbrev pub closing_at : Option ℕ → List Use → Option Place

@@ -161,11 +161,7 @@ fn visit_all<F: Files>(
 }
 
 /// Puts a file in front of those under visit, and one that it uses in front of it.
-fn put(
-    frames: &mut VecDeque<Frame>,
-    frame: Frame,
-    inner: Option<Frame>,
-) -> Result<(), NoMemory>
+fn put(frames: &mut VecDeque<Frame>, frame: Frame, inner: Option<Frame>) -> Result<(), NoMemory>
     ensures { IfOk result (λ _. frames.new.items ≡ with_frame inner (frame ∷ frames.old.items)) }
 {
     frames.push_front(frame)?;

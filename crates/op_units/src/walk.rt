@@ -194,7 +194,14 @@ impl Walk {
             return Err(LoadError::Refused(broken(USED_AGAIN, place), file));
         }
         let closing = self.closing(alloc, name_of(&unit), interface.as_slice())?;
-        self.keep(alloc, file.as_slice(), &unit, bytes.len(), tree, interface.as_slice())?;
+        self.keep(
+            alloc,
+            file.as_slice(),
+            &unit,
+            bytes.len(),
+            tree,
+            interface.as_slice(),
+        )?;
         Ok(frame_of(file, unit, closing, interface, implementation)?)
     }
 
@@ -215,7 +222,8 @@ impl Walk {
         self.names.push(Text::copy_of(alloc, file)?)?;
         if let Some(unit) = unit {
             self.units.add(unit.as_slice())?;
-            self.interfaces.push(Sequence::from(names_of(alloc, interface)?))?;
+            self.interfaces
+                .push(Sequence::from(names_of(alloc, interface)?))?;
         }
         self.trees.push(tree)?;
         Ok(())
