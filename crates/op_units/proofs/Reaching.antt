@@ -171,7 +171,7 @@ module _ (units : List (List ℕ)) (interfaces : List (List (List ℕ))) where
       sound_of : (name : List ℕ) → Grows old seen → is_among name seen ≡ true → (is_among name old ≡ true) ⊎ Lead units interfaces start name
       sound_of name g t = let r = number_among name seen t in
           elim (slice_get_cases old r.0).1 [
-            | inl f ↦ inl (among_at old r.0 name (f.2 ∙ sym (stays_in g f.0 f.2) ∙ r.1))
+            | inl f ↦ inl (among_at old r.0 name (f.2 ∙ sym (stays_in g r.0 f.0 f.2) ∙ r.1))
             | inr f ↦ inr (h.sound r.0 name f.0 r.1)
           ]
         where
@@ -220,11 +220,14 @@ shorter [] n h = absurd (omega (arith, h))
 shorter (u ∷ us) zero h = refl
 shorter (u ∷ us) (suc n) h = ap suc (shorter us n (omega (arith, h)))
 
+next : (n : ℕ) → n + 1 ≡ suc n
+next n = omega arith
+
 pub none_closes_yet : (w : Walked) (unit : List ℕ) (interface : List Use) (number : ℕ) (seen new : List (List ℕ)) (start : List ℕ) (used : Use) → Open w unit interface number seen → Reached w.units w.interfaces seen start new → number < length interface → used ≡ get_or interface number used → start ≡ used.name → is_among unit new ≡ false → Open w unit interface (number + 1) new
 none_closes_yet w unit interface number seen new start used o r within is named out = record {
   closed = r.closed o.closed;
   outside = out;
-  are_open = subst (λ us. AreOpen w unit us) (sym (ap (λ n. take n interface) (omega arith) ∙ longer interface number used within ∙ ap (λ u. take number interface ++ u ∷ []) (sym is))) (open_more w unit (take number interface) used o.are_open (λ leads. absurd (false≢true (sym out ∙ leads_among w.units w.interfaces new used.name unit (r.closed o.closed) leads (subst (λ n. is_among n new ≡ true) named r.has)))));
+  are_open = subst (λ us. AreOpen w unit us) (sym (ap (λ n. take n interface) (next number) ∙ longer interface number used within ∙ ap (λ u. take number interface ++ u ∷ []) (sym is))) (open_more w unit (take number interface) used o.are_open (λ leads. absurd (false≢true (sym out ∙ leads_among w.units w.interfaces new used.name unit (r.closed o.closed) leads (subst (λ n. is_among n new ≡ true) named r.has)))));
 }
 
 pub closes_here : (w : Walked) (unit : List ℕ) (interface : List Use) (number : ℕ) (seen new : List (List ℕ)) (start : List ℕ) (used : Use) → Open w unit interface number seen → Reached w.units w.interfaces seen start new → number < length interface → used ≡ get_or interface number used → start ≡ used.name → is_among unit new ≡ true → ClosesAt w unit interface number
