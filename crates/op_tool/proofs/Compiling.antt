@@ -27,20 +27,20 @@ checked_so forest trees result is means law =
 
 -- a program that is not loaded
 pub not_loaded : (stored : Option (List NamedFile)) (name : List ℕ) (before after : ℕ) (error : LoadError) → FailsToLoad stored name before after error → FailsToCheck stored name before after (error_of error)
-not_loaded stored name before after (load.Refused refusal file) (is_file, why) = (is_file, by_files why)
+not_loaded stored name before after (load.Refused refusal file) why = by_files why
 not_loaded stored name before after load.ReadFault rose = rose
 not_loaded stored name before after load.NoMemory free = free
 
 -- what fails to be checked is not compiled
 pub not_compiled_by : (stored : Option (List NamedFile)) (name : List ℕ) (settings : Settings) (before after : ℕ) (error : CompileError) → FailsToCheck stored name before after error → FailsAs stored name settings before after error
-not_compiled_by stored name settings before after (Refused refusal file) (is_file, is_broken) = (is_file, inl is_broken)
+not_compiled_by stored name settings before after (Refused refusal file) is_broken = inl is_broken
 not_compiled_by stored name settings before after ReadFault rose = rose
 not_compiled_by stored name settings before after Limit never = absurd never
 not_compiled_by stored name settings before after NoMemory free = free
 
 -- a refusal by the check, or want of memory
-pub not_checked : (stored : Option (List NamedFile)) (name : List ℕ) (before after : ℕ) (refusal : Refusal) (error : CompileError) → IsBroken stored name refusal → RefusesBy name refusal error → FailsToCheck stored name before after error
-not_checked stored name before after refusal (Refused given file) broken (is_file, is) = (is_file, subst (IsBroken stored name) (sym is) broken)
+pub not_checked : (stored : Option (List NamedFile)) (name : List ℕ) (before after : ℕ) (refusal : Refusal) (error : CompileError) → IsBroken stored name name refusal → RefusesBy name refusal error → FailsToCheck stored name before after error
+not_checked stored name before after refusal (Refused given file) broken (is_file, is) = subst (λ f. IsBroken stored name f given) (sym is_file) (subst (IsBroken stored name name) (sym is) broken)
 not_checked stored name before after refusal ReadFault broken never = absurd never
 not_checked stored name before after refusal Limit broken never = never
 not_checked stored name before after refusal NoMemory broken free = free
@@ -57,7 +57,7 @@ made_of stored name settings core image is is_image = record { core = core; is_p
 
 -- why a program has none
 pub fails_as : (stored : Option (List NamedFile)) (name : List ℕ) (settings : Settings) (before after : ℕ) (core : Core) (error : CompileError) → IsTypedProgram stored name core → HasNoImage core name settings error → FailsAs stored name settings before after error
-fails_as stored name settings before after core (Refused refusal file) is (is_file, is_refusal, no_image) = (is_file, inr (is_refusal, core, is, no_image))
+fails_as stored name settings before after core (Refused refusal file) is (is_file, is_refusal, no_image) = inr (is_file, is_refusal, core, is, no_image)
 fails_as stored name settings before after core ReadFault is never = absurd never
 fails_as stored name settings before after core Limit is no_image = (core, is, no_image)
 fails_as stored name settings before after core NoMemory is free = free

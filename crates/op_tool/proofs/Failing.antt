@@ -13,8 +13,8 @@ use Rattle.op_tool.specs.declared.finish.Finish.TheVariants.{ReadFault, Limit}
 use Rattle.op_tool.proofs.Saying.{says_also, says_no_memory, says_refused, says_report}
 
 says_error : (now : Call) (name : List ℕ) (settings : Settings) (error : CompileError) (answer : Finish) (i o e e' : Option (List ℕ)) (r r' n c c' : ℕ) → FailsAs now.stored name settings now.file_faults_before now.file_faults_after error → now.input_faults_after ≡ now.input_faults_before → now.image ≡ [] → ReportsError error answer e e' c c' → Says (OwesError now name settings) answer (streams i i o o e e') (faults r r' n n c c')
-says_error now name settings (errors.Refused refusal file) answer i o e e' r r' n c c' (is_file, refused) same empty is =
-    says_refused (OwesError now name settings) name file refusal answer i o e e' r r' n c c' is_file (λ done only. (refused, empty, only)) (λ done only. (empty, only)) is
+says_error now name settings (errors.Refused refusal file) answer i o e e' r r' n c c' refused same empty is =
+    says_refused (OwesError now name settings) file file refusal answer i o e e' r r' n c c' refl (λ done only. (file, refused, empty, only)) (λ done only. (empty, only)) is
 says_error now name settings errors.ReadFault answer i o e e' r r' n c c' rose same empty is =
     says_report (OwesError now name settings) ReadFault answer (line (codes "opc: read fault")) i o e e' r r' n c c' (λ other. cc) (λ input. (empty, (rose, same, (refl, refl, refl)))) is
 says_error now name settings errors.Limit answer i o e e' r r' n c c' large same empty is =
@@ -35,8 +35,8 @@ says_list_error now asked error answer i o e e' r r' n c c' failed same empty is
     says_also (OwesError now asked.operand asked.settings) (OwesList now asked) answer (streams i i o o e e') (faults r r' n n c c') (λ answer done bytes owes. inl owes) (says_error now asked.operand asked.settings error answer i o e e' r r' n c c' failed same empty is)
 
 pub says_check_error : (now : Call) (name : List ℕ) (error : CompileError) (answer : Finish) (i o e e' : Option (List ℕ)) (r r' n c c' : ℕ) → FailsToCheck now.stored name now.file_faults_before now.file_faults_after error → now.input_faults_after ≡ now.input_faults_before → now.image ≡ [] → ReportsError error answer e e' c c' → Says (OwesCheck now name) answer (streams i i o o e e') (faults r r' n n c c')
-says_check_error now name (errors.Refused refusal file) answer i o e e' r r' n c c' (is_file, broken) same empty is =
-    says_refused (OwesCheck now name) name file refusal answer i o e e' r r' n c c' is_file (λ done only. (empty, (broken, only))) (λ done only. (empty, only)) is
+says_check_error now name (errors.Refused refusal file) answer i o e e' r r' n c c' broken same empty is =
+    says_refused (OwesCheck now name) file file refusal answer i o e e' r r' n c c' refl (λ done only. (empty, (file, broken, only))) (λ done only. (empty, only)) is
 says_check_error now name errors.ReadFault answer i o e e' r r' n c c' rose same empty is =
     says_report (OwesCheck now name) ReadFault answer (line (codes "opc: read fault")) i o e e' r r' n c c' (λ other. cc) (λ input. (empty, (rose, same, (refl, refl, refl)))) is
 says_check_error now name errors.Limit answer i o e e' r r' n c c' never same empty is = absurd never

@@ -78,10 +78,10 @@ pub record Made (stored : Option (List NamedFile)) (name : List ℕ) (settings :
 
 -- ---- refusals
 
--- the first rule that the program breaks: of its files, else one that the check finds in them
-pub data IsBroken (stored : Option (List NamedFile)) (name : List ℕ) (refusal : Refusal) : Type 0 where
-  by_files : IsRefusedFile stored name refusal → IsBroken stored name refusal
-  by_check : (forest : Forest) → Loads stored name forest → Checks forest (Err (check.Refused refusal)) → IsBroken stored name refusal
+-- the first rule that the program breaks, and the name of the file where it does: of its files, else one that the check finds in them
+pub data IsBroken (stored : Option (List NamedFile)) (name file : List ℕ) (refusal : Refusal) : Type 0 where
+  by_files : IsRefusedFile stored name file refusal → IsBroken stored name file refusal
+  by_check : (forest : Forest) → Loads stored name forest → Checks forest (Err (check.Refused refusal)) → file ≡ name → IsBroken stored name file refusal
 
 abbrev pub file_missing : Rule
 file_missing = record { number = 10; feature = 0 }
@@ -103,10 +103,10 @@ pub record FailsToBuild (core : Core) (settings : Settings) (error : BuildError)
 abbrev pub IsNotCompiled : Core → Settings → Type 0
 IsNotCompiled core settings = (is_plain_program core ≡ false) ⊎ FailsToBuild core settings build.Unbuildable
 
--- the program breaks this rule first, or it breaks none and is not compiled
-abbrev pub IsRefused : Option (List NamedFile) → List ℕ → Settings → Refusal → Type 0
-IsRefused stored name settings refusal =
-    IsBroken stored name refusal ⊎ (refusal ≡ not_compiled) × (core : Core) × IsTypedProgram stored name core × IsNotCompiled core settings
+-- the program breaks this rule first, in the file of this name, or it breaks none and is not compiled
+abbrev pub IsRefused : Option (List NamedFile) → List ℕ → Settings → List ℕ → Refusal → Type 0
+IsRefused stored name settings file refusal =
+    IsBroken stored name file refusal ⊎ (file ≡ name) × (refusal ≡ not_compiled) × (core : Core) × IsTypedProgram stored name core × IsNotCompiled core settings
 
 -- code, constants and initial globals of its image have more bytes than an image may have, which the program's size passes too
 pub record PassesLimit (core : Core) (settings : Settings) : Type 0 where
@@ -120,14 +120,14 @@ IsTooLarge stored name settings = (core : Core) × IsTypedProgram stored name co
 
 -- an error before or in the check, with its cause; `before` and `after` are the counts of faults of the files
 abbrev pub FailsToCheck : Option (List NamedFile) → List ℕ → ℕ → ℕ → CompileError → Type 0
-FailsToCheck stored name before after (Refused refusal file) = (file ≡ name) × IsBroken stored name refusal
+FailsToCheck stored name before after (Refused refusal file) = IsBroken stored name file refusal
 FailsToCheck stored name before after ReadFault = Rose before after
 FailsToCheck stored name before after Limit = ⊥
 FailsToCheck stored name before after NoMemory = ⊤
 
 -- an error with its cause
 abbrev pub FailsAs : Option (List NamedFile) → List ℕ → Settings → ℕ → ℕ → CompileError → Type 0
-FailsAs stored name settings before after (Refused refusal file) = (file ≡ name) × IsRefused stored name settings refusal
+FailsAs stored name settings before after (Refused refusal file) = IsRefused stored name settings file refusal
 FailsAs stored name settings before after ReadFault = Rose before after
 FailsAs stored name settings before after Limit = IsTooLarge stored name settings
 FailsAs stored name settings before after NoMemory = ⊤

@@ -83,7 +83,7 @@ OnlyFailsToRead now done =
 abbrev pub OwesChecked : Call → List ℕ → Finish → Effect → Type 0
 OwesChecked now name (Ended status) done = (status ≡ 0) × IsAccepted now.stored name × OnlyWrites (line (codes "ok")) done
 OwesChecked now name (Refused rule place) done =
-    IsBroken now.stored name (record { rule = rule; place = place }) × OnlyRefuses name place rule done
+    (file : List ℕ) × IsBroken now.stored name file (record { rule = rule; place = place }) × OnlyRefuses file place rule done
 OwesChecked now name ReadFault done = OnlyFailsToRead now done
 OwesChecked now name NoMemory done = OnlyReports (line (codes "opc: out of memory")) done
 OwesChecked now name _ done = ⊥
@@ -95,7 +95,7 @@ OwesCheck now name answer done = (now.image ≡ []) × OwesChecked now name answ
 -- a file of this name that is not compiled
 abbrev pub OwesError : Call → List ℕ → Settings → Finish → Effect → Type 0
 OwesError now name settings (Refused rule place) done =
-    IsRefused now.stored name settings (record { rule = rule; place = place }) × (now.image ≡ []) × OnlyRefuses name place rule done
+    (file : List ℕ) × IsRefused now.stored name settings file (record { rule = rule; place = place }) × (now.image ≡ []) × OnlyRefuses file place rule done
 OwesError now name settings ReadFault done = (now.image ≡ []) × OnlyFailsToRead now done
 OwesError now name settings Limit done = IsTooLarge now.stored name settings × (now.image ≡ []) × OnlyReports (line (codes "opc: image too large")) done
 OwesError now name settings NoMemory done = (now.image ≡ []) × OnlyReports (line (codes "opc: out of memory")) done

@@ -1,2 +1,6 @@
+pub mod Entering
 pub mod Loading
+pub mod Names
+pub mod Reaching
 pub mod Searching
+pub mod Walking

@@ -9,7 +9,7 @@ use Rattle.op_tree.specs.Ends.{begins_selector}
 use Rattle.op_tree.specs.Terminal.{Terminal, ◌at◌, terminals}
 use Rattle.op_tree.specs.declared.position.Position.{Position}
 use Rattle.op_units.specs.Search.{Found, begun, begun_by, search_in, or_behind, string_by, array_by, in_by, equal_by}
-use Rattle.op_units.specs.Unbuilt.{Unbuilt, is_uses, is_unit, is_string, is_open_array, is_for_in, is_nil, is_class, is_is, is_as, is_inherited, is_interface, is_except, is_raise, HasUnbuilt, named, IsBuilt, FirstUnbuilt}
+use Rattle.op_units.specs.Unbuilt.{Unbuilt, is_string, is_open_array, is_for_in, is_nil, is_class, is_is, is_as, is_inherited, is_interface, is_except, is_raise, HasUnbuilt, named, IsBuilt, FirstUnbuilt}
 
 -- ---- at the front of the tokens
 
@@ -36,8 +36,6 @@ equal_sound p q kind.Interface r = is_interface
 equal_sound p q other r = tt
 
 sound_by : (k : TokenKind) (p : Position) (r : List Terminal) → Sound (k at p ∷ r) (begun_by k (k at p) r)
-sound_by kind.Uses p r = is_uses
-sound_by kind.Unit p r = is_unit
 sound_by kind.String p [] = is_string tt
 sound_by kind.String p (u ∷ r) = string_sound p u r (begins_selector u.kind) refl
 sound_by kind.Array p [] = tt
@@ -61,8 +59,6 @@ sound (t ∷ r) = sound_by t.kind t.position r
 
 -- each such construct is found
 complete : {f : ℕ} {ks q : List Terminal} → Unbuilt f ks q → begun ks ≡ Some (f, q)
-complete is_uses = refl
-complete is_unit = refl
 complete (is_string {r = []} h) = refl
 complete (is_string {p = p} {r = u ∷ r} h) = ap (string_by (kind.String at p) (u ∷ r)) h
 complete is_open_array = refl
@@ -82,8 +78,6 @@ told_within : {f : ℕ} {ks q : List Terminal} → Unbuilt f ks q → length q �
 told_within is_for_in = omega arith
 told_within is_class = omega arith
 told_within is_interface = omega arith
-told_within is_uses = omega arith
-told_within is_unit = omega arith
 told_within (is_string h) = omega arith
 told_within is_open_array = omega arith
 told_within is_nil = omega arith
@@ -124,8 +118,6 @@ before is_for_in h = elim (split h) [ inl u ↦ same_told is_for_in u | inr m �
     never e = cc
 before is_class h = elim (split h) [ inl u ↦ same_told is_class u | inr m ↦ within m ]
 before is_interface h = elim (split h) [ inl u ↦ same_told is_interface u | inr m ↦ within m ]
-before is_uses h = within h
-before is_unit h = within h
 before (is_string n) h = within h
 before is_open_array h = within h
 before is_nil h = within h

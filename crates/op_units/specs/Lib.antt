@@ -1,3 +1,7 @@
+pub mod Cycles
 pub mod Loads
+pub mod Names
+pub mod Reading
 pub mod Search
 pub mod Unbuilt
+pub mod Walk

@@ -45,8 +45,6 @@ behind_equal [] = None
 behind_equal (t ∷ r) = equal_by t r t.kind
 
 abbrev pub begun_by : TokenKind → Terminal → List Terminal → Found
-begun_by kind.Uses t r = Some (39, t ∷ r)
-begun_by kind.Unit t r = Some (39, t ∷ r)
 begun_by kind.String t r = behind_string t r
 begun_by kind.Array t r = behind_array t r
 begun_by kind.For_ t r = behind_for r

@@ -12,9 +12,6 @@ feature_of_string p = if p.switches.h then 40 else 3
 
 -- The feature, by its number; the tokens from the construct's first one on; those from the one on that tells it.
 pub data Unbuilt : ℕ → List Terminal → List Terminal → Type 0 where
-  -- units
-  is_uses : {p : Position} {r : List Terminal} → Unbuilt 39 (kind.Uses at p ∷ r) (kind.Uses at p ∷ r)
-  is_unit : {p : Position} {r : List Terminal} → Unbuilt 39 (kind.Unit at p ∷ r) (kind.Unit at p ∷ r)
   -- `string` as a type: a cast and a length have a bracket behind the word
   is_string : {p : Position} {r : List Terminal} → IsNot begins_selector r → Unbuilt (feature_of_string p) (kind.String at p ∷ r) (kind.String at p ∷ r)
   -- arrays without bounds, `for` over values, `nil`

@@ -1,14 +1,19 @@
 //! From the main file to the trees of a program's files.
 //!
-//! `load` is the one call: it reads the file, scans and parses it. It answers the trees, or the first rule of files, spelling
-//! and grammar that is broken. Constructs that are not built yet and that a word shows are refused with those of the grammar.
+//! `forest_of` reads the main file, scans and parses it, and then the units that it uses, depth first and each file once. It answers the trees
+//! and the order of the units, or the first rule of files, spelling, grammar and units that is broken. Constructs that are not built yet and that a word
+//! shows are refused with those of the grammar. `load` refuses programs with units besides, as long as these are not built.
 #![tactic(auto)]
 
 mod error;
 mod forest;
+mod frame;
 mod loader;
+mod name_set;
 mod unbuilt;
+mod uses;
+mod walk;
 
 pub use error::LoadError;
 pub use forest::Forest;
-pub use loader::load;
+pub use loader::{forest_of, load};

@@ -1,10 +1,16 @@
 //! Reading the files of a program.
-ghost use Rattle.std.specs.Prelude.{◌≡◌, ◌≤◌, IfOk, IfErr, length};
-ghost use Rattle.op_scan.specs.Scan.{IsFirstRefusal, StandFor};
-ghost use Rattle.op_units.specs.Loads.{BreaksAs, FailsAs, IsShownAs, Loads, Reads, ReadsTokens, RefusesBy, SpelledAs, at_start, first_of};
+ghost use Rattle.std.specs.Prelude.{◌≡◌, ◌≤◌, ◌∷◌, None, IfOk, IfErr, length};
+ghost use Rattle.op_scan.specs.Scan.{StandFor};
+ghost use Rattle.op_units.specs.Cycles.{FirstIs, RefusesBy, StopsAt, with_frame};
+ghost use Rattle.op_units.specs.Loads.{FailsAs, Loads, first_use};
+ghost use Rattle.op_units.specs.Names.{IsFolder};
+ghost use Rattle.op_units.specs.Reading.{BreaksAs, IsShownAs, Reads, ReadsTokens, SpelledAs, first_of};
+ghost use Rattle.op_units.specs.Walk.{GivesForest, Stops, Visits, nothing_read, walked, walked_of};
 
-use crate::forest::forest_of;
+use crate::frame::Frame;
 use crate::unbuilt::first_unbuilt;
+use crate::uses::folder_of;
+use crate::walk::{CYCLE, FILE_TOO_LARGE, MOST_BYTES, Walk, broken, start_of};
 use crate::{Forest, LoadError};
 use op_base::{FILE_MISSING, FileAnswer, Files, NoMemory, Place, Refusal, Rule, Text};
 use op_core::FirstRefusal;
@@ -13,87 +19,192 @@ use op_parse_decl::parse;
 use op_scan::{ScanError, Tokens, scan};
 use op_tree::Tree;
 use std::alloc::Global;
+use std::collections::VecDeque;
 
-/// The most bytes that a file may have.
-const MOST_BYTES: usize = 4_194_304;
-
-const FILE_TOO_LARGE: Rule = Rule {
-    number: 62,
-    feature: 0,
+/// Units are not built yet.
+const UNIT: Rule = Rule {
+    number: 13,
+    feature: 39,
 };
 
 /// The files of the program whose main file has this name, which is the name as `files` knows it.
 ///
-/// `Refused` tells the first rule that is broken: 10 where the file is missing and 62 where it has more than 4,194,304 bytes,
-/// both at line and column 1; else the first one of spelling, as `scan` has them; else the first one of 9, 61 and 13 by
-/// place, as `parse` has them or by a word that shows what is not built yet. `ReadFault` comes where the file could not be
-/// read, `NoMemory` where the allocator has no room.
+/// The errors are those of `forest_of`; besides, `Refused` tells rule 13 at the first name in the uses list of a program whose files break no rule, as
+/// long as units are not built.
 pub fn load<F: Files>(alloc: Global, files: &mut F, main: &str) -> Result<Forest, LoadError>
-    // The tree of the main file, which spells the tokens that stand for its bytes.
+    // The files break no rule, and the program uses no unit.
     ensures loaded { IfOk result (Loads (F.stored files.old) main.now) }
     // Each error has its cause in this call.
     ensures failed { IfErr result (FailsAs (F.stored files.old) main.now (F.faults files.old) (F.faults files.new)) }
     ensures counts { F.faults files.old ≤ F.faults files.new }
     ensures unchanged { F.stored files.new ≡ F.stored files.old }
 {
+    let forest = forest_of(alloc, files, main)?;
+    match first_use(forest.trees.as_slice()) {
+        None => Ok(forest),
+        Some(place) => Err(refused(alloc, main.as_bytes(), broken(UNIT, place))),
+    }
+}
+
+/// Where a program begins to use units, if it does.
+fn first_use(trees: &[Tree]) -> Option<Place>
+    ensures { result ≡ first_use trees.now }
+{
+    let (main, _) = trees.split_first()?;
+    match main {
+        Tree::Program(program) => {
+            let (first, _) = program.uses.as_slice().split_first()?;
+            Some(first.position.place)
+        }
+        Tree::Unit(_) => None,
+    }
+}
+
+/// The files of the program whose main file has this name, which is the name as `files` knows it, and the order of its units.
+///
+/// The main file is read, and then the units that it uses: a unit `Foo` from the file `foo.pas` in the folder of the main file, depth first and each
+/// file once. Visiting a unit visits the units of its interface part in order, then those of its implementation part, then places the unit. `System` and
+/// `SysUtils` have no file.
+///
+/// `Refused` tells the first rule that is broken, with the name of the file where that is: the main file's as it was given, and the bare name of a unit's.
+/// In each file come 62 at line and column 1, where the file has more than 4,194,304 bytes or with it all files have more than 16,777,216; the first rule
+/// of spelling, as `scan` has them; the first of 9, 61 and 13 by place, as `parse` has them or by a word that shows what is not built yet; 12 where the
+/// file is not one of the unit of that name, or the main file no program; 17 at a name that is used again. Then for each name in a uses list in turn
+/// 11, where interface uses have a cycle by it; 13 for SysUtils; 10, where the file is missing; 63, where 1,000 units have been read; and what breaks
+/// in the file that is read for it. The main file is refused at line and column 1 where it is missing. `ReadFault` comes where a file could not be read,
+/// `NoMemory` where the allocator has no room.
+pub fn forest_of<F: Files>(alloc: Global, files: &mut F, main: &str) -> Result<Forest, LoadError>
+    // The trees and the order that the walk gives.
+    ensures loaded { IfOk result (GivesForest (F.stored files.old) main.now) }
+    // Each error has its cause in this call.
+    ensures failed { IfErr result (Stops (F.stored files.old) main.now (F.faults files.old) (F.faults files.new)) }
+    ensures counts { F.faults files.old ≤ F.faults files.new }
+    ensures unchanged { F.stored files.new ≡ F.stored files.old }
+{
+    let mut walk = Walk::new(alloc);
+    let first = first_frame(alloc, files, &mut walk, main)?;
+    let folder = folder_of(main.as_bytes());
+    visit_all(alloc, files, folder, &mut walk, first)?;
+    Ok(walk.into_forest())
+}
+
+/// Reads the main file.
+fn first_frame<F: Files>(
+    alloc: Global,
+    files: &mut F,
+    walk: &mut Walk,
+    main: &str,
+) -> Result<Frame, LoadError>
+    requires { walked_of walk.old ≡ nothing_read }
+    ensures is { FirstIs (F.stored files.old) main.now (walked_of walk.new) (F.faults files.old) (F.faults files.new) result }
+    ensures counts { F.faults files.old ≤ F.faults files.new }
+    ensures unchanged { F.stored files.new ≡ F.stored files.old }
+{
+    let name = main.as_bytes();
     match files.read(alloc, main, MOST_BYTES)? {
-        FileAnswer::Found(text) => match tree_of(alloc, text.as_slice()) {
-            Ok(tree) => Ok(forest_of(alloc, main.as_bytes(), tree)?),
-            Err(ParseError::Refused(refusal)) => Err(refused(alloc, main, refusal)),
-            Err(ParseError::NoMemory) => Err(LoadError::NoMemory),
-        },
-        FileAnswer::Long => Err(refused(alloc, main, at_start(FILE_TOO_LARGE))),
-        FileAnswer::Missing => Err(refused(alloc, main, at_start(FILE_MISSING))),
+        FileAnswer::Found(text) => {
+            let file = Text::copy_of(alloc, name)?;
+            walk.enter(alloc, file, None, text.as_slice())
+        }
+        FileAnswer::Long => Err(refused(alloc, name, broken(FILE_TOO_LARGE, start_of(0)))),
+        FileAnswer::Missing => Err(refused(alloc, name, broken(FILE_MISSING, start_of(0)))),
         FileAnswer::Failed => Err(LoadError::ReadFault),
     }
 }
 
+/// Visits the uses of a file, and all that these use.
+fn visit_all<F: Files>(
+    alloc: Global,
+    files: &mut F,
+    folder: &[u8],
+    walk: &mut Walk,
+    first: Frame,
+) -> Result<(), LoadError>
+    requires { first.unit ≡ None }
+    ensures visited { IfOk result (λ _. Visits (F.stored files.old) folder.now first.file first.closing (walked_of walk.old) first.uses.items (walked (walked_of walk.new))) }
+    ensures failed { IfErr result (StopsAt (F.stored files.old) folder.now first (walked_of walk.old) (F.faults files.old) (F.faults files.new)) }
+    ensures counts { F.faults files.old ≤ F.faults files.new }
+    ensures unchanged { F.stored files.new ≡ F.stored files.old }
+{
+    let mut frames = VecDeque::new(alloc);
+    put(&mut frames, first, None)?;
+    for _ in 0..u64::MAX {
+        let Some(frame) = frames.pop_front() else {
+            return Ok(());
+        };
+        let Frame {
+            file,
+            unit,
+            mut uses,
+            closing,
+        } = frame;
+        match uses.pop_front() {
+            Some(used) => {
+                let inner = walk.visit(alloc, files, folder, file.as_slice(), used)?;
+                let frame = Frame {
+                    file,
+                    unit,
+                    uses,
+                    closing,
+                };
+                put(&mut frames, frame, inner)?;
+            }
+            None => match closing {
+                Some(place) => {
+                    return Err(refused(alloc, file.as_slice(), broken(CYCLE, place)));
+                }
+                None => walk.place(unit)?,
+            },
+        }
+    }
+    Err(LoadError::NoMemory)
+}
+
+/// Puts a file in front of those under visit, and one that it uses in front of it.
+fn put(frames: &mut VecDeque<Frame>, frame: Frame, inner: Option<Frame>) -> Result<(), NoMemory>
+    ensures { IfOk result (λ _. frames.new.items ≡ with_frame inner (frame ∷ frames.old.items)) }
+{
+    frames.push_front(frame)?;
+    if let Some(inner) = inner {
+        frames.push_front(inner)?;
+    }
+    Ok(())
+}
+
 /// The refusal of a file.
-fn refused(alloc: Global, name: &str, refusal: Refusal) -> LoadError
+pub fn refused(alloc: Global, name: &[u8], refusal: Refusal) -> LoadError
     ensures { RefusesBy name.now refusal result }
 {
-    match Text::copy_of(alloc, name.as_bytes()) {
+    match Text::copy_of(alloc, name) {
         Ok(file) => LoadError::Refused(refusal, file),
         Err(NoMemory) => LoadError::NoMemory,
     }
 }
 
-/// The refusal of the main file as a whole.
-fn at_start(rule: Rule) -> Refusal
-    ensures { result ≡ record { rule = rule; place = record { file = 0; line = 1; col = 1 } } }
-{
-    let place = Place {
-        file: 0,
-        line: 1,
-        col: 1,
-    };
-    Refusal { rule, place }
-}
-
-/// The tree of a program's text.
-fn tree_of(alloc: Global, bytes: &[u8]) -> Result<Tree, ParseError>
+/// The tree of a file's text, by its number in the order of reading.
+pub fn tree_of(alloc: Global, number: u32, bytes: &[u8]) -> Result<Tree, ParseError>
     requires { length bytes.now ≤ 4194304 }
-    ensures reads { IfOk result (Reads bytes.now) }
-    ensures breaks { IfErr result (BreaksAs bytes.now) }
+    ensures reads { IfOk result (Reads number bytes.now) }
+    ensures breaks { IfErr result (BreaksAs number bytes.now) }
 {
-    let tokens = tokens_of(alloc, bytes)?;
+    let tokens = tokens_of(alloc, number, bytes)?;
     tree_of_tokens(alloc, &tokens)
 }
 
 /// The tokens of a text, with the error of the parser.
-fn tokens_of(alloc: Global, bytes: &[u8]) -> Result<Tokens, ParseError>
+fn tokens_of(alloc: Global, number: u32, bytes: &[u8]) -> Result<Tokens, ParseError>
     requires { length bytes.now ≤ 4194304 }
-    ensures stand { IfOk result (StandFor 0 bytes.now) }
-    ensures breaks { IfErr result (SpelledAs bytes.now) }
+    ensures stand { IfOk result (StandFor number bytes.now) }
+    ensures breaks { IfErr result (SpelledAs number bytes.now) }
 {
-    match scan(alloc, bytes, 0) {
+    match scan(alloc, bytes, number) {
         Ok(tokens) => Ok(tokens),
         Err(ScanError::Refused(refusal)) => Err(ParseError::Refused(refusal)),
         Err(ScanError::NoMemory) => Err(ParseError::NoMemory),
     }
 }
 
-/// The tree of a program's tokens.
+/// The tree of a file's tokens.
 fn tree_of_tokens(alloc: Global, tokens: &Tokens) -> Result<Tree, ParseError>
     ensures reads { IfOk result (ReadsTokens tokens.now) }
     ensures breaks { IfErr result (IsShownAs tokens.now) }

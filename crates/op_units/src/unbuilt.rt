@@ -11,8 +11,6 @@ use op_scan::{Token, TokenKind};
 
 const SHORT_STRING: u8 = 3;
 
-const UNIT: u8 = 39;
-
 const STRING: u8 = 40;
 
 const ARRAY_WITHOUT_BOUNDS: u8 = 41;
@@ -44,7 +42,6 @@ fn begun(tokens: &[Token]) -> Option<Refusal>
 {
     let (first, rest) = tokens.split_first()?;
     match &first.kind {
-        TokenKind::Uses | TokenKind::Unit => Some(told(UNIT, first)),
         TokenKind::String => string_type(first, rest),
         TokenKind::Array => open_array(first, rest),
         TokenKind::For_ => for_in(rest),

@@ -7,7 +7,7 @@ use Rattle.op_tool.proofs.compiler.checked.Goals as goal
 pub returns-in-Err-Refused-clause-failed : goal.returns-in-Err-Refused-clause-failed
 returns-in-Err-Refused-clause-failed g c =
     let forest = c.in_ok-forest.forest in
-    not_checked (g.F.Files.stored c.args.files.now) c.args.main.now (g.F.Files.faults c.args.files.now) (g.F.Files.faults c.load.new.files) c.in-Err-Refused.refusal c.refused.result (by_check forest c.in_ok-forest.ensures.loaded (subst (λ e. Checks forest (Err e)) c.in-Err-Refused.field-0-is (checked_so forest c.as_slice.result.now _ c.as_slice.ensures c.in-Err-Refused.ensures.means c.in-Err-Refused.ensures.law))) c.refused.ensures
+    not_checked (g.F.Files.stored c.args.files.now) c.args.main.now (g.F.Files.faults c.args.files.now) (g.F.Files.faults c.load.new.files) c.in-Err-Refused.refusal c.refused.result (by_check forest c.in_ok-forest.ensures.loaded (subst (λ e. Checks forest (Err e)) c.in-Err-Refused.field-0-is (checked_so forest c.as_slice.result.now _ c.as_slice.ensures c.in-Err-Refused.ensures.means c.in-Err-Refused.ensures.law)) refl) c.refused.ensures
 
 pub returns-in_err-forest-clause-failed : goal.returns-in_err-forest-clause-failed
 returns-in_err-forest-clause-failed g c =

@@ -2,7 +2,7 @@ use Rattle.std.proofs.Common.{subst}
 use Rattle.op_tree.specs.File.{file_of}
 use Rattle.op_tree.specs.Terminal.{terminals}
 use Rattle.op_units.proofs.Loading.{reads_tokens}
-use Rattle.op_units.specs.Loads.{RefusedByGrammar, by_grammar, by_word}
+use Rattle.op_units.specs.Reading.{RefusedByGrammar, by_grammar, by_word}
 use Rattle.op_units.specs.Unbuilt.{FirstUnbuilt}
 use Rattle.op_units.proofs.loader.tree_of_tokens.Goals as goal
 
