@@ -1,4 +1,4 @@
-use Rattle.std.proofs.Common.{Err, subst}
+use Rattle.std.proofs.Common.{Err, refl, subst}
 use Rattle.std.proofs.lemmas.Result.{err_from_is_err_and}
 use Rattle.op_tool.proofs.Compiling.{checked_so, not_checked, not_loaded}
 use Rattle.op_tool.specs.Compiles.{Checks, by_check}
