@@ -1,5 +1,5 @@
 -- Errors before and in the check.
-use Rattle.std.proofs.Common.{◌≡◌, ℕ, false, map, inl, inr, Option, None, Some, Result, Ok, Err, IfErr, IfOk, List, sym, subst}
+use Rattle.std.proofs.Common.{◌≡◌, ℕ, false, map, inl, inr, Option, Result, Ok, Err, IfErr, IfOk, List, sym, subst}
 use Rattle.op_base.specs.declared.files.NamedFile.{NamedFile}
 use Rattle.op_base.specs.declared.rule.Refusal.{Refusal}
 use Rattle.op_build.specs.declared.building.BuildError.TheVariants as build

@@ -1,5 +1,5 @@
 -- The run of an image that agrees with a program.
-use Rattle.std.proofs.Common.{◌≡◌, ◌≤◌, ℕ, zero, suc, ◌+◌, Option, Some, None, inl, inr, List, refl, sym, ap, ◌∙◌, subst, append-nil}
+use Rattle.std.proofs.Common.{◌≡◌, ℕ, zero, suc, Option, Some, None, inr, List, refl, sym, ap, ◌∙◌, subst, append-nil}
 use Rattle.op_base.specs.declared.files.NamedFile.{NamedFile}
 use Rattle.op_correctness.proofs.Ending.{ends_as_meant}
 use Rattle.op_correctness.specs.Agrees.{EndsAsMeant, GoesAlong}

@@ -7,7 +7,7 @@ use Rattle.std.specs.List.{flat_map}
 use Rattle.std.specs.Option.{option_and_then, option_map}
 use Rattle.op_link.specs.Memory.{are_in_range}
 use Rattle.op_tool.proofs.Numbers.{both, both_are, if_some, if_true, number_found, number_read}
-use Rattle.op_tool.specs.Command.{Asked, IsAtMostOneCommand, IsCommand, IsGiven, IsNoCommand, Piece, Range, heap_of, heap_range, is_name, is_operand, is_source_name, operands_of, stack_of, stack_range, step_range, steps_of, makes_image, runs_image, the_heap, the_operand, the_stack, the_steps, word_of, words_of}
+use Rattle.op_tool.specs.Command.{Asked, IsAtMostOneCommand, IsCommand, IsGiven, IsNoCommand, Piece, Range, heap_of, heap_range, is_name, is_operand, operands_of, stack_of, stack_range, step_range, steps_of, makes_image, runs_image, the_heap, the_operand, the_stack, the_steps, word_of, words_of}
 use Rattle.op_tool.specs.Reading.{Said, verb_of, asked_by, asked_in, asked_of, command_in, first_given, name_in, nothing, number_in, read, takes, with_heap, with_operand, with_option, with_stack, with_steps}
 use Rattle.op_tool.specs.declared.command.Verb.{Verb}
 use Rattle.op_tool.specs.declared.command.Verb.TheVariants as verb

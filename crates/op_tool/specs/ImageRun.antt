@@ -1,5 +1,5 @@
 -- What the run of an image owes.
-use Rattle.std.specs.Prelude.{◌≡◌, ℕ, ◌+◌, ◌/◌, ◌%◌, ◌^◌, ◌<◌, ◌≤◌, Some, None, List, [], ◌∷◌, ◌++◌, map, codes, decimal, length, nat_lt, if◌then◌else◌, IsTrue}
+use Rattle.std.specs.Prelude.{◌≡◌, ℕ, ◌<◌, ◌≤◌, Some, None, List, [], ◌++◌, codes, decimal, length, IsTrue}
 use Rattle.op_base.specs.Outside.{Rose}
 use Rattle.op_rv.specs.Environment.{read_call, is_writable}
 use Rattle.op_rv.specs.State.{State, Ending, Running, register}
@@ -9,28 +9,10 @@ use Rattle.op_rv.specs.declared.fault.FaultKind.{FaultKind}
 use Rattle.op_rv.specs.declared.fault.FaultKind.TheVariants.{Fetch, Illegal, Load, Store, Call, Break}
 use Rattle.op_emu.specs.Filling.{AreBytes}
 use Rattle.op_link.specs.Image.{first_failing, start}
+use Rattle.op_listing.specs.Digits.{eight_digits}
 use Rattle.op_tool.specs.Effects.{Effect, OnlyReports, line}
 use Rattle.op_tool.specs.declared.finish.Finish.{Finish}
 use Rattle.op_tool.specs.declared.finish.Finish.TheVariants.{Ended, Usage, Refused, ReadFault, WriteFault, Spent, NoMemory, BadImage, Faulted, Limit}
-
--- a hexadecimal digit
-abbrev pub hex_digit : ℕ → ℕ
-hex_digit d = if nat_lt d 10 then 48 + d else 87 + d
-
--- a word in eight hexadecimal digits
-abbrev pub eight_digits : ℕ → List ℕ
-eight_digits n =
-    map
-    hex_digit
-    (n / 2 ^ 28
-    ∷ n / 2 ^ 24 % 16
-    ∷ n / 2 ^ 20 % 16
-    ∷ n / 2 ^ 16 % 16
-    ∷ n / 2 ^ 12 % 16
-    ∷ n / 2 ^ 8 % 16
-    ∷ n / 2 ^ 4 % 16
-    ∷ n % 16
-    ∷ [])
 
 abbrev pub fault_name : FaultKind → List ℕ
 fault_name Fetch = codes "Fetch"

@@ -1,5 +1,5 @@
 -- How the words of the command line are read, one after the other. That this finds the command that they ask for is shown of it.
-use Rattle.std.specs.Prelude.{ℕ, ◌&&◌, ◌||◌, Bool, true, not, List, [], ◌∷◌, Option, Some, None, codes, is_none, is_some, length, nat_le, nat_lt, if◌then◌else◌, bytes_eq, unwrap_or}
+use Rattle.std.specs.Prelude.{ℕ, ◌&&◌, ◌||◌, Bool, List, [], ◌∷◌, Option, Some, None, codes, is_none, length, nat_le, nat_lt, if◌then◌else◌, bytes_eq, unwrap_or}
 use Rattle.std.specs.Char.{digit_value}
 use Rattle.std.specs.List.{list_all}
 use Rattle.std.specs.Option.{option_and_then, option_map}

@@ -1,13 +1,15 @@
 //! The line that the tool itself writes to the errors.
 ghost use Rattle.std.specs.Prelude.{◌≡◌, ◌<◌, ◌≤◌, ◌++◌, IfOk, codes, decimal};
+ghost use Rattle.op_listing.specs.Digits.{eight_digits};
 ghost use Rattle.op_rv.specs.declared.fault.FaultKind.{FaultKind};
 ghost use Rattle.op_tool.specs.Effects.{line, ReportIs};
-ghost use Rattle.op_tool.specs.ImageRun.{eight_digits, fault_front, fault_line, hex_digit};
+ghost use Rattle.op_tool.specs.ImageRun.{fault_front, fault_line};
 ghost use Rattle.op_tool.specs.Owes.{Reports, ReportsBadImage, ReportsError, ReportsRefusal};
 
 use crate::{CompileError, Finish};
 use op_base::{NoMemory, Put, Refusal, Sink, rule_text};
 use op_emu::FaultKind;
+use op_listing::eight_digits;
 use std::alloc::Global;
 
 /// Writes a line to the errors, as the last act of a call that answers so.
@@ -94,34 +96,12 @@ pub(crate) fn report_bad_image<E: Sink>(alloc: Global, condition: u8, err: &mut 
     }
 }
 
-/// A hexadecimal digit.
-fn hex_digit(value: u32) -> u8
-    requires { value < 16 }
-    ensures { result ≡ hex_digit value }
-{
-    let digit = value as u8;
-    if digit < 10 {
-        b'0' + digit
-    } else {
-        b'a' + (digit - 10)
-    }
-}
-
 /// The end of the line of a fault at this address: eight hexadecimal digits.
 fn fault_end(pc: u32) -> [u8; 9]
     ensures { result ≡ line (eight_digits pc) }
 {
-    [
-        hex_digit(pc >> 28),
-        hex_digit(pc >> 24 & 15),
-        hex_digit(pc >> 20 & 15),
-        hex_digit(pc >> 16 & 15),
-        hex_digit(pc >> 12 & 15),
-        hex_digit(pc >> 8 & 15),
-        hex_digit(pc >> 4 & 15),
-        hex_digit(pc & 15),
-        b'\n',
-    ]
+    let [a, b, c, d, e, f, g, h] = eight_digits(pc);
+    [a, b, c, d, e, f, g, h, b'\n']
 }
 
 /// The front of the line of a fault of this kind.

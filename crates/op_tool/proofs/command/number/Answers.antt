@@ -1,4 +1,4 @@
-use Rattle.std.proofs.Common.{◌≡◌, ◌≤◌, ◌<◌, ◌^◌, arith, codes, false, length, nat_eq, refl, subst, sym, ◌∙◌}
+use Rattle.std.proofs.Common.{◌≡◌, ◌≤◌, ◌<◌, ◌^◌, arith, codes, false, length, nat_eq, subst, sym, ◌∙◌}
 use Rattle.std.specs.List.{starts_with}
 use Rattle.op_tool.proofs.Numbers.{no_plus, not_parsed, number_parsed}
 use Rattle.op_tool.proofs.command.number.Goals as goal

@@ -1,7 +1,8 @@
 use Rattle.std.proofs.Common.{inr, ap, ◌∙◌, ◌++◌, refl, subst}
 use Rattle.op_base.specs.Outside.{appended, AppendsFront}
+use Rattle.op_listing.specs.Digits.{eight_digits}
 use Rattle.op_tool.specs.Effects.{line, ReportIs}
-use Rattle.op_tool.specs.ImageRun.{eight_digits, fault_front}
+use Rattle.op_tool.specs.ImageRun.{fault_front}
 use Rattle.op_tool.specs.declared.finish.Finish.TheVariants as finish
 use Rattle.op_tool.proofs.Saying.{front_of_front, reports_behind}
 use Rattle.op_tool.proofs.report.report_fault.Goals as goal
