@@ -12,7 +12,8 @@ use op_low::{Block, Low, Routine};
 use op_rv::{GlobalVariable, ObjectBlock, ObjectRoutine, Objects};
 use std::alloc::Global;
 
-/// The objects of a program in low code: for each routine its head, its blocks and a block that raises. `NoMemory` comes
+/// The objects of a program in low code: for each routine its head, its blocks and a block that raises. Lists of items are fitted, since
+/// they are most of what a build keeps in memory. `NoMemory` comes
 /// only where the allocator has no room.
 #[tactic(auto, unfolding(crate::specs::Selection::select_of))]
 pub fn select(alloc: Global, low: &Low) -> Result<Objects, NoMemory>
@@ -46,6 +47,7 @@ fn object_routine(alloc: Global, routine: &Routine) -> Result<ObjectRoutine, NoM
 {
     let mut head = Vec::new(alloc);
     push_head(&mut head, routine)?;
+    head.shrink_to_fit();
     let mut blocks = object_blocks(alloc, routine)?;
     blocks.push(raise_stub(alloc, routine)?)?;
     Ok(ObjectRoutine {
@@ -72,6 +74,7 @@ fn object_block(alloc: Global, routine: &Routine, block: &Block) -> Result<Objec
 {
     let mut items = Vec::new(alloc);
     push_code(&mut items, routine, block.code.as_slice())?;
+    items.shrink_to_fit();
     Ok(ObjectBlock {
         items: Sequence::from(items),
     })
@@ -84,6 +87,7 @@ fn raise_stub(alloc: Global, routine: &Routine) -> Result<ObjectBlock, NoMemory>
 {
     let mut items = Vec::new(alloc);
     push_raise(&mut items, routine)?;
+    items.shrink_to_fit();
     Ok(ObjectBlock {
         items: Sequence::from(items),
     })
