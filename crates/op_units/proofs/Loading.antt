@@ -1,5 +1,5 @@
 -- From the text of a file to its tree, and from the main file to the files of a program.
-use Rattle.std.proofs.Common.{◌≡◌, ℕ, ◌<◌, ◌≤◌, ◌⊎◌, inl, inr, Option, None, Some, List, arith, sym, subst, Result, Ok, Err, IfErr, IsErrAnd}
+use Rattle.std.proofs.Common.{◌≡◌, ℕ, suc, ◌<◌, ◌≤◌, ◌⊎◌, inl, inr, Option, None, Some, List, [], ◌∷◌, drop, length, arith, refl, ap, subst, ◌∙◌, Result, Ok, Err, IfErr, IsErrAnd}
 use Rattle.op_base.specs.Outside.{Rose}
 use Rattle.op_base.specs.declared.files.NamedFile.{NamedFile}
 use Rattle.op_base.specs.declared.place.Place.{Place}
@@ -48,6 +48,14 @@ rose_since initial before after h (inl less) = inl (omega (arith, h, less))
 rose_since initial before after h (inr most) = inr most
 
 -- ---- the walk from the main file
+
+-- no use was in front, so none is left
+pub none_left : (uses rest : List Use) → uses ≡ rest → rest ≡ drop 1 uses → uses ≡ []
+none_left [] rest e f = refl
+none_left (used ∷ uses) rest e f = absurd (longer (ap length (e ∙ f)))
+  where
+    longer : suc (length uses) ≡ length uses → ⊥
+    longer h = omega (arith, h)
 
 pub use_in : (stored other : Option (List NamedFile)) (folder file name : List ℕ) (used : Use) (w new : Walked) (before after : ℕ) (r : Result (Option Frame) LoadError) → stored ≡ other → file ≡ name → UseIs stored folder file used w new before after r → UseIs other folder name used w new before after r
 use_in stored other folder file name used w new before after r s f h = subst (λ x. UseIs other folder x used w new before after r) f (subst (λ x. UseIs x folder file used w new before after r) s h)

@@ -2,7 +2,7 @@ use Rattle.std.proofs.Common.{◌≤◌, arith, refl, sym, ap, subst, ◌∙◌,
 use Rattle.op_core.specs.Faults.{broken}
 use Rattle.op_units.specs.Walk.{Visits, walked_of}
 use Rattle.op_units.specs.declared.frame.Frame.{Frame}
-use Rattle.op_units.proofs.Loading.{handed_on, refused_by, rose_since, use_in}
+use Rattle.op_units.proofs.Loading.{handed_on, none_left, refused_by, rose_since, use_in}
 use Rattle.op_units.proofs.Walking.{Completes, closed, goes_on_in, put_in_order, stopped}
 use Rattle.op_units.proofs.loader.visit_all.Goals as goal
 use Rattle.op_units.proofs.loader.visit_all.Goals.{in-Some-pop_front+in_ok-inner-in-Some-pop_front+in_ok-put-in-Some-pop_front, in-None+in-None-closing+in_ok-place-in-None-closing}
@@ -31,7 +31,7 @@ returns-in-Some-closing-clause-failed g c =
     let folder = c.args.folder.now in
     let f = c.in-Some.frame in
     let place = c.in-Some-closing.place in
-    closed stored folder c.loop.frames.items c.pop_front.new.self.items c.args.first f place (walked_of c.args.walk.now) (walked_of c.loop.walk) (g.F.Files.faults c.args.files.now) (g.F.Files.faults c.loop.files) c.refused.result c.in-Some.ensures.items c.in-None.ensures.items c.in-Some-closing.is
+    closed stored folder c.loop.frames.items c.pop_front.new.self.items c.args.first f place (walked_of c.args.walk.now) (walked_of c.loop.walk) (g.F.Files.faults c.args.files.now) (g.F.Files.faults c.loop.files) c.refused.result c.in-Some.ensures.items (none_left f.uses.items c.pop_front-in-loop.new.self.items c.in-None.ensures.items c.in-None.ensures.rest) c.in-Some-closing.is
     (refused_by c.as_slice-in-Some-closing.result.now f.file c.broken.result (broken 11 place) c.refused.result c.as_slice-in-Some-closing.ensures c.broken.ensures c.refused.ensures) c.loop.invariant.completes
 
 pub loop-preserved : goal.loop-preserved
@@ -58,6 +58,6 @@ loop-preserved g c =
         stays = ap (λ x. g.F.Files.stored x) w.files-is ∙ c.loop.invariant.stays;
         rises = subst (λ x. initial ≤ g.F.Files.faults x) (sym w.files-is) c.loop.invariant.rises;
         completes = subst (λ x. Completes stored folder whole x.items (walked_of m.walk)) (sym w.frames-is) (subst (λ x. Completes stored folder whole rest (walked_of x)) (sym w.walk-is)
-            (put_in_order stored folder whole frames rest f (walked_of c.loop.walk) (walked_of w.place.new.self) c.in-Some.ensures.items w.in-None.ensures.items w.in-None-closing.is w.in_ok-place-in-None-closing.ensures c.loop.invariant.completes));
+            (put_in_order stored folder whole frames rest f (walked_of c.loop.walk) (walked_of w.place.new.self) c.in-Some.ensures.items (none_left f.uses.items c.pop_front-in-loop.new.self.items w.in-None.ensures.items w.in-None.ensures.rest) w.in-None-closing.is w.in_ok-place-in-None-closing.ensures c.loop.invariant.completes));
       }
     ]
