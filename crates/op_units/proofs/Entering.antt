@@ -9,11 +9,13 @@ use Rattle.op_base.specs.declared.files.NamedFile.{NamedFile}
 use Rattle.op_base.specs.declared.place.Place.{Place}
 use Rattle.op_base.specs.declared.rule.Refusal.{Refusal}
 use Rattle.op_core.specs.Faults.{broken}
+use Rattle.op_parse_code.specs.declared.error.ParseError.{ParseError}
+use Rattle.op_parse_code.specs.declared.error.ParseError.TheVariants as parsed
 use Rattle.op_tree.specs.declared.file.Tree.{Tree}
 use Rattle.op_units.specs.Cycles.{ClosesAt, ClosingIs, EnterIs, FirstIs, FrameIs, RefusesBy, TooLargeIs, closing_at, use_at, uses_up_to, with_parts}
 use Rattle.op_units.specs.Names.{file_of_unit, implementation_uses, interface_uses, is_built_in, is_system, is_sysutils, name_of, uses_of}
-use Rattle.op_units.specs.Walk.{AreVisited, are_all, are_front, Enters, FileBreaks, Has, IsFile, IsMissing, IsNew, IsPassed, IsThere, IsTooLarge, Opens, Stops, UseBreaks, UseIs, Walked, Walks, breaks, is_known, is_missing, is_too_large, is_too_many, misnamed, nothing_read, main_breaks, own_names, path, refused, room, start_of, unit_name, used_again}
-use Rattle.op_units.specs.Reading.{Reads}
+use Rattle.op_units.specs.Walk.{AreVisited, are_all, are_front, by_name, by_text, by_uses, Enters, FileBreaks, Has, IsFile, IsMissing, IsNew, IsPassed, IsThere, IsTooLarge, Opens, Stops, UseBreaks, UseIs, Walked, Walks, breaks, is_known, is_missing, is_too_large, is_too_many, misnamed, nothing_read, main_breaks, own_names, path, refused, room, start_of, unit_name, used_again}
+use Rattle.op_units.specs.Reading.{Breaks, BreaksAs, Reads}
 use Rattle.op_units.specs.declared.error.LoadError.{LoadError}
 use Rattle.op_units.specs.declared.error.LoadError.TheVariants as errors
 use Rattle.op_units.specs.declared.frame.Frame.{Frame}
@@ -58,6 +60,27 @@ enters w new file unit bytes t closing interface implementation frame reads name
     new_is = n ∙ ap (λ us. with_parts w file unit (length bytes) t (map name_of us)) i;
   },
 )
+
+-- the one that closes a cycle is one of them
+pub closing_within : (w : Walked) (unit : List ℕ) (interface : List Use) (closing : Option ℕ) → ClosingIs w unit interface closing → IfSome closing (λ at. at < length interface)
+closing_within w unit interface None h = tt
+closing_within w unit interface (Some k) c = subst (λ us. k < length us) (sym c.parts) (subst (λ n. n < length (c.front ++ c.used ∷ c.rest)) c.number (length_front c.front c.rest c.used))
+  where
+    length_front : (front rest : List Use) (u : Use) → length front < length (front ++ u ∷ rest)
+    length_front [] rest u = omega arith
+    length_front (v ∷ front) rest u = omega (arith, length_front front rest u)
+
+pub file_breaks : (w : Walked) (number : ℕ) (unit : Option (List ℕ)) (bytes : List ℕ) (e : ParseError) (refusal : Refusal) → number ≡ length w.trees → BreaksAs number bytes e → e ≡ parsed.Refused refusal → FileBreaks (length w.trees) unit bytes refusal
+file_breaks w number unit bytes e refusal same h is = by_text (subst (λ n. Breaks n bytes refusal) same (subst (λ x. BreaksAs number bytes x) is h))
+
+pub name_differs : (w : Walked) (number : ℕ) (unit : Option (List ℕ)) (bytes : List ℕ) (t : Tree) (place : Place) (refusal : Refusal) → number ≡ length w.trees → Reads number bytes t → misnamed unit t ≡ Some place → refusal ≡ broken 12 place → FileBreaks (length w.trees) unit bytes refusal
+name_differs w number unit bytes t place refusal same reads m is = by_name t place (subst (λ n. Reads n bytes t) same reads) m is
+
+pub same_uses : (names own : List (List ℕ)) (first interface second implementation : List Use) → names ≡ own → first ≡ interface → second ≡ implementation → used_again names (first ++ second) ≡ used_again own (interface ++ implementation)
+same_uses names own first interface second implementation e f g = ap (λ n. used_again n (first ++ second)) e ∙ ap (λ us. used_again own (us ++ second)) f ∙ ap (λ us. used_again own (interface ++ us)) g
+
+pub used_twice : (w : Walked) (number : ℕ) (unit : Option (List ℕ)) (bytes : List ℕ) (t : Tree) (place : Place) (refusal : Refusal) → number ≡ length w.trees → Reads number bytes t → misnamed unit t ≡ None → used_again (own_names unit) (interface_uses t ++ implementation_uses t) ≡ Some place → refusal ≡ broken 17 place → FileBreaks (length w.trees) unit bytes refusal
+used_twice w number unit bytes t place refusal same reads m again is = by_uses t place (subst (λ n. Reads n bytes t) same reads) m again is
 
 -- ---- a name
 

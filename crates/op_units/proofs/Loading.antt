@@ -1,5 +1,8 @@
--- From the text of a file to its tree.
-use Rattle.std.proofs.Common.{◌≡◌, ℕ, Option, None, List, subst, Result, Ok, Err, IfErr}
+-- From the text of a file to its tree, and from the main file to the files of a program.
+use Rattle.std.proofs.Common.{◌≡◌, ℕ, suc, ◌<◌, ◌≤◌, ◌⊎◌, inl, inr, Option, None, Some, List, [], ◌∷◌, drop, length, arith, refl, ap, subst, ◌∙◌, Result, Ok, Err, IfErr, IsErrAnd}
+use Rattle.op_base.specs.Outside.{Rose}
+use Rattle.op_base.specs.declared.files.NamedFile.{NamedFile}
+use Rattle.op_base.specs.declared.place.Place.{Place}
 use Rattle.op_scan.specs.Scan.{StandFor}
 use Rattle.op_scan.specs.declared.token.Tokens.{Tokens}
 use Rattle.op_parse_code.specs.declared.error.ParseError.{ParseError}
@@ -9,8 +12,17 @@ use Rattle.op_tree.specs.File.{file_of}
 use Rattle.op_tree.specs.FileGrammar.{Spells}
 use Rattle.op_tree.specs.Terminal.{terminals}
 use Rattle.op_tree.specs.declared.file.Tree.{Tree}
+use Rattle.op_units.specs.Cycles.{FirstIs, RefusesBy, StopsAt}
+use Rattle.op_units.specs.Loads.{FailsAs, first_use, unit_at, uses_units}
+use Rattle.op_units.specs.Names.{IsFolder}
 use Rattle.op_units.specs.Reading.{ReadsTokens, BreaksAs, by_tokens, IsShownAs}
 use Rattle.op_units.specs.Unbuilt.{FirstUnbuilt}
+use Rattle.op_units.specs.Walk.{Ends, GivesForest, Stops, UseIs, Visits, Walked, Walks, goes, refused}
+use Rattle.op_units.specs.declared.error.LoadError.{LoadError}
+use Rattle.op_units.specs.declared.error.LoadError.TheVariants as errors
+use Rattle.op_units.specs.declared.forest.Forest.{Forest}
+use Rattle.op_units.specs.declared.frame.Frame.{Frame}
+use Rattle.op_units.specs.declared.uses.Use.{Use}
 
 pub reads_tokens : (tokens : Tokens) (t : Tree) (word : Option Refusal) → FirstUnbuilt (terminals tokens.list) word → word ≡ None → Spells (file_of t) (terminals tokens.list) → ReadsTokens tokens t
 reads_tokens tokens t word f e s = record { spells = s; built = subst (FirstUnbuilt (terminals tokens.list)) e f }
@@ -19,3 +31,45 @@ pub breaks_by_tokens : (number : ℕ) (bytes : List ℕ) (tokens : Tokens) (r : 
 breaks_by_tokens number bytes tokens (Ok t) s h = h
 breaks_by_tokens number bytes tokens (Err (parsed.Refused refusal)) s h = by_tokens tokens s h
 breaks_by_tokens number bytes tokens (Err parsed.NoMemory) s h = h
+
+-- ---- errors
+
+-- an error that is handed on by `?`
+pub handed_on : {T : Type 0} {R Q : LoadError → Type 0} (r : Result T LoadError) → IsErrAnd r R → ((e : LoadError) → R e → Q e) → IfErr r Q
+handed_on (Ok x) h f = absurd h
+handed_on (Err e) h f = f e h
+
+pub refused_by : (name other : List ℕ) (r s : Refusal) (e : LoadError) → name ≡ other → r ≡ s → RefusesBy name r e → RefusesBy other s e
+refused_by name other r s e n is h = subst (λ x. RefusesBy x s e) n (subst (λ x. RefusesBy name x e) is h)
+
+-- a count that rose since it was greater
+pub rose_since : (initial before after : ℕ) → initial ≤ before → Rose before after → Rose initial after
+rose_since initial before after h (inl less) = inl (omega (arith, h, less))
+rose_since initial before after h (inr most) = inr most
+
+-- ---- the walk from the main file
+
+-- no use was in front, so none is left
+pub none_left : (uses rest : List Use) → uses ≡ rest → rest ≡ drop 1 uses → uses ≡ []
+none_left [] rest e f = refl
+none_left (used ∷ uses) rest e f = absurd (longer (ap length (e ∙ f)))
+  where
+    longer : suc (length uses) ≡ length uses → ⊥
+    longer h = omega (arith, h)
+
+pub use_in : (stored other : Option (List NamedFile)) (folder file name : List ℕ) (used : Use) (w new : Walked) (before after : ℕ) (r : Result (Option Frame) LoadError) → stored ≡ other → file ≡ name → UseIs stored folder file used w new before after r → UseIs other folder name used w new before after r
+use_in stored other folder file name used w new before after r s f h = subst (λ x. UseIs other folder x used w new before after r) f (subst (λ x. UseIs x folder file used w new before after r) s h)
+
+pub walks_on : (stored : Option (List NamedFile)) (main folder : List ℕ) (frame : Frame) (w : Walked) (initial before : ℕ) (end : Ends) → FirstIs stored main w initial before (Ok frame) → IsFolder main folder → Visits stored folder frame.file frame.closing w frame.uses.items end → Walks stored main end
+walks_on stored main folder frame w initial before end (file, unit, bytes, has, enters) f v = goes has f enters (subst (λ x. Visits stored folder x frame.closing w frame.uses.items end) file v)
+
+pub stops_on : (stored : Option (List NamedFile)) (main folder : List ℕ) (frame : Frame) (w : Walked) (initial before after : ℕ) (e : LoadError) → FirstIs stored main w initial before (Ok frame) → IsFolder main folder → initial ≤ before → StopsAt stored folder frame w before after e → Stops stored main initial after e
+stops_on stored main folder frame w initial before after (errors.Refused refusal name) is f counts h = walks_on stored main folder frame w initial before (refused refusal name) is f h
+stops_on stored main folder frame w initial before after errors.ReadFault is f counts h = rose_since initial before after counts h
+stops_on stored main folder frame w initial before after errors.NoMemory is f counts h = h
+
+-- a program that uses units
+pub fails_by_uses : (stored : Option (List NamedFile)) (main : List ℕ) (before after : ℕ) (forest : Forest) (place : Place) (e : LoadError) → GivesForest stored main forest → first_use forest.trees ≡ Some place → RefusesBy main (unit_at place) e → FailsAs stored main before after e
+fails_by_uses stored main before after forest place (errors.Refused refusal name) g u (is, same) = uses_units forest place g u same is
+fails_by_uses stored main before after forest place errors.ReadFault g u r = absurd r
+fails_by_uses stored main before after forest place errors.NoMemory g u r = r

@@ -1,5 +1,5 @@
 //! A file whose uses are visited.
-ghost use Rattle.std.specs.Prelude.{◌≡◌, IfOk, IfSome, IfNone, length};
+ghost use Rattle.std.specs.Prelude.{◌≡◌, ◌<◌, IfOk, IfSome, length};
 ghost use Rattle.op_units.specs.Cycles.{FrameIs};
 
 use crate::uses::Use;
