@@ -96,6 +96,9 @@ neither false b e f = f
 pub is_new : (w : Walked) (name : List ℕ) → is_known w name ≡ false → is_system name ≡ false → is_sysutils name ≡ false → IsNew w name
 is_new w name k s t = record { unknown = k; outside = neither (is_system name) (is_sysutils name) s t }
 
+pub is_new_by : (w : Walked) (name now : List ℕ) (a b d : Bool) → now ≡ name → a ≡ is_known w now → a ≡ false → b ≡ is_system now → b ≡ false → d ≡ is_sysutils now → d ≡ false → IsNew w name
+is_new_by w name now a b d same e x f y g z = subst (λ n. IsNew w n) same (is_new w now (sym e ∙ x) (sym f ∙ y) (sym g ∙ z))
+
 -- what is found is there, and so is what is too large
 there_found : (o : Option (List ℕ)) (bytes : List ℕ) → o ≡ Some bytes → IsSome o
 there_found o bytes e = ap is_some e
