@@ -1,6 +1,7 @@
 -- What comes of a name in a uses list, and of the file that is read for it.
 use Rattle.std.proofs.Common.{◌≡◌, ℕ, zero, suc, ◌+◌, ◌<◌, ◌≤◌, Bool, true, false, ◌||◌, List, [], ◌∷◌, ◌++◌, length, map, take, get_or, Option, Some, None, Result, Ok, Err, refl, sym, ap, subst, ◌∙◌, ◌⊎◌, inl, inr, arith, IfSome, IsSome, is_some}
 use Rattle.std.specs.Prelude.{IsSomeAnd}
+use Rattle.std.specs.Result.{IsErrAnd}
 use Rattle.op_base.specs.FileAnswer.{Answers, file_named}
 use Rattle.op_base.specs.Outside.{Rose}
 use Rattle.op_base.specs.declared.files.FileAnswer.{FileAnswer}
@@ -130,6 +131,11 @@ too_large stored folder file used w new before after (errors.Refused refusal nam
 too_large stored folder file used w new before after (errors.Refused refusal name) n a (inr (fits, is, same)) = use_refused stored folder file used w new before after (broken 62 (start_of (length w.trees))) (file_of_unit used.name) (errors.Refused refusal name) (is_too_large n fits a) (same, is)
 too_large stored folder file used w new before after errors.ReadFault n a r = absurd r
 too_large stored folder file used w new before after errors.NoMemory n a r = r
+
+-- an error that is passed on
+pub is_passed_on : (r : Result (Option Frame) LoadError) (e : LoadError) → IsErrAnd r (λ x. x ≡ e) → r ≡ Err e
+is_passed_on (Ok o) e h = absurd h
+is_passed_on (Err x) e h = ap (λ y. Err y) h
 
 -- the file is read
 pub opened : (stored : Option (List NamedFile)) (folder file bytes bare : List ℕ) (used : Use) (w new : Walked) (before after : ℕ) (frame : Frame) → IsNew w used.name → Answers stored (path folder used.name) (room w.size) before after (Found bytes) → length w.units < 1000 → bare ≡ file_of_unit used.name → EnterIs bare (Some used.name) bytes w new (Ok frame) → UseIs stored folder file used w new before after (Ok (Some frame))

@@ -4,7 +4,7 @@ use Rattle.op_base.specs.declared.files.FileAnswer.TheVariants.{Found, Long, Mis
 use Rattle.op_units.specs.Cycles.{EnterIs, RefusesBy, TooLargeIs}
 use Rattle.op_units.specs.Names.{file_of_unit, is_sysutils}
 use Rattle.op_units.specs.Walk.{UseBreaks, UseIs, is_unbuilt, walked_of}
-use Rattle.op_units.proofs.Entering.{answered, is_new_by, missing, not_opened, too_large, too_many, use_refused}
+use Rattle.op_units.proofs.Entering.{answered, is_new_by, is_passed_on, missing, not_opened, too_large, too_many, use_refused}
 use Rattle.op_units.proofs.walk.Walk.visit.Goals as goal
 
 pub returns-then-is_sysutils-clause-comes : goal.returns-then-is_sysutils-clause-comes
@@ -44,7 +44,7 @@ returns-in_err-frame-in-Found-clause-comes g c =
     let new = is_new_by w used.name c.as_slice-name.result.now c.contains.result c.is_system.result c.is_sysutils.result c.as_slice-name.ensures c.contains.ensures c.if-contains.false c.is_system.ensures c.if-is_system.false c.is_sysutils.ensures c.if-is_sysutils.false in
     let bare = c.in_ok-bare.ensures ∙ ap file_of_unit c.as_slice-name.ensures in
     let path = c.in-Ok.ensures.cases.0 ∙ c.as_slice-2.ensures.value ∙ c.in_ok-path.ensures ∙ ap (λ b. folder ++ b) (c.as_slice.ensures ∙ bare) in
-    subst (λ r. UseIs stored folder file used w (walked_of c.enter.new.self) before after r) (sym c.from_residual-in_err-frame-in-Found.ensures) (not_opened stored folder file c.in-Found.text c.in_ok-bare.bare used w (walked_of c.enter.new.self) before after c.in_err-frame-in-Found.field-0.0 new (subst (λ m. Answers stored (folder ++ file_of_unit used.name) m before after (Found c.in-Found.text)) c.room.ensures (answered stored c.in-Ok.path.now (folder ++ file_of_unit used.name) c.room.result before after c.in_ok-read.field-0 (Found c.in-Found.text) c.in_ok-read.ensures.answers path c.in-Found.is)) (omega (arith, c.len.ensures, c.if-len-ge-MOST_UNITS.false)) bare (subst (λ bytes. EnterIs c.in_ok-bare.bare (Some used.name) bytes w (walked_of c.enter.new.self) (Err c.in_err-frame-in-Found.field-0.0)) c.as_slice-in-Found.ensures c.in_err-frame-in-Found.ensures))
+    subst (λ r. UseIs stored folder file used w (walked_of c.enter.new.self) before after r) (sym (is_passed_on c.from_residual-in_err-frame-in-Found.result c.in_err-frame-in-Found.field-0.0 c.from_residual-in_err-frame-in-Found.ensures.1)) (not_opened stored folder file c.in-Found.text c.in_ok-bare.bare used w (walked_of c.enter.new.self) before after c.in_err-frame-in-Found.field-0.0 new (subst (λ m. Answers stored (folder ++ file_of_unit used.name) m before after (Found c.in-Found.text)) c.room.ensures (answered stored c.in-Ok.path.now (folder ++ file_of_unit used.name) c.room.result before after c.in_ok-read.field-0 (Found c.in-Found.text) c.in_ok-read.ensures.answers path c.in-Found.is)) (omega (arith, c.len.ensures, c.if-len-ge-MOST_UNITS.false)) bare (subst (λ bytes. EnterIs c.in_ok-bare.bare (Some used.name) bytes w (walked_of c.enter.new.self) (Err c.in_err-frame-in-Found.field-0.0)) c.as_slice-in-Found.ensures c.in_err-frame-in-Found.ensures))
 
 pub returns-in-Missing-clause-comes : goal.returns-in-Missing-clause-comes
 returns-in-Missing-clause-comes g c =
