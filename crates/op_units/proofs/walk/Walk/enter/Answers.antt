@@ -1,8 +1,8 @@
-use Rattle.std.proofs.Common.{arith, Some, None, length, map, refl, sym, ap, subst, ◌∙◌, ◌≡◌}
+use Rattle.std.proofs.Common.{arith, length, map, refl, sym, ap, subst, ◌∙◌}
 use Rattle.op_units.specs.Cycles.{ClosingIs, with_parts}
 use Rattle.op_units.specs.Names.{implementation_uses, interface_uses, name_of}
 use Rattle.op_units.specs.Reading.{Reads}
-use Rattle.op_units.specs.Walk.{own_names, unit_name, walked_of}
+use Rattle.op_units.specs.Walk.{own_names, walked_of}
 use Rattle.op_units.proofs.Entering.{closing_within, enters, file_breaks, name_differs, same_uses, used_twice}
 use Rattle.op_units.proofs.walk.Walk.enter.Goals as goal
 

@@ -1,4 +1,4 @@
-use Rattle.std.proofs.Common.{Some, Err, arith, length, ◌++◌, ap, subst, sym, ◌∙◌, ◌≡◌}
+use Rattle.std.proofs.Common.{Some, Err, arith, ◌++◌, ap, subst, sym, ◌∙◌}
 use Rattle.op_base.specs.FileAnswer.{Answers}
 use Rattle.op_base.specs.declared.files.FileAnswer.TheVariants.{Found, Long, Missing}
 use Rattle.op_units.specs.Cycles.{EnterIs, RefusesBy, TooLargeIs}
