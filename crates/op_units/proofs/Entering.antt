@@ -1,6 +1,7 @@
 -- What comes of a name in a uses list, and of the file that is read for it.
 use Rattle.std.proofs.Common.{◌≡◌, ℕ, zero, suc, ◌+◌, ◌<◌, ◌≤◌, Bool, true, false, ◌||◌, List, [], ◌∷◌, ◌++◌, length, map, take, get_or, Option, Some, None, Result, Ok, Err, refl, sym, ap, subst, ◌∙◌, ◌⊎◌, inl, inr, arith, IfSome, IsSome, is_some}
 use Rattle.std.specs.Prelude.{IsSomeAnd}
+use Rattle.std.specs.Result.{IsErrAnd}
 use Rattle.op_base.specs.FileAnswer.{Answers, file_named}
 use Rattle.op_base.specs.Outside.{Rose}
 use Rattle.op_base.specs.declared.files.FileAnswer.{FileAnswer}
@@ -96,6 +97,9 @@ neither false b e f = f
 pub is_new : (w : Walked) (name : List ℕ) → is_known w name ≡ false → is_system name ≡ false → is_sysutils name ≡ false → IsNew w name
 is_new w name k s t = record { unknown = k; outside = neither (is_system name) (is_sysutils name) s t }
 
+pub is_new_by : (w : Walked) (name now : List ℕ) (a b d : Bool) → now ≡ name → a ≡ is_known w now → a ≡ false → b ≡ is_system now → b ≡ false → d ≡ is_sysutils now → d ≡ false → IsNew w name
+is_new_by w name now a b d same e x f y g z = subst (λ n. IsNew w n) same (is_new w now (sym e ∙ x) (sym f ∙ y) (sym g ∙ z))
+
 -- what is found is there, and so is what is too large
 there_found : (o : Option (List ℕ)) (bytes : List ℕ) → o ≡ Some bytes → IsSome o
 there_found o bytes e = ap is_some e
@@ -127,6 +131,11 @@ too_large stored folder file used w new before after (errors.Refused refusal nam
 too_large stored folder file used w new before after (errors.Refused refusal name) n a (inr (fits, is, same)) = use_refused stored folder file used w new before after (broken 62 (start_of (length w.trees))) (file_of_unit used.name) (errors.Refused refusal name) (is_too_large n fits a) (same, is)
 too_large stored folder file used w new before after errors.ReadFault n a r = absurd r
 too_large stored folder file used w new before after errors.NoMemory n a r = r
+
+-- an error that is passed on
+pub is_passed_on : (r : Result (Option Frame) LoadError) (e : LoadError) → IsErrAnd r (λ x. x ≡ e) → r ≡ Err e
+is_passed_on (Ok o) e h = absurd h
+is_passed_on (Err x) e h = ap (λ y. Err y) h
 
 -- the file is read
 pub opened : (stored : Option (List NamedFile)) (folder file bytes bare : List ℕ) (used : Use) (w new : Walked) (before after : ℕ) (frame : Frame) → IsNew w used.name → Answers stored (path folder used.name) (room w.size) before after (Found bytes) → length w.units < 1000 → bare ≡ file_of_unit used.name → EnterIs bare (Some used.name) bytes w new (Ok frame) → UseIs stored folder file used w new before after (Ok (Some frame))

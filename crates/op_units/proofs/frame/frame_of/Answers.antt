@@ -1,4 +1,4 @@
-use Rattle.std.proofs.Common.{Some, None, IfSome, length, ◌<◌, refl, sym, ap, subst, ◌∙◌, ◌≡◌}
+use Rattle.std.proofs.Common.{Some, IfSome, length, ◌<◌, refl, sym, ap, subst, ◌∙◌}
 use Rattle.op_units.specs.Cycles.{FrameIs}
 use Rattle.op_units.specs.declared.frame.Frame.{Frame}
 use Rattle.op_units.proofs.Entering.{place_at}

@@ -1,5 +1,4 @@
-use Rattle.std.proofs.Common.{None, Some, arith, length, ◌+◌, ◌≤◌, option_map, sym, ap, subst, ◌∙◌}
-use Rattle.op_units.specs.Cycles.{with_names}
+use Rattle.std.proofs.Common.{arith, ◌+◌, option_map, sym, ap, subst, ◌∙◌}
 use Rattle.op_units.proofs.Reaching.{Reaching, reached, reaching_adds, reaching_begins, reaching_skips}
 use Rattle.op_units.proofs.walk.Walk.reach.Goals as goal
 use Rattle.op_units.proofs.walk.Walk.reach.Goals.{in-Some-names+in_ok-add_all, in_default}

@@ -1,4 +1,3 @@
-use Rattle.std.proofs.Common.{length, ◌≤◌}
 use Rattle.op_units.proofs.Reaching.{Reaching}
 use Rattle.op_units.proofs.walk.Walk.reach.Given as goal
 
