@@ -1,11 +1,10 @@
 -- What comes of a name in a uses list, and of the file that is read for it.
-use Rattle.std.proofs.Common.{◌≡◌, ℕ, zero, suc, ◌+◌, ◌<◌, ◌≤◌, Bool, true, false, ◌||◌, List, [], ◌∷◌, ◌++◌, length, map, take, get_or, Option, Some, None, Result, Ok, Err, refl, sym, ap, subst, ◌∙◌, ◌⊎◌, inl, inr, arith, IfSome, IsSome, is_some}
+use Rattle.std.proofs.Common.{◌≡◌, ℕ, zero, suc, ◌<◌, ◌≤◌, Bool, true, false, ◌||◌, List, [], ◌∷◌, ◌++◌, length, map, take, get_or, Option, Some, None, Result, Ok, Err, refl, sym, ap, subst, ◌∙◌, inl, inr, arith, IfSome, IsSome, is_some}
 use Rattle.std.specs.Prelude.{IsSomeAnd}
 use Rattle.std.specs.Result.{IsErrAnd}
 use Rattle.op_base.specs.FileAnswer.{Answers, file_named}
-use Rattle.op_base.specs.Outside.{Rose}
 use Rattle.op_base.specs.declared.files.FileAnswer.{FileAnswer}
-use Rattle.op_base.specs.declared.files.FileAnswer.TheVariants.{Found, Long, Missing, Failed}
+use Rattle.op_base.specs.declared.files.FileAnswer.TheVariants.{Found, Long, Missing}
 use Rattle.op_base.specs.declared.files.NamedFile.{NamedFile}
 use Rattle.op_base.specs.declared.place.Place.{Place}
 use Rattle.op_base.specs.declared.rule.Refusal.{Refusal}
@@ -14,8 +13,8 @@ use Rattle.op_parse_code.specs.declared.error.ParseError.{ParseError}
 use Rattle.op_parse_code.specs.declared.error.ParseError.TheVariants as parsed
 use Rattle.op_tree.specs.declared.file.Tree.{Tree}
 use Rattle.op_units.specs.Cycles.{ClosesAt, ClosingIs, EnterIs, FirstIs, FrameIs, RefusesBy, TooLargeIs, closing_at, use_at, uses_up_to, with_parts}
-use Rattle.op_units.specs.Names.{file_of_unit, implementation_uses, interface_uses, is_built_in, is_system, is_sysutils, name_of, uses_of}
-use Rattle.op_units.specs.Walk.{AreVisited, are_all, are_front, by_name, by_text, by_uses, Enters, FileBreaks, Has, IsFile, IsMissing, IsNew, IsPassed, IsThere, IsTooLarge, Opens, Stops, UseBreaks, UseIs, Walked, Walks, breaks, is_known, is_missing, is_too_large, is_too_many, misnamed, nothing_read, main_breaks, own_names, path, refused, room, start_of, unit_name, used_again}
+use Rattle.op_units.specs.Names.{file_of_unit, implementation_uses, interface_uses, is_system, is_sysutils, name_of}
+use Rattle.op_units.specs.Walk.{AreVisited, are_all, are_front, by_name, by_text, by_uses, Enters, FileBreaks, IsNew, IsThere, IsTooLarge, Stops, UseBreaks, UseIs, Walked, Walks, breaks, is_known, is_missing, is_too_large, is_too_many, misnamed, nothing_read, main_breaks, own_names, path, refused, room, start_of, unit_name, used_again}
 use Rattle.op_units.specs.Reading.{Breaks, BreaksAs, Reads}
 use Rattle.op_units.specs.declared.error.LoadError.{LoadError}
 use Rattle.op_units.specs.declared.error.LoadError.TheVariants as errors

@@ -1,5 +1,5 @@
 -- From the text of a file to its tree, and from the main file to the files of a program.
-use Rattle.std.proofs.Common.{◌≡◌, ℕ, suc, ◌<◌, ◌≤◌, ◌⊎◌, inl, inr, Option, None, Some, List, [], ◌∷◌, drop, length, arith, refl, ap, subst, ◌∙◌, Result, Ok, Err, IfErr, IsErrAnd}
+use Rattle.std.proofs.Common.{◌≡◌, ℕ, suc, ◌≤◌, inl, inr, Option, None, Some, List, [], ◌∷◌, drop, length, arith, refl, ap, subst, ◌∙◌, Result, Ok, Err, IfErr, IsErrAnd}
 use Rattle.op_base.specs.Outside.{Rose}
 use Rattle.op_base.specs.declared.files.NamedFile.{NamedFile}
 use Rattle.op_base.specs.declared.place.Place.{Place}

@@ -3,7 +3,6 @@ use Rattle.std.specs.Prelude.{◌≡◌, ℕ, Bool, false, ◌||◌, List, [], �
 use Rattle.std.specs.Char.{to_ascii_lowercase}
 use Rattle.std.specs.List.{list_any}
 use Rattle.std.specs.Str.{bytes_eq}
-use Rattle.op_base.specs.declared.place.Place.{Place}
 use Rattle.op_tree.specs.declared.file.Tree.{Tree}
 use Rattle.op_tree.specs.declared.file.Tree.TheVariants as tree
 use Rattle.op_tree.specs.declared.position.Name.{Name}

@@ -1,6 +1,5 @@
 -- The walk over the units of a program: depth first, each file once. `stored` are the files, as far as they tell.
 use Rattle.std.specs.Prelude.{◌≡◌, ℕ, ◌+◌, ◌-◌, ◌<◌, ◌≤◌, min, Bool, true, false, ⊤, ◌⊎◌, Option, Some, None, Result, Ok, Err, List, [], ◌∷◌, ◌++◌, if◌then◌else◌, length, map, position, slice_get, IfSome, IsSome, IsSomeAnd}
-use Rattle.std.specs.List.{IsAmong, list_any}
 use Rattle.std.specs.Option.{option_and_then}
 use Rattle.std.specs.Str.{bytes_eq}
 use Rattle.op_base.specs.FileAnswer.{file_named}

@@ -1,7 +1,6 @@
 use Rattle.std.proofs.Common.{◌≤◌, arith, refl, sym, ap, subst, ◌∙◌, Ok, Err}
 use Rattle.op_core.specs.Faults.{broken}
 use Rattle.op_units.specs.Walk.{Visits, walked_of}
-use Rattle.op_units.specs.declared.frame.Frame.{Frame}
 use Rattle.op_units.proofs.Loading.{handed_on, none_left, refused_by, rose_since, use_in}
 use Rattle.op_units.proofs.Walking.{Completes, closed, goes_on_in, put_in_order, stopped}
 use Rattle.op_units.proofs.loader.visit_all.Goals as goal
