@@ -5,14 +5,11 @@ ghost use Rattle.op_image.specs.Means.{AreBytes, Means};
 ghost use Rattle.op_link.specs.Linking.{image_of, linked_size};
 ghost use Rattle.op_link.specs.Memory.{are_in_range, most_linked};
 ghost use Rattle.op_link.specs.declared.linker.LinkError.{LinkError};
-ghost use Rattle.op_low.specs.Valid.{is_valid};
 ghost use Rattle.op_select.specs.Selection.{select_of};
 
-use op_base::NoMemory;
 use op_layout::Layout;
 use op_link::{LinkError, Settings, link};
 use op_low::Low;
-use op_rv::Objects;
 use op_select::select;
 use std::alloc::Global;
 
@@ -21,15 +18,7 @@ fn are_bytes(image: &[u8])
     ensures { AreBytes image.now }
 {}
 
-/// The objects of low code, which is freed.
-fn objects_of(alloc: Global, low: Low) -> Result<Objects, NoMemory>
-    requires { IsTrue (is_valid low) }
-    ensures { IfOk result (λ objects. objects ≡ select_of low) }
-{
-    select(alloc, &low)
-}
-
-/// The image of a program in low code, which is freed once objects are made of it. `Limit` comes exactly where code, constants and initial
+/// The image of a program in low code, which is freed while objects are made of it. `Limit` comes exactly where code, constants and initial
 /// globals take more than 67,108,864 bytes, and `NoMemory` only where the allocator has no room. The image does what the low code does.
 pub fn build(
     alloc: Global,
@@ -44,7 +33,7 @@ pub fn build(
     ensures means { IfOk result (λ image. Means low layout.now settings.now image.items) }
     ensures limit { IfErr result (λ error. error ≡ LinkError.Limit → most_linked < linked_size (select_of low) layout.now settings.now) }
 {
-    let objects = objects_of(alloc, low)?;
+    let objects = select(alloc, low)?;
     let image = link(alloc, &objects, layout, settings)?;
     are_bytes(image.as_slice());
     Ok(image)

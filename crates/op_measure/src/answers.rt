@@ -61,7 +61,7 @@ fn of_low_code(alloc: Global, command: &str, lines: &[&str]) -> Result<String, N
     }
     match command {
         "execute" => executed(alloc, low, &layout),
-        "select" | "frame" => selected(alloc, &low, command == "frame"),
+        "select" | "frame" => selected(alloc, low, command == "frame"),
         _ => Ok(format!(in alloc; "valid")?),
     }
 }
@@ -93,8 +93,8 @@ pub fn built(alloc: Global, text: &str, builds: bool) -> Result<Vec<u8>, NoMemor
 }
 
 /// The items of the last routine: those of its first block, or its head and its last block.
-fn selected(alloc: Global, low: &Low, frame: bool) -> Result<String, NoMemory>
-    requires { IsTrue (is_valid low.now) }
+fn selected(alloc: Global, low: Low, frame: bool) -> Result<String, NoMemory>
+    requires { IsTrue (is_valid low) }
 {
     let objects = select(alloc, low)?;
     let Some(routine) = objects.routines.as_slice().last() else {

@@ -1,6 +1,6 @@
 //! Programs, routines and blocks.
 ghost use Rattle.std.specs.Prelude.{◌≡◌, ◌≤◌, ◌∷◌, ◌++◌, [], IfOk, IsTrue, map, true};
-ghost use Rattle.std.specs.List.{list_all};
+ghost use Rattle.std.specs.List.{All};
 ghost use Rattle.op_low.specs.Valid.{is_valid, is_valid_routine, most_registers};
 ghost use Rattle.op_select.specs.Selection.{code_items, items_of, object_block_of, object_routine_of, select_of};
 ghost use Rattle.op_low.specs.declared.instruction.Instruction.{Instruction};
@@ -9,33 +9,38 @@ use crate::frame::push_head;
 use crate::instruction::{push_code, push_raise};
 use op_base::{NoMemory, Sequence};
 use op_low::{Block, Low, Routine};
-use op_rv::{GlobalVariable, ObjectBlock, ObjectRoutine, Objects};
+use op_rv::{ObjectBlock, ObjectRoutine, Objects};
 use std::alloc::Global;
 
-/// The objects of a program in low code: for each routine its head, its blocks and a block that raises. Lists of items are fitted, since
-/// they are most of what a build keeps in memory. `NoMemory` comes
+/// The objects of a program in low code: for each routine its head, its blocks and a block that raises. The code of each
+/// routine is freed once it is selected. `NoMemory` comes
 /// only where the allocator has no room.
 #[tactic(auto, unfolding(crate::specs::Selection::select_of))]
-pub fn select(alloc: Global, low: &Low) -> Result<Objects, NoMemory>
-    requires { IsTrue (is_valid low.now) }
-    ensures { IfOk result (λ o. o ≡ select_of low.now) }
+pub fn select(alloc: Global, low: Low) -> Result<Objects, NoMemory>
+    requires { IsTrue (is_valid low) }
+    ensures { IfOk result (λ o. o ≡ select_of low) }
 {
-    let routines = object_routines(alloc, low)?;
-    let globals = copied_globals(alloc, low.globals.as_slice())?;
+    let Low {
+        routines,
+        entry,
+        globals,
+        ..
+    } = low;
+    let routines = object_routines(alloc, routines)?;
     Ok(Objects {
         routines: Sequence::from(routines),
-        entry: low.entry,
-        globals: Sequence::from(globals),
+        entry,
+        globals,
     })
 }
 
-fn object_routines(alloc: Global, low: &Low) -> Result<Vec<ObjectRoutine>, NoMemory>
-    requires { IsTrue (is_valid low.now) }
-    ensures { IfOk result (λ routines. routines.items ≡ map object_routine_of low.now.routines) }
+fn object_routines(alloc: Global, list: Sequence<Routine>) -> Result<Vec<ObjectRoutine>, NoMemory>
+    requires { All (λ r. r.registers ≤ most_registers) list }
+    ensures { IfOk result (λ routines. routines.items ≡ map object_routine_of list) }
 {
     let mut routines = Vec::new(alloc);
-    for routine in low.routines.as_slice() {
-        routines.push(object_routine(alloc, routine)?)?;
+    for routine in list.into_vec() {
+        routines.push(object_routine(alloc, &routine)?)?;
     }
     Ok(routines)
 }
@@ -90,28 +95,5 @@ fn raise_stub(alloc: Global, routine: &Routine) -> Result<ObjectBlock, NoMemory>
     items.shrink_to_fit();
     Ok(ObjectBlock {
         items: Sequence::from(items),
-    })
-}
-
-fn copied_globals(
-    alloc: Global,
-    globals: &[GlobalVariable],
-) -> Result<Vec<GlobalVariable>, NoMemory>
-    ensures { IfOk result (λ copies. copies.items ≡ globals.now) }
-{
-    let mut copies = Vec::new(alloc);
-    for global in globals {
-        copies.push(copied_global(alloc, global)?)?;
-    }
-    Ok(copies)
-}
-
-fn copied_global(alloc: Global, global: &GlobalVariable) -> Result<GlobalVariable, NoMemory>
-    ensures { IfOk result (λ copy. copy ≡ global.now) }
-{
-    let initial = Vec::from_slice(alloc, global.initial.as_slice())?;
-    Ok(GlobalVariable {
-        initial: Sequence::from(initial),
-        zeros: global.zeros,
     })
 }

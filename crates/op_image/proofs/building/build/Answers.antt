@@ -5,8 +5,8 @@ use Rattle.op_image.proofs.Linkable.{linkable, valid_code}
 use Rattle.op_image.proofs.Meant.{means_of}
 use Rattle.op_image.proofs.building.build.Goals as goal
 
-pub objects_of-requires : goal.objects_of-requires
-objects_of-requires c = valid_code c.args.low c.args.layout.now c.requires.buildable
+pub select-requires : goal.select-requires
+select-requires c = valid_code c.args.low c.args.layout.now c.requires.buildable
 
 pub link-requires-clause-linkable : goal.link-requires-clause-linkable
 link-requires-clause-linkable c =
