@@ -394,11 +394,26 @@ class Program:
         self.lines = ["program Random;", "type"] + [f"  {t.name} = {t.text};" for t in self.types] + ["const"]
         self.lines += [f"  {name}: {t.name} = {self.first(t)};" for name, t in self.constants] + ["var", "  Total: Integer;", "  LowEnd: Byte = 3;", "  HighEnd: Byte = 12;"]
         self.lines += [f"  {name}: {t.name}" + (f" = {self.first(t)};" if self.often(0.6) else ";") for name, t in self.globals] + [""]
+        self.cuts = [len(self.lines)]
         for number in range(self.random.randint(2, 7)):
             self.routine(number)
+            self.cuts.append(len(self.lines))
         self.show()
+        self.cuts.append(len(self.lines))
         self.must_be_calm, self.cost, self.weight = False, 0, 1
         scope = Scope(None, self.globals, self.globals, self.constants, [])
         self.lines += ["var"] if scope.counter(self.integer) else []
         self.body(scope, self.random.randint(10, 40), ["Show;"], ["{$Q-,R-}", "Show;"])
         return "\n".join(self.lines + ["end."]) + "\n"
+
+    def files(self):
+        """The same program in units, the main file first: what is declared in front of routines, each routine, and what shows the variables."""
+        lines = self.text().split("\n")
+        parts = [lines[first:past] for first, past in zip(self.cuts, self.cuts[1:])]
+        found, used = {"kinds.pas": "\n".join(["unit Kinds;", "interface", *lines[1:self.cuts[0]], "implementation", "end."]) + "\n"}, ["Kinds"]
+        for number, part in enumerate(parts):
+            headings = [line for line in part if line.startswith(("function ", "procedure "))]
+            tail = [["end."], [f"initialization Total := Total * 3 + {number}; end."], [f"begin if Total < {number} then Inc(Total, {number}) end."]][number % 3]
+            found[f"part{number}.pas"] = "\n".join([f"unit Part{number};", "interface", f"uses {', '.join(used)};", *headings, "implementation", *part, *tail]) + "\n"
+            used.append(f"Part{number}")
+        return {"program.pas": "\n".join([lines[0], f"uses {', '.join(used)};", *lines[self.cuts[-1]:]]), **found}

@@ -5,8 +5,8 @@ use Rattle.op_check_unit.proofs.LawDenoting.{denoted_law}
 use Rattle.op_check_unit.proofs.LawInitials.{first_law}
 use Rattle.op_check_unit.proofs.LawNames.{name_law}
 use Rattle.op_check_unit.proofs.LawSteps.{agrees_left_out, each_law, from_silent, from_where_fine, lists_also, lists_whether}
-use Rattle.op_check_unit.specs.Declaring.{constant_by, constant_declared, constants_declared, defined, first_means, globals_fit, one_type_declared, row_entered, rows_entered, type_declared, typed_declared, types_declared, value_means, variable_meaning, variables_declared, variables_named, names_declared, next_variable, with_first, with_row}
-use Rattle.op_check_unit.specs.Naming.{all_ahead, with_ahead}
+use Rattle.op_check_unit.specs.Declaring.{constant_by, constant_declared, constant_meaning, constants_declared, defined, first_means, globals_fit, one_type_declared, row_entered, rows_entered, type_declared, type_meaning, typed_declared, types_declared, value_means, variable_meaning, variables_declared, variables_named, names_declared, next_variable, with_first, with_row}
+use Rattle.op_check_unit.specs.Naming.{all_ahead, ended, with_ahead}
 use Rattle.op_check_unit.specs.RulesDeclaring.{BeginningBreaks, BeginsWith, ConstantBreaksBy, ConstantDeclarationBreaks, ConstantsBreak, DefinitionBreaks, OneTypeBreaks, PlainValueBreaks, RowBreaks, RowsBreak, TypeDeclarationBreaks, TypedConstantBreaks, TypesBreak, VariableNamesBreak, VariableRowsBreak, VariablesBreak, globals_have_room}
 use Rattle.op_check_unit.specs.RulesSteps.{AgreesFrom}
 use Rattle.op_check_unit.specs.Steps.{Here}
@@ -33,7 +33,9 @@ definition_law own (forward_interface i) h = (agrees_left_out {A = TypeId}).1
 definition_law own (interface i) h = (agrees_left_out {A = TypeId}).1
 
 type_law : (d : TypeDeclaration) (h : Here) → Lists (type_declared d h).faults (TypeDeclarationBreaks d h)
-type_law d h = lists_also (definition_law d.name d.definition (with_ahead d.name h)) (name_law d.name _ _)
+type_law d h =
+    let g = defined d.name d.definition (with_ahead d.name h) in
+    lists_also (definition_law d.name d.definition (with_ahead d.name h)) (name_law d.name (type_meaning g.typed) (ended g.here))
 
 pub types_law : (ds : List TypeDeclaration) (h : Here) → Lists (types_declared ds h).faults (TypesBreak ds h)
 types_law ds h = each_law type_declared type_law ds h
@@ -62,12 +64,12 @@ plain_law (record_ p fields) h = lists_one (broken 30 p.place)
 
 typed_law : (t : Option TypeId) (i : Initial) (n : Name) (h : Here) → Lists (typed_declared t i n h).faults (TypedConstantBreaks t i n h)
 typed_law None i n h = name_law n Spoiled h
-typed_law (Some of) i n h = lists_also (row_law Constant of (Some i) n h) (name_law n (Variable (next_variable h) false) _)
+typed_law (Some of) i n h = lists_also (row_law Constant of (Some i) n h) (name_law n (Variable (next_variable h) false) (row_entered Constant of (Some i) n h).here)
 
 constant_by_law : (t : Option Denoter) (i : Initial) (n : Name) (h : Here) → Lists (constant_by t i n h).faults (ConstantBreaksBy t i n h)
-constant_by_law None (value e) n h = lists_also (plain_law (value e) h) (name_law n _ _)
-constant_by_law None (list p items) n h = lists_also (plain_law (list p items) h) (name_law n _ _)
-constant_by_law None (record_ p fields) n h = lists_also (plain_law (record_ p fields) h) (name_law n _ _)
+constant_by_law None (value e) n h = lists_also (plain_law (value e) h) (name_law n (constant_meaning (value_means (value e) h).typed) h)
+constant_by_law None (list p items) n h = lists_also (plain_law (list p items) h) (name_law n Spoiled h)
+constant_by_law None (record_ p fields) n h = lists_also (plain_law (record_ p fields) h) (name_law n Spoiled h)
 constant_by_law (Some t) i n h =
     let a = denoted_law None false t (with_ahead n h) in
     lists_also a.1 (lists_whether _ a.0 (typed_law _ i n _))

@@ -2,7 +2,7 @@
 use Rattle.std.proofs.Common.{ℕ, Bool, true, false, not, ◌||◌, length, List, Option, Some, None}
 use Rattle.op_base.specs.declared.place.Place.{Place}
 use Rattle.op_check_unit.proofs.LawSteps.{agrees_feature_fine, agrees_feature_never, agrees_left_out, agrees_when, from_where, from_where_fine}
-use Rattle.op_check_unit.specs.Naming.{declared, declared_within, entered_name, has_room, is_ahead, is_declared, is_name, own_type, told_in, type_meant, type_named, type_of_unit, with_name}
+use Rattle.op_check_unit.specs.Naming.{declared, declared_within, entered_name, has_room, is_ahead, is_declared, is_name, own_type, told_in, type_meant, type_named, type_of_unit, with_declared}
 use Rattle.op_check_unit.specs.RulesNames.{EnteredBreaks, NameBreaks, NameWithinBreaks, NamedBreaks, NamedIs, OwnBreaks, TypeBreaks, TypeIs, TypeNamedBreaks, TypeNamedIs, UnitTypeBreaks, UnitTypeIs}
 use Rattle.op_check_unit.specs.Steps.{Here}
 use Rattle.op_check_unit.specs.declared.naming.Told.{Told}
@@ -46,7 +46,7 @@ named_law core names own inside q = named_by_law core names own inside q.name q.
 -- ---- names that are declared
 
 entered_law : (taken : Bool) (more : ℕ) (n : Name) (m : Meaning) (h : Here) → Lists (entered_name taken more n m h).faults (EnteredBreaks taken more n h)
-entered_law taken more n m h = (from_where (not taken) 14 n.position.place h _ (λ e. from_where_fine (has_room more h) 64 n.position.place h (with_name n m h) tt)).1
+entered_law taken more n m h = (from_where (not taken) 14 n.position.place h _ (λ e. from_where_fine (has_room more h) 64 n.position.place h (with_declared n m h) tt)).1
 
 pub name_law : (n : Name) (m : Meaning) (h : Here) → Lists (declared n m h).faults (NameBreaks n h)
 name_law n m h = entered_law (is_declared h n) 0 n m h

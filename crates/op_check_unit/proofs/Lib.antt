@@ -12,6 +12,8 @@ pub mod LawInitials
 pub mod LawDeclaring
 pub mod LawHeadings
 pub mod LawRoutines
+pub mod Clear
+pub mod Units
 pub mod Law
 pub mod Tables
 pub mod Filled

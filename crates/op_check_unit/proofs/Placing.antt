@@ -1,15 +1,16 @@
 -- Bodies that are put into the rows of their routines.
-use Rattle.std.proofs.Common.{◌≡◌, ℕ, ◌≤◌, List, [], ◌∷◌, ◌++◌, Option, Some, None, Result, Ok, Err, map, length, get_or, slice_set, ap, sym, subst, refl, ◌∙◌}
+use Rattle.std.proofs.Common.{◌≡◌, ◌≤◌, List, [], ◌∷◌, ◌++◌, Option, Some, None, Result, Ok, Err, map, length, get_or, slice_set, ap, sym, subst, refl, ◌∙◌}
 use Rattle.std.proofs.lemmas.List.{length-map, map-append, map-set, set_past}
 use Rattle.std.proofs.Math.Seq.{map-set_same}
+use Rattle.op_base.specs.declared.rule.Refusal.{Refusal}
 use Rattle.op_check_unit.specs.Bodies.{said}
 use Rattle.op_check_unit.specs.Checking.{CheckIs, Fills, Finishes, Places, bare, body_in, placed, without_bodies}
-use Rattle.op_check_unit.specs.FirstValues.{Begins, begins_with, begun, without_first_values}
+use Rattle.op_check_unit.specs.FirstValues.{Begins, begins_so, begins_with, begun, without_first_values}
 use Rattle.op_check_unit.specs.Steps.{Declares, Given}
 use Rattle.op_check_unit.specs.declared.body.Owned.{Owned}
 use Rattle.op_check_unit.specs.declared.declarer.Declarer.{Declarer}
 use Rattle.op_core.proofs.First.{first_is}
-use Rattle.op_core.specs.Faults.{FirstIs, kept}
+use Rattle.op_core.specs.Faults.{FirstIs, kept, or_typed}
 use Rattle.op_core.specs.Initial.{FirstValue}
 use Rattle.op_core.specs.Statement.{Statements}
 use Rattle.op_core.specs.declared.error.CheckError.{CheckError}
@@ -58,3 +59,8 @@ checks g start d (Ok core) s x f =
     (subst (λ h. Fills h.bodies h.first_values h.core core) x.0 f.0, subst (FirstIs g.faults) (sym (ap (λ k. kept k g.faults) s) ∙ sym x.1 ∙ f.1) (first_is g.faults))
 checks g start d (Err (Refused r)) s x f = subst (FirstIs g.faults) (sym (ap (λ k. kept k g.faults) s) ∙ sym x.1 ∙ f) (first_is g.faults)
 checks g start d (Err NoMemory) s x f = tt
+
+-- what a declarer comes to
+pub finishes : (d : Declarer) (core : Core) (k : Option Refusal) (r : Result Core CheckError) → d.sink.kept ≡ k → Fills (map said d.bodies.items) (map begins_so d.first_values.items) d.core core → r ≡ or_typed k core → Finishes d r
+finishes d core None r e f is = subst (Finishes d) (sym is) (f, e)
+finishes d core (Some q) r e f is = subst (Finishes d) (sym is) e

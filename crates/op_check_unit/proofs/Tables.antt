@@ -8,7 +8,6 @@ use Rattle.std.proofs.lemmas.Option.{slice_get_within}
 use Rattle.std.specs.List.{All, Contains}
 use Rattle.std.specs.Option.{option_and_then, option_map}
 use Rattle.op_check_unit.specs.System.{empty, system_core, with_classes}
-use Rattle.op_check_unit.specs.System as system
 use Rattle.op_check_unit.specs.Tables.{IsBelow, IsPlain, IsSystem, IsTabled, known_types}
 use Rattle.op_check_unit.specs.Types.{whole_type}
 use Rattle.op_core.proofs.Agreeing.{some_is}

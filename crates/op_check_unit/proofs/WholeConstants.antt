@@ -1,9 +1,8 @@
 -- Where names stand for what is there, what has to be a constant has a sound value or breaks a rule; so has a first value.
-use Rattle.std.proofs.Common.{◌≡◌, ℕ, zero, suc, ◌<◌, ◌≤◌, nat_lt, Bool, true, false, List, [], ◌∷◌, get_or, length, map, replicate, slice_get, Option, Some, None, if◌then◌else◌, refl, sym, ap, subst, ◌∙◌, arith}
+use Rattle.std.proofs.Common.{◌≡◌, ℕ, zero, suc, ◌<◌, ◌≤◌, nat_lt, Bool, true, false, List, [], ◌∷◌, length, map, replicate, slice_get, Option, Some, None, if◌then◌else◌, refl, sym, subst, arith}
 use Rattle.std.proofs.lemmas.Bool.{ltb-false, ltb-true}
 use Rattle.std.proofs.lemmas.Option.{slice_get-get_or, slice_get_within}
 use Rattle.std.specs.List.{All}
-use Rattle.std.specs.Option.{IsSomeAnd, option_map}
 use Rattle.op_base.specs.declared.place.Place.{Place}
 use Rattle.op_check_expr.proofs.Trees.{retyped_fits}
 use Rattle.op_check_expr.proofs.Whole.{value_of_whole}
@@ -14,9 +13,9 @@ use Rattle.op_check_unit.specs.Initials.{by_brackets, by_elements, by_fields, co
 use Rattle.op_check_unit.specs.Naming.{is_name}
 use Rattle.op_check_unit.specs.Types.{constant_part, needed, no_constant, scope_outside}
 use Rattle.op_check_unit.specs.declared.initial.Shape.{Shape}
-use Rattle.op_core.proofs.Completing.{whole_behind, whole_changed_so, whole_entered, whole_followed, whole_gives, whole_if, whole_refused, whole_standing, whole_tested}
+use Rattle.op_core.proofs.Completing.{whole_behind, whole_changed_so, whole_entered, whole_followed, whole_gives, whole_if, whole_refused, whole_tested}
 use Rattle.op_core.specs.Faults.{Checked, behind, front}
-use Rattle.op_core.specs.Initial.{FirstValue, FirstValues, constant as constant_value, no_values, parts, values}
+use Rattle.op_core.specs.Initial.{FirstValue, FirstValues, constant as constant_value, parts, values}
 use Rattle.op_core.specs.Members.{Kind}
 use Rattle.op_core.specs.Relations.{Filled, Whole, faulty, filled, typed}
 use Rattle.op_core.specs.Rows.{rows}

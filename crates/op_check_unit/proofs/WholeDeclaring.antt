@@ -1,18 +1,17 @@
 -- Declarations of types, constants and variables leave a settled state or break a rule.
-use Rattle.std.proofs.Common.{◌≡◌, inl, inr, ◌⊎◌, ◌<◌, ◌≤◌, ℕ, zero, suc, ◌+◌, ◌^◌, ◌-◌, min, false, true, ◌||◌, List, [], ◌∷◌, ◌++◌, All, Contains, IfSome, IsSomeAnd, IsTrue, append-nil, append_assoc, cond, drop, eq-or-lt_of_le, filter, flat_map, is_some, leb-true, length, length-append, nat_le, option_to_list, slice_get, Option, Some, None, refl, sym, ap, ap₂, subst, ◌∙◌, arith}
+use Rattle.std.proofs.Common.{◌≡◌, inl, inr, ◌⊎◌, ◌<◌, ◌≤◌, ℕ, zero, suc, ◌+◌, ◌^◌, ◌-◌, min, false, true, ◌||◌, List, [], ◌∷◌, ◌++◌, All, IfSome, IsSomeAnd, IsTrue, append-nil, append_assoc, cond, drop, eq-or-lt_of_le, filter, flat_map, is_some, leb-true, length, length-append, nat_le, option_to_list, slice_get, Option, Some, None, refl, sym, ap, ap₂, subst, ◌∙◌, arith}
 use Rattle.std.proofs.lemmas.List.{drop-append-le}
 use Rattle.std.proofs.lemmas.List.Elements.{All-cons, All-head, All-nil, All-tail, Contains-push, filter-append}
 use Rattle.std.proofs.lemmas.List.Sums.{sum_by_push}
 use Rattle.op_check_unit.proofs.WholeConstants.{constant_whole, first_whole}
 use Rattle.op_check_unit.proofs.WholeGrowth.{Wider, contains_on, counts_on, or_on, people_on, some_is}
 use Rattle.op_check_unit.proofs.WholeSteps.{Moves, founded, from_after, from_breaks, from_checked, from_followed, from_gives, from_so, from_then, from_where, if_counts, later_ahead, later_itself, later_through, lead_followed, leads, leads_on, moves_each, settled_ahead, settled_all_ahead, settled_in, settled_valued, wider}
-use Rattle.op_check_unit.proofs.WholeTypes.{Denotes, IsType, behind_front, declared_settled, denoted_settled, entered_from, first_behind, with_name_settled}
+use Rattle.op_check_unit.proofs.WholeTypes.{Denotes, IsType, behind_front, declared_settled, denoted_settled, entered_from, first_behind, with_declared_core, with_declared_settled}
 use Rattle.op_check_unit.proofs.Tables.{tabled_beside}
-use Rattle.op_check_unit.specs.Complete.{Counts, From, Inside, IsBareVariable, IsTypedFirst, Later, Leads, Settled, Stage, WithBlockRows, declared_in, scope}
-use Rattle.op_check_unit.specs.Declaring.{constant_by, constant_declared, constant_meaning, constants_declared, defined, first_means, globals_fit, most_global_bytes, names_declared, next_variable, one_type_declared, row_entered, rows_entered, type_declared, type_meaning, typed_declared, types_declared, value_means, variable_meaning, variables_declared, variables_named, with_first, with_row}
-use Rattle.op_check_unit.specs.Initials.{first}
+use Rattle.op_check_unit.specs.Complete.{Counts, From, Inside, IsBareVariable, Later, Leads, Settled, Stage, WithBlockRows, declared_in, scope}
+use Rattle.op_check_unit.specs.Declaring.{constant_by, constant_declared, constant_meaning, constants_declared, defined, globals_fit, most_global_bytes, names_declared, next_variable, one_type_declared, row_entered, type_declared, type_meaning, typed_declared, types_declared, value_means, variable_meaning, variables_declared, variables_named, with_first, with_row}
 use Rattle.op_check_unit.specs.Naming.{all_ahead, declared, ended, is_declared, with_ahead}
-use Rattle.op_check_unit.specs.Steps.{Here, each, followed, gives}
+use Rattle.op_check_unit.specs.Steps.{Here, each}
 use Rattle.op_core.proofs.Completing.{whole_rule}
 use Rattle.op_core.proofs.Growing.{front_itself, front_row, grows_behind, some_and}
 use Rattle.op_core.proofs.GrowingRows.{first_grows}
@@ -20,7 +19,7 @@ use Rattle.op_core.specs.Faults.{none}
 use Rattle.op_core.specs.Growing.{Grows}
 use Rattle.op_core.specs.Initial.{FirstValue}
 use Rattle.op_core.specs.Relations.{Filled, filled}
-use Rattle.op_core.specs.Sizes.{extent_of, type_at}
+use Rattle.op_core.specs.Sizes.{type_at}
 use Rattle.op_core.specs.Sound.{IsFirst, Row, bytes_of, globals_of, is_declared as is_counted, is_of_block, size_of}
 use Rattle.op_core.specs.Typing.{Sees}
 use Rattle.op_core.specs.declared.ids.RoutineId.{RoutineId}
@@ -86,7 +85,7 @@ settled_local {s} {h} ws b x a c =
     refl refl c (if_counts h.core (beside h.core ws) s.inside h.names (λ b. counts_on h.core (beside h.core ws) None b same) x.inside)
   where
     w : Wider h.core (beside h.core ws)
-    w = wider x (front_itself h.core.types) (front_itself h.core.extents) (front_itself h.core.fields) (front_itself h.core.parameters) (behind_front h.core.variables ws) (front_itself h.core.globals) (front_itself h.core.routines) (refl, refl, refl, refl, refl)
+    w = wider x (front_itself h.core.types) (front_itself h.core.extents) (front_itself h.core.fields) (front_itself h.core.parameters) (behind_front h.core.variables ws) (front_itself h.core.globals) (front_itself h.core.routines) (refl, refl, refl, refl, refl) (omega arith)
 
     same : bytes_of (beside h.core ws) (globals_of (beside h.core ws)) ≡ bytes_of h.core (globals_of h.core)
     same = ap (bytes_of h.core) (globals_still h.core.variables ws h.core.globals x.people.globals)
@@ -158,7 +157,7 @@ row_by s None None role of n h e x t f = leads
     b = min (h.bytes + size) (2 ^ 64 - 1)
 
     w : Wider h.core new
-    w = wider x (front_itself h.core.types) (front_itself h.core.extents) (front_itself h.core.fields) (front_itself h.core.parameters) (behind_front h.core.variables (v ∷ [])) (behind_front h.core.globals (id ∷ [])) (front_itself h.core.routines) (refl, refl, refl, refl, refl)
+    w = wider x (front_itself h.core.types) (front_itself h.core.extents) (front_itself h.core.fields) (front_itself h.core.parameters) (behind_front h.core.variables (v ∷ [])) (behind_front h.core.globals (id ∷ [])) (front_itself h.core.routines) (refl, refl, refl, refl, refl) (omega arith)
 
     below : Row new.variables id.0
     below = let l = length-append h.core.variables (v ∷ []) in omega (arith, l)
@@ -261,7 +260,7 @@ named_settled core k [] h e f le sees x = from_gives (x, e)
 named_settled {s} core k (n ∷ ns) h e (filled of q) le sees x =
     let stands : StandsFor core (scope s.inside core) (Variable (record { 0 = k }) true) = (sees k (omega arith) (omega (arith, le)), omega (arith, le)) in
     from_then (variables_named (Some of) (k + 1) ns)
-    (entered_from {R = λ u i. Settled s i × (i.core ≡ core)} (is_declared h n) 0 n (variable_meaning (Some of) k) h (with_name_settled n (variable_meaning (Some of) k) h x (subst (λ c. StandsFor c (scope s.inside c) (Variable (record { 0 = k }) true)) (sym e) stands), e))
+    (entered_from {R = λ u i. Settled s i × (i.core ≡ core)} (is_declared h n) 0 n (variable_meaning (Some of) k) h (with_declared_settled n (variable_meaning (Some of) k) h x (subst (λ c. StandsFor c (scope s.inside c) (Variable (record { 0 = k }) true)) (sym e) stands), with_declared_core n (variable_meaning (Some of) k) h ∙ e))
     (λ u i r. named_settled core (k + 1) ns i r.1 (filled of q) (omega (arith, le)) (λ j a b. sees j (omega (arith, a)) b) r.0)
 
 names_settled : {s : Stage} {t : Option TypeId} (i : Option Initial) (ns : List Name) (h : Here) → Filled (λ of. IsType of h.core) t → Settled s h → From (Moves s h) (names_declared t i ns h)

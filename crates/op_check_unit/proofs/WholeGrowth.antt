@@ -1,11 +1,14 @@
 -- What is so of a state is so where tables have grown.
-use Rattle.std.proofs.Common.{◌≡◌, inl, inr, ◌⊎◌, ◌≤◌, ℕ, ◌+◌, Bool, true, false, cond, List, [], ◌∷◌, ◌++◌, All, Contains, IfSome, IsSomeAnd, drop, filter, flat_map, length, length-append, map, option_to_list, slice_get, unwrap_or, Option, Some, None, refl, sym, ap, ap₂, subst, ◌∙◌, arith}
+use Rattle.std.proofs.Common.{◌≡◌, inl, inr, ◌⊎◌, ◌<◌, ◌≤◌, ℕ, ◌+◌, Bool, true, false, cond, List, [], ◌∷◌, ◌++◌, All, Contains, IfSome, IsSomeAnd, drop, filter, flat_map, length, length-append, map, option_to_list, slice_get, unwrap_or, Option, Some, None, refl, sym, ap, ap₂, subst, ◌∙◌, arith}
 use Rattle.std.proofs.lemmas.List.Elements.{All-append, All-cons, All-drop, All-head, All-nil, All-take, All-tail, All-weaker, Contains-append_left}
 use Rattle.std.proofs.lemmas.List.Sums.{sum_by-cons}
-use Rattle.op_check_unit.specs.Complete.{Counts, Inside, IsBareRoutine, IsBareVariable, IsPeopled, IsTypedBody, IsTypedFirst, declared_in, scope, scope_of}
+use Rattle.std.proofs.lemmas.Option.{slice_get_within}
+use Rattle.op_base.specs.declared.place.Place.{Place}
+use Rattle.op_check_unit.specs.Complete.{Counts, Inside, IsBareRoutine, IsBareVariable, IsDone, IsDonePart, IsExported, IsOpen, IsPeopled, IsTypedBody, IsTypedFirst, declared_in, scope, scope_of}
 use Rattle.op_check_unit.specs.Declaring.{most_global_bytes}
 use Rattle.op_check_unit.specs.Routines.{most_bytes}
 use Rattle.op_check_unit.specs.Tables.{IsTabled}
+use Rattle.op_check_unit.specs.declared.uses.Export.{Export}
 use Rattle.op_core.proofs.Growing.{all_at, front_fit, front_row, front_rows, front_stays, some_and}
 use Rattle.op_core.proofs.GrowingRows.{first_grows}
 use Rattle.op_core.proofs.GrowingStatements.{statements_grow}
@@ -22,6 +25,7 @@ use Rattle.op_core.specs.declared.ids.RoutineId.{RoutineId}
 use Rattle.op_core.specs.declared.ids.TypeId.{TypeId}
 use Rattle.op_core.specs.declared.ids.VariableId.{VariableId}
 use Rattle.op_core.specs.declared.program.Core.{Core}
+use Rattle.op_core.specs.declared.program.Unit.{Unit as RustUnit}
 use Rattle.op_core.specs.declared.routine.Parameter.{Parameter}
 use Rattle.op_core.specs.declared.routine.Role.TheVariants.{Parameter as ParameterRole, Result}
 use Rattle.op_core.specs.declared.routine.Routine.{Routine}
@@ -40,6 +44,7 @@ pub record Wider (old new : Core) : Type 0 where
   pub variables : IsFrontOf old.variables new.variables
   pub globals : IsFrontOf old.globals new.globals
   pub routines : length old.routines ≤ length new.routines
+  pub units : length old.units ≤ length new.units
 
 pub some_is : {A : Type 0} {P : A → Type 0} (o : Option A) → IsSomeAnd o P → (a : A) × (o ≡ Some a) × P a
 some_is (Some a) p = (a, refl, p)
@@ -70,6 +75,27 @@ scope_on i w = record { variable = λ v x. or_on (contains_on v w.globals) x; ro
 
 pub names_on : {old new : Core} (i : Option Inside) → Wider old new → (ns : List Named) → AllStand old (scope i old) ns → AllStand new (scope i new) ns
 names_on {old} {new} i w ns s = All-weaker (λ n. StandsFor old (scope i old) n.meaning) (λ n. StandsFor new (scope i new) n.meaning) (λ n x. stands_on w (scope_on i w) n.meaning x) ns s
+
+pub exports_on : {old new : Core} → Wider old new → (es : List Export) → All (IsExported old) es → All (IsExported new) es
+exports_on {old} {new} w es a = All-weaker (IsExported old) (IsExported new) (λ e x. names_on None w e.names x) es a
+
+-- ---- units
+
+-- a part whose body has come stays as it is
+abbrev pub KeepsParts : Core → Core → Option ℕ → Option ℕ → List (Option Place) → List (Option Place) → Type 0
+KeepsParts old new current next places later =
+    (p : ℕ) → p < length old.routines → (IsOpen current places p → ⊥) → (slice_get new.routines p ≡ slice_get old.routines p) × (IsOpen next later p → ⊥)
+
+pub part_on : (old new : Core) (current next : Option ℕ) (places later : List (Option Place)) → KeepsParts old new current next places later → (o : Option RoutineId) → IfSome o (IsDonePart old current places) → IfSome o (IsDonePart new next later)
+part_on old new current next places later k None x = tt
+part_on old new current next places later k (Some p) x =
+    let q = some_is (slice_get old.routines p.0) x.0 in
+    let s = k p.0 (slice_get_within old.routines p.0 q.0 q.1) x.1 in
+    (some_and (λ r. r.parameters.count ≡ 0) (s.0 ∙ q.1) q.2, s.1)
+
+pub units_on : (old new : Core) (current next : Option ℕ) (places later : List (Option Place)) → IsFrontOf old.globals new.globals → KeepsParts old new current next places later → (us : List RustUnit) → All (IsDone old current places) us → All (IsDone new next later) us
+units_on old new current next places later g k us a = All-weaker (IsDone old current places) (IsDone new next later)
+    (λ u x. record { globals = front_fit u.globals g x.globals; initialization = part_on old new current next places later k u.initialization x.initialization; finalization = part_on old new current next places later k u.finalization x.finalization }) us a
 
 -- ---- bodies and first values
 
@@ -157,7 +183,7 @@ result_row w (Some of) x = front_row w.grows.types x
 
 pub bare_routine_on : {old new : Core} → Wider old new → IsTabled old → IsPeopled old → (r : Routine) → IsBareRoutine old r → IsBareRoutine new r
 bare_routine_on {old} {new} w t p r b = record {
-  unit = b.unit;
+  unit = (let le = b.unit in let more = w.units in omega (arith, le, more));
   owner = b.owner;
   enclosing = b.enclosing;
   body = b.body;

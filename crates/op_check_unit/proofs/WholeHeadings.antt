@@ -1,14 +1,13 @@
 -- A heading means one or breaks a rule, and leaves a settled state.
-use Rattle.std.proofs.Common.{◌≡◌, ℕ, ◌+◌, ◌≤◌, Bool, true, false, List, [], ◌∷◌, ◌++◌, All, IfSome, append-nil, length, length-append, is_some, nat_lt, Option, Some, None, refl, sym, subst, arith}
+use Rattle.std.proofs.Common.{◌≡◌, ◌+◌, ◌≤◌, Bool, true, false, List, [], ◌∷◌, ◌++◌, All, IfSome, length, length-append, is_some, nat_lt, Option, Some, None, refl, sym, subst, arith}
 use Rattle.std.proofs.lemmas.List.Elements.{All-nil, All-push, All-weaker}
 use Rattle.std.specs.List.{list_any}
 use Rattle.op_check_unit.proofs.Tables.{tabled_beside}
 use Rattle.op_check_unit.proofs.WholeSteps.{from_behind, from_checked, from_followed, from_gives, later_itself, lead_behind, leads, leads_on, same_variables, settled_typed, wider}
 use Rattle.op_check_unit.proofs.WholeTypes.{IsType, behind_front, denoted_settled, from_if, type_named_whole}
 use Rattle.op_check_unit.specs.Complete.{From, Later, Leads, Settled, Stage, faulty, scope}
-use Rattle.op_check_unit.specs.Denoting.{denoted}
-use Rattle.op_check_unit.specs.Headings.{form_means, head_by, head_means, is_overload, is_plain, is_taken, most_parameters, no_parameters, one_parameter, own_name, parameter_group, parameter_groups, parameter_type, result_means, some_parameters, with_parameter}
-use Rattle.op_check_unit.specs.Steps.{Given, Here, by, followed, gather, gives, silent}
+use Rattle.op_check_unit.specs.Headings.{form_means, head_by, head_means, is_overload, is_plain, is_taken, most_parameters, no_parameters, one_parameter, own_name, parameter_group, parameter_type, result_means, some_parameters, with_parameter}
+use Rattle.op_check_unit.specs.Steps.{Given, Here, by, followed, gather, gives}
 use Rattle.op_check_unit.specs.Types.{in_core}
 use Rattle.op_check_unit.specs.declared.heading.Head.{Head}
 use Rattle.op_check_unit.specs.declared.heading.ParameterRows.{ParameterRows}
@@ -84,7 +83,7 @@ head_by_settled {s} kind of r h a q x = from_if r.whole (λ e. from_gives (leads
     wide = record h.core { parameters = h.core.parameters ++ r.rows }
 
     y : Settled s (in_core wide h)
-    y = settled_typed wide r.rows x (wider x (front_itself h.core.types) (front_itself h.core.extents) (front_itself h.core.fields) (behind_front h.core.parameters r.rows) (front_itself h.core.variables) (front_itself h.core.globals) (front_itself h.core.routines) (refl, refl, refl, refl, refl)) (tabled_beside _ _ _ _ _ x.tables) refl a.1 refl refl refl refl
+    y = settled_typed wide r.rows x (wider x (front_itself h.core.types) (front_itself h.core.extents) (front_itself h.core.fields) (behind_front h.core.parameters r.rows) (front_itself h.core.variables) (front_itself h.core.globals) (front_itself h.core.routines) (refl, refl, refl, refl, refl) (omega arith)) (tabled_beside _ _ _ _ _ x.tables) refl a.1 refl refl refl refl
 
     later : Later h.core wide
     later = record { types = front_itself h.core.types; parameters = behind_front h.core.parameters r.rows; variables = same_variables; globals = front_itself h.core.globals; routines = refl }

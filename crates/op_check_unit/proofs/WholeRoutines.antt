@@ -1,12 +1,11 @@
 -- Routines leave a settled state, in which each has its body or is awaited, or break a rule.
-use Rattle.std.proofs.Common.{◌≡◌, inl, inr, ◌⊎◌, ◌<◌, ◌≤◌, ℕ, zero, suc, ◌+◌, ◌-◌, Bool, true, false, nat_le, List, [], ◌∷◌, ◌++◌, All, IfSome, IsSomeAnd, IsTrue, append-nil, append_assoc, drop, filter, is_some, leb-true, length, map, min, take, slice_get, slice_set, length-append, length-drop, length-set, length-take, Option, Some, None, refl, sym, subst, ap, ◌∙◌, arith, if◌then◌else◌}
+use Rattle.std.proofs.Common.{◌≡◌, inl, inr, ◌⊎◌, ◌<◌, ◌≤◌, ℕ, zero, suc, ◌+◌, ◌-◌, Bool, true, false, nat_le, List, [], ◌∷◌, ◌++◌, All, IfSome, IsSomeAnd, IsTrue, append-nil, append_assoc, drop, filter, leb-true, length, map, take, slice_get, slice_set, length-append, length-drop, length-set, length-take, Option, Some, None, refl, sym, subst, ap, ◌∙◌, arith, if◌then◌else◌}
 use Rattle.std.specs.Option.{option_and_then, option_flatten, option_map, option_to_list}
 use Rattle.std.proofs.lemmas.List.{drop-append-le, drop_all, length-map, map-append, take_all}
 use Rattle.std.proofs.lemmas.List.Elements.{All-append, All-cons, All-drop, All-head, All-nil, All-push, All-set, All-tail, All-take, All-weaker}
 use Rattle.std.proofs.lemmas.Bool.{and_from, and_parts}
 use Rattle.std.proofs.lemmas.Option.{slice_get_within}
 use Rattle.op_base.specs.declared.place.Place.{Place}
-use Rattle.op_base.specs.declared.rule.Refusal.{Refusal}
 use Rattle.op_check_expr.specs.Naming.{feature_of_type}
 use Rattle.op_check_expr.specs.Settled.{IsSettled}
 use Rattle.op_check_expr.specs.Words.{by_feature}
@@ -16,19 +15,19 @@ use Rattle.op_check_stmt.specs.Surrounding.{Surrounds}
 use Rattle.op_check_unit.proofs.Tables.{tabled_beside}
 use Rattle.op_check_unit.proofs.WholeDeclaring.{beside, constants_settled, locals_more, settled_local, types_settled, variables_settled}
 use Rattle.op_types.proofs.Extents.{front}
-use Rattle.op_check_unit.proofs.WholeGrowth.{Wider, bare_routines_on, bare_variable_on, body_on, front_length, names_on, some_is, value_on}
+use Rattle.op_check_unit.proofs.WholeGrowth.{Wider, bare_routines_on, bare_variable_on, body_on, exports_on, names_on, some_is, units_on, value_on}
 use Rattle.op_check_unit.proofs.WholeHeadings.{IsHead, form_whole, head_settled}
 use Rattle.op_check_unit.proofs.WholeSteps.{Moves, founded, from_breaks, from_checked, from_followed, from_gives, from_so, from_then, later_itself, lead_followed, leads, leads_on, settled_ahead, settled_named, wider}
-use Rattle.op_check_unit.proofs.WholeTypes.{behind_front, declared_settled, entered_from, first_behind, found, with_name_settled}
-use Rattle.op_check_unit.specs.Complete.{Counts, From, HasBody, Inside, IsAwaited, IsBareRoutine, IsBareVariable, IsInside, IsOpen, IsTypedBody, IsTypedFirst, Later, Leads, Settled, Stage, declared_in, faulty, outside, scope, scope_of, settled}
-use Rattle.op_check_unit.specs.Headings.{form_means, head_means}
-use Rattle.op_check_unit.specs.Naming.{declared, ended, is_declared, told_by, told_in, with_ahead, with_name}
-use Rattle.op_check_unit.specs.Routines.{ahead_declared, awaited_by, awaited_named, awaited_of, awaits, block_means, both_typed, by_standing, class_meant, completed, entered, first_declared, headed, if_same, inner, is_heading_of, left, local_declared, locals_declared, locals_fit, most_bytes, next_routine, no_rows, parameter_names, parameter_variable, plain_declared, result_name, routine_by, routine_declared, routine_row, same_means, statements_mean, with_body, with_local, with_parameters, with_result, with_routine, with_variables}
+use Rattle.op_check_unit.proofs.WholeTypes.{behind_front, declared_settled, entered_from, first_behind, found, with_declared_core, with_declared_settled, with_name_settled}
+use Rattle.op_check_unit.specs.Complete.{From, HasBody, Inside, IsAwaited, IsBareRoutine, IsBareVariable, IsOpen, IsTypedBody, IsTypedFirst, Later, Settled, Stage, declared_in, faulty, outside, scope, scope_of, settled}
+use Rattle.op_check_unit.specs.Headings.{head_means}
+use Rattle.op_check_unit.specs.Naming.{ended, is_declared, told_by, with_ahead}
+use Rattle.op_check_unit.specs.Routines.{ahead_declared, awaited_by, awaited_named, awaited_of, awaits, block_means, both_typed, by_standing, class_meant, completed, entered, first_declared, headed, if_same, inner, is_heading_of, left, local_declared, locals_declared, locals_fit, most_bytes, next_routine, no_rows, parameter_names, parameter_variable, plain_declared, result_name, routine_by, routine_declared, routine_row, same_means, statements_mean, with_body, with_local, with_parameters, with_result, with_routine, with_variables, unit_under}
 use Rattle.op_check_unit.specs.Routines as spec
-use Rattle.op_check_unit.specs.Steps.{Given, Here, checked, each_declaration, followed, gives}
+use Rattle.op_check_unit.specs.Steps.{Here, followed, gives}
 use Rattle.op_check_unit.specs.Types.{in_core}
 use Rattle.op_check_unit.specs.declared.heading.Head.{Head}
-use Rattle.op_core.proofs.Completing.{whole_fine, whole_gives, whole_refused, whole_rule, whole_tested}
+use Rattle.op_core.proofs.Completing.{whole_gives, whole_refused, whole_rule, whole_tested}
 use Rattle.op_core.proofs.Growing.{all_at, front_fit, front_itself, front_row, front_rows, grows_heading, heading_itself, parameters_on, result_on, some_and}
 use Rattle.op_core.specs.Faults.{Checked, broken, by_test, fine, here, refused}
 use Rattle.op_core.specs.Growing.{IsFrontOf}
@@ -47,7 +46,6 @@ use Rattle.op_core.specs.declared.ids.TypeId.{TypeId}
 use Rattle.op_core.specs.declared.ids.VariableId.{VariableId}
 use Rattle.op_core.specs.declared.program.Core.{Core}
 use Rattle.op_core.specs.declared.routine.Parameter.{Parameter}
-use Rattle.op_core.specs.declared.routine.Role.{Role}
 use Rattle.op_core.specs.declared.routine.Role.TheVariants.{Parameter as ParameterRole, Result}
 use Rattle.op_core.specs.declared.routine.Routine.{Routine}
 use Rattle.op_core.specs.declared.routine.Variable.{Variable as VariableRow}
@@ -78,7 +76,7 @@ awaited_more [] qs n a = absurd a
 awaited_more (p ∷ ps) qs zero a = a
 awaited_more (p ∷ ps) qs (suc n) a = awaited_more ps qs n a
 
-awaited_less : (ps qs : List (Option Place)) (n : ℕ) → n < length ps → IsAwaited (ps ++ qs) n → IsAwaited ps n
+pub awaited_less : (ps qs : List (Option Place)) (n : ℕ) → n < length ps → IsAwaited (ps ++ qs) n → IsAwaited ps n
 awaited_less [] qs n lt a = absurd (omega (arith, lt))
 awaited_less (p ∷ ps) qs zero lt a = a
 awaited_less (p ∷ ps) qs (suc n) lt a = awaited_less ps qs n (omega (arith, lt)) a
@@ -149,8 +147,8 @@ body_below {h = h} x b t = let r = some_is (slice_get h.core.routines b.0.0) t i
 abbrev with_row : Core → Routine → Core
 with_row core r = record core { routines = core.routines ++ r ∷ [] }
 
-fresh_row : (core : Core) (n : Name) (x : Head) → IsHead x core → IsBareRoutine (with_row core (routine_row n x no_rows)) (routine_row n x no_rows)
-fresh_row core n x k = record { unit = refl; owner = refl; enclosing = refl; body = refl; runs = (k.0, omega arith); result = k.1; locals = omega arith }
+fresh_row : (core : Core) (n : Name) (x : Head) → IsHead x core → IsBareRoutine (with_row core (routine_row (unit_under core) n x no_rows)) (routine_row (unit_under core) n x no_rows)
+fresh_row core n x k = record { unit = omega arith; owner = refl; enclosing = refl; body = refl; runs = (k.0, omega arith); result = k.1; locals = omega arith }
 
 -- the new one is accounted for, and so are those before it
 pub with_routine_settled : (c : Option ℕ) (n : Name) (x : Head) (place : Option Place) (h : Here) → Settled (outside None) h → IsHead x h.core → (c ≡ None) ⊎ (c ≡ Some (length h.core.routines)) → IsOpen c (h.awaited ++ place ∷ []) (length h.core.routines) → (IfSome c (λ k. place ≡ None)) → Settled (outside c) (with_routine n x place h)
@@ -159,11 +157,13 @@ with_routine_settled c n x place h s k cases opens none = record {
   people = record {
     parameters = s.people.parameters;
     variables = bare_variable_on w h.core.variables s.people.variables;
-    routines = All-push (IsBareRoutine new) h.core.routines (routine_row n x no_rows) (bare_routines_on w s.tables s.people) (fresh_row h.core n x k);
+    routines = All-push (IsBareRoutine new) h.core.routines (routine_row (unit_under h.core) n x no_rows) (bare_routines_on w s.tables s.people) (fresh_row h.core n x k);
     globals = s.people.globals;
     room = s.people.room;
   };
-  units = s.units;
+  units = units_on h.core new None c h.awaited (h.awaited ++ place ∷ []) w.globals (λ p lt d. (front h.core.routines (routine_row (unit_under h.core) n x no_rows ∷ []) p lt, closed p lt d cases)) h.core.units s.units;
+  exports = exports_on w h.exports s.exports;
+  start = s.start;
   names = names_on None w h.names s.names;
   first = s.first;
   counts = s.counts;
@@ -177,13 +177,13 @@ with_routine_settled c n x place h s k cases opens none = record {
 }
   where
     new : Core
-    new = with_row h.core (routine_row n x no_rows)
+    new = with_row h.core (routine_row (unit_under h.core) n x no_rows)
 
     w : Wider h.core new
-    w = wider s (front_itself h.core.types) (front_itself h.core.extents) (front_itself h.core.fields) (front_itself h.core.parameters) (front_itself h.core.variables) (front_itself h.core.globals) (behind_front h.core.routines (routine_row n x no_rows ∷ [])) (refl, refl, refl, refl, refl)
+    w = wider s (front_itself h.core.types) (front_itself h.core.extents) (front_itself h.core.fields) (front_itself h.core.parameters) (front_itself h.core.variables) (front_itself h.core.globals) (behind_front h.core.routines (routine_row (unit_under h.core) n x no_rows ∷ [])) (refl, refl, refl, refl, refl) (omega arith)
 
     e : length new.routines ≡ length h.core.routines + 1
-    e = length-append h.core.routines (routine_row n x no_rows ∷ [])
+    e = length-append h.core.routines (routine_row (unit_under h.core) n x no_rows ∷ [])
 
     under : (c : Option ℕ) → (c ≡ None) ⊎ (c ≡ Some (length h.core.routines)) → IfSome c (λ k. place ≡ None) → IfSome c (λ k. (k < length new.routines) × (IsAwaited (h.awaited ++ place ∷ []) k → ⊥))
     under None d z = tt
@@ -194,7 +194,7 @@ with_routine_settled c n x place h s k cases opens none = record {
         none_last a z = elim (subst (Filled (λ place. Unit {0})) z (awaited_last h.awaited place a)) [ ]
 
     still : (b : RoutineId × Typed) → IsTypedBody h.core b → slice_get new.routines b.0.0 ≡ slice_get h.core.routines b.0.0
-    still b t = front h.core.routines (routine_row n x no_rows ∷ []) b.0.0 (body_below s b t)
+    still b t = front h.core.routines (routine_row (unit_under h.core) n x no_rows ∷ []) b.0.0 (body_below s b t)
 
     closed : (k : ℕ) → k < length h.core.routines → (IsOpen None h.awaited k → ⊥) → (c ≡ None) ⊎ (c ≡ Some (length h.core.routines)) → IsOpen c (h.awaited ++ place ∷ []) k → ⊥
     closed k lt d (inl f) (inl z) = absurd (cc)
@@ -215,7 +215,9 @@ completed_settled : (id : RoutineId) (h : Here) → Settled (outside None) h →
 completed_settled id h s a lt = record {
   tables = s.tables;
   people = s.people;
-  units = s.units;
+  units = units_on h.core h.core None (Some id.0) h.awaited (slice_set h.awaited id.0 None) (front_itself h.core.globals) (λ p lt d. (refl, closed p d)) h.core.units s.units;
+  exports = s.exports;
+  start = s.start;
   names = s.names;
   first = s.first;
   counts = s.counts;
@@ -276,7 +278,9 @@ with_body_settled : {s : Stage} (id : RoutineId) (h : Here) {o : Option Typed} (
 with_body_settled {s} id h r c x e q (filled ss t) = record {
   tables = x.tables;
   people = x.people;
-  units = x.units;
+  units = units_on h.core h.core s.current None h.awaited h.awaited (front_itself h.core.globals) (λ p lt d. (refl, λ z. closed p d z)) h.core.units x.units;
+  exports = x.exports;
+  start = x.start;
   names = x.names;
   first = x.first;
   counts = x.counts;
@@ -322,13 +326,18 @@ abbrev inside_of : Here → Inside
 inside_of h = record { first = length h.core.variables; names = length h.names; bytes = h.bytes }
 
 abbrev body_stage : RoutineId → Inside → Stage
-body_stage id i = record { current = Some id.0; inside = Some i; units = [] }
+body_stage id i = record { current = Some id.0; inside = Some i }
 
-begun_settled : (id : RoutineId) (h : Here) → Settled (outside (Some id.0)) h → Settled (body_stage id (inside_of h)) (record h { first = length h.names; bytes = 0; routine = Some id })
+abbrev body_begun : RoutineId → Here → Here
+body_begun id h = record h { first = length h.names; count = 0; own = None; bytes = 0; routine = Some id }
+
+begun_settled : (id : RoutineId) (h : Here) → Settled (outside (Some id.0)) h → Settled (body_stage id (inside_of h)) (body_begun id h)
 begun_settled id h x = record {
   tables = x.tables;
   people = x.people;
   units = x.units;
+  exports = x.exports;
+  start = x.start;
   names = all_as h.core (scope None h.core) (scope (Some (inside_of h)) h.core) (λ v r z. wider_scope v z) (λ r z. z) h.names x.names;
   first = omega arith;
   counts = λ le. subst (λ vs. bytes_of h.core (filter (λ v. is_counted v.role) vs) ≤ 0) (sym (drop_all (length h.core.variables) h.core.variables (omega arith))) (omega arith);
@@ -399,8 +408,8 @@ result_reads id n (Some of) ps h = record { types = front_itself h.core.types; p
 
 entered_settled : (id : RoutineId) (n : Name) (x : Head) (h : Here) → IsHead x h.core → Settled (outside (Some id.0)) h → Settled (body_stage id (inside_of h)) (entered id n x h) × Reads h.core (entered id n x h).core
 entered_settled id n x h k y = (
-  with_result_settled id n x.result (with_parameters (rows h.core.parameters x.parameters) (record h { first = length h.names; bytes = 0; routine = Some id })) k.1 (with_parameters_settled (rows h.core.parameters x.parameters) (record h { first = length h.names; bytes = 0; routine = Some id }) (begun_settled id h y) (rows_typed h.core x.parameters y.people.parameters)),
-  result_reads id n x.result (rows h.core.parameters x.parameters) (record h { first = length h.names; bytes = 0; routine = Some id }),
+  with_result_settled id n x.result (with_parameters (rows h.core.parameters x.parameters) (body_begun id h)) k.1 (with_parameters_settled (rows h.core.parameters x.parameters) (body_begun id h) (begun_settled id h y) (rows_typed h.core x.parameters y.people.parameters)),
+  result_reads id n x.result (rows h.core.parameters x.parameters) (body_begun id h),
 )
 
 -- ---- the rows with which a body begins
@@ -432,10 +441,10 @@ result_begins id n ps (Some of) h = no_more_rows
 
 -- of a routine with this heading
 abbrev head_rows : Name → Head → Core → List RoleAndType
-head_rows n x core = first_rows core (routine_row n x no_rows)
+head_rows n x core = first_rows core (routine_row (unit_under core) n x no_rows)
 
 entered_begins : (id : RoutineId) (n : Name) (x : Head) (h : Here) → BeginWith (head_rows n x h.core) (drop (length h.core.variables) (entered id n x h).core.variables)
-entered_begins id n x h = result_begins id n (rows h.core.parameters x.parameters) x.result (record h { first = length h.names; bytes = 0; routine = Some id })
+entered_begins id n x h = result_begins id n (rows h.core.parameters x.parameters) x.result (body_begun id h)
 
 head_rows_on : (old new : Core) (n : Name) (x : Head) → IsFrontOf old.parameters new.parameters → Fit old.parameters x.parameters → head_rows n x new ≡ head_rows n x old
 head_rows_on old new n x f k = ap (λ ps. heading_rows ps x.result) (front_rows x.parameters f k)
@@ -460,7 +469,7 @@ begins_later {old} {new} n x k l f le b =
 -- ---- the row of a body
 
 abbrev body_row : Name → Head → Inside → Core → Routine
-body_row n x i core = routine_row n x (record { first = i.first; count = length core.variables - i.first })
+body_row n x i core = routine_row (unit_under core) n x (record { first = i.first; count = length core.variables - i.first })
 
 -- its variables are all from the first one on
 all_rows : (n : Name) (x : Head) (i : Inside) (core : Core) → rows core.variables (body_row n x i core).variables ≡ drop i.first core.variables
@@ -468,7 +477,7 @@ all_rows n x i core = take_all (length core.variables - i.first) (drop i.first c
 
 -- the row that there is has the heading
 abbrev HasHead : RoutineId → Name → Head → Core → Type 0
-HasHead id n x core = IsSomeAnd (slice_get core.routines id.0) (λ r. IsTrue (is_same_heading core r (routine_row n x no_rows)))
+HasHead id n x core = IsSomeAnd (slice_get core.routines id.0) (λ r. IsTrue (is_same_heading core r (routine_row (unit_under core) n x no_rows)))
 
 head_later : {old new : Core} (x : Head) → Reads old new → IsHead x old → IsHead x new
 head_later {old} {new} x l k = (front_fit x.parameters l.parameters k.0, if_row x.result k.1)
@@ -488,8 +497,8 @@ heading_later {old} {new} a b l f g h =
 has_head_later : {s : Stage} {h : Here} {new : Core} (id : RoutineId) (n : Name) (x : Head) → Settled s h → Reads h.core new → IsHead x h.core → HasHead id n x h.core → HasHead id n x new
 has_head_later {h = h} {new} id n x y l k a =
     let r = some_is (slice_get h.core.routines id.0) a in
-    some_and (λ r. IsTrue (is_same_heading new r (routine_row n x no_rows))) (ap (λ rs. slice_get rs id.0) l.routines ∙ r.1)
-    (heading_later r.0 (routine_row n x no_rows) l (all_at (IsBareRoutine h.core) h.core.routines id.0 r.0 y.people.routines r.1).runs.0 k.0 r.2)
+    some_and (λ r. IsTrue (is_same_heading new r (routine_row (unit_under new) n x no_rows))) (ap (λ rs. slice_get rs id.0) l.routines ∙ r.1)
+    (heading_later r.0 (routine_row (unit_under new) n x no_rows) l (all_at (IsBareRoutine h.core) h.core.routines id.0 r.0 y.people.routines r.1).runs.0 k.0 r.2)
 
 with_variables_settled : {i : Inside} (id : RoutineId) (n : Name) (x : Head) (h : Here) → h.bytes ≤ most_bytes → IsHead x h.core → HasHead id n x h.core → Settled (body_stage id i) h → Settled (body_stage id i) (with_variables id n x i.first h)
 with_variables_settled {i} id n x h small k head y = record {
@@ -501,7 +510,9 @@ with_variables_settled {i} id n x h small k head y = record {
     globals = y.people.globals;
     room = y.people.room;
   };
-  units = y.units;
+  units = units_on h.core new (Some id.0) (Some id.0) h.awaited h.awaited w.globals (λ p lt d. (set_apart h.core.routines id.0 r p (λ same. d (inl (ap Some (sym same)))), d)) h.core.units y.units;
+  exports = exports_on w h.exports y.exports;
+  start = y.start;
   names = names_on (Some i) w h.names y.names;
   first = y.first;
   counts = y.counts;
@@ -529,11 +540,11 @@ with_variables_settled {i} id n x h small k head y = record {
         (sym (all_at (IsBareRoutine h.core) h.core.routines id.0 q y.people.routines z).owner, subst (λ q. IsTrue (is_same_heading h.core q r)) (some_eq (sym a.1 ∙ z)) a.2)
 
     w : Wider h.core new
-    w = record { grows = grows_heading h.core id.0 r same; variables = front_itself h.core.variables; globals = front_itself h.core.globals; routines = omega (arith, e) }
+    w = record { grows = grows_heading h.core id.0 r same; variables = front_itself h.core.variables; globals = front_itself h.core.globals; routines = omega (arith, e); units = omega arith }
 
     own : IsBareRoutine new r
     own = record {
-      unit = refl;
+      unit = omega arith;
       owner = refl;
       enclosing = refl;
       body = refl;
@@ -565,7 +576,7 @@ locals_settled (declarations d ds) h x = from_then (locals_declared ds) (local_s
 
 -- what the body's end leaves
 abbrev Ended : Inside → Unit {0} → Here → Type 0
-Ended i t g = Settled (record { current = None; inside = Some i; units = [] }) g
+Ended i t g = Settled (record { current = None; inside = Some i }) g
 
 inner_settled : {i : Inside} (id : RoutineId) (n : Name) (x : Head) (ds : Declarations) (ss : Statements) (h : Here) → IsHead x h.core → HasHead id n x h.core → Settled (body_stage id i) h → BeginWith (head_rows n x h.core) (drop i.first h.core.variables) → From (Ended i) (inner id n x i.first ds ss h)
 inner_settled {i} id n x ds ss h k head y b =
@@ -575,11 +586,13 @@ inner_settled {i} id n x ds ss h k head y b =
     (λ t g q. subst (λ g. From (Ended i) (statements_mean id ss (with_variables id n x i.first g))) (sym q.0)
     (from_so (statements_settled id ss (with_variables id n x i.first j) (body_row n x i j.core) refl (with_variables_settled id n x j q.1 (head_later x (reads_later r.later) k) (has_head_later id n x y (reads_later r.later) k head) r.state) (row_scope id n x j r.state (begins_later n x i.first r.later k y.inside.first b))) (λ a g w. w.0))))
 
-left_settled : {c : Option ℕ} (h g : Here) → Settled (outside c) h → Settled (record { current = None; inside = Some (inside_of h); units = [] }) g → Settled (outside None) (left h g)
+left_settled : {c : Option ℕ} (h g : Here) → Settled (outside c) h → Settled (record { current = None; inside = Some (inside_of h) }) g → Settled (outside None) (left h g)
 left_settled h g y z = record {
   tables = z.tables;
   people = z.people;
   units = z.units;
+  exports = z.exports;
+  start = z.start;
   names = z.inside.stand;
   first = (let f = y.first in let l = length-take (length h.names) g.names in let le = z.inside.names in omega (arith, f, l, le));
   counts = z.inside.counts;
@@ -610,20 +623,20 @@ first_settled n x forward h k y =
     (λ t g r. from_gives r.state)
   where
     lt : length h.core.routines < length (with_routine n x (Some n.position.place) h).core.routines
-    lt = let e = length-append h.core.routines (routine_row n x no_rows ∷ []) in omega (arith, e)
+    lt = let e = length-append h.core.routines (routine_row (unit_under h.core) n x no_rows ∷ []) in omega (arith, e)
 first_settled n x (body ds ss) h k y =
     from_then {R = λ t g. Settled (outside (Some (length h.core.routines))) g × (g.core ≡ new.core)} (block_means (next_routine h) n x ds ss)
-    (entered_from (is_declared new n) 0 n (RoutineName (next_routine h)) new (with_name_settled n (RoutineName (next_routine h)) new (with_routine_settled (Some (length h.core.routines)) n x None h y k (inr refl) (inl refl) refl) (lt, lt), refl))
+    (entered_from (is_declared new n) 0 n (RoutineName (next_routine h)) new (with_declared_settled n (RoutineName (next_routine h)) new (with_routine_settled (Some (length h.core.routines)) n x None h y k (inr refl) (inl refl) refl) (lt, lt), with_declared_core n (RoutineName (next_routine h)) new))
     (λ t g r. block_settled (next_routine h) n x ds ss g (subst (IsHead x) (sym r.1) k) (subst (HasHead (next_routine h) n x) (sym r.1) head) r.0)
   where
     new : Here
     new = with_routine n x None h
 
     lt : length h.core.routines < length new.core.routines
-    lt = let e = length-append h.core.routines (routine_row n x no_rows ∷ []) in omega (arith, e)
+    lt = let e = length-append h.core.routines (routine_row (unit_under h.core) n x no_rows ∷ []) in omega (arith, e)
 
     head : HasHead (next_routine h) n x new.core
-    head = some_and (λ r. IsTrue (is_same_heading new.core r (routine_row n x no_rows))) (first_behind h.core.routines (routine_row n x no_rows) []) (heading_itself new.core (routine_row n x no_rows))
+    head = some_and (λ r. IsTrue (is_same_heading new.core r (routine_row (unit_under h.core) n x no_rows))) (first_behind h.core.routines (routine_row (unit_under h.core) n x no_rows) []) (heading_itself new.core (routine_row (unit_under h.core) n x no_rows))
 
 if_same_settled : (id : RoutineId) (n : Name) (x : Head) (ds : Declarations) (ss : Statements) {t : Option (Unit {0})} (h : Here) → IsHead x h.core → Filled (λ t. HasHead id n x h.core) t → Settled (outside (Some id.0)) h → From Rests (if_same id n x ds ss t h)
 if_same_settled id n x ds ss h k (filled t a) y = block_settled id n x ds ss h k a y
@@ -634,9 +647,9 @@ ahead_settled id n (body ds ss) h (filled x k) a y =
     from_followed {R = λ t g. (g ≡ completed id h) × HasHead id n x h.core} {f = if_same id n x ds ss} (from_checked (same (slice_get h.core.routines id.0)) (λ t z. (refl, z)))
     (λ t g f. one g f)
   where
-    same : (o : Option Routine) → Whole {A = Unit {0}} (λ t. IsSomeAnd o (λ r. IsTrue (is_same_heading h.core r (routine_row n x no_rows)))) (by_test 19 n.position.place (fine tt) (is_heading_of h.core (routine_row n x no_rows) o))
+    same : (o : Option Routine) → Whole {A = Unit {0}} (λ t. IsSomeAnd o (λ r. IsTrue (is_same_heading h.core r (routine_row (unit_under h.core) n x no_rows)))) (by_test 19 n.position.place (fine tt) (is_heading_of h.core (routine_row (unit_under h.core) n x no_rows) o))
     same None = whole_refused
-    same (Some r) = whole_tested 19 n.position.place (is_heading_of h.core (routine_row n x no_rows) (Some r)) (λ e. whole_gives e)
+    same (Some r) = whole_tested 19 n.position.place (is_heading_of h.core (routine_row (unit_under h.core) n x no_rows) (Some r)) (λ e. whole_gives e)
 
     one : {t : Option (Unit {0})} (g : Here) → Filled (λ t. (g ≡ completed id h) × HasHead id n x h.core) t → From Rests (if_same id n x ds ss t g)
     one g (filled t q) =

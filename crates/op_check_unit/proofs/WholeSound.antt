@@ -1,38 +1,37 @@
 -- The program that is answered where no rule is broken is sound, and bodies name only what is in their scope.
-use Rattle.std.proofs.Common.{Box, ◌≡◌, ◌≢◌, inl, inr, ◌⊎◌, ◌<◌, ◌≤◌, ℕ, zero, suc, ◌+◌, Bool, true, false, List, [], ◌∷◌, ◌++◌, All, Contains, IfSome, IsSome, IsSomeAnd, Result, Ok, Err, IfOk, cond, drop, filter, flat_map, length, length-set, map, option_to_list, slice_get, slice_set, take, Option, Some, None, refl, sym, ap, ap₂, subst, ◌∙◌, arith, rules}
+use Rattle.std.proofs.Common.{Box, ◌≡◌, ◌≢◌, inl, inr, ◌⊎◌, ◌<◌, ◌≤◌, ℕ, zero, suc, ◌+◌, Bool, true, false, List, [], ◌∷◌, All, Contains, IfSome, IsSome, IsSomeAnd, Result, Ok, Err, IfOk, cond, drop, filter, flat_map, length, length-set, map, option_to_list, slice_get, slice_set, take, Option, Some, None, refl, sym, ap, ap₂, subst, ◌∙◌, arith, rules}
 use Rattle.std.specs.declared.alloc.Global.{Global}
 use Rattle.std.specs.Option.{option_and_then, option_map}
 use Rattle.std.proofs.lemmas.List.{drop-map, length-map, take-map}
-use Rattle.std.proofs.lemmas.List.Elements.{All-cons, All-head, All-nil, All-same, All-tail, All-weaker}
+use Rattle.std.proofs.lemmas.List.Elements.{All-cons, All-drop, All-head, All-nil, All-tail, All-take, All-weaker}
 use Rattle.std.proofs.lemmas.List.Sums.{sum_by-append, sum_by-cons}
 use Rattle.std.proofs.lemmas.Option.{slice_get_within}
-use Rattle.op_base.specs.declared.rule.Refusal.{Refusal}
+use Rattle.op_base.specs.declared.place.Place.{Place}
 use Rattle.op_check_unit.proofs.Filled.{filled_grows}
 use Rattle.op_check_unit.proofs.Tables.{if_none, tabled_beside, tabled_sound}
-use Rattle.op_check_unit.proofs.Whole.{Finished, all_have_bodies, beginning_program, finished}
+use Rattle.op_check_unit.proofs.Whole.{Finished, all_have_bodies, files_settled}
 use Rattle.op_check_unit.proofs.WholeDeclaring.{row_at}
 use Rattle.op_check_unit.proofs.WholeGrowth.{some_is}
 use Rattle.op_check_unit.proofs.WholeRoutines.{rows_typed, set_there, some_eq}
 use Rattle.op_check_unit.proofs.WholeSteps.{founded_in}
 use Rattle.op_check_unit.specs.Checking.{CheckIs, Fills, bare, body_in, placed, without_bodies}
-use Rattle.op_check_unit.specs.Complete.{From, HasBody, IsBareRoutine, IsBareVariable, IsOpen, IsPeopled, IsTypedBody, IsTypedFirst, Settled, faulty, scope_of, settled}
+use Rattle.op_check_unit.specs.Complete.{From, HasBody, IsBareRoutine, IsBareVariable, IsDone, IsDonePart, IsOpen, IsPeopled, IsTypedBody, IsTypedFirst, faulty, scope_of, settled}
 use Rattle.op_check_unit.specs.FirstValues.{bare_variable, begins_with, begun, without_first_values}
-use Rattle.op_check_unit.specs.Programs.{files_mean, program_declared, program_means}
-use Rattle.op_check_unit.specs.Steps.{Given, Here, silent}
+use Rattle.op_check_unit.specs.Programs.{files_mean, program_means}
+use Rattle.op_check_unit.specs.Steps.{Given, Here}
 use Rattle.op_check_unit.specs.System.{beginning}
 use Rattle.op_check_unit.specs.Tables.{IsTabled}
 use Rattle.op_core.proofs.Growing.{all_at, some_and}
 use Rattle.op_core.proofs.GrowingRows.{first_grows}
 use Rattle.op_core.proofs.GrowingStatements.{statements_grow}
-use Rattle.op_core.proofs.GrowingTypes.{kind_grows}
-use Rattle.op_core.specs.Faults.{FirstIs, here}
-use Rattle.op_core.specs.Growing.{Grows, SeesMore}
+use Rattle.op_core.specs.Faults.{FirstIs}
+use Rattle.op_core.specs.Growing.{SeesMore}
 use Rattle.op_core.specs.Initial.{FirstValue, first_value_of}
-use Rattle.op_core.specs.Members.{InRun, There}
+use Rattle.op_core.specs.Members.{InRun}
 use Rattle.op_core.specs.Relations.{Filled, filled}
 use Rattle.op_core.specs.Rows.{rows}
 use Rattle.op_core.specs.Sizes.{type_at}
-use Rattle.op_core.specs.Sound.{Depth, Encloses, EndsWithin, HasRows, IsBody, IsFirst, IsFounded, IsOwner, IsPart, IsRoutine, IsSound, IsSoundNesting, IsUnit, IsVariableRow, Row, at_start, bytes_of, enclosing_of, everything, globals_of, is_declared, itself, role_and_type, size_of, top, within}
+use Rattle.op_core.specs.Sound.{HasRows, IsBody, IsFirst, IsOwner, IsPart, IsRoutine, IsSound, IsSoundNesting, IsUnit, IsVariableRow, Row, at_start, bytes_of, everything, is_declared, itself, role_and_type, size_of, top, within}
 use Rattle.op_core.specs.Statement.{Statements, stmts_of}
 use Rattle.op_core.specs.StatementTyping.{AreStatements}
 use Rattle.op_core.specs.Typing.{Sees}
@@ -40,7 +39,6 @@ use Rattle.op_core.specs.declared.constant.Initial.{Initial}
 use Rattle.op_core.specs.declared.error.CheckError.{CheckError}
 use Rattle.op_core.specs.declared.ids.RoutineId.{RoutineId}
 use Rattle.op_core.specs.declared.ids.Run.{Run}
-use Rattle.op_core.specs.declared.ids.TypeId.{TypeId}
 use Rattle.op_core.specs.declared.ids.VariableId.{VariableId}
 use Rattle.op_core.specs.declared.program.Core.{Core}
 use Rattle.op_core.specs.declared.program.Unit.{Unit as RustUnit}
@@ -48,7 +46,7 @@ use Rattle.op_core.specs.declared.routine.Owner.TheVariants.{Unit as OfUnit}
 use Rattle.op_core.specs.declared.routine.Routine.{Routine}
 use Rattle.op_core.specs.declared.routine.Variable.{Variable}
 use Rattle.op_core.specs.declared.types.CoreType.{CoreType}
-use Rattle.op_tree.specs.File.{File, program}
+use Rattle.op_tree.specs.File.{File}
 
 -- what a first value says that is kept in a box
 abbrev boxed : Option (Box Initial Global) → Option FirstValue
@@ -157,6 +155,7 @@ globals_bare core vs (g ∷ gs) =
 record Known (h : Here) (core : Core) : Type 0 where
   unit : Row core.units 0
   units : All (IsUnit (bared core)) core.units
+  routines : All (λ r. r.unit.0 < length core.units) (map bare core.routines)
   tables : IsTabled (bared core)
   people : IsPeopled (bared core)
   bodies : All (IsTypedBody (bared core)) h.bodies
@@ -171,10 +170,22 @@ option_at : {A B : Type 0} (f : A → Option B) (o : Option A) (b : B) → optio
 option_at f None b e = absurd (cc)
 option_at f (Some a) b e = (a, refl, some_eq e)
 
+-- the row of a unit has its globals, and procedures for its parts
+unit_done : (core : Core) (places : List (Option Place)) → IsPeopled core → (u : RustUnit) → IsDone core None places u → IsUnit core u
+unit_done core places p u d =
+    (d.globals, All-take (λ v. Row core.variables v.0) u.globals.count (drop u.globals.first core.globals) (All-drop (λ v. Row core.variables v.0) u.globals.first core.globals p.globals), part u.initialization d.initialization, part u.finalization d.finalization)
+  where
+    part : (o : Option RoutineId) → IfSome o (IsDonePart core None places) → IsPart core o
+    part None x = tt
+    part (Some id) x =
+        let q = some_is (slice_get core.routines id.0) x.0 in
+        some_and (λ r. (r.owner ≡ OfUnit) × (r.parameters.count ≡ 0)) q.1 ((all_at (IsBareRoutine core) core.routines id.0 q.0 p.routines q.1).owner, q.2)
+
 known : (h : Here) (core : Core) → Finished h → Fills h.bodies h.first_values h.core core → Known h core
 known h core f g = record {
-  unit = subst (λ us. Row us 0) (sym units) (omega arith);
-  units = subst (All (IsUnit (bared core))) (sym units) (All-cons (IsUnit (bared core)) f.unit [] (subst (λ c. IsUnit c f.unit) (sym same) f.sound) (All-nil (IsUnit (bared core))));
+  unit = subst (λ us. Row us 0) (sym units) f.some;
+  units = subst (λ c. All (IsUnit c) core.units) (sym same) (subst (All (IsUnit h.core)) (sym units) (All-weaker (IsDone h.core None h.awaited) (IsUnit h.core) (unit_done h.core h.awaited f.state.people) h.core.units f.state.units));
+  routines = subst (λ c. All (λ r. r.unit.0 < length c.units) c.routines) (sym same) f.units;
   tables = subst IsTabled (sym same) f.state.tables;
   people = subst IsPeopled (sym same) f.state.people;
   bodies = subst (λ c. All (IsTypedBody c) h.bodies) (sym same) (All-weaker (λ b. IsTypedBody h.core b × (IsOpen None h.awaited b.0.0 → ⊥)) (IsTypedBody h.core) (λ b z. z.0) h.bodies f.state.bodies);
@@ -189,8 +200,8 @@ known h core f g = record {
     same : bared core ≡ h.core
     same = g.others ∙ is_bare f.state.people
 
-    units : core.units ≡ f.unit ∷ []
-    units = ap (λ c. c.units) same ∙ f.state.units
+    units : core.units ≡ h.core.units
+    units = ap (λ c. c.units) same
 
     no_body : (n : ℕ) (ss : Statements) → (r : Routine) × (slice_get h.core.routines n ≡ Some r) × (body_in r ≡ Some ss) → ⊥
     no_body n ss x = let b = (all_at (IsBareRoutine h.core) h.core.routines n x.0 f.state.people.routines x.1).body in let e = ap (λ b. option_map (λ b. stmts_of b.statements.items) b) (sym b) ∙ x.2 in absurd (cc)
@@ -279,7 +290,7 @@ begins {core = core} k n r e s =
 routine_sound : {h : Here} {core : Core} → Known h core → (n : ℕ) (r : Routine) → slice_get core.routines n ≡ Some r → IsRoutine core r
 routine_sound {h} {core} k n r e =
     let b = bare_at k n r e in record {
-      unit = (let z = b.unit in let lt = k.unit in omega (arith, z, lt));
+      unit = all_at (λ r. r.unit.0 < length core.units) (map bare core.routines) n (bare r) k.routines (map_at bare core.routines n ∙ ap (option_map bare) e);
       owner = subst (IsOwner core) (sym b.owner) tt;
       enclosing = subst (λ o. IfSome o (λ e. Row core.routines e.0)) (sym b.enclosing) tt;
       runs = (b.runs.0, (let l = length-map core.variables bare_variable in let f = b.runs.1 in omega (arith, l, f)));
@@ -366,11 +377,10 @@ from_sound g core (settled f) first fills = one f
 from_sound g core (faulty r i) first fills = absurd (first r i)
 
 -- where no rule is broken
-pub program_sound : (fs : List File) (core : Core) → FirstIs (program_means fs).faults None → Fills (program_means fs).here.bodies (program_means fs).here.first_values (program_means fs).here.core core → IsSound core × IsSoundNesting core
-program_sound (program p ∷ []) core first fills = from_sound (program_declared p beginning) core (beginning_program p) first fills
-program_sound fs core first fills = absurd (first _ here)
+pub program_sound : (fs : List File) (order : List (List ℕ)) (core : Core) → FirstIs (program_means fs order).faults None → Fills (program_means fs order).here.bodies (program_means fs order).here.first_values (program_means fs order).here.core core → IsSound core × IsSoundNesting core
+program_sound fs order core first fills = from_sound (files_mean fs order beginning) core (files_settled fs order) first fills
 
 -- of what is answered
-pub answer_sound : (fs : List File) (r : Result Core CheckError) → CheckIs (program_means fs) r → IfOk r (λ core. IsSound core × IsSoundNesting core)
-answer_sound fs (Ok core) c = program_sound fs core c.1 c.0
-answer_sound fs (Err e) c = tt
+pub answer_sound : (fs : List File) (order : List (List ℕ)) (r : Result Core CheckError) → CheckIs (program_means fs order) r → IfOk r (λ core. IsSound core × IsSoundNesting core)
+answer_sound fs order (Ok core) c = program_sound fs order core c.1 c.0
+answer_sound fs order (Err e) c = tt

@@ -1,25 +1,21 @@
 -- Parts of declarations leave a settled state or break a rule where their parts do.
-use Rattle.std.proofs.Common.{◌≡◌, inl, inr, ◌⊎◌, ◌≤◌, ℕ, Bool, true, false, List, [], ◌∷◌, ◌++◌, All, IfSome, IsTrue, append-nil, append_assoc, is_some, length, length-append, slice_get, take, take-take, Option, Some, None, refl, sym, ap, subst, ◌∙◌, arith}
+use Rattle.std.proofs.Common.{◌≡◌, ◌≤◌, ℕ, Bool, true, false, List, [], ◌∷◌, ◌++◌, All, IfSome, IsTrue, append-nil, append_assoc, length, length-append, slice_get, take, take-take, Option, Some, None, refl, sym, ap, subst, ◌∙◌, arith}
 use Rattle.std.proofs.lemmas.List.{take-append-le}
 use Rattle.std.proofs.lemmas.List.Elements.{All-append, All-nil, All-push, All-weaker}
 use Rattle.op_base.specs.declared.place.Place.{Place}
-use Rattle.op_base.specs.declared.rule.Refusal.{Refusal}
-use Rattle.op_check_unit.proofs.WholeGrowth.{Wider, body_on, counts_on, declared_bytes, front_length, names_on, people_on, value_on}
-use Rattle.op_check_unit.specs.Complete.{Counts, From, Inside, IsBareRoutine, IsBareVariable, IsInside, IsOpen, IsPeopled, IsTypedBody, IsTypedFirst, Later, Leads, Settled, Stage, WithBlockRows, declared_in, faulty, scope, settled}
+use Rattle.op_check_unit.proofs.WholeGrowth.{Wider, body_on, counts_on, declared_bytes, exports_on, front_length, names_on, people_on, units_on, value_on}
+use Rattle.op_check_unit.specs.Complete.{Counts, From, Inside, IsBareRoutine, IsBareVariable, IsDone, IsInside, IsOpen, IsPeopled, IsTypedBody, IsTypedFirst, Later, Leads, Settled, Stage, WithBlockRows, declared_in, faulty, scope, settled}
 use Rattle.op_check_unit.specs.Declaring.{most_global_bytes}
 use Rattle.op_check_unit.specs.Naming.{all_ahead, with_ahead}
-use Rattle.op_check_unit.specs.Steps.{Given, Here, breaks, by, checked, each, followed, gather, gives, where_true}
-use Rattle.op_check_unit.specs.Tables.{IsTabled, known_types}
+use Rattle.op_check_unit.specs.Steps.{Given, Here, breaks, by, checked, each, followed, gives, where_true}
+use Rattle.op_check_unit.specs.Tables.{IsTabled}
 use Rattle.op_check_unit.specs.Types.{in_core}
 use Rattle.op_core.proofs.Growing.{front_itself, front_through, grows_behind}
 use Rattle.op_core.specs.Faults.{Checked, Faults, both, broken, here, front, behind}
-use Rattle.op_core.specs.Growing.{Grows, IsFrontOf}
+use Rattle.op_core.specs.Growing.{IsFrontOf}
 use Rattle.op_core.specs.Initial.{FirstValue}
 use Rattle.op_core.specs.Relations.{Filled, Whole, filled, typed, faulty as broken_rule}
 use Rattle.op_core.specs.Sound.{IsFounded, IsHeaded, Row, bytes_of, globals_of, is_of_block}
-use Rattle.op_core.specs.Statement.{Statements}
-use Rattle.op_core.specs.Types.{predefined}
-use Rattle.op_core.specs.declared.ids.RoutineId.{RoutineId}
 use Rattle.op_core.specs.declared.ids.VariableId.{VariableId}
 use Rattle.op_core.specs.declared.program.Core.{Core}
 use Rattle.op_core.specs.declared.routine.Parameter.{Parameter}
@@ -154,7 +150,9 @@ pub settled_in : {s : Stage} {h : Here} (new : Core) (b : ℕ) → Settled s h �
 settled_in {s} {h} new b x w t p u r c d = record {
   tables = t;
   people = p;
-  units = u ∙ x.units;
+  units = subst (All (IsDone new s.current h.awaited)) (sym u) (units_on h.core new s.current s.current h.awaited h.awaited w.globals (λ p lt d. (ap (λ rs. slice_get rs p) r, d)) h.core.units x.units);
+  exports = exports_on w h.exports x.exports;
+  start = (let le = x.start in let more = front_length w.globals in omega (arith, le, more));
   names = names_on s.inside w h.names x.names;
   first = x.first;
   counts = c;
@@ -167,12 +165,13 @@ settled_in {s} {h} new b x w t p u r c d = record {
   values = All-weaker (IsTypedFirst h.core) (IsTypedFirst new) (λ v y. value_on w (founded x) v y) h.first_values x.values;
 }
 
-pub wider : {s : Stage} {h : Here} {new : Core} → Settled s h → IsFrontOf h.core.types new.types → IsFrontOf h.core.extents new.extents → IsFrontOf h.core.fields new.fields → IsFrontOf h.core.parameters new.parameters → IsFrontOf h.core.variables new.variables → IsFrontOf h.core.globals new.globals → IsFrontOf h.core.routines new.routines → (new.classes ≡ h.core.classes) × (new.interfaces ≡ h.core.interfaces) × (new.listed ≡ h.core.listed) × (new.methods ≡ h.core.methods) × (new.exceptions ≡ h.core.exceptions) → Wider h.core new
-wider {h} x t e f p v g r k = record {
+pub wider : {s : Stage} {h : Here} {new : Core} → Settled s h → IsFrontOf h.core.types new.types → IsFrontOf h.core.extents new.extents → IsFrontOf h.core.fields new.fields → IsFrontOf h.core.parameters new.parameters → IsFrontOf h.core.variables new.variables → IsFrontOf h.core.globals new.globals → IsFrontOf h.core.routines new.routines → (new.classes ≡ h.core.classes) × (new.interfaces ≡ h.core.interfaces) × (new.listed ≡ h.core.listed) × (new.methods ≡ h.core.methods) × (new.exceptions ≡ h.core.exceptions) → length h.core.units ≤ length new.units → Wider h.core new
+wider {h} x t e f p v g r k u = record {
   grows = grows_behind (founded x).routines t e f p v r k.0 k.1 k.2 k.3 k.4;
   variables = v;
   globals = g;
   routines = front_length r;
+  units = u;
 }
 
 pub if_counts : (old new : Core) (i : Option Inside) (ns : List Named) → ((b : ℕ) → Counts old None b → Counts new None b) → IfSome i (IsInside old ns) → IfSome i (λ j. Counts new None j.bytes)
@@ -194,7 +193,7 @@ settled_typed {s} {h} new ps x w t e a v g r u =
 -- ---- states that differ in little
 
 pub settled_ahead : {s : Stage} {h : Here} (ns : List Named) → Settled s h → Settled s (record h { ahead = ns })
-settled_ahead ns x = record { tables = x.tables; people = x.people; units = x.units; names = x.names; first = x.first; counts = x.counts; routine = x.routine; inside = x.inside; current = x.current; awaits = x.awaits; accounted = x.accounted; bodies = x.bodies; values = x.values }
+settled_ahead ns x = record { tables = x.tables; people = x.people; units = x.units; exports = x.exports; start = x.start; names = x.names; first = x.first; counts = x.counts; routine = x.routine; inside = x.inside; current = x.current; awaits = x.awaits; accounted = x.accounted; bodies = x.bodies; values = x.values }
 
 pub settled_all_ahead : {s : Stage} (ns : List Name) (h : Here) → Settled s h → Settled s (all_ahead ns h)
 settled_all_ahead [] h x = x
@@ -214,11 +213,13 @@ inside_named core (Some i) ns ms x =
     let l = length-append ns ms in let le = x.names in
     record { first = x.first; names = omega (arith, l, le); stand = subst (AllStand core (scope None core)) (sym (take-append-le i.names ns ms x.names)) x.stand; counts = x.counts }
 
-pub settled_named : {s : Stage} {h : Here} (ns : List Named) → Settled s h → AllStand h.core (scope s.inside h.core) ns → Settled s (record h { names = h.names ++ ns })
+pub settled_named : {s : Stage} {h : Here} {count : ℕ} (ns : List Named) → Settled s h → AllStand h.core (scope s.inside h.core) ns → Settled s (record h { names = h.names ++ ns; count = count })
 settled_named {s} {h} ns x a = record {
   tables = x.tables;
   people = x.people;
   units = x.units;
+  exports = x.exports;
+  start = x.start;
   names = All-append (λ n. StandsFor h.core (scope s.inside h.core) n.meaning) h.names ns x.names a;
   first = (let l = length-append h.names ns in let le = x.first in omega (arith, l, le));
   counts = x.counts;
@@ -236,6 +237,8 @@ settled_valued {s} {h} v x a = record {
   tables = x.tables;
   people = x.people;
   units = x.units;
+  exports = x.exports;
+  start = x.start;
   names = x.names;
   first = x.first;
   counts = x.counts;

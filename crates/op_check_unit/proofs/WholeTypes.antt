@@ -1,5 +1,5 @@
 -- Types that are written denote one or break a rule, and leave a settled state.
-use Rattle.std.proofs.Common.{◌≡◌, inl, inr, ◌⊎◌, ℕ, suc, ◌+◌, ◌-◌, ◌<◌, ◌≤◌, ℤ, ◌≤ℤ◌, pos, int_le, max, Bool, true, false, ◌||◌, not, List, [], ◌∷◌, ◌++◌, All, IfSome, IsSomeAnd, append-nil, append_assoc, drop, is_some, length, length-append, take, Option, Some, None, refl, ap, ap₂, sym, subst, ◌∙◌, arith, leb-false, leb-true, ltb-true, nat_le, slice_get, nat_lt, if◌then◌else◌}
+use Rattle.std.proofs.Common.{◌≡◌, inl, inr, ◌⊎◌, ℕ, suc, ◌+◌, ◌<◌, ◌≤◌, ℤ, ◌≤ℤ◌, pos, int_le, max, Bool, true, false, ◌||◌, not, List, [], ◌∷◌, ◌++◌, All, IfSome, IsSomeAnd, append-nil, append_assoc, is_some, length, length-append, take, Option, Some, None, refl, ap, ap₂, sym, subst, ◌∙◌, arith, leb-false, leb-true, ltb-true, nat_le, slice_get, nat_lt, if◌then◌else◌}
 use Rattle.std.proofs.lemmas.List.{drop-append-le, drop_all, take_all}
 use Rattle.std.proofs.lemmas.Int.{ints}
 use Rattle.std.proofs.lemmas.List.Elements.{All-cons, All-nil, All-push, All-weaker}
@@ -14,11 +14,11 @@ use Rattle.op_check_unit.proofs.WholeGrowth.{some_is}
 use Rattle.op_check_unit.proofs.WholeSteps.{Moves, filled_so, founded, from_after, from_behind, from_by, from_checked, from_gives, from_so, from_then, from_where, later_itself, lead_behind, lead_followed, leads, leads_on, same_variables, settled_named, settled_typed, wider}
 use Rattle.op_check_unit.specs.Complete.{From, Later, Leads, Settled, Stage, faulty, scope, settled}
 use Rattle.op_check_unit.specs.Denoting.{denoted, field_lists, indices}
-use Rattle.op_check_unit.specs.Naming.{by_type, declared, declared_within, entered_name, has_room, is_ahead, is_declared, is_name, most_names, own_type, place_of, told_by, told_in, type_alone, type_meant, type_named, type_of_unit, with_name}
-use Rattle.op_check_unit.specs.Records.{is_seen, no_rows, one_field, record_of, some_fields, with_field}
-use Rattle.op_check_unit.specs.Steps.{Given, Here, by, checked, followed, gives, silent}
+use Rattle.op_check_unit.specs.Naming.{declared, entered_name, has_room, is_ahead, is_declared, is_name, most_names, own_type, told_by, type_alone, type_meant, type_named, type_of_unit, qualified, with_declared, with_name}
+use Rattle.op_check_unit.specs.Records.{is_seen, no_rows, record_of, some_fields, with_field}
+use Rattle.op_check_unit.specs.Steps.{Given, Here, by, checked, followed, gives}
 use Rattle.op_check_unit.specs.Tables.{IsBelow, IsPlain, IsTabled}
-use Rattle.op_check_unit.specs.Types.{array_of, arrays, bounds, constant_part, enumerated, enumeration_of, in_core, index_over, is_kind, is_small, is_within_set, lower_bound, lower_of, most_bytes, number_of_next, one_array, row, set_over, sized_row, start_of_denoter, subrange_of, value_of, values}
+use Rattle.op_check_unit.specs.Types.{array_of, arrays, bounds, enumerated, enumeration_of, in_core, index_over, is_kind, is_small, is_within_set, lower_of, most_bytes, number_of_next, one_array, row, set_over, sized_row, start_of_denoter, subrange_of, value_of, values}
 use Rattle.op_check_unit.specs.declared.record.FieldRows.{FieldRows}
 use Rattle.op_core.proofs.Completing.{whole_behind, whole_both, whole_entered, whole_gives, whole_if, whole_refused, whole_rule, whole_tested, whole_with}
 use Rattle.op_core.proofs.Growing.{front_itself, front_row, front_there}
@@ -36,7 +36,7 @@ use Rattle.op_core.specs.declared.ids.Run.{Run}
 use Rattle.op_core.specs.declared.ids.TypeId.{TypeId}
 use Rattle.op_core.specs.declared.program.Core.{Core}
 use Rattle.op_core.specs.declared.types.CoreType.{CoreType}
-use Rattle.op_core.specs.declared.types.CoreType.TheVariants.{Array, DynamicArray, Enumeration, Record, Set}
+use Rattle.op_core.specs.declared.types.CoreType.TheVariants.{Array, DynamicArray, Enumeration, Record}
 use Rattle.op_core.specs.declared.types.Extent.{Extent}
 use Rattle.op_core.specs.declared.types.Field.{Field}
 use Rattle.op_tree.specs.Denoter.{Denoter, named, string, subrange, enumeration, set, array, record_, Denoters, no_denoters, denoters, FieldLists, no_fields, fields}
@@ -48,7 +48,6 @@ use Rattle.op_types.proofs.TypeFacts.{same_kinds, stands_for, string_kind}
 use Rattle.op_types.specs.Constants.{joined_name, start_of}
 use Rattle.op_types.specs.Entering.{entered, rows_of, sets_of, with_type, with_types}
 use Rattle.op_types.specs.Names.{Named, lower, meaning_of}
-use Rattle.op_types.specs.Operators as table
 use Rattle.op_types.specs.Sorts.{kind_of}
 use Rattle.op_types.specs.Standing.{AllStand, IsSoundConstant, StandsFor}
 use Rattle.op_types.specs.Values.{number_of}
@@ -102,14 +101,36 @@ type_named_whole core sees names u own inside q = named_by_whole q.name q.unit
 
 -- ---- names that are declared
 
-pub entered_from : {R : Unit {0} → Here → Type 0} (taken : Bool) (more : ℕ) (n : Name) (m : Meaning) (h : Here) → R tt (with_name n m h) → From R (entered_name taken more n m h)
+pub entered_from : {R : Unit {0} → Here → Type 0} (taken : Bool) (more : ℕ) (n : Name) (m : Meaning) (h : Here) → R tt (with_declared n m h) → From R (entered_name taken more n m h)
 entered_from taken more n m h r = from_where (not taken) 14 n.position.place h (λ e. from_where (has_room more h) 64 n.position.place h (λ f. from_gives r))
 
 pub with_name_settled : {s : Stage} (n : Name) (m : Meaning) (h : Here) → Settled s h → StandsFor h.core (scope s.inside h.core) m → Settled s (with_name n m h)
 with_name_settled {s} n m h x t = settled_named (record { name = lower n.text; meaning = m } ∷ []) x (All-cons (λ n. StandsFor h.core (scope s.inside h.core) n.meaning) (record { name = lower n.text; meaning = m }) [] t (All-nil (λ n. StandsFor h.core (scope s.inside h.core) n.meaning)))
 
+qualified_settled : {s : Stage} (own : Option (List ℕ)) (n : Name) (m : Meaning) (h : Here) → Settled s h → StandsFor h.core (scope s.inside h.core) m → Settled s (qualified own n m h)
+qualified_settled None n m h x t = x
+qualified_settled {s} (Some unit) n m h x t = settled_named (record { name = joined_name unit n.text; meaning = m } ∷ []) x (All-cons (λ n. StandsFor h.core (scope s.inside h.core) n.meaning) (record { name = joined_name unit n.text; meaning = m }) [] t (All-nil (λ n. StandsFor h.core (scope s.inside h.core) n.meaning)))
+
+pub with_declared_settled : {s : Stage} (n : Name) (m : Meaning) (h : Here) → Settled s h → StandsFor h.core (scope s.inside h.core) m → Settled s (with_declared n m h)
+with_declared_settled n m h x t = qualified_settled h.own n m (with_name n m h) (with_name_settled n m h x t) t
+
+-- tables stay as they are, and the scope has one name more
+pub with_declared_core : (n : Name) (m : Meaning) (h : Here) → (with_declared n m h).core ≡ h.core
+with_declared_core n m h = one h.own
+  where
+    one : (own : Option (List ℕ)) → (qualified own n m (with_name n m h)).core ≡ h.core
+    one None = refl
+    one (Some unit) = refl
+
+with_declared_count : (n : Name) (m : Meaning) (h : Here) → (with_declared n m h).count ≡ h.count + 1
+with_declared_count n m h = one h.own
+  where
+    one : (own : Option (List ℕ)) → (qualified own n m (with_name n m h)).count ≡ h.count + 1
+    one None = refl
+    one (Some unit) = refl
+
 pub declared_settled : {s : Stage} (n : Name) (m : Meaning) (h : Here) → Settled s h → StandsFor h.core (scope s.inside h.core) m → From (Moves s h) (declared n m h)
-declared_settled n m h x t = entered_from (is_declared h n) 0 n m h (leads (with_name_settled n m h x t) later_itself tt)
+declared_settled n m h x t = entered_from (is_declared h n) 0 n m h (leads (with_declared_settled n m h x t) (subst (Later h.core) (sym (with_declared_core n m h)) later_itself) tt)
 
 -- ---- rows
 
@@ -135,7 +156,7 @@ Denotes s h = Leads s h IsType
 
 wide_denotes : {s : Stage} (h : Here) (t : CoreType) (ts : List CoreType) (es : List Extent) → Settled s h → IsTabled (wide h.core (t ∷ ts) es) → Denotes s h (number_of_next h.core) (in_core (wide h.core (t ∷ ts) es) h)
 wide_denotes h t ts es x i = leads
-    (settled_typed (wide h.core (t ∷ ts) es) [] x (wider x (behind_front h.core.types (t ∷ ts)) (behind_front h.core.extents es) (front_itself h.core.fields) (front_itself h.core.parameters) (front_itself h.core.variables) (front_itself h.core.globals) (front_itself h.core.routines) (refl, refl, refl, refl, refl)) i
+    (settled_typed (wide h.core (t ∷ ts) es) [] x (wider x (behind_front h.core.types (t ∷ ts)) (behind_front h.core.extents es) (front_itself h.core.fields) (front_itself h.core.parameters) (front_itself h.core.variables) (front_itself h.core.globals) (front_itself h.core.routines) (refl, refl, refl, refl, refl) (omega arith)) i
     (sym (append-nil h.core.parameters)) (All-nil (λ p. Row (h.core.types ++ t ∷ ts) p.of.0)) refl refl refl refl)
     (record { types = behind_front h.core.types (t ∷ ts); parameters = front_itself h.core.parameters; variables = same_variables; globals = front_itself h.core.globals; routines = refl })
     (let l = length-append h.core.types (t ∷ ts) in omega (arith, l))
@@ -202,22 +223,21 @@ values_settled : {s : Stage} (of : TypeId) (n : ℕ) (ns : List Name) (h : Here)
 values_settled of n [] h x e = from_gives (x, refl)
 values_settled {s} of n (m ∷ ms) h x e =
     from_then (values of (n + 1) ms)
-    (entered_from {R = λ t i. Settled s i × (i.core ≡ h.core)} (is_ahead h m || is_declared h m) (length h.ahead) m (value_of of (pos n)) h (with_name_settled m (value_of of (pos n)) h x (enumerated_value h.core of n (length ms) e), refl))
+    (entered_from {R = λ t i. Settled s i × (i.core ≡ h.core)} (is_ahead h m || is_declared h m) (length h.ahead) m (value_of of (pos n)) h (with_declared_settled m (value_of of (pos n)) h x (enumerated_value h.core of n (length ms) e), with_declared_core m (value_of of (pos n)) h))
     (λ t i r. from_so (values_settled of (n + 1) ms i r.0 (subst (IsEnumeration of (n + 1 + length ms)) (sym r.1) (let le = e.2 in (e.0, e.1, omega (arith, le))))) (λ u j q. (q.0, q.1 ∙ r.1)))
 
 -- what a scope has room for is no more than an enumeration may have
-values_fit : (of : TypeId) (n : ℕ) (ns : List Name) (h : Here) → h.first ≤ length h.names → From (λ t i. (length ns ≡ 0) ⊎ (length h.names - h.first + length ns ≤ most_names)) (values of n ns h)
-values_fit of n [] h le = from_gives (inl refl)
-values_fit of n (m ∷ ms) h le =
-    let n' = with_name m (value_of of (pos n)) h in
+values_fit : (of : TypeId) (n : ℕ) (ns : List Name) (h : Here) → From (λ t i. (length ns ≡ 0) ⊎ (h.count + length ns ≤ most_names)) (values of n ns h)
+values_fit of n [] h = from_gives (inl refl)
+values_fit of n (m ∷ ms) h =
     from_then (values of (n + 1) ms)
-    (from_where {R = λ t i. (i.first ≡ h.first) × (length i.names ≡ length h.names + 1) × (length h.names - h.first < most_names)} (not (is_ahead h m || is_declared h m)) 14 m.position.place h
-    (λ e. from_where (has_room (length h.ahead) h) 64 m.position.place h (λ f. let lt = ltb-true (length h.names - h.first + length h.ahead) most_names f in from_gives (refl, length-append h.names (record { name = lower m.text; meaning = value_of of (pos n) } ∷ []), omega (arith, lt)))))
-    (λ t i r. let a = r.0 in let b = r.1 in let c = r.2 in from_so (values_fit of (n + 1) ms i (omega (arith, a, b, le))) (λ u j q. inr (one i (length ms) a b c q)))
+    (from_where {R = λ t i. (i.count ≡ h.count + 1) × (h.count < most_names)} (not (is_ahead h m || is_declared h m)) 14 m.position.place h
+    (λ e. from_where (has_room (length h.ahead) h) 64 m.position.place h (λ f. let lt = ltb-true (h.count + length h.ahead) most_names f in from_gives (with_declared_count m (value_of of (pos n)) h, omega (arith, lt)))))
+    (λ t i r. from_so (values_fit of (n + 1) ms i) (λ u j q. inr (one i (length ms) r.0 r.1 q)))
   where
-    one : (i : Here) (k : ℕ) → i.first ≡ h.first → length i.names ≡ length h.names + 1 → length h.names - h.first < most_names → (k ≡ 0) ⊎ (length i.names - i.first + k ≤ most_names) → length h.names - h.first + suc k ≤ most_names
-    one i k a b c (inl z) = omega (arith, z, c)
-    one i k a b c (inr q) = omega (arith, a, b, q, le)
+    one : (i : Here) (k : ℕ) → i.count ≡ h.count + 1 → h.count < most_names → (k ≡ 0) ⊎ (i.count + k ≤ most_names) → h.count + suc k ≤ most_names
+    one i k a b (inl z) = omega (arith, z, b)
+    one i k a b (inr q) = omega (arith, a, b, q)
 
 fails : {A : Type 0} {R : A → Here → Type 0} {g : Given A} → From R g → ((a : A) (h : Here) → R a h → ⊥) → (r : Refusal) × IsIn r g.faults
 fails {g} (settled (filled a r)) k = absurd (k a g.here r)
@@ -246,10 +266,10 @@ enumerated_settled {s} ns h x = one (nat_le (length ns) 65535) refl
         from_after none (followed (values of 0 ns new) (λ t h. gives of h))
         (from_then (gives of) (values_settled of 0 ns new d.state (max (length ns) 1, kind, omega arith)) (λ u j q. from_gives (leads q.0 (subst (Later h.core) (sym q.1) d.later) (subst (IsType of) (sym q.1) d.so))))
     one false e =
-        let f = fails (values_fit of 0 ns new x.first) (λ t i q. too_many q) in
+        let f = fails (values_fit of 0 ns new) (λ t i q. too_many q) in
         faulty f.0 (behind (front f.1))
       where
-        too_many : (length ns ≡ 0) ⊎ (length new.names - new.first + length ns ≤ most_names) → ⊥
+        too_many : (length ns ≡ 0) ⊎ (new.count + length ns ≤ most_names) → ⊥
         too_many (inl z) = let lt = leb-false (length ns) 65535 e in absurd (omega (arith, lt, z))
         too_many (inr q) = let lt = leb-false (length ns) 65535 e in absurd (omega (arith, lt, q))
 
@@ -347,7 +367,7 @@ record_settled {s} place r h a x = from_if r.whole (λ e. leads_on later (sized_
     fit = let l = length-append h.core.fields r.fields in omega (arith, l)
 
     y : Settled s (in_core wide_fields h)
-    y = settled_typed wide_fields [] x (wider x (front_itself h.core.types) (front_itself h.core.extents) (behind_front h.core.fields r.fields) (front_itself h.core.parameters) (front_itself h.core.variables) (front_itself h.core.globals) (front_itself h.core.routines) (refl, refl, refl, refl, refl)) (tabled_fields r.fields x.tables)
+    y = settled_typed wide_fields [] x (wider x (front_itself h.core.types) (front_itself h.core.extents) (behind_front h.core.fields r.fields) (front_itself h.core.parameters) (front_itself h.core.variables) (front_itself h.core.globals) (front_itself h.core.routines) (refl, refl, refl, refl, refl) (omega arith)) (tabled_fields r.fields x.tables)
         (sym (append-nil h.core.parameters)) (All-nil (λ p. Row h.core.types p.of.0)) refl refl refl refl
 
 -- ---- types

@@ -1,5 +1,5 @@
 -- What is declared where no rule is broken: every name stands for what is there, every row is sound, and every routine has its body.
-use Rattle.std.specs.Prelude.{◌≡◌, ◌⊎◌, ◌<◌, ◌≤◌, ◌+◌, ℕ, zero, suc, List, [], ◌∷◌, ◌++◌, drop, length, take, is_some, IfSome, IsSomeAnd, IsTrue, Option, Some, None}
+use Rattle.std.specs.Prelude.{◌≡◌, ◌⊎◌, ◌<◌, ◌≤◌, ℕ, zero, suc, List, [], ◌∷◌, ◌++◌, drop, length, take, is_some, IfSome, IsSomeAnd, IsTrue, Option, Some, None}
 use Rattle.std.specs.List.{All, Contains, filter}
 use Rattle.op_base.specs.declared.place.Place.{Place}
 use Rattle.op_base.specs.declared.rule.Refusal.{Refusal}
@@ -7,6 +7,7 @@ use Rattle.op_check_unit.specs.Declaring.{most_global_bytes}
 use Rattle.op_check_unit.specs.Routines.{most_bytes}
 use Rattle.op_check_unit.specs.Steps.{Given, Here}
 use Rattle.op_check_unit.specs.Tables.{IsTabled}
+use Rattle.op_check_unit.specs.declared.uses.Export.{Export}
 use Rattle.op_core.specs.Faults.{IsIn}
 use Rattle.op_core.specs.Growing.{IsFrontOf}
 use Rattle.op_core.specs.Initial.{FirstValue}
@@ -36,15 +37,14 @@ pub record Inside : Type 0 where
   pub names : ℕ
   pub bytes : ℕ
 
--- what is under way: the routine whose body comes, the scope of a body, and the units that there are
+-- what is under way: the routine whose body comes, and the scope of a body
 pub record Stage : Type 0 where
   pub current : Option ℕ
   pub inside : Option Inside
-  pub units : List RustUnit
 
 -- outside of bodies
 abbrev pub outside : Option ℕ → Stage
-outside current = record { current = current; inside = None; units = [] }
+outside current = record { current = current; inside = None }
 
 -- globals and, in a body, the variables from its first one on; and routines
 abbrev pub scope : Option Inside → Core → Sees
@@ -75,9 +75,9 @@ pub record IsInside (core : Core) (ns : List Named) (i : Inside) : Type 0 where
 abbrev pub IsBareVariable : Core → Variable → Type 0
 IsBareVariable core v = Row core.types v.of.0 × (v.first_value ≡ None)
 
--- a routine of the program without its body
+-- a routine without its body, of a unit whose row is there or comes next
 pub record IsBareRoutine (core : Core) (r : Routine) : Type 0 where
-  pub unit : r.unit.0 ≡ 0
+  pub unit : r.unit.0 ≤ length core.units
   pub owner : r.owner ≡ OfUnit
   pub enclosing : r.enclosing ≡ None
   pub body : r.body ≡ None
@@ -114,12 +114,29 @@ HasBody (b ∷ bs) n = (b.0.0 ≡ n) ⊎ HasBody bs n
 abbrev pub IsOpen : Option ℕ → List (Option Place) → ℕ → Type 0
 IsOpen current places n = (current ≡ Some n) ⊎ IsAwaited places n
 
+-- ---- units
+
+-- a part of a unit is a procedure, whose body has come
+abbrev pub IsDonePart : Core → Option ℕ → List (Option Place) → RoutineId → Type 0
+IsDonePart core current places p = There core.routines p.0 (λ r. r.parameters.count ≡ 0) × (IsOpen current places p.0 → ⊥)
+
+pub record IsDone (core : Core) (current : Option ℕ) (places : List (Option Place)) (u : RustUnit) : Type 0 where
+  pub globals : Fit core.globals u.globals
+  pub initialization : IfSome u.initialization (IsDonePart core current places)
+  pub finalization : IfSome u.finalization (IsDonePart core current places)
+
+-- what a unit exports is seen outside of bodies
+abbrev pub IsExported : Core → Export → Type 0
+IsExported core e = AllStand core (scope None core) e.names
+
 -- ---- states
 
 pub record Settled (s : Stage) (h : Here) : Type 0 where
   pub tables : IsTabled h.core
   pub people : IsPeopled h.core
-  pub units : h.core.units ≡ s.units
+  pub units : All (IsDone h.core s.current h.awaited) h.core.units
+  pub exports : All (IsExported h.core) h.exports
+  pub start : h.global_start ≤ length h.core.globals
   pub names : AllStand h.core (scope s.inside h.core) h.names
   pub first : h.first ≤ length h.names
   pub counts : Counts h.core s.inside h.bytes

@@ -5,7 +5,7 @@ use Rattle.std.specs.Str.{str_eq_ignore_ascii_case}
 use Rattle.op_base.specs.declared.place.Place.{Place}
 use Rattle.op_check_expr.specs.Words.{left_out}
 use Rattle.op_check_unit.specs.Denoting.{denoted}
-use Rattle.op_check_unit.specs.Naming.{is_name, type_named, told_in}
+use Rattle.op_check_unit.specs.Naming.{is_name, type_named}
 use Rattle.op_check_unit.specs.Records.{seen_too, unchanged}
 use Rattle.op_check_unit.specs.Steps.{Here, Given, gives, silent, checked, followed, by, gather}
 use Rattle.op_check_unit.specs.Types.{in_core}
@@ -24,7 +24,6 @@ use Rattle.op_tree.specs.declared.heading.ParameterType.TheVariants.{Named, Stri
 use Rattle.op_tree.specs.declared.heading.RoutineKind.{RoutineKind}
 use Rattle.op_tree.specs.declared.heading.RoutineKind.TheVariants.{Procedure, Function}
 use Rattle.op_tree.specs.declared.position.Name.{Name}
-use Rattle.op_tree.specs.declared.position.QualifiedName.{QualifiedName}
 use Rattle.op_types.specs.Names.{lower, meaning_of}
 
 -- ---- the form of a heading

@@ -9,6 +9,7 @@ pub mod Initials
 pub mod Declaring
 pub mod Headings
 pub mod Routines
+pub mod Uses
 pub mod System
 pub mod Tables
 pub mod Programs

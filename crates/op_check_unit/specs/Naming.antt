@@ -1,5 +1,5 @@
 -- Names: what they stand for, and how they are declared (Free Pascal Reference Guide, "Scope").
-use Rattle.std.specs.Prelude.{ℕ, ◌+◌, ◌-◌, Bool, false, not, ◌||◌, nat_lt, List, [], ◌∷◌, ◌++◌, length, drop, is_some, Option, Some, None, if◌then◌else◌}
+use Rattle.std.specs.Prelude.{ℕ, ◌+◌, Bool, false, not, ◌||◌, nat_lt, List, [], ◌∷◌, ◌++◌, length, drop, is_some, Option, Some, None, if◌then◌else◌}
 use Rattle.std.specs.Str.{str_eq_ignore_ascii_case}
 use Rattle.op_base.specs.declared.place.Place.{Place}
 use Rattle.op_check_expr.specs.Naming.{feature_of_type}
@@ -87,15 +87,23 @@ most_names = 65535
 
 -- so many more names have room in this scope
 abbrev pub has_room : ℕ → Here → Bool
-has_room more h = nat_lt (length h.names - h.first + more) most_names
+has_room more h = nat_lt (h.count + more) most_names
 
 abbrev pub with_name : Name → Meaning → Here → Here
-with_name n m h = record h { names = h.names ++ record { name = lower n.text; meaning = m } ∷ [] }
+with_name n m h = record h { names = h.names ++ record { name = lower n.text; meaning = m } ∷ []; count = h.count + 1 }
+
+-- in the scope of a unit the name also stands behind that of the unit
+abbrev pub qualified : Option (List ℕ) → Name → Meaning → Here → Here
+qualified None n m h = h
+qualified (Some unit) n m h = record h { names = h.names ++ record { name = joined_name unit n.text; meaning = m } ∷ [] }
+
+abbrev pub with_declared : Name → Meaning → Here → Here
+with_declared n m h = qualified h.own n m (with_name n m h)
 
 -- A name, unless it is taken in this scope or too many are. So many stand in front of it and are declared later.
 abbrev pub entered_name : Bool → ℕ → Name → Meaning → Here → Given (Unit {0})
 entered_name taken more n m h =
-    where_true (not taken) 14 n.position.place h (where_true (has_room more h) 64 n.position.place h (gives tt (with_name n m h)))
+    where_true (not taken) 14 n.position.place h (where_true (has_room more h) 64 n.position.place h (gives tt (with_declared n m h)))
 
 abbrev pub declared : Name → Meaning → Here → Given (Unit {0})
 declared n m h = entered_name (is_declared h n) 0 n m h

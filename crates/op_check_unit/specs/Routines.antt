@@ -1,6 +1,6 @@
 -- Routines: their rows, and their bodies (Free Pascal Reference Guide, "Procedures and functions").
 use Rattle.std.specs.Prelude.{ℕ, ◌+◌, ◌-◌, nat_le, Bool, true, false, List, [], ◌∷◌, ◌++◌, length, map, take, slice_get, slice_set, codes, Option, Some, None, if◌then◌else◌}
-use Rattle.std.specs.Option.{option_and_then, option_flatten, option_map}
+use Rattle.std.specs.Option.{option_flatten, option_map}
 use Rattle.op_base.specs.declared.place.Place.{Place}
 use Rattle.op_check_expr.specs.Scopes.{Here as Scope}
 use Rattle.op_check_expr.specs.Words.{left_out}
@@ -8,19 +8,19 @@ use Rattle.op_check_stmt.specs.Statements.{statements}
 use Rattle.op_check_unit.specs.Declaring.{constants_declared, types_declared, variables_declared}
 use Rattle.op_check_unit.specs.Headings.{form_means, head_means}
 use Rattle.op_check_unit.specs.Naming.{by_type, declared, ended, is_declared, told_in, with_ahead, with_name}
-use Rattle.op_check_unit.specs.Steps.{Here, Given, breaks, checked, each_declaration, followed, gives, silent, where_true}
+use Rattle.op_check_unit.specs.Steps.{Here, Given, breaks, checked, each_declaration, followed, gives, silent}
 use Rattle.op_check_unit.specs.Types.{in_core}
 use Rattle.op_check_unit.specs.declared.heading.Head.{Head}
 use Rattle.op_check_unit.specs.declared.naming.Told.{Told}
 use Rattle.op_check_unit.specs.declared.naming.Told.TheVariants as told
-use Rattle.op_core.specs.Faults.{Checked, Faults, by_test, fine, refused, untyped}
+use Rattle.op_core.specs.Faults.{Checked, by_test, fine, refused, untyped}
 use Rattle.op_core.specs.Heading.{is_same_heading}
 use Rattle.op_core.specs.Rows.{rows}
 use Rattle.op_core.specs.Statement.{Statements as Typed}
 use Rattle.op_core.specs.declared.ids.RoutineId.{RoutineId}
 use Rattle.op_core.specs.declared.ids.Run.{Run}
 use Rattle.op_core.specs.declared.ids.TypeId.{TypeId}
-use Rattle.op_core.specs.declared.ids.VariableId.{VariableId}
+use Rattle.op_core.specs.declared.ids.UnitId.{UnitId}
 use Rattle.op_core.specs.declared.program.Core.{Core}
 use Rattle.op_core.specs.declared.routine.Owner.TheVariants.{Unit as OfUnit}
 use Rattle.op_core.specs.declared.routine.Parameter.{Parameter}
@@ -38,12 +38,16 @@ use Rattle.op_types.specs.declared.visible.Meaning.TheVariants.{Variable, Routin
 
 -- ---- rows
 
--- a routine of the program, with its variables and without its body
-abbrev pub routine_row : Name → Head → Run → Routine
-routine_row n x run = record {
+-- the number of the unit whose parts are declared: its row comes behind those of the units before it
+abbrev pub unit_under : Core → UnitId
+unit_under core = record { 0 = length core.units }
+
+-- a routine of a unit, with its variables and without its body
+abbrev pub routine_row : UnitId → Name → Head → Run → Routine
+routine_row unit n x run = record {
   name = n;
   kind = x.kind;
-  unit = record { 0 = 0 };
+  unit = unit;
   owner = OfUnit;
   enclosing = None;
   parameters = x.parameters;
@@ -61,7 +65,7 @@ next_routine h = record { 0 = length h.core.routines }
 
 -- a routine more, with the place where its body is awaited from
 abbrev pub with_routine : Name → Head → Option Place → Here → Here
-with_routine n x place h = record h { core = record h.core { routines = h.core.routines ++ routine_row n x no_rows ∷ [] }; awaited = h.awaited ++ place ∷ [] }
+with_routine n x place h = record h { core = record h.core { routines = h.core.routines ++ routine_row (unit_under h.core) n x no_rows ∷ [] }; awaited = h.awaited ++ place ∷ [] }
 
 -- ---- variables that a body has by itself
 
@@ -83,6 +87,7 @@ abbrev pub with_parameters : List Parameter → Here → Here
 with_parameters ps h = record h {
   core = record h.core { variables = h.core.variables ++ map parameter_variable ps };
   names = h.names ++ parameter_names (length h.core.variables) ps;
+  count = h.count + length ps;
 }
 
 -- the name Result, at the place of the function's
@@ -97,7 +102,7 @@ with_result id n (Some of) h = with_name n (RoutineName id) (with_local (result_
 -- where a body begins
 abbrev pub entered : RoutineId → Name → Head → Here → Here
 entered id n x h =
-    with_result id n x.result (with_parameters (rows h.core.parameters x.parameters) (record h { first = length h.names; bytes = 0; routine = Some id }))
+    with_result id n x.result (with_parameters (rows h.core.parameters x.parameters) (record h { first = length h.names; count = 0; own = None; bytes = 0; routine = Some id }))
 
 -- ---- bodies
 
@@ -122,7 +127,7 @@ locals_fit n h = checked h (by_test 69 n.position.place (fine tt) (nat_le h.byte
 -- the row, with all variables from the first one on
 abbrev pub with_variables : RoutineId → Name → Head → ℕ → Here → Here
 with_variables id n x first h =
-    in_core (record h.core { routines = slice_set h.core.routines id.0 (routine_row n x (record { first = first; count = length h.core.variables - first })) }) h
+    in_core (record h.core { routines = slice_set h.core.routines id.0 (routine_row (unit_under h.core) n x (record { first = first; count = length h.core.variables - first })) }) h
 
 abbrev pub scope_of : RoutineId → Here → Scope
 scope_of id h = record { core = h.core; visible = h.names; routine = Some id; around = [] }
@@ -140,7 +145,7 @@ statements_mean id ss h = statements_by id (statements (scope_of id h) ss) h
 
 -- as it was before, but for what was put into tables
 abbrev pub left : Here → Here → Here
-left old h = record h { names = take (length old.names) h.names; first = old.first; bytes = old.bytes; routine = old.routine }
+left old h = record h { names = take (length old.names) h.names; first = old.first; count = old.count; own = old.own; bytes = old.bytes; routine = old.routine }
 
 abbrev pub inner : RoutineId → Name → Head → ℕ → Declarations → Statements → Here → Given (Unit {0})
 inner id n x first ds ss h =
@@ -177,7 +182,7 @@ is_heading_of core a (Some b) = is_same_heading core b a
 
 -- the body of a routine that is declared ahead has the same heading
 abbrev pub same_means : RoutineId → Name → Head → Here → Checked (Unit {0})
-same_means id n x h = by_test 19 n.position.place (fine tt) (is_heading_of h.core (routine_row n x no_rows) (slice_get h.core.routines id.0))
+same_means id n x h = by_test 19 n.position.place (fine tt) (is_heading_of h.core (routine_row (unit_under h.core) n x no_rows) (slice_get h.core.routines id.0))
 
 abbrev pub if_same : RoutineId → Name → Head → Declarations → Statements → Option (Unit {0}) → Here → Given (Unit {0})
 if_same id n x ds ss None h = silent h

@@ -1,9 +1,10 @@
 -- Declarations change what is declared. A part of one gives what it denotes, what is declared behind it, and its faults.
-use Rattle.std.specs.Prelude.{◌≡◌, ℕ, Bool, true, false, List, Option, Some, None, [], ◌∷◌, map}
+use Rattle.std.specs.Prelude.{◌≡◌, ℕ, Bool, true, false, ◌&&◌, List, Option, Some, None, [], ◌∷◌, map}
 use Rattle.op_base.specs.declared.place.Place.{Place}
 use Rattle.op_check_unit.specs.Bodies.{said}
 use Rattle.op_check_unit.specs.FirstValues.{begins_so}
 use Rattle.op_check_unit.specs.declared.declarer.Declarer.{Declarer}
+use Rattle.op_check_unit.specs.declared.uses.Export.{Export}
 use Rattle.op_core.specs.Faults.{Checked, Faults, none, one, both, broken, kept}
 use Rattle.op_core.specs.Initial.{FirstValue}
 use Rattle.op_core.specs.Statement.{Statements}
@@ -13,19 +14,31 @@ use Rattle.op_core.specs.declared.program.Core.{Core}
 use Rattle.op_tree.specs.Declaration.{Declaration, Declarations, no_declarations, declarations}
 use Rattle.op_types.specs.Names.{Named}
 
--- The typed program so far; the visible names, and how many of these were declared before this scope; the names of the declaration
--- that is under way, which stand in front and are declared at its end; the bytes of the variables of this scope, and the routine
--- whose locals they are. Rows have no bodies and first values, which stand beside them, as do the places of those declared ahead.
+-- The typed program so far; the visible names, how many of these were declared before this scope, and how many names the scope has;
+-- the name of the unit whose own scope it is, if that has a name; the names of the declaration that is under way, which stand in front
+-- and are declared at its end; the bytes of the variables of this scope, and the routine whose locals they are; how many globals the
+-- units before this one have. Rows have no bodies and first values, which stand beside them, as do the places of those declared ahead,
+-- and what units export so far.
 pub record Here : Type 0 where
   pub core : Core
   pub names : List Named
   pub first : ℕ
+  pub count : ℕ
+  pub own : Option (List ℕ)
   pub ahead : List Named
   pub bytes : ℕ
   pub routine : Option RoutineId
+  pub global_start : ℕ
   pub awaited : List (Option Place)
   pub bodies : List (RoutineId × Statements)
   pub first_values : List (VariableId × FirstValue)
+  pub exports : List Export
+
+-- no rule is broken
+abbrev pub is_clear : Faults → Bool
+is_clear none = true
+is_clear (one fault) = false
+is_clear (both first others) = is_clear first && is_clear others
 
 -- without a type where anything in the part breaks a rule
 pub record Given (A : Type 0) : Type 0 where
@@ -56,6 +69,14 @@ checked h c = record { typed = c.typed; here = h; faults = c.faults }
 abbrev pub followed : {A B : Type 0} → Given A → (Option A → Here → Given B) → Given B
 followed g f = record { typed = (f g.typed g.here).typed; here = (f g.typed g.here).here; faults = both g.faults (f g.typed g.here).faults }
 
+-- what comes behind a part that breaks no rule, and nothing behind one that breaks any
+abbrev pub unless : {A B : Type 0} → Bool → Given A → (Here → Given B) → Given B
+unless true g f = followed g (λ t h. f h)
+unless false g f = record { typed = None; here = g.here; faults = g.faults }
+
+abbrev pub unless_faulty : {A B : Type 0} → Given A → (Here → Given B) → Given B
+unless_faulty g f = unless (is_clear g.faults) g f
+
 -- what reads a part, silent where that has no type
 abbrev pub by : {A B : Type 0} → (A → Here → Given B) → Option A → Here → Given B
 by f None h = silent h
@@ -79,7 +100,7 @@ each_declaration f (declarations d ds) h = followed (f d h) (λ t h. each_declar
 -- ---- answers
 
 abbrev pub here_of : Declarer → Here
-here_of d = record { core = d.core; names = d.visible; first = d.first; ahead = d.ahead; bytes = d.bytes; routine = d.routine; awaited = d.awaited; bodies = map said d.bodies.items; first_values = map begins_so d.first_values.items }
+here_of d = record { core = d.core; names = d.visible; first = d.first; count = d.count; own = d.own; ahead = d.ahead; bytes = d.bytes; routine = d.routine; global_start = d.global_start; awaited = d.awaited; bodies = map said d.bodies.items; first_values = map begins_so d.first_values.items; exports = d.exports }
 
 -- what is declared, and the first fault
 abbrev pub Declares : {A : Type 0} → Given A → Declarer → Declarer → Type 0

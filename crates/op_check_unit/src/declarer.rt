@@ -1,6 +1,6 @@
 //! What is declared so far.
-ghost use Rattle.std.specs.Prelude.{◌≡◌, ◌+◌, ◌-◌, IfOk, length};
-ghost use Rattle.op_check_unit.specs.Naming.{all_ahead, declared, declared_within, ended, entered_name, has_room, is_declared, is_name, with_ahead};
+ghost use Rattle.std.specs.Prelude.{◌≡◌, ◌+◌, IfOk};
+ghost use Rattle.op_check_unit.specs.Naming.{all_ahead, declared, declared_within, ended, entered_name, has_room, is_declared, is_name, with_ahead, with_declared, with_name};
 ghost use Rattle.std.specs.Option.{option_copied};
 ghost use Rattle.op_check_unit.specs.Steps.{Declares, here_of};
 ghost use Rattle.op_check_expr.specs.Words.{left_out};
@@ -8,8 +8,10 @@ ghost use Rattle.op_core.specs.Faults.{broken, earlier, kept};
 
 use crate::body::Owned;
 use crate::first_value::Begun;
+use crate::uses::Export;
 use op_base::{NoMemory, Place, Refusal, Rule};
 use op_core::{Core, FirstRefusal, RoutineId, Table};
+use op_scan::CompactText;
 use op_tree::Name;
 use op_types::{Meaning, Visible};
 use std::alloc::Global;
@@ -26,18 +28,26 @@ pub struct Declarer {
     pub visible: Visible,
     /// How many of the visible names were declared before the innermost scope.
     pub first: usize,
+    /// How many names the innermost scope has.
+    pub count: usize,
+    /// The name of the unit or the program whose own scope it is, behind which each name of that stands too.
+    pub own: Option<CompactText>,
     /// The names of the declaration that is under way, which stand in front and are declared at its end.
     pub ahead: Visible,
     /// How many bytes the variables and typed constants of this scope have so far: the globals, or the locals of a routine.
     pub bytes: u64,
     /// The routine whose locals are declared; None where globals are.
     pub routine: Option<RoutineId>,
+    /// How many globals the units before this one have.
+    pub global_start: usize,
     /// Where a routine was declared ahead whose body has not come yet, for each routine.
     pub awaited: Table<Option<Place>>,
     /// The bodies so far, which are put into the rows of their routines at the end.
     pub bodies: Vec<Owned>,
     /// The first values so far, which are put into the rows of their variables at the end.
     pub first_values: Vec<Begun>,
+    /// What the units before this one export.
+    pub exports: Table<Export>,
     /// The first rule that was broken.
     pub sink: FirstRefusal,
 }
@@ -135,14 +145,42 @@ impl Declarer {
             self.refuse(64, place);
             return Ok(());
         }
-        self.visible.enter(name.text.as_slice(), meaning)
+        self.enter_declared(name, meaning)
+    }
+
+    /// Enters a name, and in the scope of a unit also behind the name of that.
+    fn enter_declared(&mut self, name: &Name, meaning: Meaning) -> Result<(), NoMemory>
+        ensures here { IfOk result (λ _. here_of self.new ≡ with_declared name.now meaning (here_of self.old)) }
+        ensures kept { self.new.sink ≡ self.old.sink }
+    {
+        let Some(own) = &self.own else {
+            return self.enter_alone(name, meaning);
+        };
+        let mut joined = Vec::from_slice(self.alloc, own.as_slice())?;
+        joined.push(b'.')?;
+        joined.extend_from_slice(name.text.as_slice())?;
+        let again = meaning.copy(self.alloc)?;
+        self.enter_alone(name, meaning)?;
+        self.visible.enter(joined.as_slice(), again)
+    }
+
+    /// Enters a name in the innermost scope.
+    pub fn enter_alone(&mut self, name: &Name, meaning: Meaning) -> Result<(), NoMemory>
+        ensures here { IfOk result (λ _. here_of self.new ≡ with_name name.now meaning (here_of self.old)) }
+        ensures kept { self.new.sink ≡ self.old.sink }
+    {
+        let Some(count) = self.count.checked_add(1) else {
+            return Err(NoMemory);
+        };
+        self.visible.enter(name.text.as_slice(), meaning)?;
+        self.count = count;
+        Ok(())
     }
 
     fn has_room(&self, more: usize) -> bool
         ensures { result ≡ has_room more (here_of self.now) }
     {
-        let count = self.visible.len().saturating_sub(self.first);
-        count.saturating_add(more) < MOST_NAMES
+        self.count.saturating_add(more) < MOST_NAMES
     }
 }
 

@@ -21,6 +21,7 @@ mod routine;
 mod shared;
 mod system;
 mod table;
+mod uses;
 mod variable;
 
 pub use declarer::Declarer;

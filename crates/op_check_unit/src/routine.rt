@@ -19,7 +19,7 @@ use op_core::{
     VariableId,
 };
 use op_scan::CompactText;
-use op_tree::{Body, Declaration, Directive, Heading, Name, Routine as RoutineTree, Stmt};
+use op_tree::{Body, Declaration, Directive, Heading, Name, Stmt};
 use op_types::{Meaning, Visible};
 use std::alloc::Global;
 
@@ -31,15 +31,16 @@ const NO_ROWS: Run = Run { first: 0, count: 0 };
 
 impl Declarer {
     /// Declares a routine. One whose name stands behind that of a class has no class here.
-    pub fn routine(&mut self, routine: &RoutineTree) -> Result<(), NoMemory>
-        ensures { IfOk result (λ _. Declares (routine_declared (heading_of routine.now.heading) routine.now.directives (body_of routine.now.body) (here_of self.old)) self.old self.new) }
+    pub fn routine(
+        &mut self,
+        heading: &Heading,
+        directives: &[Directive],
+        body: &Body,
+    ) -> Result<(), NoMemory>
+        ensures { IfOk result (λ _. Declares (routine_declared (heading_of heading.now) directives.now (body_of body.now) (here_of self.old)) self.old self.new) }
     {
-        match &routine.heading.class {
-            None => self.plain_declared(
-                &routine.heading,
-                routine.directives.as_slice(),
-                &routine.body,
-            ),
+        match &heading.class {
+            None => self.plain_declared(heading, directives, body),
             Some(class) => self.class_named(class),
         }
     }
@@ -123,7 +124,8 @@ impl Declarer {
         let Ok(number) = u32::try_from(self.core.routines.as_slice().len()) else {
             return Err(NoMemory);
         };
-        let row = routine_row(self.alloc, name, head, NO_ROWS)?;
+        let unit = self.unit_under()?;
+        let row = routine_row(self.alloc, unit, name, head, NO_ROWS)?;
         self.core.routines.push(row)?;
         self.awaited.push(awaited)?;
         Ok(RoutineId(number))
@@ -166,7 +168,8 @@ impl Declarer {
     fn same(&mut self, id: RoutineId, name: &Name, head: Head) -> Result<Option<()>, NoMemory>
         ensures { IfOk result (Leaves (checked (here_of self.old) (same_means id name.now head (here_of self.old))) self.old self.new) }
     {
-        let row = routine_row(self.alloc, name, head, NO_ROWS)?;
+        let unit = self.unit_under()?;
+        let row = routine_row(self.alloc, unit, name, head, NO_ROWS)?;
         if has_heading(&self.core, id, &row) {
             return Ok(Some(()));
         }
@@ -198,12 +201,16 @@ impl Declarer {
         ensures { IfOk result (λ _. Declares (block_means id name.now head (declarations_of declarations.now) (stmts_of list.now) (here_of self.old)) self.old self.new) }
     {
         let names = self.visible.len();
-        let (first, bytes, routine) = (self.first, self.bytes, self.routine);
+        let (first, count) = (self.first, self.count);
+        let (bytes, routine) = (self.bytes, self.routine);
+        let own = self.own.take();
         let variables = self.core.variables.as_slice().len();
         self.enter_body(id, name, head)?;
         self.inner(id, name, head, variables, declarations, list)?;
         self.visible.leave(names);
         self.first = first;
+        self.count = count;
+        self.own = own;
         self.bytes = bytes;
         self.routine = routine;
         Ok(())
@@ -214,10 +221,12 @@ impl Declarer {
         ensures here { IfOk result (λ _. here_of self.new ≡ entered id name.now head (here_of self.old)) }
         ensures kept { self.new.sink ≡ self.old.sink }
     {
-        self.first = self.visible.len();
+        self.open();
+        self.own = None;
         self.bytes = 0;
         self.routine = Some(id);
         let parameters = self.core.parameters.rows(head.parameters);
+        self.count = parameters.len();
         let variables = &mut self.core.variables;
         enter_parameters(&mut self.visible, variables.as_slice().len(), parameters)?;
         push_parameters(self.alloc, variables, parameters)?;
@@ -234,8 +243,7 @@ impl Declarer {
         };
         let own = result_name(self.alloc, name)?;
         self.local(own, of, Role::Result)?;
-        self.visible
-            .enter(name.text.as_slice(), Meaning::Routine(id))
+        self.enter_alone(name, Meaning::Routine(id))
     }
 
     /// A variable that a body has by itself.
@@ -248,8 +256,7 @@ impl Declarer {
         };
         let id = VariableId(number);
         let writable = true;
-        self.visible
-            .enter(name.text.as_slice(), Meaning::Variable { id, writable })?;
+        self.enter_alone(&name, Meaning::Variable { id, writable })?;
         self.core.variables.push(Variable {
             name,
             of,
@@ -324,7 +331,8 @@ impl Declarer {
         let (Ok(first), Ok(count)) = (u32::try_from(first), u32::try_from(count)) else {
             return Err(NoMemory);
         };
-        let row = routine_row(self.alloc, name, head, Run { first, count })?;
+        let unit = self.unit_under()?;
+        let row = routine_row(self.alloc, unit, name, head, Run { first, count })?;
         if (id.0 as usize) < self.core.routines.as_slice().len() {
             self.core.routines.replace(id.0 as usize, row);
         }
@@ -391,14 +399,20 @@ fn has_heading(core: &Core, id: RoutineId, row: &Routine) -> bool
     }
 }
 
-/// The row of a routine of the program, without its body.
-fn routine_row(alloc: Global, name: &Name, head: Head, variables: Run) -> Result<Routine, NoMemory>
-    ensures { IfOk result (λ row. row ≡ routine_row name.now head variables) }
+/// The row of a routine, without its body.
+fn routine_row(
+    alloc: Global,
+    unit: UnitId,
+    name: &Name,
+    head: Head,
+    variables: Run,
+) -> Result<Routine, NoMemory>
+    ensures { IfOk result (λ row. row ≡ routine_row unit name.now head variables) }
 {
     Ok(Routine {
         name: copy_of(alloc, name)?,
         kind: head.kind,
-        unit: UnitId(0),
+        unit,
         owner: Owner::Unit,
         enclosing: None,
         parameters: head.parameters,

@@ -50,12 +50,16 @@ impl Declarer {
             core: system_core(alloc)?,
             visible,
             first,
+            count: 0,
+            own: None,
             ahead: Visible::new(alloc),
             bytes: 0,
             routine: None,
+            global_start: 0,
             awaited: Table::new(alloc),
             bodies: Vec::new(alloc),
             first_values: Vec::new(alloc),
+            exports: Table::new(alloc),
             sink: FirstRefusal::new(),
         })
     }

@@ -16,17 +16,19 @@ use Rattle.op_units.specs.declared.forest.Forest.{Forest}
 use Rattle.op_tool.specs.Compiles.{Checks, error_of, FailsAs, FailsToBuild, FailsToCheck, HasNoImage, IsBroken, IsImage, IsTypedProgram, Made, RefusesBy, by_files, not_compiled}
 use Rattle.op_tool.specs.declared.compiler.CompileError.{CompileError}
 use Rattle.op_tool.specs.declared.compiler.CompileError.TheVariants.{Refused, ReadFault, Limit, NoMemory}
-use Rattle.op_units.specs.Loads.{FailsAs as FailsToLoad}
+use Rattle.op_units.specs.Walk.{Stops}
 use Rattle.op_units.specs.declared.error.LoadError.{LoadError}
 use Rattle.op_units.specs.declared.error.LoadError.TheVariants as load
 
 -- the trees that are checked are those of the forest
-pub checked_so : (forest : Forest) (trees : List Tree) (result : Result Core CheckError) → trees ≡ forest.trees → CheckIs (program_means (map file_of trees)) result → Obeys (ProgramBreaks (map file_of trees)) result → Checks forest result
-checked_so forest trees result is means law =
-    record { means = subst (λ ts. CheckIs (program_means (map file_of ts)) result) is means; law = subst (λ ts. Obeys (ProgramBreaks (map file_of ts)) result) is law }
+pub checked_so : (forest : Forest) (trees : List Tree) (order : List (List ℕ)) (result : Result Core CheckError) → trees ≡ forest.trees → order ≡ forest.order → CheckIs (program_means (map file_of trees) order) result → Obeys (ProgramBreaks (map file_of trees) order) result → Checks forest result
+checked_so forest trees order result is same means law = record {
+  means = subst (λ ns. CheckIs (program_means (map file_of forest.trees) ns) result) same (subst (λ ts. CheckIs (program_means (map file_of ts) order) result) is means);
+  law = subst (λ ns. Obeys (ProgramBreaks (map file_of forest.trees) ns) result) same (subst (λ ts. Obeys (ProgramBreaks (map file_of ts) order) result) is law);
+}
 
 -- a program that is not loaded
-pub not_loaded : (stored : Option (List NamedFile)) (name : List ℕ) (before after : ℕ) (error : LoadError) → FailsToLoad stored name before after error → FailsToCheck stored name before after (error_of error)
+pub not_loaded : (stored : Option (List NamedFile)) (name : List ℕ) (before after : ℕ) (error : LoadError) → Stops stored name before after error → FailsToCheck stored name before after (error_of error)
 not_loaded stored name before after (load.Refused refusal file) why = by_files why
 not_loaded stored name before after load.ReadFault rose = rose
 not_loaded stored name before after load.NoMemory free = free
@@ -39,11 +41,11 @@ not_compiled_by stored name settings before after Limit never = absurd never
 not_compiled_by stored name settings before after NoMemory free = free
 
 -- a refusal by the check, or want of memory
-pub not_checked : (stored : Option (List NamedFile)) (name : List ℕ) (before after : ℕ) (refusal : Refusal) (error : CompileError) → IsBroken stored name name refusal → RefusesBy name refusal error → FailsToCheck stored name before after error
-not_checked stored name before after refusal (Refused given file) broken (is_file, is) = subst (λ f. IsBroken stored name f given) (sym is_file) (subst (IsBroken stored name name) (sym is) broken)
-not_checked stored name before after refusal ReadFault broken never = absurd never
-not_checked stored name before after refusal Limit broken never = never
-not_checked stored name before after refusal NoMemory broken free = free
+pub not_checked : (stored : Option (List NamedFile)) (name where_it_is : List ℕ) (before after : ℕ) (refusal : Refusal) (error : CompileError) → IsBroken stored name where_it_is refusal → RefusesBy where_it_is refusal error → FailsToCheck stored name before after error
+not_checked stored name where_it_is before after refusal (Refused given file) broken (is_file, is) = subst (λ f. IsBroken stored name f given) (sym is_file) (subst (IsBroken stored name where_it_is) (sym is) broken)
+not_checked stored name where_it_is before after refusal ReadFault broken never = absurd never
+not_checked stored name where_it_is before after refusal Limit broken never = never
+not_checked stored name where_it_is before after refusal NoMemory broken free = free
 
 pub ok_also : {A E : Type 0} {P Q : A → Type 0} (r : Result A E) → ((a : A) → P a → Q a) → IfOk r P → IfOk r Q
 ok_also (Ok a) f holds = f a holds

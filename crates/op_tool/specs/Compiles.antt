@@ -1,5 +1,5 @@
 -- What checking and compiling a file give. `stored` are the files, as far as they tell.
-use Rattle.std.specs.Prelude.{◌≡◌, ◌<◌, ◌≤◌, ℕ, ◌*◌, ◌⊎◌, false, Option, Result, Ok, Err, List, ⊤, map}
+use Rattle.std.specs.Prelude.{◌≡◌, ◌<◌, ◌≤◌, ℕ, ◌*◌, ◌⊎◌, false, Option, Result, Ok, Err, List, ⊤, map, slice_get, unwrap_or}
 use Rattle.op_base.specs.Outside.{Rose}
 use Rattle.op_base.specs.declared.files.NamedFile.{NamedFile}
 use Rattle.op_base.specs.declared.place.Place.{Place}
@@ -31,18 +31,18 @@ use Rattle.op_tree.specs.File.{file_of}
 use Rattle.op_units.specs.declared.error.LoadError.{LoadError}
 use Rattle.op_units.specs.declared.error.LoadError.TheVariants as load
 use Rattle.op_units.specs.declared.forest.Forest.{Forest}
-use Rattle.op_units.specs.Loads.{Loads, IsRefused as IsRefusedFile}
+use Rattle.op_units.specs.Walk.{GivesForest, Stops, Walks, refused}
 
 -- ---- programs
 
 -- what the check of these files answers: their typed program where they break no rule, else the first rule that they break
 pub record Checks (forest : Forest) (result : Result Core CheckError) : Type 0 where
-  pub means : CheckIs (program_means (map file_of forest.trees)) result
-  pub law : Obeys (ProgramBreaks (map file_of forest.trees)) result
+  pub means : CheckIs (program_means (map file_of forest.trees) forest.order) result
+  pub law : Obeys (ProgramBreaks (map file_of forest.trees) forest.order) result
 
 -- the file is the main one of a program that breaks no rule, with this typed form
 pub record IsProgram (stored : Option (List NamedFile)) (name : List ℕ) (forest : Forest) (core : Core) : Type 0 where
-  pub loads : Loads stored name forest
+  pub loads : GivesForest stored name forest
   pub checks : Checks forest (Ok core)
   pub sound : IsSound core
   pub nesting : IsSoundNesting core
@@ -78,10 +78,14 @@ pub record Made (stored : Option (List NamedFile)) (name : List ℕ) (settings :
 
 -- ---- refusals
 
+-- the name of the file where a place is: the main file's as it was given, and the bare names of the others
+abbrev pub name_at : Forest → List ℕ → Place → List ℕ
+name_at forest main place = unwrap_or (slice_get forest.names place.file) main
+
 -- the first rule that the program breaks, and the name of the file where it does: of its files, else one that the check finds in them
 pub data IsBroken (stored : Option (List NamedFile)) (name file : List ℕ) (refusal : Refusal) : Type 0 where
-  by_files : IsRefusedFile stored name file refusal → IsBroken stored name file refusal
-  by_check : (forest : Forest) → Loads stored name forest → Checks forest (Err (check.Refused refusal)) → file ≡ name → IsBroken stored name file refusal
+  by_files : Walks stored name (refused refusal file) → IsBroken stored name file refusal
+  by_check : (forest : Forest) → GivesForest stored name forest → Checks forest (Err (check.Refused refusal)) → file ≡ name_at forest name refusal.place → IsBroken stored name file refusal
 
 abbrev pub file_missing : Rule
 file_missing = record { number = 10; feature = 0 }

@@ -21,7 +21,7 @@ use Rattle.op_tool.specs.declared.compiler.CompileError.{CompileError}
 use Rattle.op_tool.specs.declared.compiler.CompileError.TheVariants as errors
 use Rattle.op_tool.specs.declared.finish.Finish.{Finish}
 use Rattle.op_tool.specs.declared.finish.Finish.TheVariants.{Ended, Usage, Refused, ReadFault, WriteFault, Spent, NoMemory, BadImage, Faulted, Limit}
-use Rattle.op_units.specs.Loads.{IsMissing}
+use Rattle.op_units.specs.Walk.{IsMissing}
 
 -- a call of the tool: its words, its files, how often these and its input had failed before and after it, and the image that it left
 pub record Call : Type 0 where

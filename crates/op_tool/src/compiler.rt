@@ -2,7 +2,7 @@
 ghost use Rattle.std.specs.Prelude.{◌≡◌, ◌≤◌, IfErr, IfOk, IsTrue};
 ghost use Rattle.op_core.specs.Sound.{IsSound, IsSoundNesting};
 ghost use Rattle.op_link.specs.Memory.{are_in_range};
-ghost use Rattle.op_tool.specs.Compiles.{FailsAs, FailsToCheck, HasNoImage, IsImage, IsTypedProgram, Made, RefusesBy};
+ghost use Rattle.op_tool.specs.Compiles.{FailsAs, FailsToCheck, HasNoImage, IsImage, IsTypedProgram, Made, RefusesBy, name_at};
 
 use op_base::{Files, NoMemory, Place, Refusal, Rule, Text};
 use op_build::{BuildError, build};
@@ -11,7 +11,7 @@ use op_core::{CheckError, Core};
 use op_link::Settings;
 use op_managed::middle;
 use op_plain::is_plain;
-use op_units::{LoadError, load};
+use op_units::{Forest, LoadError, load};
 use std::alloc::Global;
 
 /// The beginning of the file that a command names.
@@ -98,9 +98,12 @@ pub(crate) fn checked<F: Files>(
     ensures unchanged { F.stored files.new ≡ F.stored files.old }
 {
     let forest = load(alloc, files, main)?;
-    match check(alloc, forest.trees.as_slice()) {
+    match check(alloc, forest.trees.as_slice(), forest.order.as_slice()) {
         Ok(core) => Ok(core),
-        Err(CheckError::Refused(refusal)) => Err(refused(alloc, main, refusal)),
+        Err(CheckError::Refused(refusal)) => {
+            let file = name_at(&forest, main.as_bytes(), refusal.place);
+            Err(refused(alloc, file, refusal))
+        }
         Err(CheckError::NoMemory) => Err(CompileError::NoMemory),
     }
 }
@@ -118,22 +121,32 @@ fn image_of(
     ensures failed { IfErr result (HasNoImage core main.now settings.now) }
 {
     if !is_plain(&core) {
-        return Err(refused(alloc, main, NOT_COMPILED));
+        return Err(refused(alloc, main.as_bytes(), NOT_COMPILED));
     }
     let mir = middle(alloc, &core)?;
     match build(alloc, core, mir, settings) {
         Ok(image) => Ok(image),
         Err(BuildError::Limit) => Err(CompileError::Limit),
-        Err(BuildError::Unbuildable) => Err(refused(alloc, main, NOT_COMPILED)),
+        Err(BuildError::Unbuildable) => Err(refused(alloc, main.as_bytes(), NOT_COMPILED)),
         Err(BuildError::NoMemory) => Err(CompileError::NoMemory),
     }
 }
 
-/// The refusal of a file.
-fn refused(alloc: Global, main: &str, refusal: Refusal) -> CompileError
-    ensures { RefusesBy main.now refusal result }
+/// The name of the file where a place is.
+fn name_at<'a>(forest: &'a Forest, main: &'a [u8], place: Place) -> &'a [u8]
+    ensures { result.now ≡ name_at forest.now main.now place }
 {
-    match Text::copy_of(alloc, main.as_bytes()) {
+    match forest.names.as_slice().get(place.file as usize) {
+        Some(name) => name.as_slice(),
+        None => main,
+    }
+}
+
+/// The refusal of a file.
+fn refused(alloc: Global, file: &[u8], refusal: Refusal) -> CompileError
+    ensures { RefusesBy file.now refusal result }
+{
+    match Text::copy_of(alloc, file) {
         Ok(file) => CompileError::Refused(refusal, file),
         Err(NoMemory) => CompileError::NoMemory,
     }

@@ -16,7 +16,6 @@ use Rattle.op_tree.specs.Expression.{Expression, chain, prefixed, number, nil, s
 use Rattle.op_tree.specs.declared.operator.Operator.{Operator}
 use Rattle.op_tree.specs.declared.operator.PrefixOperator.{PrefixOperator}
 use Rattle.op_tree.specs.declared.operator.PrefixOperator.TheVariants.{Minus}
-use Rattle.op_tree.specs.declared.position.Name.{Name}
 use Rattle.op_types.proofs.ConstantValue.{Total, has, breaks, spoiled, has_value}
 use Rattle.op_types.specs.ConstantRules.{ApplicationBreaks, ApplicationIs, ArgumentBreaks, ArgumentIs, ArgumentIsConstant, BoundBreaks, BoundIs, BreaksBehind, CallBreaks, CallIs, CallIsConstant, CastBreaks, CastIs, ConstantBreaks, DesignatorBreaks, DesignatorIs, DesignatorIsConstant, ElementBreaks, ElementIs, ElementIsConstant, ElementsAreConstant, Evaluates, EvaluatesBehind, Folds, GatheringBreaks, Gathers, IsConstant, LiteralIs, MembersAre, MembersBreak, NameBreaks, NameIs, NameIsConstant, NumeralBreaks, NumeralIs, OfQualified, OperandsAreConstant, OperationBreaks, OperationIs, OperatorBreaks, OperatorIs, PrefixBreaks, PrefixIs, RangeBreaks, RangeIs, SingleBreaks, SingleIs, UnionBreaks, UnionIs, UseBreaks, UseIs, Without}
 use Rattle.op_types.specs.Constants.{FoldIs, Sole, argument, application_means, bound_means, call_means, cast_means, constant, designated_constant, element, element_means, followed, gathered_means, is_folded, literal_means, members, name_means, no_members, numeral, operation_means, operations, operator_means, prefix_means, qualified, range_means, single_means, sole, sole_means, start_of, start_of_element, type_named, use_means, use_of}

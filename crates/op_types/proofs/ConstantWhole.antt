@@ -1,12 +1,11 @@
 -- Where names stand for what is there, constant expressions have a sound value or break a rule.
-use Rattle.std.proofs.Common.{◌≡◌, ◌⊎◌, inl, inr, ℕ, ℤ, pos, ◌≤ℤ◌, ◌%◌, arith, int_le, neg_ℤ, Bool, true, false, ◌&&◌, List, [], ◌∷◌, get_or, is_some, Option, Some, None, if◌then◌else◌, refl, sym, ap, subst, ◌∙◌}
-use Rattle.std.proofs.lemmas.Bool.{and_parts}
+use Rattle.std.proofs.Common.{◌≡◌, inl, inr, ℕ, ℤ, pos, ◌≤ℤ◌, ◌%◌, arith, neg_ℤ, Bool, true, false, List, [], ◌∷◌, is_some, Option, Some, None, if◌then◌else◌, refl, sym, ap, subst, ◌∙◌}
 use Rattle.std.proofs.lemmas.Int.{ints}
 use Rattle.std.specs.List.{All}
 use Rattle.std.specs.Option.{IfSome, IsSomeAnd, option_and_then, option_map}
 use Rattle.op_base.specs.declared.place.Place.{Place}
 use Rattle.op_core.proofs.Completing.{whole_after, whole_behind, whole_both, whole_entered, whole_followed, whole_gives, whole_refused, whole_standing, whole_tested, whole_with}
-use Rattle.op_core.specs.Faults.{Checked, after, both, fine, refused, with_part}
+use Rattle.op_core.specs.Faults.{Checked, after, both, with_part}
 use Rattle.op_core.specs.Relations.{Filled, Whole, filled, typed, faulty}
 use Rattle.op_core.specs.Faults.{front, behind}
 use Rattle.op_core.specs.Sizes.{range_of, type_at}
@@ -18,7 +17,7 @@ use Rattle.op_core.specs.declared.ids.TypeId.{TypeId}
 use Rattle.op_core.specs.declared.operation.Function.{Function}
 use Rattle.op_core.specs.declared.operation.Function.TheVariants.{Length, Low, High, Ord, Succ, Pred, Abs, Sqr, Odd, UpCase}
 use Rattle.op_core.specs.declared.program.Core.{Core}
-use Rattle.op_tree.specs.Expression.{Expression, chain, prefixed, number, nil, set, literal, designated, inherited, Operations, no_operations, operation, Elements, no_elements, elements, Element, one, range, Designator, designator, named, string, bracketed, Selectors, no_selectors, selectors, member, call, Arguments, no_arguments, arguments, value}
+use Rattle.op_tree.specs.Expression.{Expression, chain, prefixed, number, nil, set, literal, designated, inherited, Operations, no_operations, operation, Elements, no_elements, elements, Element, one, range, Designator, designator, named, bracketed, no_selectors, selectors, member, call, Arguments, no_arguments, arguments, value}
 use Rattle.op_tree.specs.declared.operator.Operator.{Operator}
 use Rattle.op_tree.specs.declared.operator.Operator.TheVariants.{Add}
 use Rattle.op_tree.specs.declared.operator.PrefixOperator.{PrefixOperator}
@@ -27,7 +26,7 @@ use Rattle.op_types.proofs.Fitting.{application_fits, bound_fits, cast_fits, cha
 use Rattle.op_types.proofs.Sorting.{stands_as}
 use Rattle.op_types.proofs.TypeFacts.{IsSmall, Takes, assigned_kind, between_some, empty_set_kind, nil_kind, over_common, over_common_set, over_is_set, over_takes, stands_for, string_kind}
 use Rattle.op_types.specs.Assignable.{assignable}
-use Rattle.op_types.specs.Constants.{Sole, argument, behind_name, bound_means, call_means, constant, designated_constant, element, element_means, entered, followed, gathered_means, in_brackets, is_folded, is_ordinal, joined, joined_name, literal_means, loose, made, members, members_of, name_means, no_members, nodes, number_behind, numeral, operation_means, operations, operator_means, or_number, plus, prefix_means, prefixed_means, qualified, range_means, rule_of, single_means, sole, start_of, start_of_element, text_constant, type_named, use_means, use_of, use_of_function, wrong_number}
+use Rattle.op_types.specs.Constants.{Sole, argument, behind_name, bound_means, call_means, constant, designated_constant, element, element_means, entered, followed, gathered_means, in_brackets, is_folded, is_ordinal, joined, joined_name, loose, made, members, members_of, name_means, no_members, nodes, number_behind, numeral, operation_means, operations, operator_means, or_number, plus, prefix_means, prefixed_means, qualified, range_means, rule_of, single_means, sole, start_of, start_of_element, text_constant, type_named, use_means, use_of, use_of_function, wrong_number}
 use Rattle.op_types.specs.Names.{Named, lower, meaning_of}
 use Rattle.op_types.specs.Operators as table
 use Rattle.op_types.specs.Sets.{between, combined, common_set, is_between, set_over}

@@ -1,10 +1,10 @@
 -- Which constants are values of which types, and that operators and functions give such.
-use Rattle.std.proofs.Common.{◌≡◌, ◌⊎◌, inl, inr, ℕ, zero, suc, ◌<◌, ◌≤◌, ◌+◌, ◌-◌, ◌*◌, ◌/◌, ◌%◌, ◌^◌, ℤ, pos, negsuc, ◌-ℤ◌, ◌+ℤ◌, ◌*ℤ◌, ◌≤ℤ◌, unsigned_abs, Bool, true, false, not, ◌&&◌, ◌||◌, nat_eq, nat_le, List, [], ◌∷◌, ◌++◌, length, get_or, Option, Some, None, if◌then◌else◌, w32, to_z, refl, sym, ap, subst, ◌∙◌, arith}
+use Rattle.std.proofs.Common.{◌≡◌, ◌⊎◌, inl, inr, ℕ, zero, suc, ◌<◌, ◌-◌, ◌*◌, ◌/◌, ◌%◌, ◌^◌, ℤ, pos, negsuc, ◌-ℤ◌, ◌+ℤ◌, ◌*ℤ◌, ◌≤ℤ◌, unsigned_abs, Bool, true, false, not, ◌&&◌, ◌||◌, nat_eq, nat_le, List, [], ◌∷◌, ◌++◌, length, get_or, Option, Some, None, if◌then◌else◌, w32, to_z, refl, sym, ap, subst, ◌∙◌, arith}
 use Rattle.std.specs.Prelude.{neg_ℤ, int_le, int_lt}
 use Rattle.std.specs.Bool.{IsTrue}
 use Rattle.std.specs.Int.{bit_not, cast_unsigned, int_bit_and, int_bit_or, int_bit_xor, int_rem_euclid}
 use Rattle.std.specs.Int.RustNames.{bit_and, bit_or, bit_xor, int_div, int_rem}
-use Rattle.std.specs.List.{All, list_any}
+use Rattle.std.specs.List.{All}
 use Rattle.std.specs.Option.{IsSomeAnd, option_and_then, option_map}
 use Rattle.std.proofs.lemmas.Bool.{and_left, and_parts, and_right, eqb-true, or_cases}
 use Rattle.std.proofs.lemmas.Int.{ints, rem_below}
@@ -15,30 +15,29 @@ use Rattle.op_base.specs.Arithmetic.{shift_count}
 use Rattle.op_core.specs.Members.{Kind}
 use Rattle.op_core.specs.Sizes.{integer_range, range_of, type_at}
 use Rattle.op_core.specs.Sound.{IsFounded}
-use Rattle.op_core.specs.Typing.{AreMembers, Fits, IsOrdinal, IsSet, Within, base_of, is_reference}
+use Rattle.op_core.specs.Typing.{AreMembers, Fits, IsSet, Within, base_of, is_reference}
 use Rattle.op_core.specs.declared.constant.Const.{Const}
 use Rattle.op_core.specs.declared.constant.Const.TheVariants as const
 use Rattle.op_core.specs.declared.ids.TypeId.{TypeId}
 use Rattle.op_core.specs.declared.operation.Function.{Function}
-use Rattle.op_core.specs.declared.operation.Function.TheVariants.{Length, Low, High, Ord, Succ, Pred, Abs, Sqr, Odd, UpCase}
+use Rattle.op_core.specs.declared.operation.Function.TheVariants.{Length, Low, Ord, Succ, Pred, Abs, Sqr, Odd, UpCase}
 use Rattle.op_core.specs.declared.program.Core.{Core}
 use Rattle.op_core.specs.declared.types.CoreType.{CoreType}
 use Rattle.op_core.specs.declared.types.CoreType.TheVariants as type
-use Rattle.op_core.specs.declared.types.IntegerKind.{IntegerKind}
 use Rattle.op_tree.specs.declared.operator.Operator.{Operator}
 use Rattle.op_tree.specs.declared.operator.Operator.TheVariants.{Equal, NotEqual, Less, Greater, LessEqual, GreaterEqual, In_, Is, Add, Subtract, Or, Xor, Multiply, Slash, Div, Mod_, And, Shl, Shr, As_}
 use Rattle.op_tree.specs.declared.operator.PrefixOperator.{PrefixOperator}
 use Rattle.op_tree.specs.declared.operator.PrefixOperator.TheVariants.{Not, Plus, Minus}
 use Rattle.op_types.proofs.Sorting.{has_kind, stands_as}
-use Rattle.op_types.proofs.TypeFacts.{InKind, IsSmall, Rooted, Takes, boolean_kind, char_kind, common_is_set, common_left, common_members, common_right, empty_set_kind, in_kind, integer_kind, of_integer, rooted, same_kinds, sort_is_set, string_kind}
+use Rattle.op_types.proofs.TypeFacts.{InKind, Rooted, Takes, boolean_kind, char_kind, common_is_set, common_left, common_members, common_right, in_kind, integer_kind, of_integer, rooted, same_kinds, sort_is_set, string_kind}
 use Rattle.op_types.specs.Operators as table
 use Rattle.op_types.specs.Sets.{combined, common_set, elements, has, is_kept, is_part, only, those_from}
 use Rattle.op_types.specs.Sorts.{are_sets, is_text, kind_of, same_kind, sort_of}
-use Rattle.op_types.specs.Values.{applied, before, bound_of, by_values, bytes_of, cast, compared_by, contains, end_by, if_zero, in_range, index_by, is_in, low_bits, most_text_bytes, number_of, on_numbers, on_sets, on_texts, operated, precedes_bytes, text_within, truth, within}
+use Rattle.op_types.specs.Values.{applied, before, bound_of, by_values, bytes_of, cast, compared_by, contains, end_by, in_range, index_by, is_in, low_bits, most_text_bytes, number_of, on_numbers, on_sets, on_texts, operated, precedes_bytes, text_within, truth, within}
 use Rattle.op_types.specs.declared.sort.OrdinalKind.{OrdinalKind}
 use Rattle.op_types.specs.declared.sort.OrdinalKind.TheVariants.{Integer, Boolean, Char, Enumeration}
 use Rattle.op_types.specs.declared.sort.Sort.{Sort}
-use Rattle.op_types.specs.declared.sort.Sort.TheVariants.{Ordinal, String, Set, EmptySet, DynamicArray, Class, Interface, Nil, Other}
+use Rattle.op_types.specs.declared.sort.Sort.TheVariants.{Ordinal, String, Set, EmptySet}
 
 -- ---- which values a type has
 

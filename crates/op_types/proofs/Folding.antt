@@ -1,5 +1,5 @@
 -- What nodes with lists mean as constants, and what stands behind faults.
-use Rattle.std.proofs.Common.{◌≡◌, ℕ, suc, ◌<◌, ◌+◌, Bool, true, false, List, [], ◌∷◌, length, drop, drop-cons, add-one, get_or, Option, None, Some, Result, Ok, Err, IfOk, if◌then◌else◌, refl, sym, ap, subst, ◌∙◌, arith}
+use Rattle.std.proofs.Common.{◌≡◌, ℕ, ◌<◌, ◌+◌, Bool, true, false, List, [], ◌∷◌, length, drop, drop-cons, add-one, get_or, Option, None, Some, Result, Ok, Err, IfOk, if◌then◌else◌, refl, sym, ap, subst, ◌∙◌, arith}
 use Rattle.std.specs.Option.{option_and_then, option_map}
 use Rattle.op_base.specs.declared.place.Place.{Place}
 use Rattle.op_core.specs.Faults.{Faults, both, none, Checked, after, fine, kept, with_part}

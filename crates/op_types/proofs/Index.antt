@@ -1,12 +1,14 @@
 -- The index of visible names.
-use Rattle.std.proofs.Common.{◌≡◌, ℕ, zero, suc, ◌<◌, nat_le, Bool, true, false, cond, drop, get_or, is_some, List, [], ◌∷◌, ◌++◌, length, map, slice_get, take, Option, Some, None, if◌then◌else◌, Vec, refl, sym, ap, subst, ◌∙◌, ◌⊎◌, inl, inr, arith}
+use Rattle.std.proofs.Common.{◌≡◌, ℕ, zero, suc, ◌<◌, nat_le, Bool, true, false, cond, drop, get_or, is_some, List, [], ◌∷◌, ◌++◌, length, map, slice_get, take, Option, Some, None, if◌then◌else◌, Vec, refl, sym, ap, subst, ◌∙◌, ◌⊎◌, inl, inr, arith, append_assoc, ap₂, ◌+◌}
 use Rattle.std.proofs.lemmas.Slice.Eq.{bytes_eq-Decides}
 use Rattle.std.specs.Option.{option_flatten, option_map, option_or}
 use Rattle.std.specs.Str.{bytes_eq}
 use Rattle.std.specs.declared.alloc.Global.{Global}
 use Rattle.indexmap.specs.IndexMap.{IndexMap, get, Updates}
+use Rattle.op_types.proofs.Folding.{next_of}
 use Rattle.op_types.specs.Names.{Agrees, Named, named, meaning_of, last_at}
 use Rattle.op_types.specs.declared.visible.Declared.{Declared}
+use Rattle.op_types.specs.declared.visible.Meaning.{Meaning}
 
 -- ---- one declaration more
 
@@ -141,3 +143,14 @@ since (suc count) (d ∷ ds) name = since count ds name ∙ sym (one_behind coun
 pub since_by : {S : Type 0} (count : ℕ) (ds : List Declared) (newest : IndexMap (Vec ℕ Global) (Option ℕ) S) (key : Vec ℕ Global) (l : Option ℕ) (names : List Named) (name : List ℕ) → Agrees ds newest → option_flatten (get same newest key) ≡ l → map named ds ≡ names → key.items ≡ name → is_from count l ≡ is_some (meaning_of (drop count names) name)
 since_by count ds newest key l names name a e v k =
     ap (is_from count) (sym e ∙ a.finds key) ∙ sym (since count ds key.items) ∙ (λ i. is_some (meaning_of (drop count (v i)) (k i)))
+
+-- ---- copies
+
+-- one more copy, and those that are left
+pub copied : (ds : List Declared) (k : ℕ) (d : Declared) (name : List ℕ) (meaning : Meaning) (old new whole : List Named) → k < length ds → d ≡ get_or ds k d → name ≡ d.name.items → meaning ≡ d.meaning → new ≡ old ++ record { name = name; meaning = meaning } ∷ [] → old ++ map named (drop k ds) ≡ whole → new ++ map named (drop (k + 1) ds) ≡ whole
+copied ds k d name meaning old new whole lt is n m e w =
+    ap (λ v. v ++ map named (drop (k + 1) ds)) e
+    ∙ append_assoc old (record { name = name; meaning = meaning } ∷ []) (map named (drop (k + 1) ds))
+    ∙ ap₂ (λ n m. old ++ record { name = n; meaning = m } ∷ map named (drop (k + 1) ds)) n m
+    ∙ ap (λ xs. old ++ map named xs) (sym (next_of ds k d lt is))
+    ∙ w

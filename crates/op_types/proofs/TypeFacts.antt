@@ -1,8 +1,7 @@
 -- What types are where every row is as it should be: the predefined ones, and what each has by its kind and its sort.
-use Rattle.std.proofs.Common.{◌≡◌, ◌⊎◌, inl, inr, ℕ, zero, suc, ◌<◌, ◌≤◌, ◌+◌, ◌-◌, ◌^◌, nat_le, ℤ, pos, negsuc, ◌-ℤ◌, ◌≤ℤ◌, Bool, true, false, nat_eq, List, [], ◌∷◌, length, slice_get, take, Option, Some, None, refl, sym, ap, subst, ◌∙◌, arith}
+use Rattle.std.proofs.Common.{◌≡◌, ◌⊎◌, inl, inr, ℕ, zero, suc, ◌<◌, ◌+◌, ◌-◌, ◌^◌, nat_le, ℤ, pos, negsuc, ◌-ℤ◌, ◌≤ℤ◌, Bool, true, false, nat_eq, List, [], ◌∷◌, slice_get, take, Option, Some, None, refl, sym, ap, subst, ◌∙◌, arith}
 use Rattle.std.proofs.lemmas.Bool.{eq-eqb, eqb-true, leb-true, leb-false, or_cases}
 use Rattle.std.proofs.lemmas.Int.{ints}
-use Rattle.std.specs.List.{All}
 use Rattle.std.specs.Option.{IsSomeAnd, option_or}
 use Rattle.std.specs.Str.{bytes_eq}
 use Rattle.std.specs.Prelude.{if◌then◌else◌, unwrap_or}
@@ -10,7 +9,7 @@ use Rattle.op_core.specs.Members.{Kind}
 use Rattle.op_core.specs.Sizes.{capped, integer_range, range_of, type_at}
 use Rattle.op_core.specs.Sound.{IsFounded}
 use Rattle.op_core.specs.Types.{are_one, elements, id, is_one_type, is_same, predefined, true_of}
-use Rattle.op_core.specs.Typing.{IsOrdinal, IsSet, OneType, Sees, Within, base_of}
+use Rattle.op_core.specs.Typing.{IsSet, OneType, Sees, Within, base_of}
 use Rattle.op_core.specs.declared.ids.TypeId.{TypeId}
 use Rattle.op_core.specs.declared.program.Core.{Core}
 use Rattle.op_core.specs.declared.types.CoreType.{CoreType}
@@ -26,8 +25,7 @@ use Rattle.op_types.specs.Sorts.{by_kind, kind_by, kind_of, root_by, root_of, sa
 use Rattle.op_types.specs.Standing.{AllStand, StandsFor}
 use Rattle.op_types.specs.declared.sort.OrdinalKind.{OrdinalKind}
 use Rattle.op_types.specs.declared.sort.OrdinalKind.TheVariants.{Integer, Boolean, Char, Enumeration}
-use Rattle.op_types.specs.declared.sort.Sort.{Sort}
-use Rattle.op_types.specs.declared.sort.Sort.TheVariants.{Ordinal, String, Set, EmptySet, DynamicArray, Class, Interface, Nil, Other}
+use Rattle.op_types.specs.declared.sort.Sort.TheVariants.{Ordinal, Set, EmptySet}
 use Rattle.op_types.specs.declared.visible.Meaning.{Meaning}
 
 -- ---- predefined types

@@ -16,7 +16,6 @@ use Rattle.op_tree.specs.declared.operator.Operator.{Operator}
 use Rattle.op_tree.specs.declared.operator.Operator.TheVariants.{Add}
 use Rattle.op_tree.specs.declared.operator.PrefixOperator.{PrefixOperator}
 use Rattle.op_tree.specs.declared.operator.PrefixOperator.TheVariants.{Minus}
-use Rattle.op_tree.specs.declared.position.Name.{Name}
 use Rattle.op_types.specs.Assignable.{assignable}
 use Rattle.op_types.specs.Constants.{is_folded, is_ordinal, joined, joined_name, loose, made, members_of, no_members, nodes, plus, qualified, rule_of, start_of, start_of_element, type_named, use_of}
 use Rattle.op_types.specs.Names.{Named, lower, meaning_of}

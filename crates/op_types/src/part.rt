@@ -173,7 +173,8 @@ fn entered(
     }
 }
 
-fn copy_of(alloc: Global, value: &Const) -> Result<Const, NoMemory>
+/// Another copy of a constant.
+pub fn copy_of(alloc: Global, value: &Const) -> Result<Const, NoMemory>
     ensures { IfOk result (λ v. v ≡ value.now) }
 {
     match value {

@@ -1,10 +1,11 @@
 //! The names that are visible at a place, and what they stand for.
-ghost use Rattle.std.specs.Prelude.{◌≡◌, ◌-◌, [], ◌∷◌, ◌++◌, IfOk, drop, is_some, length, take};
+ghost use Rattle.std.specs.Prelude.{◌≡◌, ◌-◌, [], ◌∷◌, ◌++◌, IfOk, drop, is_some, length, map, take};
 ghost use Rattle.std.specs.Char.{to_ascii_lowercase};
 ghost use Rattle.std.specs.Option.{option_copied};
-ghost use Rattle.op_types.specs.Names.{lower, meaning_of};
+ghost use Rattle.op_types.specs.Names.{lower, meaning_of, named};
 
 use crate::Constant;
+use crate::part::copy_of;
 use indexmap::IndexMap;
 use op_base::NoMemory;
 use op_core::{Function, RoutineId, TypeId, UnitId, VariableId};
@@ -55,6 +56,30 @@ pub enum Meaning {
     BuiltIn(BuiltIn),
     /// Its declaration breaks a rule; what uses it is silent.
     Spoiled,
+}
+
+impl Meaning {
+    /// Another copy.
+    pub fn copy(&self, alloc: Global) -> Result<Meaning, NoMemory>
+        ensures { IfOk result (λ m. m ≡ self.now) }
+    {
+        match self {
+            Meaning::Constant(constant) => Ok(Meaning::Constant(Constant {
+                value: copy_of(alloc, &constant.value)?,
+                of: constant.of,
+                weight: constant.weight,
+            })),
+            Meaning::TypeName(of) => Ok(Meaning::TypeName(*of)),
+            Meaning::Variable { id, writable } => Ok(Meaning::Variable {
+                id: *id,
+                writable: *writable,
+            }),
+            Meaning::Routine(id) => Ok(Meaning::Routine(*id)),
+            Meaning::Unit(id) => Ok(Meaning::Unit(*id)),
+            Meaning::BuiltIn(form) => Ok(Meaning::BuiltIn(*form)),
+            Meaning::Spoiled => Ok(Meaning::Spoiled),
+        }
+    }
 }
 
 /// A name in small letters, and the next older declaration of it.
@@ -108,8 +133,15 @@ impl Visible {
     pub fn enter(&mut self, name: &[u8], meaning: Meaning) -> Result<(), NoMemory>
         ensures { IfOk result (λ _. self.new ≡ self.old ++ record { name = lower name.now; meaning = meaning } ∷ []) }
     {
-        let key = lowered(self.alloc, name)?;
         let name = lowered(self.alloc, name)?;
+        self.enter_lowered(name, meaning)
+    }
+
+    /// Declares a name that is in small letters.
+    fn enter_lowered(&mut self, name: Vec<u8>, meaning: Meaning) -> Result<(), NoMemory>
+        ensures { IfOk result (λ _. self.new ≡ self.old ++ record { name = name.items; meaning = meaning } ∷ []) }
+    {
+        let key = Vec::from_slice(self.alloc, name.as_slice())?;
         self.declared.reserve(1)?;
         let at = self.declared.len();
         let hides = self.newest.insert(key, Some(at))?.flatten();
@@ -121,6 +153,35 @@ impl Visible {
             Ok(()) => Ok(()),
             Err(_) => unreachable!(),
         }
+    }
+
+    /// Declares these names once more.
+    pub fn enter_all(&mut self, others: &Visible) -> Result<(), NoMemory>
+        ensures { IfOk result (λ _. self.new ≡ self.old ++ others.now) }
+    {
+        self.enter_copies(others.declared.as_slice())
+    }
+
+    /// A copy of what was declared behind the first `count` names.
+    pub fn since(&self, count: usize) -> Result<Visible, NoMemory>
+        ensures { IfOk result (λ v. v ≡ drop count self.now) }
+    {
+        let mut copy = Visible::new(self.alloc);
+        let declared = self.declared.as_slice();
+        let (_, behind) = declared.split_at(declared.len().min(count));
+        copy.enter_copies(behind)?;
+        Ok(copy)
+    }
+
+    fn enter_copies(&mut self, declared: &[Declared]) -> Result<(), NoMemory>
+        ensures { IfOk result (λ _. self.new ≡ self.old ++ map named declared.now) }
+    {
+        for one in declared {
+            let name = Vec::from_slice(self.alloc, one.name.as_slice())?;
+            let meaning = one.meaning.copy(self.alloc)?;
+            self.enter_lowered(name, meaning)?;
+        }
+        Ok(())
     }
 
     /// Leaves a scope: all names but the first `count` are gone.

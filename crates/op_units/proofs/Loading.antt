@@ -13,7 +13,6 @@ use Rattle.op_tree.specs.FileGrammar.{Spells}
 use Rattle.op_tree.specs.Terminal.{terminals}
 use Rattle.op_tree.specs.declared.file.Tree.{Tree}
 use Rattle.op_units.specs.Cycles.{FirstIs, RefusesBy, StopsAt}
-use Rattle.op_units.specs.Loads.{FailsAs, first_use, unit_at, uses_units}
 use Rattle.op_units.specs.Names.{IsFolder}
 use Rattle.op_units.specs.Reading.{ReadsTokens, BreaksAs, by_tokens, IsShownAs}
 use Rattle.op_units.specs.Unbuilt.{FirstUnbuilt}
@@ -67,9 +66,3 @@ pub stops_on : (stored : Option (List NamedFile)) (main folder : List ℕ) (fram
 stops_on stored main folder frame w initial before after (errors.Refused refusal name) is f counts h = walks_on stored main folder frame w initial before (refused refusal name) is f h
 stops_on stored main folder frame w initial before after errors.ReadFault is f counts h = rose_since initial before after counts h
 stops_on stored main folder frame w initial before after errors.NoMemory is f counts h = h
-
--- a program that uses units
-pub fails_by_uses : (stored : Option (List NamedFile)) (main : List ℕ) (before after : ℕ) (forest : Forest) (place : Place) (e : LoadError) → GivesForest stored main forest → first_use forest.trees ≡ Some place → RefusesBy main (unit_at place) e → FailsAs stored main before after e
-fails_by_uses stored main before after forest place (errors.Refused refusal name) g u (is, same) = uses_units forest place g u same is
-fails_by_uses stored main before after forest place errors.ReadFault g u r = absurd r
-fails_by_uses stored main before after forest place errors.NoMemory g u r = r

@@ -1,5 +1,4 @@
 pub mod Cycles
-pub mod Loads
 pub mod Names
 pub mod Reading
 pub mod Search

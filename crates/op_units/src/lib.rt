@@ -1,8 +1,8 @@
 //! From the main file to the trees of a program's files.
 //!
-//! `forest_of` reads the main file, scans and parses it, and then the units that it uses, depth first and each file once. It answers the trees
+//! `load` reads the main file, scans and parses it, and then the units that it uses, depth first and each file once. It answers the trees
 //! and the order of the units, or the first rule of files, spelling, grammar and units that is broken. Constructs that are not built yet and that a word
-//! shows are refused with those of the grammar. `load` refuses programs with units besides, as long as these are not built.
+//! shows are refused with those of the grammar.
 #![tactic(auto)]
 
 mod error;
@@ -16,4 +16,4 @@ mod walk;
 
 pub use error::LoadError;
 pub use forest::Forest;
-pub use loader::{forest_of, load};
+pub use loader::load;

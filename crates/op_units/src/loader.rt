@@ -2,7 +2,6 @@
 ghost use Rattle.std.specs.Prelude.{◌≡◌, ◌≤◌, ◌∷◌, None, IfOk, IfErr, length};
 ghost use Rattle.op_scan.specs.Scan.{StandFor};
 ghost use Rattle.op_units.specs.Cycles.{FirstIs, RefusesBy, StopsAt, with_frame};
-ghost use Rattle.op_units.specs.Loads.{FailsAs, Loads, first_use};
 ghost use Rattle.op_units.specs.Names.{IsFolder};
 ghost use Rattle.op_units.specs.Reading.{BreaksAs, IsShownAs, Reads, ReadsTokens, SpelledAs, first_of};
 ghost use Rattle.op_units.specs.Walk.{GivesForest, Stops, Visits, nothing_read, walked, walked_of};
@@ -21,45 +20,6 @@ use op_tree::Tree;
 use std::alloc::Global;
 use std::collections::VecDeque;
 
-/// Units are not built yet.
-const UNIT: Rule = Rule {
-    number: 13,
-    feature: 39,
-};
-
-/// The files of the program whose main file has this name, which is the name as `files` knows it.
-///
-/// The errors are those of `forest_of`; besides, `Refused` tells rule 13 at the first name in the uses list of a program whose files break no rule, as
-/// long as units are not built.
-pub fn load<F: Files>(alloc: Global, files: &mut F, main: &str) -> Result<Forest, LoadError>
-    // The files break no rule, and the program uses no unit.
-    ensures loaded { IfOk result (Loads (F.stored files.old) main.now) }
-    // Each error has its cause in this call.
-    ensures failed { IfErr result (FailsAs (F.stored files.old) main.now (F.faults files.old) (F.faults files.new)) }
-    ensures counts { F.faults files.old ≤ F.faults files.new }
-    ensures unchanged { F.stored files.new ≡ F.stored files.old }
-{
-    let forest = forest_of(alloc, files, main)?;
-    match first_use(forest.trees.as_slice()) {
-        None => Ok(forest),
-        Some(place) => Err(refused(alloc, main.as_bytes(), broken(UNIT, place))),
-    }
-}
-
-/// Where a program begins to use units, if it does.
-fn first_use(trees: &[Tree]) -> Option<Place>
-    ensures { result ≡ first_use trees.now }
-{
-    let (main, _) = trees.split_first()?;
-    match main {
-        Tree::Program(program) => {
-            let (first, _) = program.uses.as_slice().split_first()?;
-            Some(first.position.place)
-        }
-        Tree::Unit(_) => None,
-    }
-}
-
 /// The files of the program whose main file has this name, which is the name as `files` knows it, and the order of its units.
 ///
 /// The main file is read, and then the units that it uses: a unit `Foo` from the file `foo.pas` in the folder of the main file, depth first and each
@@ -73,7 +33,7 @@ fn first_use(trees: &[Tree]) -> Option<Place>
 /// 11, where interface uses have a cycle by it; 13 for SysUtils; 10, where the file is missing; 63, where 1,000 units have been read; and what breaks
 /// in the file that is read for it. The main file is refused at line and column 1 where it is missing. `ReadFault` comes where a file could not be read,
 /// `NoMemory` where the allocator has no room.
-pub fn forest_of<F: Files>(alloc: Global, files: &mut F, main: &str) -> Result<Forest, LoadError>
+pub fn load<F: Files>(alloc: Global, files: &mut F, main: &str) -> Result<Forest, LoadError>
     // The trees and the order that the walk gives.
     ensures loaded { IfOk result (GivesForest (F.stored files.old) main.now) }
     // Each error has its cause in this call.

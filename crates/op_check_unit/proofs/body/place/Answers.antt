@@ -1,5 +1,5 @@
 use Rattle.std.proofs.Common.{◌≡◌, [], ◌∷◌, IfSome, get_or, sym, subst}
-use Rattle.op_check_unit.proofs.Placing.{in_no_row, in_row}
+use Rattle.op_check_unit.proofs.Placing.{in_row}
 use Rattle.op_check_unit.specs.Bodies.{said}
 use Rattle.op_check_unit.specs.Checking.{Places}
 use Rattle.op_core.specs.Statement.{stmts_of}

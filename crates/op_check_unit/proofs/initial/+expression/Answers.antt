@@ -3,7 +3,7 @@ use Rattle.std.specs.Option.{option_map}
 use Rattle.op_base.specs.declared.place.Place.{Place}
 use Rattle.op_check_expr.specs.Words.{Reports, changed, followed}
 use Rattle.op_check_unit.proofs.Beginning.{alone, bracketed_means, one_listed}
-use Rattle.op_check_unit.specs.Initials.{by_brackets, counted, first_expression, is_bracketed, one_value, shape_of, single, unless_wrong, wrong_count}
+use Rattle.op_check_unit.specs.Initials.{by_brackets, counted, first_expression, is_bracketed, one_value, single, unless_wrong, wrong_count}
 use Rattle.op_check_unit.specs.declared.initial.Shape.{Shape}
 use Rattle.op_check_unit.specs.declared.initial.Shape.TheVariants.{Single, Fields}
 use Rattle.op_core.specs.Faults.{Checked}

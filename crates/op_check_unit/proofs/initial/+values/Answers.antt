@@ -1,4 +1,4 @@
-use Rattle.std.proofs.Common.{◌∷◌, [], IfOk, Some, ap, drop, refl, subst, sym, ◌+◌, ◌∙◌}
+use Rattle.std.proofs.Common.{◌∷◌, [], IfOk, ap, drop, refl, subst, sym, ◌+◌, ◌∙◌}
 use Rattle.std.proofs.lemmas.List.{at_drop_all}
 use Rattle.std.specs.Option.{option_map}
 use Rattle.op_check_expr.specs.Words.{Reports, changed}

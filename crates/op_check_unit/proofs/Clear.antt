@@ -1,0 +1,102 @@
+-- Parts that break no rule, and what comes behind them.
+use Rattle.std.proofs.Common.{◌≡◌, inl, inr, ◌&&◌, Bool, true, false, Option, Some, None, is_some, refl, sym, ap, ◌∙◌}
+use Rattle.std.proofs.lemmas.Bool.{and_parts}
+use Rattle.op_base.specs.declared.rule.Refusal.{Refusal}
+use Rattle.op_check_unit.proofs.LawSteps.{lists_also}
+use Rattle.op_check_unit.proofs.WholeSteps.{from_then}
+use Rattle.op_check_unit.specs.Complete.{From, faulty}
+use Rattle.op_check_unit.specs.Steps.{Given, Here, is_clear, unless, unless_faulty}
+use Rattle.op_core.specs.Faults.{Faults, none, one, both, kept, IsIn, here, front, behind}
+use Rattle.op_core.specs.Relations.{Either, Lists, NoneBroken, Where}
+
+pub no_fault : (f : Faults) → is_clear f ≡ true → (r : Refusal) → IsIn r f → ⊥
+no_fault none e r i = elim i [ ]
+no_fault (one q) e r i = absurd (cc)
+no_fault (both a b) e r (front i) = no_fault a (and_parts _ _ e).0 r i
+no_fault (both a b) e r (behind i) = no_fault b (and_parts _ _ e).1 r i
+
+-- by the first part, and where that is clear by the others
+by_first : {A : Type 0} (a b : Faults) (x : Bool) → is_clear a ≡ x → is_clear (both a b) ≡ false → (is_clear a ≡ false → A) → (is_clear b ≡ false → A) → A
+by_first a b false h e f g = f h
+by_first a b true h e f g = g (sym (ap (λ x. x && is_clear b) h) ∙ e)
+
+pub some_fault : (f : Faults) → is_clear f ≡ false → (r : Refusal) × IsIn r f
+some_fault none e = absurd (cc)
+some_fault (one q) e = (q, here)
+some_fault (both a b) e = by_first a b (is_clear a) refl e (λ h. let s = some_fault a h in (s.0, front s.1)) (λ h. let s = some_fault b h in (s.0, behind s.1))
+
+-- ---- what is kept
+
+pub kept_clear : (f : Faults) (o : Option Refusal) → is_clear f ≡ true → kept o f ≡ o
+kept_clear none o e = refl
+kept_clear (one q) o e = absurd (cc)
+kept_clear (both a b) o e = kept_clear b (kept o a) (and_parts _ _ e).1 ∙ kept_clear a o (and_parts _ _ e).0
+
+stays_some : (f : Faults) (r : Refusal) → (q : Refusal) × (kept (Some r) f ≡ Some q)
+stays_some none r = (r, refl)
+stays_some (one q) r = (_, refl)
+stays_some (both a b) r = let s = stays_some a r in let t = stays_some b s.0 in (t.0, ap (λ o. kept o b) s.1 ∙ t.1)
+
+pub kept_faulty : (f : Faults) (o : Option Refusal) → is_clear f ≡ false → (q : Refusal) × (kept o f ≡ Some q)
+kept_faulty none o e = absurd (cc)
+kept_faulty (one q) None e = (q, refl)
+kept_faulty (one q) (Some r) e = (_, refl)
+kept_faulty (both a b) o e =
+    by_first a b (is_clear a) refl e (λ h. let s = kept_faulty a o h in let t = stays_some b s.0 in (t.0, ap (λ o. kept o b) s.1 ∙ t.1)) (λ h. kept_faulty b (kept o a) h)
+
+pub some_kept : (o : Option Refusal) → is_some o ≡ true → (q : Refusal) × (o ≡ Some q)
+some_kept None e = absurd (cc)
+some_kept (Some q) e = (q, refl)
+
+pub none_kept : (o : Option Refusal) → is_some o ≡ false → o ≡ None
+none_kept None e = refl
+none_kept (Some q) e = absurd (cc)
+
+-- so a part breaks no rule where none is kept behind it
+pub clear_is : (f : Faults) → kept None f ≡ None → is_clear f ≡ true
+clear_is f e = by_test (is_clear f) refl
+  where
+    no : {q : Refusal} → None ≡ Some q → ⊥
+    no z = absurd (cc)
+
+    by_test : (x : Bool) → is_clear f ≡ x → is_clear f ≡ true
+    by_test true h = h
+    by_test false h = let s = kept_faulty f None h in absurd (no (sym e ∙ s.1))
+
+pub not_clear_is : (f : Faults) (q : Refusal) → kept None f ≡ Some q → is_clear f ≡ false
+not_clear_is f q e = by_test (is_clear f) refl
+  where
+    no : None ≡ Some q → ⊥
+    no z = absurd (cc)
+
+    by_test : (x : Bool) → is_clear f ≡ x → is_clear f ≡ false
+    by_test false h = h
+    by_test true h = absurd (no (sym (kept_clear f None h) ∙ e))
+
+-- ---- what comes behind such a part
+
+pub lists_unless : {A B : Type 0} (g : Given A) (f : Here → Given B) {P Q : Refusal → Type 0} → Lists g.faults P → Lists (f g.here).faults Q → Lists (unless_faulty g f).faults (Either P (Where (NoneBroken P) Q))
+lists_unless g f {P} {Q} l k = by_test (is_clear g.faults) refl
+  where
+    fine : is_clear g.faults ≡ true → (r : Refusal) → Either P Q r → Either P (Where (NoneBroken P) Q) r
+    fine e r (inl p) = inl p
+    fine e r (inr q) = inr (λ x b. no_fault g.faults e x ((l x).1 b), q)
+
+    plain : (r : Refusal) → Either P (Where (NoneBroken P) Q) r → Either P Q r
+    plain r (inl p) = inl p
+    plain r (inr q) = inr q.1
+
+    first : is_clear g.faults ≡ false → (r : Refusal) → Either P (Where (NoneBroken P) Q) r → IsIn r g.faults
+    first e r (inl p) = (l r).1 p
+    first e r (inr q) = let s = some_fault g.faults e in absurd (q.0 s.0 ((l s.0).0 s.1))
+
+    by_test : (b : Bool) → is_clear g.faults ≡ b → Lists (unless b g f).faults (Either P (Where (NoneBroken P) Q))
+    by_test true e r = let a = lists_also l k r in (λ i. fine e r (a.0 i), λ s. a.1 (plain r s))
+    by_test false e r = (λ i. inl ((l r).0 i), λ s. first e r s)
+
+pub from_unless : {A B : Type 0} {R : A → Here → Type 0} {Q : B → Here → Type 0} (g : Given A) (f : Here → Given B) → From R g → ((a : A) (h : Here) → R a h → From Q (f h)) → From Q (unless_faulty g f)
+from_unless {A} {B} {R} {Q} g f d k = by_test (is_clear g.faults) refl
+  where
+    by_test : (b : Bool) → is_clear g.faults ≡ b → From Q (unless b g f)
+    by_test true e = from_then f d k
+    by_test false e = let s = some_fault g.faults e in faulty s.0 s.1
