@@ -18,7 +18,7 @@ use Rattle.op_check_unit.specs.Complete.{From, HasBody, IsAwaited, IsBareVariabl
 use Rattle.op_check_unit.specs.Naming.{with_name}
 use Rattle.op_check_unit.specs.Programs.{all_completed, all_declared, declaration_means, ends_mean, files_mean, implementation_means, interface_means, main_head, main_tail, missing, name_of, own_globals, part_means, parts_mean, program_declared, reopened, unit_declared, unit_left, unit_means, unit_named, units_mean, with_heading, with_unit}
 use Rattle.op_check_unit.specs.Routines.{next_routine, no_rows, routine_row, unit_under, with_routine}
-use Rattle.op_check_unit.specs.Steps.{Here, by, checked, followed, gives}
+use Rattle.op_check_unit.specs.Steps.{Here, by, followed, gives}
 use Rattle.op_check_unit.specs.System as system
 use Rattle.op_check_unit.specs.System.{beginning, character_names, class_names, empty, floating_names, function_names, integer_names, meaning_of_known, native_names, other_names, pointer_names, rest_names, short_names, sized_names, statement_names, string_names, system_core, system_names, system_unit, text_names, type_names, value_names, with_classes, with_known, with_left_out, with_table}
 use Rattle.op_check_unit.specs.Tables.{IsTabled}

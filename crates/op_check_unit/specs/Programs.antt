@@ -2,14 +2,13 @@
 use Rattle.std.specs.Prelude.{ℕ, ◌-◌, List, [], ◌∷◌, ◌++◌, length, take, Option, Some, None, if◌then◌else◌}
 use Rattle.std.specs.Str.{str_eq_ignore_ascii_case}
 use Rattle.op_base.specs.declared.place.Place.{Place}
-use Rattle.op_check_expr.specs.Words.{left_out}
 use Rattle.op_check_unit.specs.Declaring.{constants_declared, types_declared, variables_declared}
 use Rattle.op_check_unit.specs.Routines.{next_routine, no_rows, routine_declared, statements_mean, with_routine}
 use Rattle.op_check_unit.specs.Steps.{Here, Given, breaks, by, checked, each_declaration, followed, gives, unless_faulty}
 use Rattle.op_check_unit.specs.System.{beginning}
 use Rattle.op_check_unit.specs.Uses.{exported, opened, put_back, set_aside, uses_mean, with_own}
 use Rattle.op_check_unit.specs.declared.heading.Head.{Head}
-use Rattle.op_core.specs.Faults.{Checked, Faults, both, broken, fine, none, one}
+use Rattle.op_core.specs.Faults.{Faults, both, broken, none, one}
 use Rattle.op_core.specs.declared.ids.RoutineId.{RoutineId}
 use Rattle.op_core.specs.declared.ids.Run.{Run}
 use Rattle.op_tree.specs.Declaration.{Declaration, constants, types, variables, heading, routine, Declarations, forward}
