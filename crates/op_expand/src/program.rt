@@ -1,7 +1,7 @@
 //! Programs.
 ghost use Rattle.op_expand.specs.Programs.{behind_routines, first_literal, low_of, routine_without_code, routines_from, without_code};
 ghost use Rattle.op_expand.specs.Routines.{behind_blocks, low_routine};
-ghost use Rattle.std.specs.Prelude.{◌≡◌, ◌∷◌, ◌++◌, [], IfOk, OnOk, length, map};
+ghost use Rattle.std.specs.Prelude.{◌≡◌, ◌∷◌, ◌++◌, [], IfOk, OnOk, length};
 
 use crate::block::behind_blocks;
 use crate::global::globals;
