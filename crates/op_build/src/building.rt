@@ -43,7 +43,7 @@ struct LowCode {
     layout: Layout,
 }
 
-/// Low code is made of managed code and its tables, which are freed then.
+/// Constants and low code are made of managed code, which is freed routine by routine, and of its tables, which are freed then.
 fn low_code_of(
     alloc: Global,
     core: Core,
@@ -53,8 +53,8 @@ fn low_code_of(
     requires settings { IsTrue (are_in_range settings.now) }
     ensures { IfOk result (λ code. IsLowCode core mir settings.now code.low code.layout) }
 {
-    let low = expand(alloc, &core, &mir, 1024 * settings.stack)?;
     let layout = layout(alloc, &core, &mir)?;
+    let low = expand(alloc, &core, mir, 1024 * settings.stack)?;
     Ok(LowCode { low, layout })
 }
 

@@ -1,6 +1,6 @@
 -- Programs of managed code as programs of low code: the run-time routines, those of the program in the order of their numbers, and the
 -- program itself, with which it begins.
-use Rattle.std.specs.Prelude.{ℕ, ◌+◌, List, [], ◌∷◌, ◌++◌, length, Option, Some, None, replicate, slice_get, slice_set}
+use Rattle.std.specs.Prelude.{ℕ, ◌+◌, List, [], ◌∷◌, ◌++◌, length, map, Option, Some, None, replicate, slice_get, slice_set}
 use Rattle.std.specs.Int.{bytes_low_first}
 use Rattle.std.specs.List.{fold}
 use Rattle.std.specs.Option.{option_map}
@@ -52,6 +52,14 @@ routines_from core mir r id (x ∷ xs) = low_routine core mir r id x ∷ routine
 abbrev pub behind_routines : Core → (r id : ℕ) → List Routine → ℕ
 behind_routines core r id [] = id
 behind_routines core r id (x ∷ xs) = behind_routines core (r + 1) (behind_blocks core r id x.blocks) xs
+
+-- ---- a program without its code: of the other routines, the low code of a routine reads the charges alone
+
+abbrev pub routine_without_code : Routine → Routine
+routine_without_code routine = record { locals = routine.locals; temporaries = routine.temporaries; charge = routine.charge; blocks = [] }
+
+abbrev pub without_code : Mir → Mir
+without_code mir = record { routines = map routine_without_code mir.routines; program = routine_without_code mir.program; counts = mir.counts }
 
 -- ---- the program; its own literals come behind the seven that every program has
 

@@ -136,6 +136,7 @@ pub fn push_blocks(
             id,
             instructions,
         )?;
+        code.shrink_to_fit();
         low.push(op_low::Block {
             code: Sequence::from(code),
         })?;

@@ -1,6 +1,7 @@
 //! Programs.
-ghost use Rattle.op_expand.specs.Programs.{first_literal, low_of, program_literal, routines_from};
-ghost use Rattle.std.specs.Prelude.{◌≡◌, ◌++◌, IfOk, OnOk, length};
+ghost use Rattle.op_expand.specs.Programs.{behind_routines, first_literal, low_of, routine_without_code, routines_from, without_code};
+ghost use Rattle.op_expand.specs.Routines.{behind_blocks, low_routine};
+ghost use Rattle.std.specs.Prelude.{◌≡◌, ◌∷◌, ◌++◌, [], IfOk, OnOk, length};
 
 use crate::block::behind_blocks;
 use crate::global::globals;
@@ -10,23 +11,40 @@ use op_base::{NoMemory, Sequence};
 use op_constants::FIXED_LITERALS;
 use op_core::{Core, RoutineId};
 use op_low::{Counts, Low};
-use op_mir::Mir;
+use op_mir::{Mir, Routine};
 use op_rt_text::{RUNTIME, routines};
 use std::alloc::Global;
 
-/// A program in low code, of a program in managed code beside its tables, for a stack of so many bytes. `NoMemory` comes only where the
-/// allocator has no room, or a number would pass 32 bits.
-pub fn expand(alloc: Global, core: &Core, mir: &Mir, stack: u32) -> Result<Low, NoMemory>
-    ensures { IfOk result (λ low. low ≡ low_of core.now mir.now stack) }
+/// A program in low code, of a program in managed code beside its tables, for a stack of so many bytes. The managed code of each routine is
+/// freed once low code is made of it. `NoMemory` comes only where the allocator has no room, or a number would pass 32 bits.
+pub fn expand(alloc: Global, core: &Core, mir: Mir, stack: u32) -> Result<Low, NoMemory>
+    ensures { IfOk result (λ low. low ≡ low_of core.now mir stack) }
 {
+    let charges = without_code(alloc, &mir)?;
+    expanded(alloc, core, &charges, mir, stack)
+}
+
+fn expanded(
+    alloc: Global,
+    core: &Core,
+    charges: &Mir,
+    mir: Mir,
+    stack: u32,
+) -> Result<Low, NoMemory>
+    requires { charges.now ≡ without_code mir }
+    ensures { IfOk result (λ low. low ≡ low_of core.now mir stack) }
+{
+    let Mir {
+        routines: list,
+        program,
+        ..
+    } = mir;
     let mut low = routines(alloc)?;
-    let (program, first) = push_routines(alloc, &mut low, core, mir)?;
-    low.push(routine(alloc, core, mir, program, first, &mir.program)?)?;
-    let blocks = mir.program.blocks.as_slice();
-    let literals = behind_blocks(core, program, first, blocks)?;
+    let (id, first) = push_routines(alloc, &mut low, core, charges, list)?;
+    let literals = push_routine(alloc, &mut low, core, charges, id, first, program)?;
     Ok(Low {
         routines: Sequence::from(low),
-        entry: op_rv::RoutineId(sum(RUNTIME, program.0)?),
+        entry: op_rv::RoutineId(sum(RUNTIME, id.0)?),
         counts: Counts {
             literals,
             tables: 0,
@@ -36,22 +54,65 @@ pub fn expand(alloc: Global, core: &Core, mir: &Mir, stack: u32) -> Result<Low, 
     })
 }
 
-/// The routines of the program in order. The answer is the next number of a routine, and of a literal.
+/// The routines in order. The answer is the next number of a routine, and of a literal.
 fn push_routines(
     alloc: Global,
     low: &mut Vec<op_low::Routine>,
     core: &Core,
-    mir: &Mir,
+    charges: &Mir,
+    list: Sequence<Routine>,
 ) -> Result<(RoutineId, u32), NoMemory>
-    ensures routines { OnOk result (low.new.items ≡ low.old.items ++ routines_from core.now mir.now 0 first_literal mir.now.routines) }
-    ensures next { IfOk result (λ next. (next.0.0 ≡ length mir.now.routines) × (next.1 ≡ program_literal core.now mir.now)) }
+    ensures routines { OnOk result (low.new.items ≡ low.old.items ++ routines_from core.now charges.now 0 first_literal list) }
+    ensures next { IfOk result (λ next. (next.0.0 ≡ length list) × (next.1 ≡ behind_routines core.now 0 first_literal list)) }
 {
     let mut id = RoutineId(0);
     let mut literal = FIXED_LITERALS;
-    for each in mir.routines.as_slice() {
-        low.push(routine(alloc, core, mir, id, literal, each)?)?;
-        literal = behind_blocks(core, id, literal, each.blocks.as_slice())?;
+    for each in list.into_vec() {
+        literal = push_routine(alloc, low, core, charges, id, literal, each)?;
         id = RoutineId(sum(id.0, 1)?);
     }
     Ok((id, literal))
+}
+
+/// The routine with this number, whose literals have the numbers from `first` on. The answer is the next number of a literal.
+fn push_routine(
+    alloc: Global,
+    low: &mut Vec<op_low::Routine>,
+    core: &Core,
+    charges: &Mir,
+    id: RoutineId,
+    first: u32,
+    each: Routine,
+) -> Result<u32, NoMemory>
+    ensures routine { OnOk result (low.new.items ≡ low.old.items ++ low_routine core.now charges.now id.0 first each ∷ []) }
+    ensures literal { IfOk result (λ literal. literal ≡ behind_blocks core.now id.0 first each.blocks) }
+{
+    low.push(routine(alloc, core, charges, id, first, &each)?)?;
+    behind_blocks(core, id, first, each.blocks.as_slice())
+}
+
+/// What calls read of a program: its routines with their charges, and no code.
+fn without_code(alloc: Global, mir: &Mir) -> Result<Mir, NoMemory>
+    ensures { IfOk result (λ charges. charges ≡ without_code mir.now) }
+{
+    let mut list = Vec::new(alloc);
+    for each in mir.routines.as_slice() {
+        list.push(routine_without_code(alloc, each))?;
+    }
+    Ok(Mir {
+        routines: Sequence::from(list),
+        program: routine_without_code(alloc, &mir.program),
+        counts: mir.counts,
+    })
+}
+
+fn routine_without_code(alloc: Global, routine: &Routine) -> Routine
+    ensures { result ≡ routine_without_code routine.now }
+{
+    Routine {
+        locals: routine.locals,
+        temporaries: routine.temporaries,
+        charge: routine.charge,
+        blocks: Sequence::from(Vec::new(alloc)),
+    }
 }

@@ -51,12 +51,13 @@ impl Instructions {
         Ok(())
     }
 
-    /// The block of them.
+    /// The block of them, in memory of its own size where there is room for that.
     pub fn into_block(self) -> Block
         ensures { result.code ≡ self }
     {
         let mut code = self.reversed;
         code.reverse();
+        code.shrink_to_fit();
         Block {
             code: Sequence::from(code),
         }

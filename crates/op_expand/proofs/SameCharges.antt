@@ -1,0 +1,64 @@
+-- Of the other routines of a program, the low code of a routine reads the charges alone.
+use Rattle.std.proofs.Common.{◌≡◌, ℕ, ◌+◌, List, [], ◌∷◌, ◌++◌, Option, Some, None, ap, ◌∙◌, length, refl}
+use Rattle.std.specs.Prelude.{nat_lt, slice_get, if◌then◌else◌}
+use Rattle.std.proofs.lemmas.Option.{slice_get-map}
+use Rattle.op_constants.specs.Literals.{literals_in}
+use Rattle.op_core.specs.declared.program.Core.{Core}
+use Rattle.op_expand.specs.Calls.{charge_of}
+use Rattle.op_expand.specs.Frames.{frame_of}
+use Rattle.op_expand.specs.Programs.{first_literal, program_literal, routine_without_code, routines_from, without_code}
+use Rattle.op_expand.specs.Routines.{beginning, behind_blocks, behind_code, blocks_of, code_of, error_block, error_blocks, instruction_code, low_parameters, low_routine, most_charge, routine_with}
+use Rattle.op_expand.specs.declared.frame.Frame.{Frame}
+use Rattle.op_low.specs.declared.code.Low.{Low}
+use Rattle.op_low.specs.declared.code.Routine.{Routine as LowRoutine}
+use Rattle.op_low.specs.declared.instruction.Instruction.{Instruction as LowInstruction}
+use Rattle.op_mir.specs.declared.code.Block.{Block}
+use Rattle.op_mir.specs.declared.code.Mir.{Mir}
+use Rattle.op_mir.specs.declared.code.Routine.{Routine}
+use Rattle.op_mir.specs.declared.instruction.Instruction.{Instruction}
+use Rattle.op_mir.specs.declared.instruction.Instruction.TheVariants.{Call}
+use Rattle.op_rv.specs.declared.objects.GlobalVariable.{GlobalVariable}
+
+same_charge : (mir : Mir) (r : ℕ) → charge_of (without_code mir) r ≡ charge_of mir r
+same_charge mir r = by (slice_get mir.routines r) refl
+  where
+    by : (o : Option Routine) → slice_get mir.routines r ≡ o → charge_of (without_code mir) r ≡ charge_of mir r
+    by None e = rw (slice_get-map routine_without_code mir.routines r, e) refl
+    by (Some x) e = rw (slice_get-map routine_without_code mir.routines r, e) refl
+
+same_instruction : (core : Core) (mir : Mir) (frame : Frame) (id : ℕ) (i : Instruction) → instruction_code core (without_code mir) frame id i ≡ instruction_code core mir frame id i
+same_instruction core mir frame id (Call r operands) = rw (same_charge mir r.0) refl
+same_instruction core mir frame id _ = refl
+
+same_code : (core : Core) (mir : Mir) (frame : Frame) (r id : ℕ) (is : List Instruction) → code_of core (without_code mir) frame r id is ≡ code_of core mir frame r id is
+same_code core mir frame r id [] = refl
+same_code core mir frame r id (i ∷ is) = rw (same_instruction core mir frame id i, same_code core mir frame r (id + literals_in core r i) is) refl
+
+same_blocks : (core : Core) (mir : Mir) (frame : Frame) (r id : ℕ) (front : List LowInstruction) (bs : List Block) → blocks_of core (without_code mir) frame r id front bs ≡ blocks_of core mir frame r id front bs
+same_blocks core mir frame r id front [] = refl
+same_blocks core mir frame r id front (b ∷ bs) = rw (same_code core mir frame r id b.code, same_blocks core mir frame r (behind_code core r id b.code) [] bs) refl
+
+same_routine : (core : Core) (mir : Mir) (r id : ℕ) (x : Routine) → low_routine core (without_code mir) r id x ≡ low_routine core mir r id x
+same_routine core mir r id x =
+    ap (λ blocks. if nat_lt most_charge x.charge then routine_with (low_parameters core r) 0 (error_block 202 5 ∷ []) else routine_with (low_parameters core r) (frame_of core r x).locals (blocks ++ error_blocks))
+    (same_blocks core mir (frame_of core r x) r id (beginning core (frame_of core r x) r) x.blocks)
+
+same_routines : (core : Core) (mir : Mir) (r id : ℕ) (xs : List Routine) → routines_from core (without_code mir) r id xs ≡ routines_from core mir r id xs
+same_routines core mir r id [] = refl
+same_routines core mir r id (x ∷ xs) = rw (same_routine core mir r id x, same_routines core mir (r + 1) (behind_blocks core r id x.blocks) xs) refl
+
+-- ---- low code that is made with the charges alone
+
+pub low_is : (routines others : List LowRoutine) (entry first literals counted : ℕ) (globals zeros : List GlobalVariable) → routines ≡ others → entry ≡ first → literals ≡ counted → globals ≡ zeros → ◌≡◌ {A = Low} (record { routines = routines; entry = record { 0 = entry }; counts = record { literals = literals; tables = 0; descriptors = 0 }; globals = globals }) (record { routines = others; entry = record { 0 = first }; counts = record { literals = counted; tables = 0; descriptors = 0 }; globals = zeros })
+low_is routines others entry first literals counted globals zeros e f g h = rw (e, f, g, h) refl
+
+-- behind these routines, of which nothing need be known
+pub routines_are : (core : Core) (charges mir : Mir) (fixed front now all : List LowRoutine) (id literal : ℕ) → charges ≡ without_code mir → front ≡ fixed → now ≡ front ++ routines_from core charges 0 first_literal mir.routines → id ≡ length mir.routines → literal ≡ program_literal core mir → all ≡ now ++ low_routine core charges id literal mir.program ∷ [] → all ≡ fixed ++ routines_from core mir 0 first_literal mir.routines ++ low_routine core mir (length mir.routines) (program_literal core mir) mir.program ∷ []
+routines_are core charges mir fixed front now all id literal e f g h i j =
+    rw (j, g, f, h, i, e) (
+    ap (λ rs. fixed ++ rs ++ low_routine core (without_code mir) (length mir.routines) (program_literal core mir) mir.program ∷ []) (same_routines core mir 0 first_literal mir.routines)
+    ∙ ap (λ r. fixed ++ routines_from core mir 0 first_literal mir.routines ++ r ∷ []) (same_routine core mir (length mir.routines) (program_literal core mir) mir.program)
+    )
+
+pub literals_are : (core : Core) (mir : Mir) (id literal : ℕ) → id ≡ length mir.routines → literal ≡ program_literal core mir → behind_blocks core id literal mir.program.blocks ≡ behind_blocks core (length mir.routines) (program_literal core mir) mir.program.blocks
+literals_are core mir id literal e f = ap (λ n. behind_blocks core n literal mir.program.blocks) e ∙ ap (λ n. behind_blocks core (length mir.routines) n mir.program.blocks) f
