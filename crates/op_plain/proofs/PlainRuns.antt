@@ -1,14 +1,15 @@
 -- Some programs and statements are tested by computation.
-use Rattle.std.proofs.Common.{◌≡◌, true, false, [], ◌∷◌, refl}
-use Rattle.std.specs.Prelude.{pos, codes}
+use Rattle.std.proofs.Common.{◌≡◌, true, false, [], ◌∷◌, Option, Some, None, refl}
+use Rattle.std.specs.Prelude.{Bool, pos, codes}
 use Rattle.op_core.specs.Expression.{expression, constant, eof, no_steps}
 use Rattle.op_core.specs.Statement.{assign, built_in, count, empty, for_to, no_handlers, no_statements, read, try_finally, try_on, while_do}
 use Rattle.op_core.specs.Types.{id}
 use Rattle.op_core.specs.declared.constant.Const.TheVariants.{Ordinal}
+use Rattle.op_core.specs.declared.ids.RoutineId.{RoutineId}
 use Rattle.op_core.specs.declared.operation.Conversion.TheVariants.{Keep}
 use Rattle.op_core.specs.declared.program.Core.{Core}
 use Rattle.op_meaning.proofs.Programs.{calc, core_of, function, gives, by_val, by_var, line, listed, num, own, quoted, var}
-use Rattle.op_plain.specs.Plain.{are_plain_statements, is_plain_program, takes_few}
+use Rattle.op_plain.specs.Plain.{are_plain_statements, is_plain_program, is_plain_unit, takes_few}
 use Rattle.op_tree.specs.declared.operator.Operator.TheVariants.{Add}
 use Rattle.op_tree.specs.declared.position.Name.{Name}
 use Rattle.op_tree.specs.declared.statement.Direction.TheVariants.{To}
@@ -21,6 +22,23 @@ module _ (name : Name) where
   tables_pass : is_plain_program core ≡ true
   unfolding is_plain_program
   tables_pass = refl
+
+  -- a unit with an initialization part, a finalization part or none
+  abbrev with_parts : Option RoutineId → Option RoutineId → Bool
+  with_parts first last = is_plain_unit core (record { name = []; globals = record { first = 0; count = 0 }; initialization = first; finalization = last })
+
+  -- the main part gives nothing, and the function an Integer
+  no_part_passes : with_parts None None ≡ true
+  no_part_passes = refl
+
+  first_part_passes : with_parts (Some (record { 0 = 1 })) None ≡ true
+  first_part_passes = refl
+
+  function_fails : with_parts (Some (record { 0 = 0 })) None ≡ false
+  function_fails = refl
+
+  last_part_fails : with_parts None (Some (record { 0 = 1 })) ≡ false
+  last_part_fails = refl
 
   -- for i := 1 to 3 do
   --   try

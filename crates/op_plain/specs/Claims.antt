@@ -28,7 +28,7 @@ pub record IsPlainCore (core : Core) : Type 0 where
   pub counted : (stack r : ℕ) → AreCountedStatements ((program_of core stack).body r)
   -- conversions that are not written stand apart, and each branch of a case has a label
   pub written : (stack r : ℕ) → AreWrittenStatements ((program_of core stack).body r)
-  -- errors end the program, nothing has to be ended behind a routine or the program, and units have a first part alone, which is there
+  -- errors end the program, nothing has to be ended behind a routine or the program, and what units have are first parts, which are there
   pub exceptions : core.exceptions ≡ None
   pub endings : (r : ℕ) → ending_of core r ≡ []
   pub units : (stack : ℕ) → ArePlainUnits (program_of core stack) core.units

@@ -178,7 +178,7 @@ is_plain_body core parameters (Some b) = takes_few parameters (stmts_of b.statem
 abbrev pub is_plain_routine : Core → Routine → Bool
 is_plain_routine core x = is_of_unit x.owner && (is_none x.enclosing && (is_plain_result core x.result && is_plain_body core x.parameters.count x.body))
 
--- its first part is there and gives nothing
+-- if it has a first part, that is there and gives nothing; it has no last one
 abbrev pub is_plain_unit : Core → UnitRow → Bool
 is_plain_unit core u = is_procedure core u.initialization && is_none u.finalization
 
