@@ -1,15 +1,11 @@
 -- Statements that hold no statement.
-use Rattle.std.proofs.Common.{◌≡◌, ℕ, Bool, true, false, List, [], ◌∷◌, Option, Some, None, codes, map, refl, sym, ap, ◌∙◌, subst}
-use Rattle.std.specs.Char.{to_ascii_lowercase}
+use Rattle.std.proofs.Common.{◌≡◌, ℕ, Bool, true, false, List, [], ◌∷◌, Option, Some, None, refl, sym, ap, ◌∙◌, subst}
 use Rattle.op_base.specs.declared.place.Place.{Place}
 use Rattle.op_parse_code.proofs.Factors.{same_begins}
 use Rattle.op_parse_code.proofs.Lists.{Open, SplitsOpen, open_more, kind_same}
-use Rattle.op_parse_code.proofs.Names.{word_kind}
 use Rattle.op_parse_code.proofs.Refusing.{Some_, Seq, refuses_map, refuses_first, refuses_behind}
 use Rattle.op_parse_code.proofs.StatementKnown.{known_designator}
-use Rattle.op_parse_code.specs.Form.{Form, is_raise_at}
-use Rattle.op_parse_code.specs.Opening.{is_word, spelled}
-use Rattle.op_parse_code.specs.Refusal.{Phrase, Refuses, left_out, refused_at}
+use Rattle.op_parse_code.specs.Refusal.{Phrase, Refuses}
 use Rattle.op_parse_code.specs.Whole.{Chain, Marked, NoMark, SomeDesignator}
 use Rattle.op_parse_code.specs.WholeStatement.{SomeCall, Behind, front_is}
 use Rattle.op_parse_code.specs.declared.error.ParseError.{ParseError}
@@ -105,20 +101,11 @@ into_raise p d s ks r b (is_reraise, t) = both begins_expression ks b t
 into_raise p d s ks r b (is_call g, t) = false_true (designator_begins g)
 into_raise p d s ks r b (is_assignment g e, t) = false_true (designator_begins g)
 
-at_form : (r : List Terminal) → front_is (is_word (codes "at")) r ≡ true → (text : List ℕ) × (q : Position) × (m : List Terminal) × (r ≡ kind.Identifier text at q ∷ m) × (map to_ascii_lowercase text ≡ codes "at")
-at_form [] h = absurd cc
-at_form (t ∷ r) h = let w = word_kind (codes "at") t.kind h in (spelled t.kind, t.position, r, ap (λ z. z at t.position ∷ r) w.0, w.1)
-
 behind_raise : (p : Position) (d : ℕ) (end : Place) (ks : List Terminal) (e : ParseError) → Begins begins_expression ks → Refuses (Chain Relational) d end ks e → Refuses (Behind kind.Raise p) d end ks e
 behind_raise p d end ks e b h = refuses_map (Chain Relational) (Behind kind.Raise p) d end ks e (λ d' s ls r x f. into_raise p d' s ls r (same_begins begins_expression ks ls x b) f) h
 
 pub raise_refuses : (p : Position) (d : ℕ) (end : Place) (all ks : List Terminal) (e : ParseError) → all ≡ kind.Raise at p ∷ ks → Begins begins_expression ks → Refuses (Chain Relational) d end ks e → Refuses SomeCall d end all e
 raise_refuses p d end all ks e is b h = subst (λ z. Refuses SomeCall d end z e) (sym is) (refuses_behind (Behind kind.Raise p) SomeCall d end (kind.Raise at p) ks e (λ d' s ls r f. (s, r, f)) (behind_raise p d end ks e b h))
-
-pub raise_at_form : (p : Position) (d : ℕ) (end : Place) (a : Expression) (all ks r : List Terminal) (e : ParseError) → all ≡ kind.Raise at p ∷ ks → Chain Relational d a ks r → front_is (is_word (codes "at")) r ≡ true → e ≡ refused_at 13 34 end r → Refuses SomeCall d end all e
-raise_at_form p d end a all ks r e is f h x =
-    let w = at_form r h in
-    left_out 34 r x ([], all, refl, subst (λ z. Form 34 z r) (sym is) (subst (λ z. Form 34 (kind.Raise at p ∷ ks) z) (sym w.3) (is_raise_at {d = d} {e = a} w.4 (subst (λ z. IsChain Relational d a ks z) w.3 f.0))))
 
 pub raise_whole : (p : Position) (d : ℕ) (e : Expression) (ks r : List Terminal) → Chain Relational d e ks r → Behind kind.Raise p d (raise p e) ks r
 raise_whole p d e ks r f = (is_raise f.0, f.1)

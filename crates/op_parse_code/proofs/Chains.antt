@@ -3,9 +3,9 @@ use Rattle.std.proofs.Common.{◌≡◌, ℕ, Bool, false, List, [], ◌∷◌, 
 use Rattle.op_base.specs.declared.place.Place.{Place}
 use Rattle.op_parse_code.proofs.ExpressionKnown.{known_operand}
 use Rattle.op_parse_code.proofs.Refusing.{Some_, Seq, refuses_map, refuses_first, refuses_after, refuses_behind}
-use Rattle.op_parse_code.specs.Form.{Form, is_slash}
+use Rattle.op_parse_code.specs.GrammarForm.{GrammarForm, is_slash}
 use Rattle.op_parse_code.specs.Opening.{StandsOperator, NoOperator, NotTighter}
-use Rattle.op_parse_code.specs.Refusal.{Refuses, left_out, refused_at}
+use Rattle.op_parse_code.specs.Refusal.{Refuses, in_grammar, refused_at}
 use Rattle.op_parse_code.specs.Whole.{Chain, Operand, SomeOperations, Factor}
 use Rattle.op_parse_code.specs.declared.error.ParseError.{ParseError}
 use Rattle.op_scan.specs.declared.token.TokenKind.{TokenKind}
@@ -141,7 +141,7 @@ slash_kind other h = absurd cc
 pub operating_slash : (l : Level) (d : ℕ) (end : Place) (all rest after : List Terminal) (xs : List Operation) (o : Operator) (p : Position) (e : ParseError) → Operating l d end all xs rest → StandsOperator l o p rest after → o ≡ operator.Slash → e ≡ refused_at 13 1 end rest → Refuses (SomeOperations l) d end all e
 operating_slash l d end all rest after xs o p e so_far (k, is, h, q) slash x =
     let form : rest ≡ kind.Slash at p ∷ after = is ∙ ap (λ z. z at p ∷ after) (slash_kind k (h ∙ ap Some slash)) in
-    so_far.dies e (left_out 1 rest x ([], rest, refl, subst (λ z. Form 1 z z) (sym form) is_slash))
+    so_far.dies e (in_grammar 1 rest x ([], rest, refl, subst (λ z. GrammarForm 1 z z) (sym form) is_slash))
 
 -- an operator of a tighter level
 abbrev tighter : Level → TokenKind → Bool

@@ -5,9 +5,9 @@ use Rattle.op_parse_code.proofs.ExpressionKnown.{known_chain, known_element, kno
 use Rattle.op_parse_code.proofs.Lists.{Splits, Listed, kind_same}
 use Rattle.op_parse_code.proofs.Refusing.{Some_, Seq, refuses_map, refuses_first, refuses_after, refuses_behind, no_mark_same}
 use Rattle.op_parse_code.proofs.Cuts.{cut_seen}
-use Rattle.op_parse_code.specs.Form.{Form, is_fraction_width}
+use Rattle.op_parse_code.specs.GrammarForm.{GrammarForm, is_fraction_width}
 use Rattle.op_parse_code.specs.Opening.{kind_of}
-use Rattle.op_parse_code.specs.Refusal.{SameHead, Refuses, left_out, refused_at}
+use Rattle.op_parse_code.specs.Refusal.{SameHead, Refuses, in_grammar, refused_at}
 use Rattle.op_parse_code.specs.Whole.{Chain, NoMark, SomeElement, SomeArgument, ElementsBefore, ArgumentsBefore, IndicesBefore, ClosesElements, closes_set, closes_labels, InsideSet, no_inside, some_inside, InsideCall, no_arguments_inside, arguments_inside}
 use Rattle.op_parse_code.specs.declared.error.ParseError.{ParseError}
 use Rattle.op_parse_code.specs.declared.mark.Mark.{Mark}
@@ -160,7 +160,7 @@ pub argument_digits : (d : ℕ) (end : Place) (a b : Expression) (ks m : List Te
 argument_digits d end a b ks m p q after r s e f is g is1 x =
     let front = (known_chain Relational).front d a ks m f in
     let seen = cut_seen front.1 in
-    left_out 35 r x (seen.0, kind.Colon at p ∷ after, front.2 ∙ seen.1 m ∙ ap (λ z. seen.0 ++ z) is, subst (λ z. Form 35 (kind.Colon at p ∷ after) z) (sym is1) (is_fraction_width {d = d} {e = b} (subst (λ z. IsChain Relational d b after z) is1 g.0)))
+    in_grammar 35 r x (seen.0, kind.Colon at p ∷ after, front.2 ∙ seen.1 m ∙ ap (λ z. seen.0 ++ z) is, subst (λ z. GrammarForm 35 (kind.Colon at p ∷ after) z) (sym is1) (is_fraction_width {d = d} {e = b} (subst (λ z. IsChain Relational d b after z) is1 g.0)))
 
 -- ---- arguments
 

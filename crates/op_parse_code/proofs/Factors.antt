@@ -3,9 +3,6 @@ use Rattle.std.proofs.Common.{◌≡◌, ℕ, suc, Bool, true, List, [], ◌∷�
 use Rattle.op_base.specs.declared.place.Place.{Place}
 use Rattle.op_parse_code.proofs.Cuts.{same_not}
 use Rattle.op_parse_code.proofs.Refusing.{Some_, refuses_map, refuses_behind, refuses_inside, inside_any, dead_here}
-use Rattle.op_parse_code.proofs.Names.{number_kind}
-use Rattle.op_parse_code.specs.Form.{Form, HasForm, is_fraction}
-use Rattle.op_parse_code.specs.Opening.{is_number as is_numeral}
 use Rattle.op_parse_code.specs.Refusal.{SameHead, Refuses, syntax, nested, decides_there, refused_at}
 use Rattle.op_parse_code.specs.Whole.{Factor, SomeDesignator, SomeSelectors, InsideSet, no_inside, some_inside, CannotEnter, begins_none, too_deep}
 use Rattle.op_parse_code.specs.declared.error.ParseError.{ParseError}
@@ -35,13 +32,6 @@ pub cannot_enter : (end : Place) (ks : List Terminal) (e : ParseError) → IsNot
 cannot_enter end ks e h x = begins_none x (λ d. dead_here (Factor d) ks (λ a ls r s f. both begins_expression ls (factor_begins f.0) (same_not begins_expression ks ls s h)))
 
 -- ---- single tokens
-
-pub fraction_form : (k k' : TokenKind) (p q u : Position) (ks m n r : List Terminal) → ks ≡ k at p ∷ m → m ≡ kind.Dot at q ∷ n → n ≡ k' at u ∷ r → is_numeral k ≡ true → is_numeral k' ≡ true → HasForm 1 ks ks
-fraction_form k k' p q u ks m n r e e1 e2 h h' =
-    let a = number_kind k h in
-    let b = number_kind k' h' in
-    let whole : ks ≡ kind.Number a.0 at p ∷ kind.Dot at q ∷ kind.Number b.0 at u ∷ r = e ∙ ap (λ z. k at p ∷ z) (e1 ∙ ap (λ z. kind.Dot at q ∷ z) e2) ∙ same2 (λ x y. x at p ∷ kind.Dot at q ∷ y at u ∷ r) a.1 b.1 in
-    ([], ks, refl, subst (λ z. Form 1 z z) (sym whole) is_fraction)
 
 pub factor_number : (d n : ℕ) (k : TokenKind) (p : Position) (r : List Terminal) → k ≡ kind.Number n → Factor d (number n p) (k at p ∷ r) r
 factor_number d n k p r h = subst (λ z. Factor d (number n p) (z at p ∷ r) r) (sym h) (is_number, tt)

@@ -11,7 +11,7 @@ use Rattle.op_parse_code.proofs.Refusing.{Some_, Seq, refuses_map, refuses_first
 use Rattle.op_parse_code.proofs.StatementKnown.{known_name, known_on, known_statements}
 use Rattle.op_parse_code.proofs.Statements.{closed, ends_all, StatementsEnd}
 use Rattle.op_parse_code.specs.Opening.{is_word, spelled, is_identifier}
-use Rattle.op_parse_code.specs.Refusal.{Phrase, SameHead, Dead, Refuses, out_of_memory, syntax, nested, left_out, Decides, decides_there, decides_behind, refused_at}
+use Rattle.op_parse_code.specs.Refusal.{Phrase, SameHead, Dead, Refuses, out_of_memory, syntax, nested, left_out, in_grammar, Decides, decides_there, decides_behind, refused_at}
 use Rattle.op_parse_code.specs.Whole.{Marked, NoMark, SomeName}
 use Rattle.op_parse_code.specs.WholeStatement.{SomeStatement, SomeStatements, SomeHandlers, SomeOn, SomeExcept, Rest, finally_rest, except_rest, on_rest, on_else_rest, try_of, IsHandled, ClassTail, class_of, Behind, front_is, begins_handler}
 use Rattle.op_parse_code.specs.declared.error.ParseError.{ParseError}
@@ -291,7 +291,8 @@ pub except_statements : (d : ℕ) (end : Place) (ks : List Terminal) (e : ParseE
 except_statements d end ks e h (out_of_memory x) = out_of_memory x
 except_statements d end ks e h (syntax q x never) = syntax q x (λ d'. statements_dead d' ks q _ refl h never (never d'))
 except_statements d end ks e h (nested q z x w never) = statements_nested d end ks q z e _ refl h x w never
-except_statements d end ks e h (left_out feature q x f) = left_out feature q x f
+except_statements d end ks e h (left_out feature q m x f never) = left_out feature q m x f (λ d'. statements_dead d' ks m _ refl h never (never d'))
+except_statements d end ks e h (in_grammar feature q x f) = in_grammar feature q x f
 
 pub except_whole : (u : Position) (d : ℕ) (ss : Statements) (ks m r : List Terminal) → SomeStatements d ss ks m → m ≡ kind.End at u ∷ r → SomeExcept d (except_rest ss) ks r
 except_whole u d ss ks m r f is = (u, subst (λ z. AreStatements d ss ks z) is f.0)
@@ -313,7 +314,8 @@ pub except_handlers : (d : ℕ) (end : Place) (ks : List Terminal) (e : ParseErr
 except_handlers d end ks e h (out_of_memory x) = out_of_memory x
 except_handlers d end ks e h (syntax q x never) = syntax q x (λ d'. handlers_dead d' ks q h (never d'))
 except_handlers d end ks e h (nested q z x w never) = nested q z x w (handlers_dead d ks z h never)
-except_handlers d end ks e h (left_out feature q x f) = left_out feature q x f
+except_handlers d end ks e h (left_out feature q m x f never) = left_out feature q m x f (λ d'. handlers_dead d' ks m h (never d'))
+except_handlers d end ks e h (in_grammar feature q x f) = in_grammar feature q x f
 
 pub except_on_whole : (u : Position) (d : ℕ) (hs : Handlers) (ks o r : List Terminal) → begins_handler ks ≡ true → SomeHandlers d hs ks o → Marked mark.End d u o r → SomeExcept d (on_rest hs) ks r
 except_on_whole u d hs ks o r h f j = (u, handled d hs ks o h f, subst (λ z. AreHandlers d hs ks z) j f.0)

@@ -2,7 +2,6 @@
 use Rattle.std.proofs.Common.{◌≡◌, ℕ, Bool, true, List, [], ◌∷◌, map, codes, length, refl, sym, ap, ◌∙◌, subst, arith}
 use Rattle.std.proofs.lemmas.Slice.Eq.{bytes_eq-Decides}
 use Rattle.std.specs.Char.{to_ascii_lowercase}
-use Rattle.op_parse_code.specs.Form.{Form, HasForm, is_specialized}
 use Rattle.op_base.specs.declared.place.Place.{Place}
 use Rattle.op_parse_code.proofs.Cuts.{same_not}
 use Rattle.op_parse_code.proofs.Refusing.{dead_here}
@@ -12,7 +11,7 @@ use Rattle.op_parse_code.specs.Whole.{SomeName}
 use Rattle.op_parse_code.specs.declared.error.ParseError.{ParseError}
 use Rattle.op_scan.specs.declared.token.TokenKind.{TokenKind}
 use Rattle.op_scan.specs.declared.token.TokenKind.TheVariants as kind
-use Rattle.op_tree.proofs.ExpressionUnique.{Begins, same2}
+use Rattle.op_tree.proofs.ExpressionUnique.{Begins}
 use Rattle.op_tree.proofs.StatementUnique.{both}
 use Rattle.op_tree.specs.Ends.{IsNot}
 use Rattle.op_tree.specs.NameGrammar.{IsName, is_name}
@@ -47,12 +46,6 @@ named_at other p r h = absurd cc
 pub word_kind : (word : List ℕ) (k : TokenKind) → is_word word k ≡ true → (k ≡ kind.Identifier (spelled k)) × (map to_ascii_lowercase (spelled k) ≡ map to_ascii_lowercase word)
 word_kind word (kind.Identifier text) h = (refl, (bytes_eq-Decides (map to_ascii_lowercase text) (map to_ascii_lowercase word)).0 h)
 word_kind word other h = absurd cc
-
-pub specialized_form : (k k' : TokenKind) (p q : Position) (ks m r : List Terminal) (word : List ℕ) → ks ≡ k at p ∷ m → m ≡ k' at q ∷ r → is_word word k ≡ true → map to_ascii_lowercase word ≡ codes "specialize" → is_identifier k' ≡ true → HasForm 29 ks ks
-specialized_form k k' p q ks m r word e e1 h w h' =
-    let a = word_kind word k h in
-    let whole : ks ≡ kind.Identifier (spelled k) at p ∷ kind.Identifier (spelled k') at q ∷ r = e ∙ ap (λ z. k at p ∷ z) e1 ∙ same2 (λ x y. x at p ∷ y at q ∷ r) a.0 (identifier_kind k' h') in
-    ([], ks, refl, subst (λ z. Form 29 z z) (sym whole) (is_specialized (a.1 ∙ w)))
 
 pub none_left : (ts : List Token) → length ts ≡ 0 → ts ≡ []
 none_left [] h = refl

@@ -3,8 +3,9 @@ use Rattle.std.proofs.Common.{◌≡◌, ℕ, suc, List, [], ◌∷◌, ◌++◌
 use Rattle.op_tree.proofs.ExpressionUnique.{behind, same2}
 use Rattle.op_base.specs.declared.place.Place.{Place}
 use Rattle.op_parse_code.proofs.Cuts.{IsCut, cut_seen, same_behind}
+use Rattle.op_parse_code.specs.GrammarForm.{HasGrammarForm}
 use Rattle.op_parse_code.specs.Form.{HasForm}
-use Rattle.op_parse_code.specs.Refusal.{Phrase, SameHead, Dead, RefusesBy, Decision, out_of_memory, syntax, nested, left_out, refused_at}
+use Rattle.op_parse_code.specs.Refusal.{Phrase, SameHead, Dead, RefusesBy, Decision, out_of_memory, syntax, nested, left_out, in_grammar, refused_at, IsSyntax, Told, as_it_was, by_form}
 use Rattle.op_parse_code.specs.Whole.{Marked, NoMark}
 use Rattle.op_parse_code.specs.declared.error.ParseError.{ParseError}
 use Rattle.op_parse_code.specs.declared.mark.Mark.{Mark}
@@ -36,8 +37,14 @@ append_same_front (t ∷ f) (u ∷ g) q h = same2 (λ x y. x ∷ y) (head_same h
 pub with_token : (t : Terminal) {feature : ℕ} {ks q : List Terminal} → HasForm feature ks q → HasForm feature (t ∷ ks) q
 with_token t (seen, form, e, f) = (t ∷ seen, form, ap (λ z. t ∷ z) e, f)
 
+pub with_token_in_grammar : (t : Terminal) {feature : ℕ} {ks q : List Terminal} → HasGrammarForm feature ks q → HasGrammarForm feature (t ∷ ks) q
+with_token_in_grammar t (seen, form, e, f) = (t ∷ seen, form, ap (λ z. t ∷ z) e, f)
+
 pub with_front : (front : List Terminal) {feature : ℕ} {ks m q : List Terminal} → ks ≡ front ++ m → HasForm feature m q → HasForm feature ks q
 with_front front e (seen, form, e1, f) = (front ++ seen, form, e ∙ ap (λ z. front ++ z) e1 ∙ sym (append_assoc front seen form), f)
+
+pub with_front_in_grammar : (front : List Terminal) {feature : ℕ} {ks m q : List Terminal} → ks ≡ front ++ m → HasGrammarForm feature m q → HasGrammarForm feature ks q
+with_front_in_grammar front e (seen, form, e1, f) = (front ++ seen, form, e ∙ ap (λ z. front ++ z) e1 ∙ sym (append_assoc front seen form), f)
 
 dead_token : {A B : Type 0} (P : A → List Terminal → List Terminal → Type 0) (Q : B → List Terminal → List Terminal → Type 0) (t : Terminal) (ks q : List Terminal) → ((b : B) (ls r : List Terminal) → Q b (t ∷ ls) r → (a : A) × (r' : List Terminal) × P a ls r') → Dead P ks q → Dead Q (t ∷ ks) q
 dead_token P Q t ks q h (seen, e, never) = (t ∷ seen, ap (λ z. t ∷ z) e, λ ls b r s x. let w = h b (seen ++ ls) r x in never ls w.0 w.1 s w.2)
@@ -68,28 +75,32 @@ pub refuses_behind : {A B : Type 0} {D : Decision} (P : Phrase A) (Q : Phrase B)
 refuses_behind P Q d end t ks e h (out_of_memory x) = out_of_memory x
 refuses_behind P Q d end t ks e h (syntax q x never) = syntax q x (λ d'. dead_token (P d') (Q d') t ks q (h d') (never d'))
 refuses_behind P Q d end t ks e h (nested q z x w never) = nested q z x w (dead_token (P d) (Q d) t ks z (h d) never)
-refuses_behind P Q d end t ks e h (left_out feature q x f) = left_out feature q x (with_token t f)
+refuses_behind P Q d end t ks e h (left_out feature q m x f never) = left_out feature q m x (with_token t f) (λ d'. dead_token (P d') (Q d') t ks m (h d') (never d'))
+refuses_behind P Q d end t ks e h (in_grammar feature q x f) = in_grammar feature q x (with_token_in_grammar t f)
 
 -- one deeper, what stands behind a token
 pub refuses_inside : {A B : Type 0} {D : Decision} (P : Phrase A) (Q : Phrase B) (d : ℕ) (end : Place) (t : Terminal) (ks : List Terminal) (e : ParseError) → ((d' : ℕ) (b : B) (ls r : List Terminal) → Q d' b (t ∷ ls) r → (i : ℕ) × (d' ≡ suc i) × Some_ P i ls) → RefusesBy D P d end ks e → RefusesBy D Q (suc d) end (t ∷ ks) e
 refuses_inside P Q d end t ks e h (out_of_memory x) = out_of_memory x
 refuses_inside P Q d end t ks e h (syntax q x (never)) = syntax q x (λ d'. inside_any P Q d' t ks q (h d') never)
 refuses_inside P Q d end t ks e h (nested q z x w never) = nested q z x w (dead_token (P d) (Q (suc d)) t ks z (λ b ls r f. let v = h (suc d) b ls r f in subst (λ (i : ℕ). Some_ P i ls) (sym (suc_same v.1)) v.2) never)
-refuses_inside P Q d end t ks e h (left_out feature q x f) = left_out feature q x (with_token t f)
+refuses_inside P Q d end t ks e h (left_out feature q m x f never) = left_out feature q m x (with_token t f) (λ d'. inside_any P Q d' t ks m (h d') never)
+refuses_inside P Q d end t ks e h (in_grammar feature q x f) = in_grammar feature q x (with_token_in_grammar t f)
 
 -- one deeper at the same place
 pub refuses_deeper : {A B : Type 0} {D : Decision} (P : Phrase A) (Q : Phrase B) (d : ℕ) (end : Place) (ks : List Terminal) (e : ParseError) → ((d' : ℕ) (b : B) (ls r : List Terminal) → SameHead ks ls → Q d' b ls r → (i : ℕ) × (d' ≡ suc i) × Some_ P i ls) → RefusesBy D P d end ks e → RefusesBy D Q (suc d) end ks e
 refuses_deeper P Q d end ks e h (out_of_memory x) = out_of_memory x
 refuses_deeper P Q d end ks e h (syntax q x never) = syntax q x (λ d'. deeper_any P Q d' ks q (h d') never)
 refuses_deeper P Q d end ks e h (nested q z x w never) = nested q z x w (dead_map (P d) (Q (suc d)) ks z (λ b ls r s f. let v = h (suc d) b ls r s f in subst (λ (i : ℕ). Some_ P i ls) (sym (suc_same v.1)) v.2) never)
-refuses_deeper P Q d end ks e h (left_out feature q x f) = left_out feature q x f
+refuses_deeper P Q d end ks e h (left_out feature q m x f never) = left_out feature q m x f (λ d'. deeper_any P Q d' ks m (h d') never)
+refuses_deeper P Q d end ks e h (in_grammar feature q x f) = in_grammar feature q x f
 
 -- the same place and depth
 pub refuses_map : {A B : Type 0} {D : Decision} (P : Phrase A) (Q : Phrase B) (d : ℕ) (end : Place) (ks : List Terminal) (e : ParseError) → ((d' : ℕ) (b : B) (ls r : List Terminal) → SameHead ks ls → Q d' b ls r → Some_ P d' ls) → RefusesBy D P d end ks e → RefusesBy D Q d end ks e
 refuses_map P Q d end ks e h (out_of_memory x) = out_of_memory x
 refuses_map P Q d end ks e h (syntax q x never) = syntax q x (λ d'. dead_map (P d') (Q d') ks q (h d') (never d'))
 refuses_map P Q d end ks e h (nested q z x w never) = nested q z x w (dead_map (P d) (Q d) ks z (h d) never)
-refuses_map P Q d end ks e h (left_out feature q x f) = left_out feature q x f
+refuses_map P Q d end ks e h (left_out feature q m x f never) = left_out feature q m x f (λ d'. dead_map (P d') (Q d') ks m (h d') (never d'))
+refuses_map P Q d end ks e h (in_grammar feature q x f) = in_grammar feature q x f
 
 pub refuses_first : {A B : Type 0} {D : Decision} (P : Phrase A) (Q : Phrase B) (d : ℕ) (end : Place) (ks : List Terminal) (e : ParseError) → RefusesBy D P d end ks e → RefusesBy D (Seq P Q) d end ks e
 refuses_first P Q d end ks e h = refuses_map P (Seq P Q) d end ks e (λ d' b ls r s x. (b.0, x.0, x.1)) h
@@ -117,10 +128,34 @@ pub refuses_after : {A B : Type 0} {D : Decision} (P : Phrase A) (Q : Phrase B) 
 refuses_after P Q d end a ks m e known p (out_of_memory x) = out_of_memory x
 refuses_after P Q d end a ks m e known p (syntax q x never) = syntax q x (λ d'. dead_after P Q d d' a ks m q known p (never d'))
 refuses_after P Q d end a ks m e known p (nested q z x w never) = nested q z x w (dead_after P Q d d a ks m z known p never)
-refuses_after P Q d end a ks m e known p (left_out feature q x f) =
+refuses_after P Q d end a ks m e known p (left_out feature q z x f never) =
     let w = known.front d a ks m p in
     let s = cut_seen w.1 in
-    left_out feature q x (with_front s.0 (w.2 ∙ s.1 m) f)
+    left_out feature q z x (with_front s.0 (w.2 ∙ s.1 m) f) (λ d'. dead_after P Q d d' a ks m z known p (never d'))
+refuses_after P Q d end a ks m e known p (in_grammar feature q x f) =
+    let w = known.front d a ks m p in
+    let s = cut_seen w.1 in
+    in_grammar feature q x (with_front_in_grammar s.0 (w.2 ∙ s.1 m) f)
+
+-- ---- a form in place of rule 9
+
+no_sixty_one : {A : Type 0} → ◌≡◌ {A = ℕ} 61 9 → A
+no_sixty_one h = absurd (omega (arith, h))
+
+no_thirteen : {A : Type 0} → ◌≡◌ {A = ℕ} 13 9 → A
+no_thirteen h = absurd (omega (arith, h))
+
+-- where rule 9 refuses the part, a form in its tokens may be told
+pub form_told : {A : Type 0} {D : Decision} {P : Phrase A} {d : ℕ} {end : Place} {ks : List Terminal} {feature : ℕ} {q : List Terminal} {told : ParseError} (e : ParseError) → IsSyntax e → HasForm feature ks q → told ≡ refused_at 13 feature end q → RefusesBy D P d end ks e → RefusesBy D P d end ks told
+form_told e is f x (out_of_memory y) = absurd (subst IsSyntax y is)
+form_told {feature = feature} {q = q} e is f x (syntax m y never) = left_out feature q m x f never
+form_told e is f x (nested m z y w never) = no_sixty_one (subst IsSyntax y is)
+form_told e is f x (left_out n m z y g never) = no_thirteen (subst IsSyntax y is)
+form_told e is f x (in_grammar n m y g) = no_thirteen (subst IsSyntax y is)
+
+pub refuses_told : {A : Type 0} {D : Decision} {P : Phrase A} {d : ℕ} {end : Place} {ks : List Terminal} {feature : ℕ} {q : List Terminal} {e told : ParseError} → HasForm feature ks q → Told feature end q e told → RefusesBy D P d end ks e → RefusesBy D P d end ks told
+refuses_told {D = D} {P = P} {d = d} {end = end} {ks = ks} f (as_it_was x) h = subst (λ z. RefusesBy D P d end ks z) (sym x) h
+refuses_told {e = e} f (by_form is x) h = form_told e is f x h
 
 -- ---- marks
 

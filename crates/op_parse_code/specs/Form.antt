@@ -1,4 +1,5 @@
--- The forms of Free Pascal that the profile leaves out, where they show in the grammar.
+-- The forms of Free Pascal that the profile leaves out and the grammar has not. The tokens of some stand in programs too, as `(a = b`
+-- in a condition: a form is refused only where no sentence goes on so.
 use Rattle.std.specs.Prelude.{◌≡◌, ℕ, Bool, true, false, List, [], ◌∷◌, ◌++◌, codes, Option, Some}
 use Rattle.op_scan.specs.declared.token.TokenKind.{TokenKind}
 use Rattle.op_scan.specs.declared.token.TokenKind.TheVariants as kind
@@ -37,9 +38,8 @@ begins_class_member other = false
 
 -- The feature, by its number; the tokens from the form's first one on; those from the one on that tells the form.
 pub data Form : ℕ → List Terminal → List Terminal → Type 0 where
-  -- floating point or `/`
+  -- floating point
   is_fraction : {n m : ℕ} {p q u : Position} {r : List Terminal} → Form 1 (kind.Number n at p ∷ kind.Dot at q ∷ kind.Number m at u ∷ r) (kind.Number n at p ∷ kind.Dot at q ∷ kind.Number m at u ∷ r)
-  is_slash : {p : Position} {r : List Terminal} → Form 1 (kind.Slash at p ∷ r) (kind.Slash at p ∷ r)
   -- short string: a length behind the word
   is_short_string : {p q : Position} {r : List Terminal} → Form 3 (kind.String at p ∷ kind.OpenBracket at q ∷ r) (kind.String at p ∷ kind.OpenBracket at q ∷ r)
   -- procedural type: no name behind the word
@@ -93,8 +93,6 @@ pub data Form : ℕ → List Terminal → List Terminal → Type 0 where
   is_given_value : {k : TokenKind} {ns : List Name} {p q : Position} {ks r : List Terminal} → GivesValue k → AreNames ns ks (k at q ∷ r) → Form 31 (kind.OpenParenthesis at p ∷ ks) (k at q ∷ r)
   -- raise at
   is_raise_at : {d : ℕ} {e : Expression} {text : List ℕ} {p q : Position} {ks r : List Terminal} → IsWord (codes "at") text → IsExpr d e ks (kind.Identifier text at q ∷ r) → Form 34 (kind.Raise at p ∷ ks) (kind.Identifier text at q ∷ r)
-  -- fraction width
-  is_fraction_width : {d : ℕ} {e : Expression} {p q : Position} {ks r : List Terminal} → IsExpr d e ks (kind.Colon at q ∷ r) → Form 35 (kind.Colon at p ∷ ks) (kind.Colon at q ∷ r)
   -- interface property
   is_interface_property : {d : ℕ} {text : Option (List ℕ)} {as_ : List Method} {p q : Position} {ks m r : List Terminal} → IsIdentifier d text ks m → AreMethods d as_ m (kind.Property at q ∷ r) → Form 36 (kind.Interface at p ∷ ks) (kind.Property at q ∷ r)
   is_descendant_property : {d : ℕ} {n : Name} {text : Option (List ℕ)} {as_ : List Method} {p q : Position} {ks m l r : List Terminal} → AreBracketedNames d (n ∷ []) ks m → IsIdentifier d text m l → AreMethods d as_ l (kind.Property at q ∷ r) → Form 36 (kind.Interface at p ∷ ks) (kind.Property at q ∷ r)

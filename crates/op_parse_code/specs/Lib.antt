@@ -1,4 +1,5 @@
 pub mod Form
+pub mod GrammarForm
 pub mod Opening
 pub mod Refusal
 pub mod Whole

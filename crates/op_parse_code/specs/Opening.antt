@@ -12,7 +12,6 @@ use Rattle.op_parse_code.specs.declared.opening.RootOpening.{RootOpening}
 use Rattle.op_parse_code.specs.declared.opening.RootOpening.TheVariants as root
 use Rattle.op_parse_code.specs.declared.opening.SelectorOpening.{SelectorOpening}
 use Rattle.op_parse_code.specs.declared.opening.SelectorOpening.TheVariants as selects
-use Rattle.op_parse_code.specs.Form.{Form}
 use Rattle.op_parse_code.specs.declared.opening.StatementOpening.{StatementOpening}
 use Rattle.op_parse_code.specs.declared.opening.StatementOpening.TheVariants as opens_statement
 use Rattle.op_parse_code.specs.declared.opening.Word.{Word}
@@ -70,7 +69,6 @@ abbrev pub OpensStatement : StatementOpening → TokenKind → Type 0
 OpensStatement (opens_statement.Word w) k = k ≡ kind_of_word w
 OpensStatement opens_statement.Raise k = k ≡ kind.Raise
 OpensStatement opens_statement.Designator k = begins_designator k ≡ true
-OpensStatement (opens_statement.LeftOut feature) k = (p : Position) (r : List Terminal) → Form feature (k at p ∷ r) (k at p ∷ r)
 OpensStatement opens_statement.Nothing k = begins_statement k ≡ false
 
 -- the mark that a token is

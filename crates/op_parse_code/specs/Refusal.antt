@@ -1,6 +1,7 @@
 -- What a refusal of a part says.
 use Rattle.std.specs.Prelude.{◌≡◌, ℕ, List, [], ◌∷◌, ◌++◌, codes}
 use Rattle.op_base.specs.declared.place.Place.{Place}
+use Rattle.op_parse_code.specs.GrammarForm.{HasGrammarForm}
 use Rattle.op_parse_code.specs.Form.{HasForm}
 use Rattle.op_parse_code.specs.declared.error.ParseError.{ParseError}
 use Rattle.op_parse_code.specs.declared.error.ParseError.TheVariants.{Refused, NoMemory}
@@ -45,18 +46,30 @@ pub data Decides : List Terminal → List Terminal → Type 0 where
   decides_behind : {text : List ℕ} {p : Position} {q m : List Terminal} → IsWord (codes "on") text → Decides q m → Decides (kind.Identifier text at p ∷ q) m
 
 -- Why the tokens have no part at this depth: rule 9 where none begins so, whatever the depth, rule 61 where none of this
--- depth begins so, rule 13 where a form that is left out stands in the tokens. Want of memory may come at any time.
+-- depth begins so, rule 13 where a form that is left out stands in the tokens and none begins so, whatever the depth, or where one
+-- stands in them that the grammar has. Want of memory may come at any time.
 pub data RefusesBy {A : Type 0} (D : Decision) (P : Phrase A) (d : ℕ) (end : Place) (ks : List Terminal) : ParseError → Type 0 where
   out_of_memory : {e : ParseError} → e ≡ NoMemory → RefusesBy D P d end ks e
   syntax : {e : ParseError} (q : List Terminal) → e ≡ refused_at 9 0 end q → ((d' : ℕ) → Dead (P d') ks q) → RefusesBy D P d end ks e
   nested : {e : ParseError} (q m : List Terminal) → e ≡ refused_at 61 0 end q → D q m → Dead (P d) ks m → RefusesBy D P d end ks e
-  left_out : {e : ParseError} (feature : ℕ) (q : List Terminal) → e ≡ refused_at 13 feature end q → HasForm feature ks q → RefusesBy D P d end ks e
+  left_out : {e : ParseError} (feature : ℕ) (q m : List Terminal) → e ≡ refused_at 13 feature end q → HasForm feature ks q → ((d' : ℕ) → Dead (P d') ks m) → RefusesBy D P d end ks e
+  in_grammar : {e : ParseError} (feature : ℕ) (q : List Terminal) → e ≡ refused_at 13 feature end q → HasGrammarForm feature ks q → RefusesBy D P d end ks e
 
 -- the same of statements, expressions and their parts
 abbrev pub Refuses : {A : Type 0} → Phrase A → ℕ → Place → List Terminal → ParseError → Type 0
 Refuses {A} P d end ks e = RefusesBy Decides P d end ks e
 
--- the refusals that a part which stands there leaves open
-abbrev pub IsFree : ParseError → Type 0
-IsFree (Refused refusal) = refusal.rule.number ≡ 13
-IsFree NoMemory = Unit {0}
+-- the refusals that a part which stands there leaves open: for a form in its tokens that the grammar has
+abbrev pub IsFree : Place → List Terminal → ParseError → Type 0
+IsFree end ks (Refused refusal) = (feature : ℕ) × (q : List Terminal) × HasGrammarForm feature ks q × (Refused refusal ≡ refused_at 13 feature end q)
+IsFree end ks NoMemory = Unit {0}
+
+-- rule 9 is broken
+abbrev pub IsSyntax : ParseError → Type 0
+IsSyntax (Refused refusal) = refusal.rule.number ≡ 9
+IsSyntax NoMemory = ⊥
+
+-- a refusal, or in place of one by rule 9 that by a form
+pub data Told (feature : ℕ) (end : Place) (q : List Terminal) (e : ParseError) : ParseError → Type 0 where
+  as_it_was : {told : ParseError} → told ≡ e → Told feature end q e told
+  by_form : {told : ParseError} → IsSyntax e → told ≡ refused_at 13 feature end q → Told feature end q e told

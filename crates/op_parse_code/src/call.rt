@@ -1,6 +1,5 @@
 //! Statements that hold no statement.
-ghost use Rattle.std.specs.Prelude.{◌≡◌, ◌≤◌, ◌<◌, ◌∷◌, codes, IfOk, IfErr, IfSome, IsTrue, MatchOption, length};
-ghost use Rattle.op_parse_code.specs.Opening.{is_word};
+ghost use Rattle.std.specs.Prelude.{◌≡◌, ◌≤◌, ◌<◌, ◌∷◌, IfOk, IfErr, IfSome, IsTrue, MatchOption, length};
 ghost use Rattle.op_parse_code.specs.Refusal.{Refuses};
 ghost use Rattle.op_parse_code.specs.Whole.{Marked, NoMark};
 ghost use Rattle.op_parse_code.specs.WholeStatement.{Behind, SomeCall, front_is};
@@ -13,10 +12,9 @@ ghost use Rattle.op_tree.specs.Terminal.{◌at◌, terminals};
 use crate::ParseError;
 use crate::chain::chain;
 use crate::designator::designator;
-use crate::error::{RAISE_AT, left_out};
 use crate::mark::{Mark, behind_mark};
 use crate::statement_nodes::{assign_node, call_statement_node, inherited_call_node};
-use crate::token::{is_word, position_of};
+use crate::token::position_of;
 use op_base::Place;
 use op_scan::{Token, TokenKind};
 use op_tree::{Level, Position, Stmt};
@@ -61,9 +59,6 @@ pub fn raise<'a>(
         return Ok((Stmt::Reraise { position }, tokens));
     }
     let (exception, rest) = chain(alloc, Level::Relational, left, end, tokens)?;
-    if begins_at(rest) {
-        return Err(left_out(RAISE_AT, end, rest));
-    }
     Ok((
         Stmt::Raise {
             position,
@@ -146,14 +141,4 @@ fn opens_designator(kind: &TokenKind) -> bool
         kind,
         TokenKind::Identifier(_) | TokenKind::String | TokenKind::OpenParenthesis
     )
-}
-
-/// The word `at` stands at the front.
-fn begins_at(tokens: &[Token]) -> bool
-    ensures { result ≡ front_is (is_word (codes "at")) (terminals tokens.now) }
-{
-    match tokens.split_first() {
-        Some((first, _)) => is_word(b"at", &first.kind),
-        None => false,
-    }
 }

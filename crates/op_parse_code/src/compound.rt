@@ -11,7 +11,6 @@ use crate::ParseError;
 use crate::branch::case_statement;
 use crate::call::{call_or_assignment, inherited_call, raise};
 use crate::chain::chain;
-use crate::error::left_out;
 use crate::factor::enter;
 use crate::handler::try_statement;
 use crate::mark::{Mark, after_mark, behind_mark};
@@ -42,7 +41,6 @@ pub fn statement_at<'a>(
     };
     match statement_opening(&first.kind) {
         StatementOpening::Nothing => Ok((Stmt::Empty, tokens)),
-        StatementOpening::LeftOut(feature) => Err(left_out(feature, end, tokens)),
         StatementOpening::Designator => {
             let inner = enter(left, end, tokens)?;
             call_or_assignment(alloc, inner, end, tokens)

@@ -1,6 +1,5 @@
 //! Designators: what can be called or assigned.
-ghost use Rattle.std.specs.Prelude.{◌≤◌, ◌<◌, IfOk, IfErr, IfSome, IsTrue, MatchOption, length};
-ghost use Rattle.op_parse_code.specs.Form.{HasForm};
+ghost use Rattle.std.specs.Prelude.{◌≤◌, ◌<◌, IfOk, IfErr, IfSome, MatchOption, length};
 ghost use Rattle.op_parse_code.specs.Refusal.{Refuses};
 ghost use Rattle.op_parse_code.specs.Whole.{InsideCall, SomeDesignator, SomeSelectors};
 ghost use Rattle.op_tree.specs.Ends.{IsNot, begins_selector};
@@ -12,13 +11,13 @@ ghost use Rattle.op_tree.specs.Terminal.{terminals};
 
 use crate::ParseError;
 use crate::chain::chain;
-use crate::error::{GENERIC, left_out, syntax};
+use crate::error::syntax;
 use crate::factor::enter;
 use crate::list::{arguments, indices};
 use crate::mark::{Mark, after_mark, behind_mark};
 use crate::nodes::{bracketed_node, call_node, fitted, index_node};
 use crate::opening::{RootOpening, SelectorOpening, root_opening, selector_opening};
-use crate::token::{is_identifier, is_word, name, position_of};
+use crate::token::{name, position_of};
 use op_base::Place;
 use op_scan::Token;
 use op_tree::{Argument, Designator, Level, Root, Selector};
@@ -60,9 +59,6 @@ fn root<'a>(
     let position = position_of(first);
     match root_opening(&first.kind) {
         RootOpening::Name => {
-            if is_specialized(tokens) {
-                return Err(left_out(GENERIC, end, tokens));
-            }
             let (name, rest) = name(alloc, end, tokens)?;
             Ok((Root::Named(name), rest))
         }
@@ -76,19 +72,6 @@ fn root<'a>(
         }
         RootOpening::Nothing => Err(syntax(end, tokens)),
     }
-}
-
-/// The word `specialize` and a name stand at the front.
-pub fn is_specialized(tokens: &[Token]) -> bool
-    ensures { IsTrue result → HasForm 29 (terminals tokens.now) (terminals tokens.now) }
-{
-    let Some((first, rest)) = tokens.split_first() else {
-        return false;
-    };
-    let Some((second, _)) = rest.split_first() else {
-        return false;
-    };
-    is_word(b"specialize", &first.kind) && is_identifier(&second.kind)
 }
 
 /// All that is selected at the front.

@@ -1,6 +1,6 @@
 //! Why tokens have no part.
 ghost use Rattle.std.specs.Prelude.{◌≡◌, map};
-ghost use Rattle.op_parse_code.specs.Refusal.{place_at, refused_at};
+ghost use Rattle.op_parse_code.specs.Refusal.{Told, place_at, refused_at};
 ghost use Rattle.op_tree.specs.Terminal.{terminals};
 
 use op_base::{NoMemory, Place, Refusal, Rule};
@@ -52,18 +52,8 @@ impl<T: Drop> From<AllocFailed<T>> for ParseError {
     }
 }
 
-/// Features that the profile leaves out.
+/// Features that the profile leaves out and that the grammar has.
 pub const FLOATING_POINT: u8 = 1;
-
-pub const WITH: u8 = 15;
-
-pub const GOTO_OR_LABEL: u8 = 16;
-
-pub const ASSEMBLY: u8 = 17;
-
-pub const GENERIC: u8 = 29;
-
-pub const RAISE_AT: u8 = 34;
 
 pub const FRACTION_WIDTH: u8 = 35;
 
@@ -97,4 +87,23 @@ pub fn left_out(feature: u8, end: Place, tokens: &[Token]) -> ParseError
     ensures { result ≡ refused_at 13 feature end (terminals tokens.now) }
 {
     refused_at(13, feature, end, tokens)
+}
+
+/// The number of the rule that no sentence goes on so.
+const SYNTAX: u8 = 9;
+
+/// A refusal; in place of one by rule 9 that by a form that is left out, which the first of these tokens tells.
+pub fn told(feature: u8, end: Place, form: &[Token], error: ParseError) -> ParseError
+    ensures { Told feature end (terminals form.now) error result }
+{
+    match error {
+        ParseError::Refused(refusal) => {
+            if refusal.rule.number == SYNTAX {
+                left_out(feature, end, form)
+            } else {
+                ParseError::Refused(refusal)
+            }
+        }
+        ParseError::NoMemory => ParseError::NoMemory,
+    }
 }

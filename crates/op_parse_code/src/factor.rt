@@ -1,6 +1,5 @@
 //! Factors: what stands between two operators.
-ghost use Rattle.std.specs.Prelude.{◌≡◌, ◌≤◌, ◌<◌, suc, IfOk, IfErr, IsTrue, length};
-ghost use Rattle.op_parse_code.specs.Form.{HasForm};
+ghost use Rattle.std.specs.Prelude.{◌≡◌, ◌≤◌, ◌<◌, suc, IfOk, IfErr, length};
 ghost use Rattle.op_parse_code.specs.Refusal.{Refuses, refused_at};
 ghost use Rattle.op_parse_code.specs.Whole.{CannotEnter, Factor, InsideSet};
 ghost use Rattle.op_tree.specs.Expression.{expr_of};
@@ -9,12 +8,12 @@ ghost use Rattle.op_tree.specs.Terminal.{terminals};
 
 use crate::ParseError;
 use crate::designator::{designator, selectors};
-use crate::error::{FLOATING_POINT, left_out, nested, syntax};
+use crate::error::{nested, syntax};
 use crate::list::elements;
 use crate::mark::{Mark, behind_mark};
 use crate::nodes::{designator_node, inherited_node, literal_node, prefix_node, set_node};
 use crate::opening::{FactorOpening, factor_opening};
-use crate::token::{is_number, position_of, spelled};
+use crate::token::{position_of, spelled};
 use op_base::Place;
 use op_scan::Token;
 use op_tree::{Element, Expr};
@@ -37,12 +36,7 @@ pub fn factor<'a>(
     };
     let position = position_of(first);
     match factor_opening(&first.kind) {
-        FactorOpening::Number(value) => {
-            if is_fraction(tokens) {
-                return Err(left_out(FLOATING_POINT, end, tokens));
-            }
-            Ok((Expr::Number { value, position }, rest))
-        }
+        FactorOpening::Number(value) => Ok((Expr::Number { value, position }, rest)),
         FactorOpening::Nil => Ok((Expr::Nil { position }, rest)),
         FactorOpening::Set => {
             let inner = enter(left, end, tokens)?;
@@ -89,22 +83,6 @@ fn set_elements<'a>(
         Some(rest) => Ok((Vec::new(alloc), rest)),
         None => elements(alloc, Mark::CloseBracket, left, end, tokens),
     }
-}
-
-/// A number, a dot and a number stand at the front.
-fn is_fraction(tokens: &[Token]) -> bool
-    ensures { IsTrue result → HasForm 1 (terminals tokens.now) (terminals tokens.now) }
-{
-    let Some((first, rest)) = tokens.split_first() else {
-        return false;
-    };
-    let Some(rest) = behind_mark(Mark::Dot, rest) else {
-        return false;
-    };
-    let Some((second, _)) = rest.split_first() else {
-        return false;
-    };
-    is_number(&first.kind) && is_number(&second.kind)
 }
 
 /// The depth that is left inside a bracket at the front.

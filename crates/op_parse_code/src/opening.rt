@@ -1,7 +1,6 @@
 //! What the first token of a part tells.
 ghost use Rattle.op_parse_code.specs.Opening.{OpensFactor, OpensRoot, OpensSelector, OpensStatement};
 
-use crate::error::{ASSEMBLY, GOTO_OR_LABEL, WITH};
 use op_scan::TokenKind;
 use op_tree::{PrefixOperator, prefix_operator_of};
 
@@ -99,8 +98,6 @@ pub enum StatementOpening {
     Word(Word),
     Raise,
     Designator,
-    /// A form with this feature begins so.
-    LeftOut(u8),
     /// No statement begins so, so an empty one stands there.
     Nothing,
 }
@@ -121,10 +118,6 @@ pub fn statement_opening(kind: &TokenKind) -> StatementOpening
         TokenKind::Identifier(_) => StatementOpening::Designator,
         TokenKind::String => StatementOpening::Designator,
         TokenKind::OpenParenthesis => StatementOpening::Designator,
-        TokenKind::With => StatementOpening::LeftOut(WITH),
-        TokenKind::Goto => StatementOpening::LeftOut(GOTO_OR_LABEL),
-        TokenKind::Asm => StatementOpening::LeftOut(ASSEMBLY),
-        TokenKind::Inline => StatementOpening::LeftOut(ASSEMBLY),
         _ => StatementOpening::Nothing,
     }
 }

@@ -41,8 +41,8 @@ pub fn expression(
     ensures whole { IfOk result (λ f. EndsExpr (expr_of f.0) (drop f.1 (terminals tokens.now.list))) }
     // There is none, or a form that is left out.
     ensures refused { IfErr result (Refuses (Chain Relational) (200 - depth) tokens.now.end (drop at (terminals tokens.now.list))) }
-    // No other one stands there, and where one stands it is refused for a form that is left out alone.
-    ensures only { (e : Expression) (r : List Terminal) → IsExpr (200 - depth) e (drop at (terminals tokens.now.list)) r → EndsExpr e r → MatchResult result (λ f. (expr_of f.0 ≡ e) × (drop f.1 (terminals tokens.now.list) ≡ r)) IsFree }
+    // No other one stands there, and where one stands it is refused for a form of statements and expressions alone.
+    ensures only { (e : Expression) (r : List Terminal) → IsExpr (200 - depth) e (drop at (terminals tokens.now.list)) r → EndsExpr e r → MatchResult result (λ f. (expr_of f.0 ≡ e) × (drop f.1 (terminals tokens.now.list) ≡ r)) (IsFree tokens.now.end (drop at (terminals tokens.now.list))) }
 {
     part(alloc, Level::Relational, tokens, at, DEEPEST - depth)
 }
@@ -60,7 +60,7 @@ pub fn simple(
     ensures spells { IfOk result (λ f. IsSimple (200 - depth) (expr_of f.0) (drop at (terminals tokens.now.list)) (drop f.1 (terminals tokens.now.list))) }
     ensures whole { IfOk result (λ f. EndsChain Additive (expr_of f.0) (drop f.1 (terminals tokens.now.list))) }
     ensures refused { IfErr result (Refuses (Chain Additive) (200 - depth) tokens.now.end (drop at (terminals tokens.now.list))) }
-    ensures only { (e : Expression) (r : List Terminal) → IsSimple (200 - depth) e (drop at (terminals tokens.now.list)) r → EndsChain Additive e r → MatchResult result (λ f. (expr_of f.0 ≡ e) × (drop f.1 (terminals tokens.now.list) ≡ r)) IsFree }
+    ensures only { (e : Expression) (r : List Terminal) → IsSimple (200 - depth) e (drop at (terminals tokens.now.list)) r → EndsChain Additive e r → MatchResult result (λ f. (expr_of f.0 ≡ e) × (drop f.1 (terminals tokens.now.list) ≡ r)) (IsFree tokens.now.end (drop at (terminals tokens.now.list))) }
 {
     part(alloc, Level::Additive, tokens, at, DEEPEST - depth)
 }
@@ -98,7 +98,7 @@ pub fn statement(
     ensures spells { IfOk result (λ f. IsStatement (200 - depth) (stmt_of f.0) (drop at (terminals tokens.now.list)) (drop f.1 (terminals tokens.now.list))) }
     ensures whole { IfOk result (λ f. EndsStatement (stmt_of f.0) (drop f.1 (terminals tokens.now.list))) }
     ensures refused { IfErr result (Refuses SomeStatement (200 - depth) tokens.now.end (drop at (terminals tokens.now.list))) }
-    ensures only { (s : Statement) (r : List Terminal) → IsStatement (200 - depth) s (drop at (terminals tokens.now.list)) r → EndsStatement s r → MatchResult result (λ f. (stmt_of f.0 ≡ s) × (drop f.1 (terminals tokens.now.list) ≡ r)) IsFree }
+    ensures only { (s : Statement) (r : List Terminal) → IsStatement (200 - depth) s (drop at (terminals tokens.now.list)) r → EndsStatement s r → MatchResult result (λ f. (stmt_of f.0 ≡ s) × (drop f.1 (terminals tokens.now.list) ≡ r)) (IsFree tokens.now.end (drop at (terminals tokens.now.list))) }
 {
     statement_part(alloc, tokens, at, DEEPEST - depth)
 }

@@ -4,8 +4,8 @@ use Rattle.op_base.specs.declared.place.Place.{Place}
 use Rattle.op_parse_code.proofs.Cuts.{cut_seen, same_behind}
 use Rattle.op_parse_code.proofs.ExpressionKnown.{known_chain}
 use Rattle.op_parse_code.proofs.Factors.{same_begins}
-use Rattle.op_parse_code.proofs.Refusing.{Some_, Seq, refuses_first, refuses_after, refuses_behind, with_front, no_mark_same}
-use Rattle.op_parse_code.specs.Refusal.{SameHead, Dead, Refuses, out_of_memory, syntax, nested, left_out, refused_at}
+use Rattle.op_parse_code.proofs.Refusing.{Some_, Seq, refuses_first, refuses_after, refuses_behind, with_front, with_front_in_grammar, no_mark_same}
+use Rattle.op_parse_code.specs.Refusal.{SameHead, Dead, Refuses, out_of_memory, syntax, nested, left_out, in_grammar, refused_at}
 use Rattle.op_parse_code.specs.Whole.{Chain, NoMark}
 use Rattle.op_parse_code.specs.declared.error.ParseError.{ParseError}
 use Rattle.op_parse_code.specs.declared.mark.Mark.TheVariants as mark
@@ -106,7 +106,8 @@ pub bound_first : (d : ℕ) (end : Place) (ks : List Terminal) (e : ParseError) 
 bound_first d end ks e b n (out_of_memory x) = out_of_memory x
 bound_first d end ks e b n (syntax q x never) = syntax q x (λ d'. dead_bound d' ks q b n (never d'))
 bound_first d end ks e b n (nested q m x w never) = nested q m x w (dead_bound d ks m b n never)
-bound_first d end ks e b n (left_out feature q x f) = left_out feature q x f
+bound_first d end ks e b n (left_out feature q m x f never) = left_out feature q m x f (λ d'. dead_bound d' ks m b n (never d'))
+bound_first d end ks e b n (in_grammar feature q x f) = in_grammar feature q x f
 
 -- ---- behind the first bound
 
@@ -143,10 +144,14 @@ bound_tail : (d : ℕ) (end : Place) (a : Expression) (ks m : List Terminal) (e 
 bound_tail d end a ks m e b f (out_of_memory x) = out_of_memory x
 bound_tail d end a ks m e b f (syntax q x never) = syntax q x (λ d'. dead_tail d d' a ks m q b f (never d'))
 bound_tail d end a ks m e b f (nested q z x w never) = nested q z x w (dead_tail d d a ks m z b f never)
-bound_tail d end a ks m e b f (left_out feature q x g) =
+bound_tail d end a ks m e b f (left_out feature q z x g never) =
     let w = (known_chain Additive).front d a ks m f in
     let s = cut_seen w.1 in
-    left_out feature q x (with_front s.0 (w.2 ∙ s.1 m) g)
+    left_out feature q z x (with_front s.0 (w.2 ∙ s.1 m) g) (λ d'. dead_tail d d' a ks m z b f (never d'))
+bound_tail d end a ks m e b f (in_grammar feature q x g) =
+    let w = (known_chain Additive).front d a ks m f in
+    let s = cut_seen w.1 in
+    in_grammar feature q x (with_front_in_grammar s.0 (w.2 ∙ s.1 m) g)
 
 into_tail : (p : Position) (d : ℕ) (b : Option Expression) (ls r : List Terminal) → Tail d b (kind.DotDot at p ∷ ls) r → Some_ (Seq (Chain Additive) NoMoreType) d ls
 into_tail p d None ls r (e, st) = true_false (subst (IsNot is_dot_dot) (sym e) st.range)

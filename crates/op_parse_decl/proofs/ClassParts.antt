@@ -1,18 +1,19 @@
 -- Refusals of properties and interfaces, and the forms that show there.
-use Rattle.std.proofs.Common.{◌≡◌, ℕ, true, List, [], ◌∷◌, Option, Some, None, codes, map, refl, sym, ap, ◌∙◌, subst}
+use Rattle.std.proofs.Common.{◌≡◌, ℕ, Bool, true, false, List, [], ◌∷◌, Option, Some, None, codes, map, refl, sym, ap, ◌∙◌, subst}
 use Rattle.std.specs.Char.{to_ascii_lowercase}
 use Rattle.op_base.specs.declared.place.Place.{Place}
 use Rattle.op_parse_code.proofs.Cuts.{same_not}
 use Rattle.op_parse_code.proofs.Names.{word_kind}
-use Rattle.op_parse_code.proofs.Refusing.{Some_, dead_here, refuses_behind}
+use Rattle.op_parse_code.proofs.Refusing.{Some_, dead_here, no_mark_refuses, refuses_behind}
 use Rattle.op_parse_code.specs.Form.{Form, HasForm, is_array_property, is_indexed_property, is_interface_property, is_descendant_property}
 use Rattle.op_parse_code.specs.Opening.{is_word, spelled}
 use Rattle.op_parse_code.specs.Refusal.{Refuses, syntax, refused_at}
-use Rattle.op_parse_decl.proofs.Combining.{refuses_part}
+use Rattle.op_parse_decl.proofs.Combining.{first, mark_refused, refuses_part}
 use Rattle.op_parse_decl.specs.Refusal.{RefusesPart}
 use Rattle.op_parse_code.specs.Whole.{SomeName}
 use Rattle.op_parse_code.specs.declared.error.ParseError.{ParseError}
-use Rattle.op_parse_decl.specs.Combined.{both, stands, then_, Repeats, TellsBehind}
+use Rattle.op_parse_code.specs.declared.mark.Mark.TheVariants as mark
+use Rattle.op_parse_decl.specs.Combined.{both, Stands, stands, Then, then_, Repeats, TellsBehind}
 use Rattle.op_parse_decl.specs.Declarations.{WholeMethod}
 use Rattle.op_parse_decl.specs.InterfaceParts.{identifier_out, methods_out}
 use Rattle.op_parse_decl.specs.Interfaces.{is_literal, IsLiteral, literal, no_ancestor, an_ancestor, SomeInterfaceHead, some_head}
@@ -21,7 +22,7 @@ use Rattle.op_scan.specs.declared.token.TokenKind.{TokenKind}
 use Rattle.op_scan.specs.declared.token.TokenKind.TheVariants as kind
 use Rattle.op_tree.proofs.ExpressionUnique.{Begins, true_false}
 use Rattle.op_tree.proofs.MethodUnique.{begins_heading}
-use Rattle.op_tree.proofs.StatementUnique.{both as apart}
+use Rattle.op_tree.proofs.StatementUnique.{both as apart, differ}
 use Rattle.op_tree.specs.Declaration.{Method}
 use Rattle.op_tree.specs.DenoterGrammar.{IsDenoter}
 use Rattle.op_tree.specs.Ends.{IsNot}
@@ -69,3 +70,11 @@ literal_whole d other p ks h = absurd cc
 pub interface_property : {d : ℕ} {n : Option Name} {text : Option (List ℕ)} {as_ : List Method} {u : Position} {ks m q r : List Terminal} → SomeInterfaceHead d (both n text) ks m → Repeats begins_heading WholeMethod d as_ m q → q ≡ kind.Property at u ∷ r → HasForm 36 ks q
 interface_property {d = d} {as_ = as_} {ks = ks} {m = m} (some_head (no_ancestor none) i) a e = ([], ks, refl, subst (λ z. Form 36 ks z) (sym e) (is_interface_property (identifier_out i) (subst (λ z. AreMethods d as_ m z) e (methods_out a))))
 interface_property {d = d} {as_ = as_} {ks = ks} {m = m} (some_head (an_ancestor f) i) a e = ([], ks, refl, subst (λ z. Form 36 ks z) (sym e) (is_descendant_property (are_bracketed_names (are_one_name f)) (identifier_out i) (subst (λ z. AreMethods d as_ m z) e (methods_out a))))
+
+-- where a property stands, the interface does not end
+abbrev is_end : TokenKind → Bool
+is_end kind.End = true
+is_end other = false
+
+pub property_no_end : {d : ℕ} {end : Place} {u : Position} {q r : List Terminal} → q ≡ kind.Property at u ∷ r → RefusesPart (Then (Stands mark.End) (Stands mark.Semicolon)) d end q (refused_at 9 0 end q)
+property_no_end {d = d} {end = end} {q = q} e = first (mark_refused mark.End d end q (refused_at 9 0 end q) (no_mark_refuses mark.End d end q (refused_at 9 0 end q) (λ p z h. differ is_end (sym h ∙ e) refl refl) refl))

@@ -4,17 +4,17 @@ use Rattle.std.proofs.lemmas.List.{append-nil}
 use Rattle.op_base.specs.declared.place.Place.{Place}
 use Rattle.op_parse_code.proofs.Calls.{front_not}
 use Rattle.op_parse_code.proofs.Cuts.{same_behind, same_not}
-use Rattle.op_parse_code.proofs.Refusing.{Known, Some_, Seq, refuses_map, refuses_first, refuses_after, refuses_behind, no_mark_same}
+use Rattle.op_parse_code.proofs.Refusing.{Known, Some_, Seq, form_told, refuses_map, refuses_first, refuses_after, refuses_behind, no_mark_refuses, no_mark_same}
 use Rattle.op_parse_code.proofs.Names.{identifier_kind, named_at, word_kind}
 use Rattle.op_parse_code.specs.Form.{Form, HasForm, is_default_property, is_resolution, is_strict}
 use Rattle.op_parse_code.specs.Opening.{is_identifier, is_word, spelled}
-use Rattle.op_parse_code.specs.Refusal.{Phrase, SameHead, Dead, Refuses, out_of_memory, syntax, nested, left_out}
+use Rattle.op_parse_code.specs.Refusal.{Phrase, SameHead, Dead, Refuses, out_of_memory, syntax, nested, left_out, in_grammar, refused_at}
 use Rattle.op_parse_decl.specs.Refusal.{RefusesPart}
 use Rattle.op_parse_code.specs.Whole.{Marked, NoMark}
 use Rattle.op_parse_code.specs.WholeStatement.{front_is}
 use Rattle.op_parse_code.specs.declared.error.ParseError.{ParseError}
 use Rattle.op_parse_code.specs.declared.mark.Mark.TheVariants as mark
-use Rattle.op_parse_decl.proofs.Combining.{refuses_part, same_sym, head_of}
+use Rattle.op_parse_decl.proofs.Combining.{first, mark_refused, refuses_part, same_sym, head_of}
 use Rattle.op_parse_decl.specs.Classes.{Adds, SectionsBefore, ClassRest, rest_ends, rest_directive, rest_method, rest_fields, rest_property, rest_visibility, RefusesRest, begins_resolution, IsFormBehindProperty, Resolves, goes_on_as_field, IsVisibility, is_visibility, NoVisibility, Entry, declares, opens, SomeEntry, members_behind, sections_behind, sections_before, body_with}
 use Rattle.op_parse_decl.specs.Combined.{Both, both, Stands, stands, Then, then_}
 use Rattle.op_parse_decl.specs.HeadingParts.{known_heading}
@@ -33,9 +33,9 @@ use Rattle.op_tree.specs.Declaration.{Member, method, fields, property, Method, 
 use Rattle.op_tree.specs.Denoter.{Denoter}
 use Rattle.op_tree.specs.DenoterGrammar.{IsDenoter}
 use Rattle.op_tree.specs.Ends.{IsNot, NoDirective}
-use Rattle.op_tree.specs.HeadingGrammar.{directive_of, routine_kind_of, visibility_of, AreDirectives, are_no_directives, are_directives, is_method, IsMember, are_fields, is_class_method, is_class_property, IsProperty, is_property, AreMembers, are_no_members, are_members, AreSections, are_no_sections, are_sections, begins_with_visibility, begins_with_members}
+use Rattle.op_tree.specs.HeadingGrammar.{beside, directive_of, routine_kind_of, visibilities, visibility_of, AreDirectives, are_no_directives, are_directives, is_method, IsMember, are_fields, is_class_method, is_class_property, IsProperty, is_property, AreMembers, are_no_members, are_members, AreSections, are_no_sections, are_sections, begins_with_visibility, begins_with_members}
 use Rattle.op_tree.specs.NameGrammar.{AreNames, IsName, are_one_name, are_names, is_name}
-use Rattle.op_tree.specs.Terminal.{Terminal, ◌at◌, name}
+use Rattle.op_tree.specs.Terminal.{Terminal, ◌at◌, name, IsWord}
 use Rattle.op_tree.specs.declared.class.Visibility.{Visibility}
 use Rattle.op_tree.specs.declared.heading.Directive.{Directive}
 use Rattle.op_tree.specs.declared.heading.RoutineKind.{RoutineKind}
@@ -248,7 +248,8 @@ refuses_second : {A B : Type 0} (P : Phrase A) (Q : Phrase B) (d : ℕ) (end : P
 refuses_second P Q d end t ks x a z f h (out_of_memory e) = out_of_memory e
 refuses_second P Q d end t ks x a z f h (syntax q e never) = syntax q e (λ d'. dead_second (P d') (Q d') t ks q a z (f d') (h d') (never d'))
 refuses_second P Q d end t ks x a z f h (nested q m e w never) = nested q m e w (dead_second (P d) (Q d) t ks m a z (f d) (h d) never)
-refuses_second P Q d end t ks x a z f h (left_out feature q e w) = left_out feature q e w
+refuses_second P Q d end t ks x a z f h (left_out feature q m e w never) = left_out feature q m e w (λ d'. dead_second (P d') (Q d') t ks m a z (f d') (h d') (never d'))
+refuses_second P Q d end t ks x a z f h (in_grammar feature q e w) = in_grammar feature q e w
 
 names_first : {d : ℕ} {ks : List Terminal} → Some_ (Seq SomeNames FieldsRest) d ks → Some_ SomeNames d ks
 names_first (a, r, (m, f, g)) = (a.0, m, f)
@@ -320,10 +321,33 @@ pub resolution_form : (k k' : TokenKind) (p q : Position) (m form : List Termina
 resolution_form k k' p q m form h i (n, u, v, ls, r, e, f, e1) = ([], k at p ∷ k' at q ∷ m, refl, subst (λ z. Form 22 (k at p ∷ k' at q ∷ m) z) (sym e1) (is_resolution (routine_resolves k h).1 (subst (λ z. IsName (name (spelled k') q) (k' at q ∷ m) z) e (named_at k' q m i)) (subst (λ z. IsName n ls z) e1 f)))
 
 pub default_form : (k : TokenKind) (p q : Position) (m r : List Terminal) → is_word (codes "default") k ≡ true → m ≡ kind.Semicolon at q ∷ r → IsFormBehindProperty 20 (k at p ∷ m)
-default_form k p q m r h e d a ks f =
+default_form k p q m r h e =
     let w = word_kind (codes "default") k h in
     let whole : k at p ∷ m ≡ kind.Identifier (spelled k) at p ∷ kind.Semicolon at q ∷ r = ap (λ z. z at p ∷ m) w.0 ∙ ap (λ z. kind.Identifier (spelled k) at p ∷ z) e in
-    subst (λ z. Form 20 ks z) (sym whole) (is_default_property w.1 (subst (λ z. IsProperty d a ks z) whole f))
+    ((spelled k, p, q, r, w.1, whole), λ d a ks f. subst (λ z. Form 20 ks z) (sym whole) (is_default_property w.1 (subst (λ z. IsProperty d a ks z) whole f)))
+
+default_shows_nothing : (word : List ℕ) → IsWord (codes "default") word → visibility_of word ≡ None
+unfolding visibility_of
+default_shows_nothing word e = ap (λ x. beside x visibilities) e
+
+default_no_visibility : {word : List ℕ} {p : Position} {m : List Terminal} → IsWord (codes "default") word → NoVisibility (kind.Identifier word at p ∷ m)
+default_no_visibility w v z (is_visibility {word = word} e n) = no_some (sym (default_shows_nothing word w) ∙ e)
+  where
+    no_some : {A : Type 0} {v : Visibility} → None ≡ Some v → A
+    no_some h = absurd cc
+
+-- no member begins with the word and a semicolon
+default_dies : (d : ℕ) (end : Place) (word : List ℕ) (p q : Position) (r : List Terminal) → IsWord (codes "default") word → RefusesRest d end (kind.Identifier word at p ∷ kind.Semicolon at q ∷ r) (refused_at 9 0 end (kind.Semicolon at q ∷ r))
+default_dies d end word p q r w = fields_end d end (name word p ∷ []) (kind.Identifier word at p ∷ rest) rest (refused_at 9 0 end rest) (are_one_name is_name, no_mark_by mark.Comma goes_on_as_field refl refl) (default_no_visibility w) (first (mark_refused mark.Colon d end rest (refused_at 9 0 end rest) (no_mark_refuses mark.Colon d end rest (refused_at 9 0 end rest) (no_mark_by mark.Colon goes_on_as_field refl refl) refl)))
+  where
+    rest : List Terminal
+    rest = kind.Semicolon at q ∷ r
+
+pub default_told : (d : ℕ) (end : Place) (a : Property) (ks m : List Terminal) (feature : ℕ) (x : ParseError) → IsProperty d a ks m → IsFormBehindProperty feature m → x ≡ refused_at 13 feature end m → RefusesRest d end ks x
+default_told d end a ks m feature x f ((word, p, q, r, w, is), form) h b free = form_told at_semicolon refl ([], ks, refl, form d a ks f) h (property_dies d end a ks m at_semicolon f (subst (λ z. RefusesRest d end z at_semicolon) (sym is) (default_dies d end word p q r w)) b free)
+  where
+    at_semicolon : ParseError
+    at_semicolon = refused_at 9 0 end (kind.Semicolon at q ∷ r)
 
 pub visibility_stands : (k : TokenKind) (word : List ℕ) (v : Visibility) (p : Position) (ks r : List Terminal) → ks ≡ k at p ∷ r → k ≡ kind.Identifier word → visibility_of word ≡ Some v → front_is goes_on_as_field r ≡ false → IsVisibility v ks r
 visibility_stands k word v p ks r e h d n = subst (λ z. IsVisibility v z r) (sym (e ∙ ap (λ z. z at p ∷ r) h)) (is_visibility d (front_not goes_on_as_field r n))

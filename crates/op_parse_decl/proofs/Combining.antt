@@ -7,7 +7,7 @@ use Rattle.op_parse_code.proofs.Factors.{same_begins}
 use Rattle.op_parse_code.proofs.Lists.{SplitsOpen, open_item, open_more}
 use Rattle.op_parse_code.proofs.Refusing.{Some_, Seq, Known, no_mark_same, refuses_map, refuses_first, refuses_after, refuses_behind, refuses_deeper, dead_here}
 use Rattle.op_parse_code.specs.Opening.{kind_of}
-use Rattle.op_parse_code.specs.Refusal.{Phrase, SameHead, Refuses, out_of_memory, syntax, nested, left_out, decides_there, refused_at}
+use Rattle.op_parse_code.specs.Refusal.{Phrase, SameHead, Refuses, out_of_memory, syntax, nested, left_out, in_grammar, decides_there, refused_at}
 use Rattle.op_parse_decl.specs.Refusal.{RefusesPart, decides_in_code}
 use Rattle.op_parse_code.specs.Whole.{Marked, NoMark}
 use Rattle.op_parse_code.specs.declared.error.ParseError.{ParseError}
@@ -38,7 +38,8 @@ pub refuses_part : {A : Type 0} {P : Phrase A} {d : ℕ} {end : Place} {ks : Lis
 refuses_part (out_of_memory x) = out_of_memory x
 refuses_part (syntax q x never) = syntax q x never
 refuses_part (nested q m x w never) = nested q m x (decides_in_code w) never
-refuses_part (left_out feature q x f) = left_out feature q x f
+refuses_part (left_out feature q m x f never) = left_out feature q m x f never
+refuses_part (in_grammar feature q x f) = in_grammar feature q x f
 
 -- ---- the same phrase in other words
 

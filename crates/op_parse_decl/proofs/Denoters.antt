@@ -4,9 +4,9 @@ use Rattle.op_base.specs.declared.place.Place.{Place}
 use Rattle.op_parse_code.proofs.Cuts.{same_not}
 use Rattle.op_parse_code.proofs.ExpressionKnown.{known_mark}
 use Rattle.op_parse_code.proofs.Lists.{Splits, list_item, list_close, list_more}
-use Rattle.op_parse_code.proofs.Refusing.{Some_, Seq, refuses_map, refuses_first, refuses_after, refuses_behind, refuses_inside, refuses_deeper, dead_here, no_mark_same}
+use Rattle.op_parse_code.proofs.Refusing.{Some_, Seq, refuses_map, refuses_first, refuses_after, refuses_behind, refuses_inside, refuses_deeper, form_told, dead_here, no_mark_same}
 use Rattle.op_parse_code.specs.Form.{BeginsProcedural, Form, is_procedural}
-use Rattle.op_parse_code.specs.Refusal.{SameHead, Refuses, syntax, nested, left_out, decides_there, refused_at}
+use Rattle.op_parse_code.specs.Refusal.{SameHead, Refuses, syntax, nested, decides_there, refused_at}
 use Rattle.op_parse_code.specs.Whole.{Marked, NoMark}
 use Rattle.op_parse_code.specs.declared.error.ParseError.{ParseError}
 use Rattle.op_parse_code.specs.declared.mark.Mark.TheVariants as mark
@@ -73,8 +73,8 @@ no_room t ks r f = elim f [ ]
 pub denoter_too_deep : (d : ℕ) (end : Place) (ks : List Terminal) (e : ParseError) → d ≡ 0 → e ≡ refused_at 61 0 end ks → Refuses SomeDenoter d end ks e
 denoter_too_deep d end ks e z x = subst (λ (w : ℕ). Refuses SomeDenoter w end ks e) (sym z) (nested ks ks x decides_there (dead_here (SomeDenoter 0) ks (λ t ls r s f. no_room t ls r f.0)))
 
-pub denoter_form : (d : ℕ) (end : Place) (feature : ℕ) (k : TokenKind) (p : Position) (ks : List Terminal) (e : ParseError) → ((p : Position) (r : List Terminal) → Form feature (k at p ∷ r) (k at p ∷ r)) → e ≡ refused_at 13 feature end (k at p ∷ ks) → Refuses SomeDenoter d end (k at p ∷ ks) e
-denoter_form d end feature k p ks e form x = left_out feature (k at p ∷ ks) x ([], k at p ∷ ks, refl, form p ks)
+pub denoter_form : (d : ℕ) (end : Place) (feature : ℕ) (k : TokenKind) (p : Position) (ks : List Terminal) (e : ParseError) → begins_denoter k ≡ false → ((p : Position) (r : List Terminal) → Form feature (k at p ∷ r) (k at p ∷ r)) → e ≡ refused_at 13 feature end (k at p ∷ ks) → Refuses SomeDenoter d end (k at p ∷ ks) e
+denoter_form d end feature k p ks e none form x = form_told (refused_at 9 0 end (k at p ∷ ks)) refl ([], k at p ∷ ks, refl, form p ks) x (denoter_none d end (k at p ∷ ks) (refused_at 9 0 end (k at p ∷ ks)) none refl)
 
 procedural_none : (k : TokenKind) → BeginsProcedural k → begins_denoter k ≡ false
 procedural_none kind.Procedure h = refl
@@ -85,7 +85,7 @@ pub denoter_no_procedural : (d : ℕ) (end : Place) (k : TokenKind) (p : Positio
 denoter_no_procedural d end k p ks e h x = denoter_none d end (k at p ∷ ks) e (procedural_none k h) x
 
 pub denoter_procedural : (d : ℕ) (end : Place) (k : TokenKind) (p : Position) (ks : List Terminal) (e : ParseError) → BeginsProcedural k → IsProcedural (k at p ∷ ks) → e ≡ refused_at 13 6 end (k at p ∷ ks) → Refuses SomeDenoter d end (k at p ∷ ks) e
-denoter_procedural d end k p ks e h (t, k', q, r, is, none) x = left_out 6 (k at p ∷ ks) x ([], k at p ∷ ks, refl, subst (λ z. Form 6 (k at p ∷ z) (k at p ∷ z)) (sym (ap behind is)) (is_procedural h none))
+denoter_procedural d end k p ks e h (t, k', q, r, is, none) x = form_told (refused_at 9 0 end (k at p ∷ ks)) refl ([], k at p ∷ ks, refl, subst (λ z. Form 6 (k at p ∷ z) (k at p ∷ z)) (sym (ap behind is)) (is_procedural h none)) x (denoter_no_procedural d end k p ks (refused_at 9 0 end (k at p ∷ ks)) h refl)
 
 -- ---- the rest of a type behind its first token
 

@@ -1,16 +1,17 @@
 -- Refusals of enumerations of several values.
-use Rattle.std.proofs.Common.{◌≡◌, ℕ, suc, true, List, [], ◌∷◌, ◌++◌, append_assoc, refl, sym, ap, ◌∙◌, subst, arith}
+use Rattle.std.proofs.Common.{◌≡◌, ℕ, suc, Bool, true, false, List, [], ◌∷◌, ◌++◌, append_assoc, refl, sym, ap, ◌∙◌, subst, arith}
 use Rattle.op_base.specs.declared.place.Place.{Place}
 use Rattle.op_parse_code.proofs.Cuts.{cut_seen, same_behind}
-use Rattle.op_parse_code.proofs.Refusing.{Seq, dead_here, with_token, with_front, refuses_first, refuses_after}
+use Rattle.op_parse_code.proofs.Refusing.{Seq, dead_here, form_told, no_mark_refuses, with_token, with_token_in_grammar, with_front, with_front_in_grammar, refuses_first, refuses_after}
 use Rattle.op_parse_code.proofs.ExpressionKnown.{known_mark}
-use Rattle.op_parse_code.specs.Form.{Form, is_given_value}
-use Rattle.op_parse_code.specs.Refusal.{Phrase, SameHead, Dead, Refuses, out_of_memory, syntax, nested, left_out, decides_there, refused_at}
+use Rattle.op_parse_code.specs.Form.{Form, GivesValue, HasForm, gives_by_assign, gives_by_equal, is_given_value}
+use Rattle.op_parse_code.specs.Refusal.{Phrase, SameHead, Dead, Refuses, out_of_memory, syntax, nested, left_out, in_grammar, decides_there, refused_at}
 use Rattle.op_parse_code.specs.Whole.{Marked, NoMark}
 use Rattle.op_parse_code.specs.declared.error.ParseError.{ParseError}
 use Rattle.op_parse_code.specs.declared.mark.Mark.TheVariants as mark
 use Rattle.op_parse_decl.proofs.Bounds.{no_list}
 use Rattle.op_parse_decl.proofs.Combining.{head_of}
+use Rattle.op_parse_decl.specs.Known.{no_mark_by}
 use Rattle.op_parse_decl.specs.KnownTypes.{known_names}
 use Rattle.op_parse_decl.specs.Opening.{GivesAValue, lists_names}
 use Rattle.op_parse_decl.specs.Types.{SomeNames, SomeBounded, NoMoreType}
@@ -126,7 +127,8 @@ in_brackets : (d : ℕ) (end : Place) (p : Position) (rest : List Terminal) (e :
 in_brackets d end p rest e h (out_of_memory x) = out_of_memory x
 in_brackets d end p rest e h (syntax q x never) = syntax q x (λ d'. dead_names d' p rest q h (never d'))
 in_brackets d end p rest e h (nested q z x w never) = nested q z x w (dead_names d p rest z h never)
-in_brackets d end p rest e h (left_out feature q x f) = left_out feature q x (with_token (kind.OpenParenthesis at p) f)
+in_brackets d end p rest e h (left_out feature q m x f never) = left_out feature q m x (with_token (kind.OpenParenthesis at p) f) (λ d'. dead_names d' p rest m h (never d'))
+in_brackets d end p rest e h (in_grammar feature q x f) = in_grammar feature q x (with_token_in_grammar (kind.OpenParenthesis at p) f)
 
 open_kind : (k : TokenKind) (p : Position) (rest : List Terminal) → lists_names (k at p ∷ rest) ≡ true → k at p ∷ rest ≡ kind.OpenParenthesis at p ∷ rest
 open_kind k p rest h = let f = listing (k at p ∷ rest) h in ap (λ z. z at p ∷ rest) (ap (λ z. z.kind) (head_of f.is))
@@ -135,10 +137,6 @@ pub enumeration_names : (d : ℕ) (end : Place) (k : TokenKind) (p : Position) (
 enumeration_names d end k p rest e h f =
     let is = open_kind k p rest h in
     subst (λ z. Refuses SomeBounded d end z e) (sym is) (in_brackets d end p rest e (subst (λ (z : List Terminal). lists_names z ≡ true) is h) f)
-
-pub enumeration_form : (d : ℕ) (end : Place) (k : TokenKind) (p : Position) (ns : List Name) (rest m : List Terminal) (e : ParseError) → lists_names (k at p ∷ rest) ≡ true → SomeNames d ns rest m → GivesAValue m → e ≡ refused_at 13 31 end m → Refuses SomeBounded d end (k at p ∷ rest) e
-enumeration_form d end k p ns rest m e h f (k', q, r, is, g) x =
-    left_out 31 m x ([], k at p ∷ rest, refl, subst (λ z. Form 31 z m) (sym (open_kind k p rest h)) (subst (λ z. Form 31 (kind.OpenParenthesis at p ∷ rest) z) (sym is) (is_given_value g (subst (λ z. AreNames ns rest z) is f.0))))
 
 pub enumeration_whole : (d i : ℕ) (k : TokenKind) (p q : Position) (ns : List Name) (rest m r : List Terminal) → lists_names (k at p ∷ rest) ≡ true → d ≡ suc i → SomeNames d ns rest m → m ≡ kind.CloseParenthesis at q ∷ r → StopsDenoter r → SomeBounded d (enumeration p ns) (k at p ∷ rest) r
 enumeration_whole d i k p q ns rest m r h z f c st = subst (λ w. SomeBounded d (enumeration p ns) w r) (sym (open_kind k p rest h)) (subst (λ (w : ℕ). SomeBounded w (enumeration p ns) (kind.OpenParenthesis at p ∷ rest) r) (sym z) (is_enumeration (are_bracketed_names (subst (λ w. AreNames ns rest w) c f.0)), st))
@@ -182,10 +180,14 @@ in_list : (d : ℕ) (end : Place) (p : Position) (ns : List Name) (rest m : List
 in_list d end p ns rest m e h f (out_of_memory x) = out_of_memory x
 in_list d end p ns rest m e h f (syntax q x never) = syntax q x (λ d'. dead_close d d' p ns rest m q h f (never d'))
 in_list d end p ns rest m e h f (nested q z x w never) = nested q z x w (dead_close d d p ns rest m z h f never)
-in_list d end p ns rest m e h f (left_out feature q x g) =
+in_list d end p ns rest m e h f (left_out feature q z x g never) =
     let w = known_names.front d ns rest m f in
     let s = cut_seen w.1 in
-    left_out feature q x (with_token (kind.OpenParenthesis at p) (with_front s.0 (w.2 ∙ s.1 m) g))
+    left_out feature q z x (with_token (kind.OpenParenthesis at p) (with_front s.0 (w.2 ∙ s.1 m) g)) (λ d'. dead_close d d' p ns rest m z h f (never d'))
+in_list d end p ns rest m e h f (in_grammar feature q x g) =
+    let w = known_names.front d ns rest m f in
+    let s = cut_seen w.1 in
+    in_grammar feature q x (with_token_in_grammar (kind.OpenParenthesis at p) (with_front_in_grammar s.0 (w.2 ∙ s.1 m) g))
 
 behind_names : (d : ℕ) (end : Place) (k : TokenKind) (p : Position) (ns : List Name) (rest m : List Terminal) (e : ParseError) → lists_names (k at p ∷ rest) ≡ true → SomeNames d ns rest m → Refuses Close d end m e → Refuses SomeBounded d end (k at p ∷ rest) e
 behind_names d end k p ns rest m e h f g =
@@ -197,3 +199,22 @@ enumeration_open d end k p ns rest m e h f g = behind_names d end k p ns rest m 
 
 pub enumeration_goes_on : (d : ℕ) (end : Place) (k : TokenKind) (p q : Position) (ns : List Name) (rest m r : List Terminal) (e : ParseError) → lists_names (k at p ∷ rest) ≡ true → SomeNames d ns rest m → m ≡ kind.CloseParenthesis at q ∷ r → Refuses NoMoreType d end r e → Refuses SomeBounded d end (k at p ∷ rest) e
 enumeration_goes_on d end k p q ns rest m r e h f is g = behind_names d end k p ns rest m e h f (refuses_after (Marked mark.CloseParenthesis) NoMoreType d end q m r e (known_mark mark.CloseParenthesis) is g)
+
+-- ---- a value with a number
+
+abbrev is_close : TokenKind → Bool
+is_close kind.CloseParenthesis = true
+is_close other = false
+
+gives_no_close : {k : TokenKind} → GivesValue k → is_close k ≡ false
+gives_no_close gives_by_equal = refl
+gives_no_close gives_by_assign = refl
+
+pub enumeration_form : (d : ℕ) (end : Place) (k : TokenKind) (p : Position) (ns : List Name) (rest m : List Terminal) (e : ParseError) → lists_names (k at p ∷ rest) ≡ true → SomeNames d ns rest m → GivesAValue m → e ≡ refused_at 13 31 end m → Refuses SomeBounded d end (k at p ∷ rest) e
+enumeration_form d end k p ns rest m e h f (k', q, r, is, g) x = form_told (refused_at 9 0 end m) refl form x (enumeration_open d end k p ns rest m (refused_at 9 0 end m) h f (no_mark_refuses mark.CloseParenthesis d end m (refused_at 9 0 end m) none refl))
+  where
+    none : NoMark mark.CloseParenthesis m
+    none = subst (NoMark mark.CloseParenthesis) (sym is) (no_mark_by mark.CloseParenthesis is_close refl (gives_no_close g))
+
+    form : HasForm 31 (k at p ∷ rest) m
+    form = ([], k at p ∷ rest, refl, subst (λ z. Form 31 z m) (sym (open_kind k p rest h)) (subst (λ z. Form 31 (kind.OpenParenthesis at p ∷ rest) z) (sym is) (is_given_value g (subst (λ z. AreNames ns rest z) is f.0))))

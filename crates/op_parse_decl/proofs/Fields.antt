@@ -2,11 +2,13 @@
 use Rattle.std.proofs.Common.{◌≡◌, ℕ, Bool, List, [], ◌∷◌, ◌++◌, refl, sym, ap, ◌∙◌, subst}
 use Rattle.op_base.specs.declared.place.Place.{Place}
 use Rattle.op_parse_code.proofs.ExpressionKnown.{known_mark}
-use Rattle.op_parse_code.proofs.Refusing.{Some_, Seq, refuses_map, refuses_first, refuses_after, refuses_behind, no_mark_same}
-use Rattle.op_parse_code.specs.Refusal.{SameHead, Refuses, left_out, refused_at}
+use Rattle.op_parse_code.proofs.Names.{no_name_refuses}
+use Rattle.op_parse_code.proofs.Refusing.{Some_, Seq, form_told, refuses_map, refuses_first, refuses_after, refuses_behind, no_mark_same}
+use Rattle.op_parse_code.specs.Refusal.{SameHead, Refuses, refused_at}
 use Rattle.op_parse_code.specs.Whole.{Marked, NoMark}
 use Rattle.op_parse_code.specs.declared.error.ParseError.{ParseError}
 use Rattle.op_parse_code.specs.declared.mark.Mark.TheVariants as mark
+use Rattle.op_parse_decl.proofs.NameLists.{naming_item, naming_none}
 use Rattle.op_parse_decl.specs.KnownTypes.{known_names, known_fields, known_record}
 use Rattle.op_parse_decl.specs.Opening.{IsFormOfRecord}
 use Rattle.op_parse_decl.specs.Types.{SomeNames, SomeDenoter, SomeStructure, FieldsBefore, RecordFields, record_fields, SomeFields, NoMoreType}
@@ -84,11 +86,14 @@ in_record d end all e h q = refuses_behind FieldsBefore RecordFields d end (kind
 pub fielding_ends : (d : ℕ) (end : Place) (all rest : List Terminal) (xs : List Fields) (p : Position) (r : List Terminal) → Fielding d end all xs rest → rest ≡ kind.End at p ∷ r → FieldsBefore d (field_lists_of xs) all r
 fielding_ends d end all rest xs p r so_far is = (p, subst (λ z. AreFieldLists d z all (kind.End at p ∷ r)) (lists_none xs) (so_far.completes no_fields (kind.End at p ∷ r) (subst (λ z. AreFieldLists d no_fields z (kind.End at p ∷ r)) (sym is) are_no_fields)))
 
-pub fielding_form : (d : ℕ) (end : Place) (all rest : List Terminal) (xs : List Fields) (feature : ℕ) (e : ParseError) → Fielding d end all xs rest → IsFormOfRecord feature rest → e ≡ refused_at 13 feature end rest → (q : Position) → Refuses RecordFields d end (kind.Record at q ∷ all) e
-fielding_form d end all rest xs feature e so_far form x q = left_out feature rest x ([], kind.Record at q ∷ all, refl, form d (lists_before xs no_fields) q all (so_far.completes no_fields rest are_no_fields))
-
 pub fielding_fields : (d : ℕ) (end : Place) (all rest : List Terminal) (xs : List Fields) (e : ParseError) → Fielding d end all xs rest → NoMark mark.End rest → Refuses SomeFields d end rest e → (q : Position) → Refuses RecordFields d end (kind.Record at q ∷ all) e
 fielding_fields d end all rest xs e so_far none h = in_record d end all e (so_far.dies e (refuses_map (Seq SomeFields Behind) FieldsBefore d end rest e (into_lists rest none) (refuses_first SomeFields Behind d end rest e h)))
+
+pub fielding_form : (d : ℕ) (end : Place) (all rest : List Terminal) (xs : List Fields) (feature : ℕ) (e : ParseError) → Fielding d end all xs rest → NoMark mark.End rest → IsFormOfRecord feature rest → e ≡ refused_at 13 feature end rest → (q : Position) → Refuses RecordFields d end (kind.Record at q ∷ all) e
+fielding_form d end all rest xs feature e so_far none (no_name, form) x q = form_told syntax_there refl ([], kind.Record at q ∷ all, refl, form d (lists_before xs no_fields) q all (so_far.completes no_fields rest are_no_fields)) x (fielding_fields d end all rest xs syntax_there so_far none (fields_names d end rest syntax_there (naming_item d end rest rest [] syntax_there (naming_none rest) (no_name_refuses d end rest syntax_there no_name refl))) q)
+  where
+    syntax_there : ParseError
+    syntax_there = refused_at 9 0 end rest
 
 behind_dies : (d : ℕ) (end : Place) (rest m : List Terminal) (x : List Name × Denoter) (e : ParseError) → NoMark mark.End rest → SomeFields d x rest m → Refuses Behind d end m e → Refuses FieldsBefore d end rest e
 behind_dies d end rest m x e none f h = refuses_map (Seq SomeFields Behind) FieldsBefore d end rest e (into_lists rest none) (refuses_after SomeFields Behind d end x rest m e known_fields f h)

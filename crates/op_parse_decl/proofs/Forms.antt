@@ -27,10 +27,14 @@ pub short_string_form : (k : TokenKind) (p q : Position) (m r : List Terminal) �
 short_string_form k p q m r h is = ([], k at p ∷ m, refl, subst (λ z. Form 3 (z at p ∷ m) (z at p ∷ m)) (sym h) (subst (λ z. Form 3 (kind.String at p ∷ z) (kind.String at p ∷ z)) (sym is) is_short_string))
 
 pub variant_form : (p : Position) (r : List Terminal) (k : TokenKind) → k ≡ kind.Case → IsFormOfRecord 9 (k at p ∷ r)
-variant_form p r k h = λ d fs q ks f. subst (λ z. Form 9 (kind.Record at q ∷ ks) (z at p ∷ r)) (sym h) (is_variant (subst (λ z. AreFieldLists d fs ks (z at p ∷ r)) h f))
+variant_form p r k h = (subst (λ (z : TokenKind). is_identifier z ≡ false) (sym h) refl, λ d fs q ks f. subst (λ z. Form 9 (kind.Record at q ∷ ks) (z at p ∷ r)) (sym h) (is_variant (subst (λ z. AreFieldLists d fs ks (z at p ∷ r)) h f)))
+
+routine_no_name : (k : TokenKind) (sort : RoutineKind) → routine_kind_of k ≡ Some sort → is_identifier k ≡ false
+routine_no_name (kind.Identifier text) sort h = absurd cc
+routine_no_name other sort h = refl
 
 pub method_form : (p : Position) (r : List Terminal) (k : TokenKind) (sort : RoutineKind) → routine_kind_of k ≡ Some sort → IsFormOfRecord 10 (k at p ∷ r)
-method_form p r k sort h = λ d fs q ks f. is_record_method h f
+method_form p r k sort h = (routine_no_name k sort h, λ d fs q ks f. is_record_method h f)
 
 pub procedural_pair : (t : Terminal) (k : TokenKind) (p : Position) (ks m r : List Terminal) → ks ≡ t ∷ m → m ≡ k at p ∷ r → is_identifier k ≡ false → IsProcedural ks
 procedural_pair t k p ks m r e e1 h = (t, k, p, r, e ∙ ap (λ z. t ∷ z) e1, λ text g. true_false (subst (λ (z : TokenKind). is_identifier z ≡ false) g h))

@@ -7,7 +7,7 @@ use Rattle.op_parse_code.proofs.Names.{none_left, word_kind}
 use Rattle.op_parse_code.proofs.Refusing.{Some_, dead_here, no_mark_same, refuses_behind, refuses_map}
 use Rattle.op_parse_code.specs.Form.{Form, HasForm, is_array_of_const, is_default}
 use Rattle.op_parse_code.specs.Opening.{is_identifier, is_word}
-use Rattle.op_parse_code.specs.Refusal.{Phrase, SameHead, Dead, Refuses, out_of_memory, syntax, nested, left_out, refused_at}
+use Rattle.op_parse_code.specs.Refusal.{Phrase, SameHead, Dead, Refuses, out_of_memory, syntax, nested, left_out, in_grammar, refused_at}
 use Rattle.op_parse_decl.proofs.Combining.{refuses_part, same_sym, head_of}
 use Rattle.op_parse_decl.specs.Refusal.{RefusesPart}
 use Rattle.op_parse_code.specs.Whole.{NoMark}
@@ -109,7 +109,8 @@ by_value_refused : (d : ℕ) (end : Place) (ks : List Terminal) (e : ParseError)
 by_value_refused d end ks e m (out_of_memory x) = out_of_memory x
 by_value_refused d end ks e m (syntax q x never) = syntax q x (λ d'. dead_value d' ks q m (never d'))
 by_value_refused d end ks e m (nested q z x w never) = nested q z x w (dead_value d ks z m never)
-by_value_refused d end ks e m (left_out feature q x f) = left_out feature q x f
+by_value_refused d end ks e m (left_out feature q z x f never) = left_out feature q z x f (λ d'. dead_value d' ks z m (never d'))
+by_value_refused d end ks e m (in_grammar feature q x f) = in_grammar feature q x f
 
 pub moded_refused : (m : ParameterMode) (d : ℕ) (end : Place) (ks z : List Terminal) (e : ParseError) → SomeMode m ks z → RefusesPart Named d end z e → RefusesPart SomeModed d end ks e
 moded_refused mode.Value d end ks z e m h = by_value_refused d end ks e (refl, m.1, m.2, m.3) (subst (λ y. RefusesPart Named d end y e) (sym m.0) h)

@@ -8,8 +8,8 @@ use Rattle.op_parse_code.proofs.Factors.{designated_refuses, factor_designated}
 use Rattle.op_parse_code.proofs.Cuts.{IsCut, cut_one, cut_join, cut_none, cut_seen, same_behind, same_not, same_refl}
 use Rattle.op_parse_code.proofs.ExpressionFronts.{front_chain}
 use Rattle.op_parse_code.proofs.ExpressionKnown.{known_chain}
-use Rattle.op_parse_code.proofs.Refusing.{Some_, Seq, suc_same, with_token, with_front, inside_seen, dead_here, refuses_map, refuses_first, refuses_after, refuses_behind, refuses_inside, refuses_deeper, no_mark_same}
-use Rattle.op_parse_code.specs.Refusal.{Phrase, SameHead, Dead, Decides, decides_there, Refuses, out_of_memory, syntax, nested, left_out, refused_at}
+use Rattle.op_parse_code.proofs.Refusing.{Some_, Seq, suc_same, with_token, with_token_in_grammar, with_front, with_front_in_grammar, inside_seen, dead_here, refuses_map, refuses_first, refuses_after, refuses_behind, refuses_inside, refuses_deeper, no_mark_same}
+use Rattle.op_parse_code.specs.Refusal.{Phrase, SameHead, Dead, Decides, decides_there, Refuses, out_of_memory, syntax, nested, left_out, in_grammar, refused_at}
 use Rattle.op_parse_decl.specs.Refusal.{DecidesInPart, RefusesPart, TellsList, decides_in_code, decides_in_list, tells_of_bracket, tells_of_name, tells_of_value}
 use Rattle.op_parse_code.specs.Whole.{Chain, Marked, NoMark, Operand, SomeSelectors}
 use Rattle.op_parse_code.specs.declared.error.ParseError.{ParseError}
@@ -143,17 +143,22 @@ after_first : (k i : ℕ) (a : Initial) (p : Position) (ks m : List Terminal) (e
 after_first k i a p ks m end e f (out_of_memory x) = out_of_memory x
 after_first k i a p ks m end e f (syntax q x never) = syntax q x (λ d'. dead_after_first k i d' a p ks m q f (never d'))
 after_first k i a p ks m end e f (nested q z x w never) = nested q z x w (dead_after_first k i (suc i) a p ks m z f never)
-after_first k i a p ks m end e (l, h, f) (left_out feature q x g) =
+after_first k i a p ks m end e (l, h, f) (left_out feature q z x g never) =
     let w = known_initial.front l a ks m f in
     let s = cut_seen w.1 in
-    left_out feature q x (with_token (kind.OpenParenthesis at p) (with_front s.0 (w.2 ∙ s.1 m) g))
+    left_out feature q z x (with_token (kind.OpenParenthesis at p) (with_front s.0 (w.2 ∙ s.1 m) g)) (λ d'. dead_after_first k i d' a p ks m z (l, h, f) (never d'))
+after_first k i a p ks m end e (l, h, f) (in_grammar feature q x g) =
+    let w = known_initial.front l a ks m f in
+    let s = cut_seen w.1 in
+    in_grammar feature q x (with_token_in_grammar (kind.OpenParenthesis at p) (with_front_in_grammar s.0 (w.2 ∙ s.1 m) g))
 
 -- behind a token, at a depth that the outer one tells
 under : {A B : Type 0} (P : Phrase A) (Q : Phrase B) (n d : ℕ) (end : Place) (t : Terminal) (ks : List Terminal) (e : ParseError) → ((d' : ℕ) (b : B) (ls r : List Terminal) → Q d' b (t ∷ ls) r → (i : ℕ) × (d' ≡ d → i ≡ n) × Some_ P i ls) → RefusesPart P n end ks e → RefusesPart Q d end (t ∷ ks) e
 under P Q n d end t ks e h (out_of_memory x) = out_of_memory x
 under P Q n d end t ks e h (syntax q x never) = syntax q x (λ d'. let first = never n in (t ∷ first.0, ap (λ z. t ∷ z) first.1, λ ls b r s f. let w = h d' b (first.0 ++ ls) r f in inside_seen (P w.0) ks q first.0 first.1 (never w.0) ls w.2.0 w.2.1 s w.2.2))
 under P Q n d end t ks e h (nested q z x w (seen, same, never)) = nested q z x w (t ∷ seen, ap (λ y. t ∷ y) same, λ ls b r s f. let v = h d b (seen ++ ls) r f in never ls v.2.0 v.2.1 s (subst (λ (y : ℕ). P y v.2.0 (seen ++ ls) v.2.1) (v.1 refl) v.2.2))
-under P Q n d end t ks e h (left_out feature q x f) = left_out feature q x (with_token t f)
+under P Q n d end t ks e h (left_out feature q m x f never) = left_out feature q m x (with_token t f) (λ d'. let first = never n in (t ∷ first.0, ap (λ z. t ∷ z) first.1, λ ls b r s g. let w = h d' b (first.0 ++ ls) r g in inside_seen (P w.0) ks m first.0 first.1 (never w.0) ls w.2.0 w.2.1 s w.2.2))
+under P Q n d end t ks e h (in_grammar feature q x f) = in_grammar feature q x (with_token_in_grammar t f)
 
 dead_token : {A : Type 0} (P : A → List Terminal → List Terminal → Type 0) (t : Terminal) (ks : List Terminal) → ((a : A) (ls r : List Terminal) → P a (t ∷ ls) r → ⊥) → Dead P (t ∷ ks) (t ∷ ks)
 dead_token {A} P t ks h = dead_here P (t ∷ ks) at_head
@@ -193,7 +198,8 @@ item_refuses k i l a x p u ks m after end e h f is same g = by g
     by (out_of_memory y) = out_of_memory y
     by (syntax q y never) = absurd (dead_none (ValueOf whole.0) ks q x _ whole.2 (never whole.0))
     by (nested q n y w never) = nested q (kind.Comma at u ∷ after) y (decided q n w never) (dead_after_first k i (suc i) (value x) p ks (kind.Comma at u ∷ after) (kind.Comma at u ∷ after) whole (dead_token (After k (value x) ks (kind.Comma at u ∷ after) (suc i)) (kind.Comma at u) after (λ b ls r t. at_depth b ls r n never t)))
-    by (left_out feature q y z) = left_out feature q y (with_token (kind.OpenParenthesis at p) z)
+    by (left_out feature q n y z never) = absurd (dead_none (ValueOf whole.0) ks n x _ whole.2 (never whole.0))
+    by (in_grammar feature q y z) = in_grammar feature q y (with_token_in_grammar (kind.OpenParenthesis at p) z)
 
 -- an opening bracket that is too deep for a list or a record
 spent : (k i : ℕ) (a : Initial) (p : Position) (ks m after : List Terminal) (t : Terminal) (place : Place) (end : Place) (e : ParseError) → FitsRoom (room.Spent place) (suc k) i ks → Within (suc k) i a ks m → m ≡ t ∷ after → TellsList ks m → ((d l : ℕ) (ls : List Terminal) → Tail k d l a (t ∷ ls) → (n : ℕ) × (suc (suc n) + k ≡ suc d)) → e ≡ refused_at 61 0 place [] → RefusesPart (Within k) (suc i) end (kind.OpenParenthesis at p ∷ ks) e
@@ -312,7 +318,8 @@ expression_refuses : (k i : ℕ) (x : Expression) (p q : Position) (ks after : L
 expression_refuses k i x p q ks after end e f (out_of_memory y) = out_of_memory y
 expression_refuses k i x p q ks after end e f (syntax z y never) = syntax z y (λ d. dead_expression k d i x p q ks after z (value_inside (suc k) i x ks _ f).0 (never d) (never (suc i)))
 expression_refuses k i x p q ks after end e f (nested z m y w never) = nested z m y (decides_in_code w) (dead_expression k (suc i) i x p q ks after m (value_inside (suc k) i x ks _ f).0 never never)
-expression_refuses k i x p q ks after end e f (left_out feature z y g) = left_out feature z y g
+expression_refuses k i x p q ks after end e f (left_out feature z m y g never) = left_out feature z m y g (λ d. dead_expression k d i x p q ks after m (value_inside (suc k) i x ks _ f).0 (never d) (never (suc i)))
+expression_refuses k i x p q ks after end e f (in_grammar feature z y g) = in_grammar feature z y g
 
 pub expression_whole : (k d : ℕ) (x : Expression) (ks r : List Terminal) → SomeValue d x ks r → Within k d (value x) ks r
 expression_whole k d x ks r f = (suc d, refl, (is_value f.0, f.1))

@@ -13,6 +13,7 @@ pub mod Deeper
 pub mod Initials
 pub mod InitialLists
 pub mod Routines
+pub mod CodeForms
 pub mod DeclaredForms
 pub mod Files
 pub mod Leaves

@@ -3,8 +3,6 @@ use Rattle.std.proofs.Common.{◌≡◌, ℕ, List, [], ◌∷◌, ◌++◌, app
 use Rattle.std.proofs.lemmas.List.{append-nil}
 use Rattle.op_base.specs.declared.place.Place.{Place}
 use Rattle.op_parse_code.proofs.Refusing.{Some_, Seq, refuses_map, refuses_first, refuses_after}
-use Rattle.op_parse_code.specs.Form.{Form, is_inline}
-use Rattle.op_parse_code.specs.Refusal.{left_out, refused_at}
 use Rattle.op_parse_decl.specs.Refusal.{RefusesPart}
 use Rattle.op_parse_code.specs.declared.error.ParseError.{ParseError}
 use Rattle.op_parse_decl.specs.HeadingParts.{known_heading}
@@ -23,24 +21,17 @@ use Rattle.op_tree.specs.declared.position.Position.{Position}
 -- the directives that are read so far, and what is left
 pub record Directing (all : List Terminal) (ws : List Directive) (rest : List Terminal) : Type 0 where
   pub completes : (more : List Directive) (r : List Terminal) → AreDirectives more rest r → AreDirectives (ws ++ more) all r
-  pub seen : List Terminal
-  pub reaches : all ≡ seen ++ rest
 
 pub directing_none : (all : List Terminal) → Directing all [] all
-directing_none all = record { completes = λ more r x. x; seen = []; reaches = refl }
+directing_none all = record { completes = λ more r x. x }
 
 pub directing_more : (all rest m : List Terminal) (ws : List Directive) (w : Directive) → Directing all ws rest → IsDirective w rest m → Directing all (ws ++ (w ∷ [])) m
-directing_more all rest m ws w so_far (are_directives {word = word} {p = p} {q = q} e are_no_directives) = record {
+directing_more all rest m ws w so_far (are_directives e are_no_directives) = record {
   completes = λ more r f. subst (λ z. AreDirectives z all r) (sym (append_assoc ws (w ∷ []) more)) (so_far.completes (w ∷ more) r (are_directives e f));
-  seen = so_far.seen ++ (kind.Identifier word at p ∷ kind.Semicolon at q ∷ []);
-  reaches = so_far.reaches ∙ sym (append_assoc so_far.seen (kind.Identifier word at p ∷ kind.Semicolon at q ∷ []) m);
 }
 
 pub directing_ends : (d : ℕ) (all rest : List Terminal) (ws : List Directive) → Directing all ws rest → NoDirective rest → SomeDirectives d ws all rest
 directing_ends d all rest ws so_far none = (subst (λ z. AreDirectives z all rest) (append-nil ws) (so_far.completes [] rest are_no_directives), none)
-
-pub directing_inline : (d : ℕ) (end : Place) (all rest : List Terminal) (ws : List Directive) (p : Position) (r : List Terminal) (e : ParseError) → Directing all ws rest → rest ≡ kind.Inline at p ∷ r → e ≡ refused_at 13 17 end rest → RefusesPart SomeDirectives d end all e
-directing_inline d end all rest ws p r e so_far is x = left_out 17 rest x (so_far.seen, rest, so_far.reaches, subst (λ z. Form 17 z z) (sym is) is_inline)
 
 -- ---- a method
 

@@ -1,5 +1,5 @@
 -- What is left of a class, from the tokens behind a part of it on, up to its `end` and the semicolon behind it.
-use Rattle.std.specs.Prelude.{◌≡◌, ℕ, Bool, true, false, List, [], ◌∷◌, ◌++◌, Option, Some, None, map}
+use Rattle.std.specs.Prelude.{◌≡◌, ℕ, Bool, true, false, List, [], ◌∷◌, ◌++◌, Option, Some, None, codes, map}
 use Rattle.op_base.specs.declared.place.Place.{Place}
 use Rattle.op_parse_code.specs.Form.{Form}
 use Rattle.op_parse_code.specs.Refusal.{Phrase}
@@ -17,7 +17,7 @@ use Rattle.op_tree.specs.DenoterGrammar.{IsDenoter}
 use Rattle.op_tree.specs.Ends.{IsNot, NoDirective}
 use Rattle.op_tree.specs.HeadingGrammar.{IsClassBody, IsMember, IsProperty, directive_of, visibility_of}
 use Rattle.op_tree.specs.NameGrammar.{AreNames, IsName}
-use Rattle.op_tree.specs.Terminal.{Terminal, ◌at◌}
+use Rattle.op_tree.specs.Terminal.{Terminal, ◌at◌, IsWord}
 use Rattle.op_tree.specs.declared.class.Visibility.{Visibility}
 use Rattle.op_tree.specs.declared.heading.Directive.{Directive}
 use Rattle.op_tree.specs.declared.position.Name.{Name}
@@ -113,6 +113,10 @@ begins_resolution other = false
 abbrev pub Resolves : List Terminal → List Terminal → Type 0
 Resolves ks form = (n : Name) × (p q : Position) × (ls r : List Terminal) × (ks ≡ kind.Dot at p ∷ ls) × IsName n ls form × (form ≡ kind.Equal at q ∷ r)
 
+-- the word `default` and a semicolon stand at the front
+abbrev pub StandsDefault : List Terminal → Type 0
+StandsDefault ks = (word : List ℕ) × (p q : Position) × (r : List Terminal) × IsWord (codes "default") word × (ks ≡ kind.Identifier word at p ∷ kind.Semicolon at q ∷ r)
+
 -- where these tokens stand behind a property, it has this feature
 abbrev pub IsFormBehindProperty : ℕ → List Terminal → Type 0
-IsFormBehindProperty feature q = (d : ℕ) (a : Property) (ks : List Terminal) → IsProperty d a ks q → Form feature ks q
+IsFormBehindProperty feature q = StandsDefault q × ((d : ℕ) (a : Property) (ks : List Terminal) → IsProperty d a ks q → Form feature ks q)

@@ -1,5 +1,5 @@
 -- What the first token of a type tells.
-use Rattle.std.specs.Prelude.{◌≡◌, ℕ, Bool, true, false, ◌&&◌, ◌||◌, List, ◌∷◌}
+use Rattle.std.specs.Prelude.{◌≡◌, ℕ, Bool, true, false, ◌&&◌, ◌||◌, List, ◌∷◌, codes}
 use Rattle.op_parse_code.specs.Form.{BeginsProcedural, Form, GivesValue}
 use Rattle.op_parse_code.specs.Opening.{is_identifier}
 use Rattle.op_parse_decl.specs.declared.opening.DenoterOpening.{DenoterOpening}
@@ -8,8 +8,8 @@ use Rattle.op_scan.specs.declared.token.TokenKind.{TokenKind}
 use Rattle.op_scan.specs.declared.token.TokenKind.TheVariants as kind
 use Rattle.op_tree.specs.Denoter.{FieldLists}
 use Rattle.op_tree.specs.DenoterGrammar.{AreFieldLists}
-use Rattle.op_tree.specs.Ends.{begins_expression, begins_selector, binds, is_dot_dot}
-use Rattle.op_tree.specs.Terminal.{Terminal, ◌at◌}
+use Rattle.op_tree.specs.Ends.{IsNot, begins_expression, begins_selector, binds, is_dot_dot}
+use Rattle.op_tree.specs.Terminal.{Terminal, ◌at◌, IsWord}
 use Rattle.op_tree.specs.declared.operator.Level.TheVariants.{Additive, Relational}
 use Rattle.op_tree.specs.declared.position.Position.{Position}
 
@@ -37,7 +37,7 @@ OpensDenoter opens.Array k = k ≡ kind.Array
 OpensDenoter opens.Record k = k ≡ kind.Record
 OpensDenoter opens.Packed k = k ≡ kind.Packed
 OpensDenoter opens.Procedural k = BeginsProcedural k
-OpensDenoter (opens.LeftOut feature) k = (p : Position) (r : List Terminal) → Form feature (k at p ∷ r) (k at p ∷ r)
+OpensDenoter (opens.LeftOut feature) k = (begins_denoter k ≡ false) × ((p : Position) (r : List Terminal) → Form feature (k at p ∷ r) (k at p ∷ r))
 OpensDenoter opens.Nothing k = begins_denoter k ≡ false
 
 -- the tokens go on as behind the name of an enumeration's value that has a number
@@ -48,9 +48,13 @@ GivesAValue ks = (k : TokenKind) × (p : Position) × (r : List Terminal) × (ks
 abbrev pub IsProcedural : List Terminal → Type 0
 IsProcedural ks = (t : Terminal) × (k : TokenKind) × (p : Position) × (r : List Terminal) × (ks ≡ t ∷ k at p ∷ r) × ((text : List ℕ) → k ≡ kind.Identifier text → ⊥)
 
--- where these tokens stand behind fields of a record, it has this feature
+-- the tokens are these, and begin with the word `at`
+abbrev pub BeginsAt : List Terminal → List Terminal → Type 0
+BeginsAt ks form = (text : List ℕ) × (q : Position) × (r : List Terminal) × IsWord (codes "at") text × (ks ≡ kind.Identifier text at q ∷ r) × (form ≡ kind.Identifier text at q ∷ r)
+
+-- where these tokens stand behind fields of a record, it has this feature, and no fields begin so
 abbrev pub IsFormOfRecord : ℕ → List Terminal → Type 0
-IsFormOfRecord feature q = (d : ℕ) (fs : FieldLists) (p : Position) (ks : List Terminal) → AreFieldLists d fs ks q → Form feature (kind.Record at p ∷ ks) q
+IsFormOfRecord feature q = IsNot is_identifier q × ((d : ℕ) (fs : FieldLists) (p : Position) (ks : List Terminal) → AreFieldLists d fs ks q → Form feature (kind.Record at p ∷ ks) q)
 
 -- an opening bracket, a name and a comma stand at the front
 abbrev pub lists_names : List Terminal → Bool

@@ -8,7 +8,7 @@ ghost use Rattle.op_tree.specs.Terminal.{terminals};
 
 use crate::part::{Answer, Item, Part, Repeated, Setting, begins};
 use crate::sign::Sign;
-use op_parse_code::shared::{behind_mark, enter, left_out, syntax};
+use op_parse_code::shared::{behind_mark, enter, syntax, told};
 use op_scan::Token;
 use std::marker::PhantomData;
 
@@ -181,7 +181,7 @@ pub trait Form {
         ensures { IfSome result (λ feature. HasForm feature (terminals tokens.now) (terminals tokens.now)) };
 }
 
-/// A part, unless a form that is left out stands there.
+/// A part; where it is refused by rule 9 and a form that is left out stands there, that form.
 #[derive(Drop)]
 pub struct Unless<F: Form, A> {
     pub part: A,
@@ -198,12 +198,16 @@ impl<F: Form, A: Part> Part for Unless<F, A> {
     ghost least = { A.least };
 
     fn read<'a>(setting: Setting, tokens: &'a [Token]) -> Answer<'a, Unless<F, A>> {
-        if let Some(feature) = F::feature(tokens) {
-            return Err(left_out(feature, setting.end, tokens));
+        match A::read(setting, tokens) {
+            Ok((part, rest)) => {
+                let form = PhantomData;
+                Ok((Unless { part, form }, rest))
+            }
+            Err(error) => match F::feature(tokens) {
+                Some(feature) => Err(told(feature, setting.end, tokens, error)),
+                None => Err(error),
+            },
         }
-        let form = PhantomData;
-        let (part, rest) = A::read(setting, tokens)?;
-        Ok((Unless { part, form }, rest))
     }
 
     ghost known = { A.known };
@@ -218,7 +222,7 @@ pub trait FormBehind {
         ensures { IfSome result (λ feature. TellsBehind Self.Front.phrase feature (terminals tokens.now)) };
 }
 
-/// A part, and behind it another, unless a form that is left out shows there.
+/// A part, and behind it another; where that is refused by rule 9 and a form that is left out shows there, that form.
 #[derive(Drop)]
 pub struct Unbroken<F: FormBehind, A> {
     pub front: F::Front,
@@ -237,12 +241,16 @@ impl<F: FormBehind, A: Part> Part for Unbroken<F, A> {
 
     fn read<'a>(setting: Setting, tokens: &'a [Token]) -> Answer<'a, Unbroken<F, A>> {
         let (front, rest) = F::Front::read(setting, tokens)?;
-        if let Some(feature) = F::feature(rest) {
-            return Err(left_out(feature, setting.end, rest));
+        match A::read(setting, rest) {
+            Ok((part, behind)) => {
+                let form = PhantomData;
+                Ok((Unbroken { front, part, form }, behind))
+            }
+            Err(error) => match F::feature(rest) {
+                Some(feature) => Err(told(feature, setting.end, rest, error)),
+                None => Err(error),
+            },
         }
-        let form = PhantomData;
-        let (part, rest) = A::read(setting, rest)?;
-        Ok((Unbroken { front, part, form }, rest))
     }
 
     ghost known = { known_then F.Front.known A.known };

@@ -22,7 +22,7 @@ use crate::names::names;
 use crate::part::{Answer, Part, Setting, Stands};
 use crate::sign;
 use op_base::NoMemory;
-use op_parse_code::shared::{Mark, after_mark, behind_mark, is_identifier, left_out};
+use op_parse_code::shared::{Mark, after_mark, behind_mark, is_identifier, left_out, told};
 use op_scan::{Token, TokenKind};
 use op_tree::{
     Class, Fields, Member, Names, Property, Section, TypeDefinition, TypeDenoter, Visibility,
@@ -176,14 +176,16 @@ fn next_entry<'a>(setting: Setting, tokens: &'a [Token]) -> Answer<'a, Entry>
     ensures refused { IfErr result (RefusesRest setting.left setting.end (terminals tokens.now)) }
     ensures shorter { IfOk result (λ f. length f.1.now < length tokens.now) }
 {
-    if let Some((feature, form)) = form_of_member(tokens) {
-        return Err(left_out(feature, setting.end, form));
-    }
     if let Some((word, rest)) = visibility(tokens) {
         return Ok((Entry::Visibility(word), rest));
     }
-    let (member, rest) = member(setting, tokens)?;
-    Ok((Entry::Member(member), rest))
+    match member(setting, tokens) {
+        Ok((member, rest)) => Ok((Entry::Member(member), rest)),
+        Err(error) => match form_of_member(tokens) {
+            Some((feature, form)) => Err(told(feature, setting.end, form, error)),
+            None => Err(error),
+        },
+    }
 }
 
 /// The visibility whose word stands at the front. Where a comma or a colon follows, the word is a field's name.

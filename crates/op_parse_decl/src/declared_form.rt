@@ -6,16 +6,16 @@ ghost use Rattle.op_scan.specs.declared.token.TokenKind.TheVariants as kind;
 ghost use Rattle.op_tree.specs.Terminal.{◌at◌, terminals};
 ghost use Rattle.op_tree.specs.declared.position.Position.{Position};
 
-use op_parse_code::shared::{GENERIC, Mark, behind_mark, is_identifier, is_word};
+use op_parse_code::shared::{Mark, behind_mark, is_identifier, is_word};
 use op_scan::{Token, TokenKind};
 
 const METACLASS: u8 = 7;
 
 const OPERATOR: u8 = 13;
 
-const LABEL: u8 = 16;
+pub const GOTO_OR_LABEL: u8 = 16;
 
-const ASSEMBLY: u8 = 17;
+pub const ASSEMBLY: u8 = 17;
 
 const CLASS_MEMBER: u8 = 19;
 
@@ -29,6 +29,8 @@ const RESOURCE_STRING: u8 = 26;
 
 const THREAD_VARIABLE: u8 = 27;
 
+pub const GENERIC: u8 = 29;
+
 const LIBRARY_OR_EXPORTS: u8 = 30;
 
 pub const INTERFACE_PROPERTY: u8 = 36;
@@ -40,7 +42,7 @@ pub fn form_of_part(tokens: &[Token]) -> Option<u8>
     let (first, rest) = tokens.split_first()?;
     match &first.kind {
         TokenKind::Operator => Some(OPERATOR),
-        TokenKind::Label => Some(LABEL),
+        TokenKind::Label => Some(GOTO_OR_LABEL),
         TokenKind::Asm => Some(ASSEMBLY),
         TokenKind::Inline => Some(ASSEMBLY),
         TokenKind::Resourcestring => Some(RESOURCE_STRING),

@@ -22,7 +22,7 @@ use crate::stops::stop_type;
 use op_base::Place;
 use op_parse_code::ParseError;
 use op_parse_code::shared::{
-    Mark, after_mark, behind_mark, chain, enter, is_identifier, left_out, position_of, syntax,
+    Mark, after_mark, behind_mark, chain, enter, is_identifier, left_out, position_of, syntax, told,
 };
 use op_scan::Token;
 use op_tree::{Fields, Level, Position, TypeDenoter};
@@ -311,20 +311,8 @@ fn subrange_or_name<'a>(setting: Setting, tokens: &'a [Token]) -> Answer<'a, Typ
 fn or_form(error: ParseError, end: Place, tokens: &[Token]) -> ParseError
     ensures { (d : ℕ) → Refuses SomeBounded d end (terminals tokens.now) error → Refuses SomeBounded d end (terminals tokens.now) result }
 {
-    let Some((feature, form)) = form_of_bound(tokens) else {
-        return error;
-    };
-    match error {
-        ParseError::Refused(refusal) => {
-            if refusal.rule.number == SYNTAX {
-                left_out(feature, end, form)
-            } else {
-                ParseError::Refused(refusal)
-            }
-        }
-        ParseError::NoMemory => ParseError::NoMemory,
+    match form_of_bound(tokens) {
+        Some((feature, form)) => told(feature, end, form, error),
+        None => error,
     }
 }
-
-/// The number of the rule that no sentence goes on so.
-const SYNTAX: u8 = 9;

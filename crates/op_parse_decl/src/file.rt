@@ -11,13 +11,14 @@ ghost use Rattle.op_tree.specs.declared.file.ProgramHeading.{ProgramHeading};
 ghost use Rattle.op_tree.specs.declared.position.Name.{Name};
 
 use crate::choice::{Either, Empty, Fork, Unless};
+use crate::code_form::or_form_in_code;
 use crate::declared_form::form_of_file;
 use crate::leaf::{BracketedNames, Here, Statements};
 use crate::part::{Behind, Made, Part, Repeated, Setting, Stands};
 use crate::routine::{Block, InBlock, LeftOut};
 use crate::sign;
 use op_parse_code::ParseError;
-use op_parse_code::shared::{Mark, behind_mark, left_out, syntax};
+use op_parse_code::shared::{Mark, behind_mark, syntax, told};
 use op_scan::{Token, Tokens};
 use op_tree::{Declaration, Name, Names, Program, ProgramHeading, Stmt, Tree, Unit};
 use std::alloc::Global;
@@ -34,8 +35,8 @@ pub fn parse(alloc: Global, tokens: &Tokens) -> Result<Tree, ParseError>
     ensures spells { IfOk result (λ tree. Spells (file_of tree) (terminals tokens.now.list)) }
     // There is none, or a form that is left out.
     ensures refused { IfErr result (RefusesPart WholeFile 200 tokens.now.end (terminals tokens.now.list)) }
-    // No other tree does, and where one does the tokens are refused for a form that is left out alone.
-    ensures only { (file : File) → Spells file (terminals tokens.now.list) → MatchResult result (λ tree. file_of tree ≡ file) IsFree }
+    // No other tree does, and where one does the tokens are refused for a form of statements and expressions alone.
+    ensures only { (file : File) → Spells file (terminals tokens.now.list) → MatchResult result (λ tree. file_of tree ≡ file) (IsFree tokens.now.end (terminals tokens.now.list)) }
 {
     let setting = Setting {
         alloc,
@@ -49,9 +50,19 @@ fn file(setting: Setting, tokens: &[Token]) -> Result<Tree, ParseError>
     ensures whole { IfOk result (λ tree. IsFile setting.left (file_of tree) (terminals tokens.now) []) }
     ensures refused { IfErr result (RefusesPart WholeFile setting.left setting.end (terminals tokens.now)) }
 {
-    if let Some(feature) = form_of_file(tokens) {
-        return Err(left_out(feature, setting.end, tokens));
+    match unit_or_program(setting, tokens) {
+        Ok(tree) => Ok(tree),
+        Err(error) => match form_of_file(tokens) {
+            Some(feature) => Err(told(feature, setting.end, tokens, error)),
+            None => Err(or_form_in_code(setting, tokens, error)),
+        },
     }
+}
+
+fn unit_or_program(setting: Setting, tokens: &[Token]) -> Result<Tree, ParseError>
+    ensures whole { IfOk result (λ tree. IsFile setting.left (file_of tree) (terminals tokens.now) []) }
+    ensures refused { IfErr result (RefusesPart WholeFile setting.left setting.end (terminals tokens.now)) }
+{
     match behind_mark(Mark::Unit, tokens) {
         Some(_) => {
             let unit = whole(setting, tokens)?;

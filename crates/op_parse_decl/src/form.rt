@@ -15,8 +15,6 @@ const RECORD_METHOD: u8 = 10;
 
 pub const DEFAULT_PARAMETER: u8 = 14;
 
-pub const ASSEMBLY: u8 = 17;
-
 pub const ARRAY_OF_CONST: u8 = 18;
 
 const SHORT_STRING: u8 = 3;

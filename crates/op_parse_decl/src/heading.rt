@@ -12,10 +12,9 @@ ghost use Rattle.op_tree.specs.Terminal.{terminals};
 ghost use Rattle.op_tree.specs.declared.heading.RoutineKind.{RoutineKind};
 ghost use Rattle.op_tree.specs.declared.position.Name.{Name};
 
-use crate::form::ASSEMBLY;
 use crate::part::{Answer, Behind, Made, Part, Setting, Stands};
 use crate::sign;
-use op_parse_code::shared::{Mark, behind_mark, left_out, syntax};
+use op_parse_code::shared::{Mark, behind_mark, syntax};
 use op_scan::{Token, TokenKind};
 use op_tree::{Directive, Directives, Heading, Method, Name, Parameters, RoutineKind, TypeDenoter};
 use std::alloc::Global;
@@ -150,7 +149,7 @@ pub fn method<'a>(setting: Setting, tokens: &'a [Token]) -> Answer<'a, Method>
     ))
 }
 
-/// All directives at the front. The word `inline` is a form that is left out.
+/// All directives at the front.
 pub fn directives<'a>(setting: Setting, tokens: &'a [Token]) -> Answer<'a, Directives>
     ensures whole { IfOk result (λ f. (d : ℕ) → SomeDirectives d f.0 (terminals tokens.now) (terminals f.1.now)) }
     ensures refused { IfErr result (λ e. (d : ℕ) → RefusesPart SomeDirectives d setting.end (terminals tokens.now) e) }
@@ -162,10 +161,7 @@ pub fn directives<'a>(setting: Setting, tokens: &'a [Token]) -> Answer<'a, Direc
         directives.push(directive)?;
         rest = behind;
     }
-    match behind_mark(Mark::Inline, rest) {
-        Some(_) => Err(left_out(ASSEMBLY, setting.end, rest)),
-        None => Ok((Directives::from(directives), rest)),
-    }
+    Ok((Directives::from(directives), rest))
 }
 
 /// The directive at the front, and what stands behind its semicolon.

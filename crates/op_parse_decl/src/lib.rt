@@ -6,6 +6,7 @@
 
 mod choice;
 mod class;
+mod code_form;
 mod declaration;
 mod declared_form;
 mod denoter;

@@ -17,10 +17,7 @@ use crate::names::qualified;
 use crate::part::{Answer, Behind, Made, Part, Separated, Setting, Stands};
 use crate::sign;
 use crate::stops::no_dot;
-use op_parse_code::shared::{
-    GENERIC, Mark, behind_mark, is_identifier, is_specialized, is_word, left_out, position_of,
-    syntax,
-};
+use op_parse_code::shared::{Mark, behind_mark, is_identifier, is_word, position_of, syntax};
 use op_scan::{Token, TokenKind};
 use op_tree::{Names, Parameter, ParameterMode, ParameterType, Parameters};
 use std::alloc::Global;
@@ -112,9 +109,6 @@ impl Part for ParameterType {
             let position = position_of(first);
             return Ok((ParameterType::String { position }, rest));
         }
-        if is_specialized(tokens) {
-            return Err(left_out(GENERIC, setting.end, tokens));
-        }
         let (name, rest) = qualified(setting, tokens)?;
         Ok((ParameterType::Named(name), rest))
     }
@@ -132,10 +126,7 @@ fn is_string(kind: &TokenKind) -> bool
 impl Made for Parameter {
     type Parts = (
         Moded,
-        (
-            Unless<ArrayOfConst, Behind<sign::Array, Stands<sign::Of>>>,
-            ParameterType,
-        ),
+        Unless<ArrayOfConst, (Behind<sign::Array, Stands<sign::Of>>, ParameterType)>,
     );
 
     ghost Said = { Parameter };
@@ -145,9 +136,10 @@ impl Made for Parameter {
     ghost phrase = { SomeParameter };
 
     #[tactic(auto, using(crate::specs::HeadingParts::closed_of_parts, crate::specs::HeadingParts::open_of_parts))]
-    fn of(_alloc: Global, (moded, (array, of)): Self::Parts) -> Parameter {
+    fn of(_alloc: Global, (moded, typed): Self::Parts) -> Parameter {
         let Moded { mode, names } = moded;
-        match array.part.part {
+        let (array, of) = typed.part;
+        match array.part {
             None => Parameter {
                 mode,
                 names,

@@ -6,7 +6,7 @@ use Rattle.op_parse_code.proofs.ExpressionLists.{element_first, element_last, ar
 use Rattle.op_parse_code.proofs.Lists.{listed_item, listed_close, listed_more, listed_ends}
 use Rattle.op_parse_code.proofs.Factors.{factor_none, factor_number, factor_nil, set_too_deep, set_refuses, factor_set, literal_refuses, factor_literal, inherited_refuses, factor_inherited, prefix_refuses, prefix_too_deep, factor_prefix, designated_refuses, factor_designated}
 use Rattle.op_parse_code.proofs.Names.{empty_not}
-use Rattle.op_parse_code.specs.Refusal.{out_of_memory, left_out}
+use Rattle.op_parse_code.specs.Refusal.{out_of_memory}
 use Rattle.op_parse_code.specs.Whole.{closes_set, some_inside, arguments_inside}
 use Rattle.op_tree.specs.Ends.{begins_designator, begins_expression}
 use Rattle.op_parse_code.proofs.+expression.Goals as goal
@@ -81,9 +81,6 @@ designator::designator-returns-clause-whole t c = rw c.fitted-selectors.ensures 
 pub designator::root-returns-in_default-clause-refused : goal.designator::root-returns-in_default-clause-refused
 designator::root-returns-in_default-clause-refused t c = root_none c.args.left c.args.end _ _ (empty_not begins_designator c.args.tokens.now c.in_default.ensures.cases) c.syntax.ensures
 
-pub designator::root-returns-then-is_specialized-clause-refused : goal.designator::root-returns-then-is_specialized-clause-refused
-designator::root-returns-then-is_specialized-clause-refused t c = left_out 29 _ c.left_out.ensures (c.is_specialized.ensures c.if-is_specialized.true)
-
 pub designator::root-returns-in_err-name-in-Name-clause-refused : goal.designator::root-returns-in_err-name-in-Name-clause-refused
 designator::root-returns-in_err-name-in-Name-clause-refused t c = passed c.from_residual.result c.from_residual.ensures.1 (λ y e. rw e (root_misses_name c.args.left c.args.end _ _ (rw (c.in-Some.ensures.cases.0, c.in-Name.ensures) refl) (c.in_err-name-in-Name.ensures.refused c.args.left)))
 
@@ -152,9 +149,6 @@ designator::selectors-returns-clause-whole t c = selecting_ends c.args.left c.ar
 pub factor::factor-returns-in_default-clause-refused : goal.factor::factor-returns-in_default-clause-refused
 factor::factor-returns-in_default-clause-refused t c = factor_none c.args.left c.args.end _ _ (empty_not begins_expression c.args.tokens.now c.in_default.ensures.cases) c.syntax.ensures
 
-pub factor::factor-returns-then-is_fraction-clause-refused : goal.factor::factor-returns-then-is_fraction-clause-refused
-factor::factor-returns-then-is_fraction-clause-refused t c = left_out 1 _ c.left_out.ensures (c.is_fraction.ensures c.if-is_fraction.true)
-
 pub factor::factor-returns-in_err-inner-in-Set-clause-refused : goal.factor::factor-returns-in_err-inner-in-Set-clause-refused
 factor::factor-returns-in_err-inner-in-Set-clause-refused t c = passed c.from_residual.result c.from_residual.ensures.1 (λ y e. rw (e, c.in-Some.ensures.cases.0) (set_too_deep c.args.left c.args.end _ _ _ _ c.in-Set.ensures c.in_err-inner-in-Set.ensures.refused.0 (rw c.in-Some.ensures.cases.0 at c.in_err-inner-in-Set.ensures.refused.1)))
 
@@ -182,8 +176,8 @@ factor::factor-returns-in_err-factor-in-Prefix-clause-refused t c = passed c.fro
 pub factor::factor-returns-in_err-designator-in-Designator-clause-refused : goal.factor::factor-returns-in_err-designator-in-Designator-clause-refused
 factor::factor-returns-in_err-designator-in-Designator-clause-refused t c = passed c.from_residual-in_err-designator-in-Designator.result c.from_residual-in_err-designator-in-Designator.ensures.1 (λ y e. rw e (designated_refuses c.args.left c.args.end _ _ (rw c.in-Some.ensures.cases.0 c.in-Designator.ensures) c.in_err-designator-in-Designator.ensures.refused))
 
-pub factor::factor-returns-else-is_fraction-clause-whole : goal.factor::factor-returns-else-is_fraction-clause-whole
-factor::factor-returns-else-is_fraction-clause-whole t c = rw (c.position_of-position.ensures, c.in-Some.ensures.cases.0) (factor_number c.args.left _ _ _ _ c.in-Number.ensures)
+pub factor::factor-returns-in-Number-clause-whole : goal.factor::factor-returns-in-Number-clause-whole
+factor::factor-returns-in-Number-clause-whole t c = rw (c.position_of-position.ensures, c.in-Some.ensures.cases.0) (factor_number c.args.left _ _ _ _ c.in-Number.ensures)
 
 pub factor::factor-returns-in-Nil-clause-whole : goal.factor::factor-returns-in-Nil-clause-whole
 factor::factor-returns-in-Nil-clause-whole t c = rw (c.position_of-position.ensures, c.in-Some.ensures.cases.0) (factor_nil c.args.left _ _ _ c.in-Nil.ensures)

@@ -7,7 +7,7 @@ use Rattle.op_parse_code.proofs.Names.{empty_not}
 use Rattle.op_parse_code.proofs.Statements.{statement_none, statement_too_deep, word_refuses, word_whole, word_begins, call_whole, call_statement_refuses, sequencing_item, sequencing_more, sequencing_ends, block_whole, if_otherwise, if_whole, if_else_whole, while_refuses, while_whole, repeat_body, repeat_open, repeat_condition, repeat_whole, for_variable, for_in_missing, for_in_refuses, for_first, for_direction, for_last, for_to_whole, for_in_whole, block_refuses, end_body, end_open, headed_first, headed_mark, headed_rest, IfBody, if_body, if_refuses}
 use Rattle.op_parse_code.proofs.StatementKnown.{known_branches, known_handlers}
 use Rattle.op_parse_code.specs.Opening.{kind_of_word}
-use Rattle.op_parse_code.specs.Refusal.{out_of_memory, left_out}
+use Rattle.op_parse_code.specs.Refusal.{out_of_memory}
 use Rattle.op_parse_code.specs.Whole.{closes_labels}
 use Rattle.op_parse_code.specs.WholeStatement.{SomeBranches, SomeHandlers, SomeStatement}
 use Rattle.op_parse_code.specs.declared.mark.Mark.TheVariants as mark
@@ -21,9 +21,6 @@ compound::statement_at-returns-in_default-clause-whole t c = statement_none c.ar
 
 pub compound::statement_at-returns-in-Nothing-clause-whole : goal.compound::statement_at-returns-in-Nothing-clause-whole
 compound::statement_at-returns-in-Nothing-clause-whole t c = statement_none c.args.left _ (rw c.in-Some.ensures.cases.0 c.in-Nothing.ensures)
-
-pub compound::statement_at-returns-in-LeftOut-clause-refused : goal.compound::statement_at-returns-in-LeftOut-clause-refused
-compound::statement_at-returns-in-LeftOut-clause-refused t c = left_out c.in-LeftOut.feature (terminals c.args.tokens.now) c.left_out.ensures ([], terminals c.args.tokens.now, refl, rw c.in-Some.ensures.cases.0 (c.in-LeftOut.ensures _ _))
 
 pub compound::statement_at-returns-in_err-inner-in-Designator-clause-refused : goal.compound::statement_at-returns-in_err-inner-in-Designator-clause-refused
 compound::statement_at-returns-in_err-inner-in-Designator-clause-refused t c = passed c.from_residual.result c.from_residual.ensures.1 (λ y e. rw e (statement_too_deep c.args.left c.args.end _ _ (designator_statement _ (rw c.in-Some.ensures.cases.0 c.in-Designator.ensures)) c.in_err-inner-in-Designator.ensures.refused.0 c.in_err-inner-in-Designator.ensures.refused.1))

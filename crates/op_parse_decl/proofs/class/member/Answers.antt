@@ -1,9 +1,8 @@
-use Rattle.std.proofs.Common.{[], refl, sym, ◌∙◌}
+use Rattle.std.proofs.Common.{sym, ◌∙◌}
 use Rattle.op_parse_code.proofs.Calls.{front_not}
 use Rattle.op_parse_code.proofs.Errors.{passed}
 use Rattle.op_parse_code.specs.Opening.{is_identifier}
-use Rattle.op_parse_code.specs.Refusal.{left_out}
-use Rattle.op_parse_decl.proofs.Classes.{method_refused, property_refused}
+use Rattle.op_parse_decl.proofs.Classes.{default_told, method_refused, property_refused}
 use Rattle.op_tree.specs.HeadingGrammar.{is_class_method, is_class_property}
 use Rattle.op_parse_decl.proofs.class.member.Goals as goal
 
@@ -11,7 +10,7 @@ pub returns-in_err-property-clause-refused : goal.returns-in_err-property-clause
 returns-in_err-property-clause-refused c = passed c.from_residual.result c.from_residual.ensures.1 (λ y e. rw e (property_refused c.args.setting.left c.args.setting.end _ _ _ _ c.in-Some.ensures.mark.1 c.in_err-property.ensures.refused))
 
 pub returns-in-Some-form_behind_property-clause-refused : goal.returns-in-Some-form_behind_property-clause-refused
-returns-in-Some-form_behind_property-clause-refused c b free = left_out _ _ c.left_out.ensures ([], _, refl, c.in-Some-form_behind_property.ensures c.args.setting.left _ _ c.in_ok-property.ensures.whole)
+returns-in-Some-form_behind_property-clause-refused c = default_told c.args.setting.left c.args.setting.end _ _ _ _ _ c.in_ok-property.ensures.whole c.in-Some-form_behind_property.ensures c.left_out.ensures
 
 pub returns-in-Some-clause-whole : goal.returns-in-Some-clause-whole
 returns-in-Some-clause-whole c = (is_class_property c.in_ok-property.ensures.whole, tt)

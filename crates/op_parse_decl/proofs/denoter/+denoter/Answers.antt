@@ -15,7 +15,7 @@ pub denoter-returns-in-Nothing-clause-refused : goal.denoter-returns-in-Nothing-
 denoter-returns-in-Nothing-clause-refused t c = denoter_none c.args.setting.left c.args.setting.end _ _ (rw c.in-Some.ensures.cases.0 c.in-Nothing.ensures) c.syntax-in-Nothing.ensures
 
 pub denoter-returns-in-LeftOut-clause-refused : goal.denoter-returns-in-LeftOut-clause-refused
-denoter-returns-in-LeftOut-clause-refused t c = rw c.in-Some.ensures.cases.0 (denoter_form c.args.setting.left c.args.setting.end _ _ _ _ _ c.in-LeftOut.ensures (rw c.in-Some.ensures.cases.0 at c.left_out.ensures))
+denoter-returns-in-LeftOut-clause-refused t c = rw c.in-Some.ensures.cases.0 (denoter_form c.args.setting.left c.args.setting.end _ _ _ _ _ c.in-LeftOut.ensures.0 c.in-LeftOut.ensures.1 (rw c.in-Some.ensures.cases.0 at c.left_out.ensures))
 
 pub denoter-returns-then-is_procedural-clause-refused : goal.denoter-returns-then-is_procedural-clause-refused
 denoter-returns-then-is_procedural-clause-refused t c = rw c.in-Some.ensures.cases.0 (denoter_procedural c.args.setting.left c.args.setting.end _ _ _ _ c.in-Procedural.ensures (rw c.in-Some.ensures.cases.0 at (c.is_procedural.ensures c.if-is_procedural.true)) (rw c.in-Some.ensures.cases.0 at c.left_out-then-is_procedural.ensures))
@@ -153,7 +153,7 @@ pub field_lists-returns-in-Some-clause-whole : goal.field_lists-returns-in-Some-
 field_lists-returns-in-Some-clause-whole t c = fielding_ends c.args.setting.left c.args.setting.end _ _ _ _ _ c.loop-after.invariant.0 c.in-Some.ensures.mark.1
 
 pub field_lists-returns-in-Some-form_of_record-clause-refused : goal.field_lists-returns-in-Some-form_of_record-clause-refused
-field_lists-returns-in-Some-form_of_record-clause-refused t c = fielding_form c.args.setting.left c.args.setting.end _ _ _ _ _ c.loop-after.invariant.0 c.in-Some-form_of_record.ensures c.left_out.ensures
+field_lists-returns-in-Some-form_of_record-clause-refused t c = fielding_form c.args.setting.left c.args.setting.end _ _ _ _ _ c.loop-after.invariant.0 c.in_default.ensures.mark c.in-Some-form_of_record.ensures c.left_out.ensures
 
 pub field_lists-returns-in_err-fields-clause-refused : goal.field_lists-returns-in_err-fields-clause-refused
 field_lists-returns-in_err-fields-clause-refused t c = passed c.from_residual.result c.from_residual.ensures.1 (λ y e. rw e (fielding_fields c.args.setting.left c.args.setting.end _ _ _ _ c.loop-after.invariant.0 c.in_default.ensures.mark c.in_err-fields.ensures.refused))

@@ -1,13 +1,8 @@
-use Rattle.op_parse_code.proofs.Errors.{passed}
-use Rattle.op_parse_code.specs.Refusal.{left_out}
-use Rattle.op_parse_decl.proofs.Files.{program_refused, unit_refused}
+use Rattle.op_parse_code.proofs.Refusing.{refuses_told}
 use Rattle.op_parse_decl.proofs.file.file.Goals as goal
 
 pub returns-in-Some-clause-refused : goal.returns-in-Some-clause-refused
-returns-in-Some-clause-refused c = left_out _ _ c.left_out.ensures c.in-Some.ensures
+returns-in-Some-clause-refused c = refuses_told c.in-Some.ensures c.told.ensures c.in-Err.ensures.refused
 
-pub returns-in_err-unit-in-Some-behind_mark-clause-refused : goal.returns-in_err-unit-in-Some-behind_mark-clause-refused
-returns-in_err-unit-in-Some-behind_mark-clause-refused c = passed c.from_residual.result c.from_residual.ensures.1 (λ y e. rw e (unit_refused c.in-Some-behind_mark.ensures.mark.1 c.in_err-unit-in-Some-behind_mark.ensures.refused))
-
-pub returns-in_err-program-in-None-clause-refused : goal.returns-in_err-program-in-None-clause-refused
-returns-in_err-program-in-None-clause-refused c = passed c.from_residual-in_err-program-in-None.result c.from_residual-in_err-program-in-None.ensures.1 (λ y e. rw e (program_refused c.in-None.ensures.mark c.in_err-program-in-None.ensures.refused))
+pub returns-in-None-clause-refused : goal.returns-in-None-clause-refused
+returns-in-None-clause-refused c = c.or_form_in_code.ensures _ c.in-Err.ensures.refused

@@ -1,7 +1,7 @@
 use Rattle.std.proofs.Common.{arith}
 use Rattle.op_parse_code.proofs.Errors.{passed}
 use Rattle.op_parse_code.specs.Refusal.{out_of_memory}
-use Rattle.op_parse_decl.proofs.Methods.{directing_more, directing_ends, directing_inline}
+use Rattle.op_parse_decl.proofs.Methods.{directing_more, directing_ends}
 use Rattle.op_parse_decl.proofs.heading.directives.Goals as goal
 
 pub returns-in_err-push-clause-refused : goal.returns-in_err-push-clause-refused
@@ -9,9 +9,6 @@ returns-in_err-push-clause-refused c = passed c.from_residual.result c.from_resi
 
 pub loop-directive-preserved : goal.loop-directive-preserved
 loop-directive-preserved c = (rw c.in_ok-push.ensures.items (directing_more _ _ _ _ _ c.loop-directive.invariant.0 c.in-Some.ensures.stands), omega (arith, c.loop-directive.invariant.1, c.in-Some.ensures.shorter))
-
-pub returns-in-Some-behind_mark-clause-refused : goal.returns-in-Some-behind_mark-clause-refused
-returns-in-Some-behind_mark-clause-refused c = λ d. directing_inline d c.args.setting.end _ _ _ _ _ _ c.loop-directive.invariant.0 c.in-Some-behind_mark.ensures.mark.1 c.left_out.ensures
 
 pub returns-clause-whole : goal.returns-clause-whole
 returns-clause-whole c = λ d. rw c.from.ensures (directing_ends d _ _ _ c.loop-directive.invariant.0 c.in_default.ensures.stands)

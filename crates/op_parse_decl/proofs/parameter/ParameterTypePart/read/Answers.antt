@@ -1,7 +1,6 @@
 use Rattle.std.proofs.Common.{sym, ◌∙◌}
 use Rattle.op_parse_code.proofs.Errors.{passed}
 use Rattle.op_parse_code.proofs.Names.{empty_not}
-use Rattle.op_parse_code.specs.Refusal.{left_out}
 use Rattle.op_parse_decl.proofs.Headings.{type_refused, string_kind, string_refused, string_whole, named_refused}
 use Rattle.op_tree.specs.Ends.{begins_designator}
 use Rattle.op_tree.specs.HeadingGrammar.{is_named}
@@ -15,9 +14,6 @@ returns-in_err-no_dot-clause-refused c = passed c.from_residual.result c.from_re
 
 pub returns-then-is_string-clause-whole : goal.returns-then-is_string-clause-whole
 returns-then-is_string-clause-whole c = rw (c.position_of-position.ensures, c.in-Some.ensures.cases.0) (string_whole c.args.setting.left (string_kind _ (sym c.is_string.ensures ∙ c.if-is_string.true)) c.in_ok-no_dot.ensures.stops)
-
-pub returns-then-is_specialized-clause-refused : goal.returns-then-is_specialized-clause-refused
-returns-then-is_specialized-clause-refused c = left_out _ _ c.left_out.ensures (c.is_specialized.ensures c.if-is_specialized.true)
 
 pub returns-in_err-name-clause-refused : goal.returns-in_err-name-clause-refused
 returns-in_err-name-clause-refused c = passed c.from_residual-in_err-name.result c.from_residual-in_err-name.ensures.1 (λ y e. rw e (named_refused c.args.setting.left c.args.setting.end _ _ (rw c.in-Some.ensures.cases.0 (sym c.is_string.ensures ∙ c.if-is_string.false)) (c.in_err-name.ensures.refused _)))
