@@ -98,11 +98,13 @@ pub(crate) fn checked<F: Files>(
     ensures unchanged { F.stored files.new ≡ F.stored files.old }
 {
     let forest = load(alloc, files, main)?;
-    match check(alloc, forest.trees.as_slice(), forest.order.as_slice()) {
+    let trees = forest.trees.as_slice();
+    let order = forest.order.as_slice();
+    match check(alloc, trees, order) {
         Ok(core) => Ok(core),
         Err(CheckError::Refused(refusal)) => {
             let file = name_at(&forest, main.as_bytes(), refusal.place);
-            Err(refused(alloc, file, refusal))
+            Err(refused_in(alloc, file, refusal))
         }
         Err(CheckError::NoMemory) => Err(CompileError::NoMemory),
     }
@@ -121,13 +123,13 @@ fn image_of(
     ensures failed { IfErr result (HasNoImage core main.now settings.now) }
 {
     if !is_plain(&core) {
-        return Err(refused(alloc, main.as_bytes(), NOT_COMPILED));
+        return Err(refused(alloc, main, NOT_COMPILED));
     }
     let mir = middle(alloc, &core)?;
     match build(alloc, core, mir, settings) {
         Ok(image) => Ok(image),
         Err(BuildError::Limit) => Err(CompileError::Limit),
-        Err(BuildError::Unbuildable) => Err(refused(alloc, main.as_bytes(), NOT_COMPILED)),
+        Err(BuildError::Unbuildable) => Err(refused(alloc, main, NOT_COMPILED)),
         Err(BuildError::NoMemory) => Err(CompileError::NoMemory),
     }
 }
@@ -142,8 +144,15 @@ fn name_at<'a>(forest: &'a Forest, main: &'a [u8], place: Place) -> &'a [u8]
     }
 }
 
+/// The refusal of the main file.
+fn refused(alloc: Global, main: &str, refusal: Refusal) -> CompileError
+    ensures { RefusesBy main.now refusal result }
+{
+    refused_in(alloc, main.as_bytes(), refusal)
+}
+
 /// The refusal of a file.
-fn refused(alloc: Global, file: &[u8], refusal: Refusal) -> CompileError
+fn refused_in(alloc: Global, file: &[u8], refusal: Refusal) -> CompileError
     ensures { RefusesBy file.now refusal result }
 {
     match Text::copy_of(alloc, file) {
