@@ -3,6 +3,7 @@ ghost use Rattle.op_expand.specs.Programs.{first_literal, low_of, program_litera
 ghost use Rattle.std.specs.Prelude.{◌≡◌, ◌++◌, IfOk, OnOk, length};
 
 use crate::block::behind_blocks;
+use crate::closing::push_closing_routine;
 use crate::global::globals;
 use crate::homes::sum;
 use crate::routine::routine;
@@ -22,6 +23,7 @@ pub fn expand(alloc: Global, core: &Core, mir: &Mir, stack: u32) -> Result<Low, 
     let mut low = routines(alloc)?;
     let (program, first) = push_routines(alloc, &mut low, core, mir)?;
     low.push(routine(alloc, core, mir, program, first, &mir.program)?)?;
+    push_closing_routine(alloc, &mut low, core, mir, stack)?;
     let blocks = mir.program.blocks.as_slice();
     let literals = behind_blocks(core, program, first, blocks)?;
     Ok(Low {
