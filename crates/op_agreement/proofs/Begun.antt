@@ -25,6 +25,7 @@ use Rattle.op_mir.specs.Plain.{IsPlainWorld}
 use Rattle.op_mir.specs.declared.ids.LocalId.{LocalId}
 use Rattle.op_mir.specs.declared.path.Root.TheVariants.{Local}
 use Rattle.op_agreement.proofs.Charting.{live_apart, live_stands, same_is}
+use Rattle.op_agreement.proofs.Counting.{count_below}
 use Rattle.op_agreement.proofs.Sparing.{spare_fits}
 use Rattle.op_agreement.proofs.Standing.{here}
 use Rattle.op_agreement.proofs.Updating.{callers_moved, floors_here, limit_here}
@@ -32,7 +33,7 @@ use Rattle.op_agreement.proofs.WholeWords.{rounded_within}
 use Rattle.op_agreement.specs.Chart.{AllLie, Floor, IsAt, Live, address_of, stored_offset, type_held}
 use Rattle.op_agreement.specs.Fitting.{IsFitting}
 use Rattle.op_agreement.specs.Settings.{Apart, HomeFits, Setting, StoredAt}
-use Rattle.op_agreement.specs.Stands.{CallersStand, IsFixed, Stays}
+use Rattle.op_agreement.specs.Stands.{CallersStand, Stays}
 use Rattle.op_agreement.specs.Typed.{IsVariable}
 
 -- a holder of a level below is none of those of this level
@@ -73,6 +74,7 @@ module _ (g : Setting) (floors : ℕ → Floor) (m : MirState) (l : State) (s : 
             (record { floors = λ d low. refl; variables = λ d u q low known home. below d u low; places = λ d u low known. refl }) s.callers;
         lie = λ h is. subst (λ x. Lies (arrangement_of g.core (type_held g.core floors h)) x l.memory (address_of g floors h)) (live h is) (s.lie h is);
         fixed = s.fixed;
+        due = s.due;
         bytes = s.bytes;
         output = s.output;
         errors = s.errors;
@@ -165,13 +167,13 @@ module _ (g : Setting) (fit : IsFitting g) (floors : ℕ → Floor) (m : MirStat
             kept (arrangement_of g.core (type_held g.core floors h)) (m.world.memory h) l.memory memory (address_of g floors h) arranged.arranged
             (λ y up down. others y (omega arith) (far_from h e live y up (omega arith))) (s.lie h live)
 
-    -- memory that may not be written is as it was
-    fixed_here : IsFixed g memory
-    fixed_here y low fixed =
+    -- below the stack memory is as it was
+    bottom_kept : (y : ℕ) → y < g.bottom → memory y ≡ l.memory y
+    bottom_kept y low =
         let floors_stand = floors_here g fit floors m l s in
         let lowest = floors_stand.lowest level (omega arith) in
         let last = floors_stand.last in
-        others y (omega arith) (inl (omega arith)) ∙ s.fixed y low fixed
+        others y (omega arith) (inl (omega arith))
 
     -- variables in registers have the values that they had
     value_here : (u r : ℕ) → home_at (here m floors).frame.homes (record { 0 = u }) ≡ Held (record { 0 = r }) → m.world.memory (local level u) ≡ values (local level u)
@@ -219,7 +221,8 @@ module _ (g : Setting) (fit : IsFitting g) (floors : ℕ → Floor) (m : MirStat
           };
           callers = subst (λ w. CallersStand g floors values m.world.bound m.callers l.callers m.routine w l.limit l.room m.charged) (sym first) moved;
           lie = all_lie there;
-          fixed = fixed_here;
+          fixed = λ y low fixed. bottom_kept y low ∙ s.fixed y low fixed;
+          due = count_below g fit (length m.pending) l.memory memory bottom_kept s.due;
           bytes = bytes;
           output = s.output;
           errors = s.errors;

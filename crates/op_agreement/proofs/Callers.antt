@@ -1,10 +1,11 @@
 -- A routine returns a value, and the caller that waits for it goes on.
-use Rattle.std.proofs.Common.{◌≡◌, ◌≢◌, ◌≤◌, ◌<◌, ◌⊎◌, inl, inr, ℕ, suc, ◌+◌, ◌-◌, List, [], ◌∷◌, length, sym, ap, ap₂, ◌∙◌, subst, arith}
+use Rattle.std.proofs.Common.{◌≡◌, ◌≢◌, ◌≤◌, ◌<◌, ◌⊎◌, inl, inr, ℕ, suc, ◌+◌, ◌-◌, List, [], ◌∷◌, length, Some, None, sym, ap, ap₂, ◌∙◌, subst, arith}
 use Rattle.std.specs.Prelude.{Bool, true, false, nat_eq, slice_get, if◌then◌else◌}
 use Rattle.std.proofs.lemmas.Bool.{cases_eq}
 use Rattle.std.proofs.lemmas.Bool.Decides.{nat_tests}
 use Rattle.op_compute.specs.Bank.{scratch_of}
 use Rattle.op_compute.specs.Meaning.{IsWordOf}
+use Rattle.op_core.specs.declared.ids.TypeId.{TypeId}
 use Rattle.op_expand.specs.Calls.{receiver_of, result_address, runtime}
 use Rattle.op_low.specs.Machine.{act, return_to}
 use Rattle.op_low.specs.State.{Caller, State, Running, routine_of, space, with_value}
@@ -49,10 +50,9 @@ pub record Waits (g : Setting) (floors : ℕ → Floor) (m : MirState) (l : Stat
   pub activation : ActivationStands g floors (length cs) m.world.memory m.world.bound c.temps c.routine lc.activation below spare under
   pub callers : CallersStand g floors m.world.memory m.world.bound cs lcs c.routine (lc.activation.registers result_address.0) below spare under
 
--- the innermost caller of states that stand for one another
-pub waits : (g : Setting) (floors : ℕ → Floor) (m : MirState) (l : State) (s : Stays g floors m l) (c : MirCaller) (cs : List MirCaller) (lc : Caller) (lcs : List Caller) → m.callers ≡ c ∷ cs → l.callers ≡ lc ∷ lcs → Waits g floors m l c cs lc lcs
-waits g floors m l s c cs lc lcs above lows =
-    let (below, under, spare, declared, low, charge, at_, more, frames, receiver, to, typed, result, nameless, made, position, activation, callers) = subst (λ xs. CallersStand g floors m.world.memory m.world.bound xs (lc ∷ lcs) m.routine (l.top.registers result_address.0) l.limit l.room m.charged) above (subst (λ xs. CallersStand g floors m.world.memory m.world.bound m.callers xs m.routine (l.top.registers result_address.0) l.limit l.room m.charged) lows s.callers) in
+waits_by : (g : Setting) (floors : ℕ → Floor) (m : MirState) (l : State) (c : MirCaller) (cs : List MirCaller) (lc : Caller) (lcs : List Caller) (of : TypeId) → result_of (slice_get g.core.routines m.routine) ≡ Some of → CallersStand g floors m.world.memory m.world.bound (c ∷ cs) (lc ∷ lcs) m.routine (l.top.registers result_address.0) l.limit l.room m.charged → Waits g floors m l c cs lc lcs
+waits_by g floors m l c cs lc lcs of some (inr (below, under, spare, status, a, ended, others, are, charge, at_, more, closing, activation, callers)) = let clash : None ≡ Some of = sym closing.result ∙ some in absurd cc
+waits_by g floors m l c cs lc lcs of some (inl (below, under, spare, declared, low, charge, at_, more, frames, receiver, to, typed, result, nameless, made, position, activation, callers)) =
     record {
       below = below;
       under = under;
@@ -73,6 +73,11 @@ waits g floors m l s c cs lc lcs above lows =
       activation = activation;
       callers = callers;
     }
+
+-- the innermost caller of states that stand for one another, where it waits for a value
+pub waits : (g : Setting) (floors : ℕ → Floor) (m : MirState) (l : State) (s : Stays g floors m l) (c : MirCaller) (cs : List MirCaller) (lc : Caller) (lcs : List Caller) → m.callers ≡ c ∷ cs → l.callers ≡ lc ∷ lcs → (of : TypeId) → result_of (slice_get g.core.routines m.routine) ≡ Some of → Waits g floors m l c cs lc lcs
+waits g floors m l s c cs lc lcs above lows of some =
+    waits_by g floors m l c cs lc lcs of some (subst (λ xs. CallersStand g floors m.world.memory m.world.bound xs (lc ∷ lcs) m.routine (l.top.registers result_address.0) l.limit l.room m.charged) above (subst (λ xs. CallersStand g floors m.world.memory m.world.bound m.callers xs m.routine (l.top.registers result_address.0) l.limit l.room m.charged) lows s.callers))
 
 module _ (g : Setting) (fit : IsFitting g) (m : MirState) (l : State) (floors : ℕ → Floor) (s : Stays g floors m l) (c : MirCaller) (cs : List MirCaller) (lc : Caller) (lcs : List Caller) (above : m.callers ≡ c ∷ cs) (lows : l.callers ≡ lc ∷ lcs) (w : Waits g floors m l c cs lc lcs) where
   lower : w.below ≤ l.limit

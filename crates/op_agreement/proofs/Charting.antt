@@ -15,7 +15,7 @@ use Rattle.op_mir.specs.Machine.{MirCaller}
 use Rattle.op_mir.specs.declared.path.Root.TheVariants.{Local, Temporary}
 use Rattle.op_mir.specs.declared.path.Root.{Root}
 use Rattle.op_agreement.specs.Chart.{Floor, Live, address_of, stored_offset, type_held}
-use Rattle.op_agreement.specs.Fitting.{IsFitting}
+use Rattle.op_agreement.specs.Fitting.{DueStands, IsFitting}
 use Rattle.op_agreement.specs.Settings.{Apart, Setting, StoredAt, type_stored}
 use Rattle.op_agreement.specs.Stands.{CallersStand, IsFloor}
 
@@ -35,6 +35,25 @@ below_limit g floors depth limit s d low = by (cases_lt d depth)
     by (inl less) = let order = s.order d depth less (omega arith) in let last = s.last in omega arith
     by (inr more) = let same : d ≡ depth = omega arith in let last = s.last in subst (λ d. (floors d).base + (floors d).frame.locals ≤ limit) (sym same) (omega arith)
 
+-- one floor more, above those that stand
+one_more : (g : Setting) (floors : ℕ → Floor) (n below limit : ℕ) → IsFloor g (floors (suc n)) → limit ≡ (floors (suc n)).base + (floors (suc n)).frame.locals → limit ≡ below + (floors (suc n)).frame.locals → IsFloor g (floors n) → FloorsStand g floors n below → FloorsStand g floors (suc n) limit
+one_more g floors n below limit floor is at last_floor inner =
+    let base : (floors (suc n)).base ≡ below = omega arith in
+    record {
+      each = λ d low. upper (λ d. IsFloor g (floors d)) d low inner.each floor;
+      lowest = λ d low. upper (λ d. g.bottom ≤ (floors d).base) d low inner.lowest (let b = inner.lowest n (omega arith) in let e = inner.last in omega arith);
+      words = λ d low. upper (λ d. (floors d).base % 4 ≡ 0) d low inner.words (let b = inner.words n (omega arith) in let w = last_floor.fits.whole in let e = inner.last in omega arith);
+      order = λ d e less low. upper (λ e. d < e → (floors d).base + (floors d).frame.locals ≤ (floors e).base) e low (λ e low less. inner.order d e less low) (λ less. let b = below_limit g floors n below inner d (omega arith) in omega arith) less;
+      last = is;
+    }
+  where
+    upper : (P : ℕ → Type 0) (d : ℕ) → d ≤ suc n → ((d : ℕ) → d ≤ n → P d) → P (suc n) → P d
+    upper P d low lower top = by (cases_lt d (suc n))
+      where
+        by : (d < suc (n)) ⊎ (suc n ≤ d) → P d
+        by (inl less) = lower d (omega arith)
+        by (inr more) = let same : d ≡ suc n = omega arith in subst P (sym same) top
+
 pub floors_stand : (g : Setting) → IsFitting g → (floors : ℕ → Floor) (values : Holder → Value) (bound : ℕ → ℕ → Place) (cs : List MirCaller) (ls : List Caller) (number address limit room charged : ℕ) → IsFloor g (floors (length cs)) → limit ≡ (floors (length cs)).base + (floors (length cs)).frame.locals → CallersStand g floors values bound cs ls number address limit room charged → FloorsStand g floors (length cs) limit
 floors_stand g fit floors values bound [] [] number address limit room charged floor is (main, at) =
     let base : (floors 0).base ≡ g.bottom = omega arith in
@@ -47,24 +66,10 @@ floors_stand g fit floors values bound [] [] number address limit room charged f
     }
 floors_stand g fit floors values bound [] (l ∷ ls) number address limit room charged floor is s = absurd s
 floors_stand g fit floors values bound (c ∷ cs) [] number address limit room charged floor is s = absurd s
-floors_stand g fit floors values bound (c ∷ cs) (l ∷ ls) number address limit room charged floor is (below, under, spare, declared, low, charge, at, more, frames, receiver, to, typed, result, nameless, made, position, activation, callers) =
-    let inner = floors_stand g fit floors values bound cs ls c.routine (l.activation.registers result_address.0) below spare under activation.floor activation.base callers in
-    let base : (floors (suc (length cs))).base ≡ below = omega arith in
-    let last_floor = activation.floor in
-    record {
-      each = λ d low. upper (λ d. IsFloor g (floors d)) d low inner.each floor;
-      lowest = λ d low. upper (λ d. g.bottom ≤ (floors d).base) d low inner.lowest (let b = inner.lowest (length cs) (omega arith) in let e = inner.last in omega arith);
-      words = λ d low. upper (λ d. (floors d).base % 4 ≡ 0) d low inner.words (let b = inner.words (length cs) (omega arith) in let w = last_floor.fits.whole in let e = inner.last in omega arith);
-      order = λ d e less low. upper (λ e. d < e → (floors d).base + (floors d).frame.locals ≤ (floors e).base) e low (λ e low less. inner.order d e less low) (λ less. let b = below_limit g floors (length cs) below inner d (omega arith) in omega arith) less;
-      last = is;
-    }
-  where
-    upper : (P : ℕ → Type 0) (d : ℕ) → d ≤ suc (length cs) → ((d : ℕ) → d ≤ length cs → P d) → P (suc (length cs)) → P d
-    upper P d low lower top = by (cases_lt d (suc (length cs)))
-      where
-        by : (d < suc (length cs)) ⊎ (suc (length cs) ≤ d) → P d
-        by (inl less) = lower d (omega arith)
-        by (inr more) = let same : d ≡ suc (length cs) = omega arith in subst P (sym same) top
+floors_stand g fit floors values bound (c ∷ cs) (l ∷ ls) number address limit room charged floor is (inl (below, under, spare, declared, low, charge, at, more, frames, receiver, to, typed, result, nameless, made, position, activation, callers)) =
+    one_more g floors (length cs) below limit floor is at activation.floor (floors_stand g fit floors values bound cs ls c.routine (l.activation.registers result_address.0) below spare under activation.floor activation.base callers)
+floors_stand g fit floors values bound (c ∷ cs) (l ∷ ls) number address limit room charged floor is (inr (below, under, spare, status, a, ended, others, are, charge, at, more, closing, activation, callers)) =
+    one_more g floors (length cs) below limit floor is at activation.floor (floors_stand g fit floors values bound cs others c.routine (a.registers result_address.0) below spare under activation.floor activation.base callers)
 
 -- ---- what is live
 
@@ -106,6 +111,13 @@ module _ (g : Setting) (fit : IsFitting g) (floors : ℕ → Floor) (depth limit
       let (words, below, readable, writable) = stored_stands d (Temporary of n) offset (address_of g floors (temporary d of n)) (size_in g.core of) low stored refl refl in
       record { small = (s.each d low).fits.types (Temporary of n) offset stored; words = words; below = below; readable = readable; writable = writable }
   live_stands (object name) live = absurd live
+
+  -- the word that counts finalization parts lies apart from it
+  pub due_apart : (at : ℕ) → DueStands g at → (h : Holder) → Live g.core floors depth h → Apart (address_of g floors h) (size_in g.core (type_held g.core floors h)) at 4
+  due_apart at due (global v) live = due.apart v live
+  due_apart at due (local d v) (low, stored) = let base = s.lowest d low in let below = due.below in inr (omega arith)
+  due_apart at due (temporary d of n) (low, stored) = let base = s.lowest d low in let below = due.below in inr (omega arith)
+  due_apart at due (object name) live = absurd live
 
   -- ---- two of them lie apart
 

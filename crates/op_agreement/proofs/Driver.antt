@@ -1,5 +1,5 @@
 -- Low code follows managed code: each instruction, and the ends of a program.
-use Rattle.std.proofs.Common.{◌≡◌, ◌⊎◌, inl, inr, ℕ, List, [], ◌∷◌, Option, refl, subst, arith}
+use Rattle.std.proofs.Common.{◌≡◌, ◌⊎◌, inl, inr, ℕ, List, [], ◌∷◌, Option, refl, sym, subst, arith}
 use Rattle.std.specs.Prelude.{map}
 use Rattle.std.specs.List.{flat_map}
 use Rattle.std.proofs.lemmas.List.Concat.{flat_map-cons}
@@ -9,7 +9,7 @@ use Rattle.op_core.specs.declared.ids.RoutineId.{RoutineId}
 use Rattle.op_meaning.specs.Frames.{Frame, walk, destruction, construction, closing}
 use Rattle.op_meaning.specs.World.{Ending, Running as GoingOn, Ended as HasEnded}
 use Rattle.op_mir.specs.declared.instruction.Call.{Call as Operands}
-use Rattle.op_mir.specs.Machine.{MirState}
+use Rattle.op_mir.specs.Machine.{MirState, mir_step}
 use Rattle.op_mir.specs.View.{view_instruction}
 use Rattle.op_mir.specs.declared.action.Action.TheVariants.{Constant, Load, Store, Copy, Look, BeginWith, Pick, Compute, Write, WriteText}
 use Rattle.op_mir.specs.declared.action.Action.{Action}
@@ -20,15 +20,18 @@ use Rattle.op_agreement.proofs.Assigning.{copy_comes}
 use Rattle.op_agreement.proofs.Beginning.{begin_with_comes}
 use Rattle.op_agreement.proofs.Calling.{call_begins}
 use Rattle.op_agreement.proofs.Cases.{compute_comes, constant_comes, dispatch_comes, jump_comes, switch_comes, unless_comes, when_comes}
-use Rattle.op_agreement.proofs.Closing.{closing_comes, ended_comes, stop_comes}
+use Rattle.op_agreement.proofs.Closing.{closing_comes, ended_comes, stays_above, stop_comes}
 use Rattle.op_agreement.proofs.Computing.{rest_below}
+use Rattle.op_agreement.proofs.Finalizing.{closing_goes_on, closing_step}
 use Rattle.op_agreement.proofs.Following.{agrees, follows_by}
 use Rattle.op_agreement.proofs.Loading.{load_comes}
 use Rattle.op_agreement.proofs.Looking.{look_comes}
+use Rattle.op_agreement.proofs.MakingDue.{make_due_comes}
 use Rattle.op_agreement.proofs.Opening.{begins_comes}
 use Rattle.op_agreement.proofs.Picking.{pick_comes}
 use Rattle.op_agreement.proofs.PartsResult.{return_comes}
 use Rattle.op_agreement.proofs.Standing.{Next, here, literals_split}
+use Rattle.op_agreement.proofs.StillDue.{closing_due, instruction_due}
 use Rattle.op_agreement.proofs.Storing.{store_comes}
 use Rattle.op_agreement.proofs.Waiting.{caller_waits}
 use Rattle.op_agreement.proofs.Writing.{write_comes, write_text_comes}
@@ -38,12 +41,12 @@ use Rattle.op_expand.specs.Routines.{code_of}
 use Rattle.op_agreement.specs.Coding.{code_for}
 use Rattle.op_agreement.specs.Fitting.{IsFitting}
 use Rattle.op_agreement.specs.Handing.{Begins}
-use Rattle.op_agreement.specs.Settings.{AreLiterals, HaveHomes, Setting}
-use Rattle.op_agreement.specs.Stands.{StandsBy, Stays}
+use Rattle.op_agreement.specs.Settings.{AreLiterals, HaveHomes, Setting, managed}
+use Rattle.op_agreement.specs.Stands.{AreStillDue, StandsBy, Stays}
 use Rattle.op_agreement.specs.Steps.{Comes}
 use Rattle.op_agreement.specs.Typed.{AreFine}
 
-module _ (g : Setting) (fit : IsFitting g) (m : MirState) (l : State) (ending : m.world.ending ≡ GoingOn) (frames : m.frames ≡ []) (floors : ℕ → Floor) (s : Stays g floors m l) where
+module _ (g : Setting) (fit : IsFitting g) (m : MirState) (l : State) (ending : m.world.ending ≡ GoingOn) (frames : m.frames ≡ []) (floors : ℕ → Floor) (s : Stays g floors m l) (due : AreStillDue g m) where
   -- the next instruction of a position
   next_of : (i : Instruction) (is : List Instruction) (id : ℕ) → m.rest ≡ map (view_instruction g.core (here m floors).number) (i ∷ is) → l.top.now ≡ code_of g.core g.mir (here m floors).frame (here m floors).number id (i ∷ is) → AreLiterals (literals_of g.core g.mir) id (flat_map (instruction_literals g.core (here m floors).number) (i ∷ is)) → AreFine g.core g.mir (here m floors).number (here m floors).routine (i ∷ is) → HaveHomes g.core (here m floors).number (here m floors).frame (i ∷ is) → Next g m l floors i is id
   unfolding code_for
@@ -81,28 +84,35 @@ module _ (g : Setting) (fit : IsFitting g) (m : MirState) (l : State) (ending : 
   instruction_comes (Unless t block) is id next = unless_comes g fit m l floors is id t block next
   instruction_comes (Switch t arms) is id next = switch_comes g fit m l floors is id t arms next
   instruction_comes (Dispatch t block) is id next = dispatch_comes g fit m l floors is id t block next
-  instruction_comes (MakeDue f) is id next = absurd next.fine
+  instruction_comes (MakeDue f) is id next = make_due_comes g fit m l floors is id f due next
   instruction_comes (Stop t) is id next = stop_comes g fit m l floors is id t next
-  instruction_comes Return is id next = return_comes g fit m l floors is id next
+  instruction_comes Return is id next = return_comes g fit m l floors is id due next
 
-  position_comes : (is : List Instruction) (id : ℕ) → m.rest ≡ map (view_instruction g.core (here m floors).number) is → l.top.now ≡ code_of g.core g.mir (here m floors).frame (here m floors).number id is → AreLiterals (literals_of g.core g.mir) id (flat_map (instruction_literals g.core (here m floors).number) is) → AreFine g.core g.mir (here m floors).number (here m floors).routine is → HaveHomes g.core (here m floors).number (here m floors).frame is → Comes g m l
+  -- low code comes along, and what is still to become due does so
+  abbrev Steps : Type 0
+  Steps = Comes g m l × AreStillDue g (mir_step (managed g) m)
+
+  position_comes : (is : List Instruction) (id : ℕ) → m.rest ≡ map (view_instruction g.core (here m floors).number) is → l.top.now ≡ code_of g.core g.mir (here m floors).frame (here m floors).number id is → AreLiterals (literals_of g.core g.mir) id (flat_map (instruction_literals g.core (here m floors).number) is) → AreFine g.core g.mir (here m floors).number (here m floors).routine is → HaveHomes g.core (here m floors).number (here m floors).frame is → Steps
   position_comes [] id above below literals fine homes = absurd fine
-  position_comes (i ∷ is) id above below literals fine homes = instruction_comes i is id (next_of i is id above below literals fine homes)
+  position_comes (i ∷ is) id above below literals fine homes = let next = next_of i is id above below literals fine homes in (instruction_comes i is id next, instruction_due g fit m l floors due i is id next)
 
 -- from any states that stand for one another
 module _ (g : Setting) (fit : IsFitting g) where
-  comes_by : (e : Ending) (frames : List Frame) (m : MirState) (l : State) → m.world.ending ≡ e → m.frames ≡ frames → StandsBy g e frames m l → Comes g m l
-  comes_by (HasEnded status) frames m l ending frames_are s = ended_comes g m l status ending s
-  comes_by GoingOn [] m l ending frames_are s =
-      position_comes g fit m l ending frames_are s.floors s.stays s.position.is s.position.id s.position.above s.position.below s.position.literals s.position.fine s.position.homes
-  comes_by GoingOn (closing status ∷ []) m l ending frames_are s = closing_comes g m l status ending frames_are s
-  comes_by GoingOn (closing status ∷ frame ∷ frames) m l ending frames_are s = absurd s
-  comes_by GoingOn (walk places lost waits ∷ frames) m l ending frames_are s = absurd s
-  comes_by GoingOn (destruction i started entered places waits ∷ frames) m l ending frames_are s = absurd s
-  comes_by GoingOn (construction i ∷ frames) m l ending frames_are s = absurd s
+  comes_by : (e : Ending) (frames : List Frame) (m : MirState) (l : State) → m.world.ending ≡ e → m.frames ≡ frames → AreStillDue g m → StandsBy g e frames m l → Comes g m l × AreStillDue g (mir_step (managed g) m)
+  comes_by (HasEnded status) frames m l ending frames_are due s = (ended_comes g m l status ending s, subst (AreStillDue g) (sym (stays_above g m status ending)) due)
+  comes_by GoingOn [] m l ending frames_are due s =
+      position_comes g fit m l ending frames_are s.floors s.stays due s.position.is s.position.id s.position.above s.position.below s.position.literals s.position.fine s.position.homes
+  comes_by GoingOn (closing status ∷ []) m l ending frames_are due (inl s) =
+      (closing_comes g m l status ending frames_are s, subst (AreStillDue g) (sym (closing_step g m status m.pending ending frames_are s.raised refl)) (closing_due g m status m.pending frames_are))
+  comes_by GoingOn (closing status ∷ []) m l ending frames_are due (inr s) =
+      (closing_goes_on g fit m l status ending frames_are s, subst (AreStillDue g) (sym (closing_step g m status m.pending ending frames_are s.stays.plain.raised refl)) (closing_due g m status m.pending frames_are))
+  comes_by GoingOn (closing status ∷ frame ∷ frames) m l ending frames_are due s = absurd s
+  comes_by GoingOn (walk places lost waits ∷ frames) m l ending frames_are due s = absurd s
+  comes_by GoingOn (destruction i started entered places waits ∷ frames) m l ending frames_are due s = absurd s
+  comes_by GoingOn (construction i ∷ frames) m l ending frames_are due s = absurd s
 
 pub low_code_follows : LowCodeFollows
-low_code_follows g fit = follows_by g (λ m l stands. comes_by g fit m.world.ending m.frames m l refl refl stands)
+low_code_follows g fit = follows_by g (λ m l s. comes_by g fit m.world.ending m.frames m l refl refl s.0 s.1)
 
 pub agrees_for_ever : AgreesForEver
 agrees_for_ever g fit m l stands = agrees g (low_code_follows g fit) m l stands

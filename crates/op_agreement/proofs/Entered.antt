@@ -27,7 +27,8 @@ use Rattle.op_mir.specs.declared.path.Root.{Root}
 use Rattle.op_mir.specs.declared.path.Root.TheVariants.{Local, Temporary}
 use Rattle.op_rv.proofs.Memory.{with_bytes-below, with_bytes-within, zeros_get}
 use Rattle.op_agreement.proofs.Charting.{live_stands}
-use Rattle.op_agreement.proofs.Entering.{Enters, above_at, at_deeper, below_begun, bound_below, entered_is, few_given, is_stored, locals_here, locals_of, memory_begun, nameless_back, parameter_is, register_free, registers_begun, row_there, space_here, value_below, value_global, value_held, value_temporary, value_unset, values_at, world_after, world_begun, zero_stored, zero_temporary}
+use Rattle.op_agreement.proofs.Counting.{count_below}
+use Rattle.op_agreement.proofs.Entering.{Enters, above_at, at_deeper, below_begun, bound_below, entered_is, few_given, is_stored, locals_here, locals_of, memory_begun, nameless_back, parameter_is, register_free, registers_begun, row_there, value_below, value_global, value_held, value_temporary, value_unset, values_at, world_after, world_begun, zero_stored, zero_temporary}
 use Rattle.op_agreement.proofs.Keeping.{InFree, InOwn, found_row, held_variable, reference_is_parameter, temporaries_behind}
 use Rattle.op_agreement.proofs.Parameters.{IsParameter}
 use Rattle.op_agreement.proofs.Updating.{floors_here, limit_here}
@@ -41,7 +42,7 @@ use Rattle.op_agreement.specs.Typed.{IsVariable}
 zero_word : (n : ℕ) → n ≡ 0 → IsWordOf n (pos 0)
 zero_word n none = subst (λ w. IsWordOf w (pos 0)) (sym none) (record { number = refl; bound = omega arith })
 
-module _ (g : Setting) (fit : IsFitting g) (m : MirState) (l : State) (floors new : ℕ → Floor) (r : ℕ) (given : List Handed) (c : MirCaller) (lc : Caller) (first result : ℕ) (words : List ℕ) (e : Enters g m l floors new r given c lc first result words) where
+module _ (g : Setting) (fit : IsFitting g) (m : MirState) (l : State) (floors new : ℕ → Floor) (r : ℕ) (given : List Handed) (c : MirCaller) (lcs : List Caller) (room : ℕ) (first result : ℕ) (words : List ℕ) (e : Enters g m l floors new r given c lcs room first result words) where
   abbrev deep : ℕ
   deep = suc (length m.callers)
 
@@ -49,16 +50,16 @@ module _ (g : Setting) (fit : IsFitting g) (m : MirState) (l : State) (floors ne
   floor_here = new (suc (length m.callers))
 
   abbrev world : World
-  world = world_after g fit m l floors new r given c lc first result words e
+  world = world_after g fit m l floors new r given c lcs room first result words e
 
   abbrev values : ℕ → Holder → Value
-  values = values_at g fit m l floors new r given c lc first result words e
+  values = values_at g fit m l floors new r given c lcs room first result words e
 
   abbrev registers : ℕ → ℕ
-  registers = registers_begun g fit m l floors new r given c lc first result words e
+  registers = registers_begun g fit m l floors new r given c lcs room first result words e
 
   abbrev memory : ℕ → ℕ
-  memory = memory_begun g fit m l floors new r given c lc first result words e
+  memory = memory_begun g fit m l floors new r given c lcs room first result words e
 
   abbrev rows_here : List Variable
   rows_here = rows g.core.variables (variables_of g.core floor_here.number)
@@ -82,18 +83,18 @@ module _ (g : Setting) (fit : IsFitting g) (m : MirState) (l : State) (floors ne
   reference_at v variable =
       let (p, found) = reference_row v variable in
       let low = reference_is_parameter g.core floor_here.number floor_here.routine floor_here.frame e.floor.framed e.floor.fits v variable in
-      by p (row_is v p variable.0 found) (parameter_is g fit m l floors new r given c lc first result words e v p (row_there g fit m l floors new r given c lc first result words e v p low found))
+      by p (row_is v p variable.0 found) (parameter_is g fit m l floors new r given c lcs room first result words e v p (row_there g fit m l floors new r given c lcs room first result words e v p low found))
     where
       by : (p : Variable) → slice_get g.core.variables ((variables_of g.core floor_here.number).first + v) ≡ Some p → IsParameter g floors (length m.callers) m.world world deep v p (registers (parameter v)) → IsAt g new deep (world.bound deep v) (type_of_local g.core floor_here.number v) (registers (parameter v)) × (registers (parameter v) < 2 ^ 32)
       by p row (inl (value, is)) = let clash : true ≡ false = sym variable.1 ∙ ap refers row ∙ value in absurd cc
       by p row (inr (reference, at_, small)) =
           let type : p.of ≡ type_of_local g.core floor_here.number v = sym (ap type_of_row row) in
-          (subst (λ t. IsAt g new deep (world.bound deep v) t (registers (parameter v))) type (at_deeper g fit m l floors new r given c lc first result words e (world.bound deep v) p.of (registers (parameter v)) at_), small)
+          (subst (λ t. IsAt g new deep (world.bound deep v) t (registers (parameter v))) type (at_deeper g fit m l floors new r given c lcs room first result words e (world.bound deep v) p.of (registers (parameter v)) at_), small)
 
   -- a variable that is kept in a register has its value there
   word_held : (k v q : ℕ) → IsVariable g.core floor_here.number v false → home_at floor_here.frame.homes (record { 0 = v }) ≡ Held (record { 0 = q }) → IsWordOf (registers q) (number_in (values k (local deep v)))
   word_held k v q variable home =
-      subst (λ x. IsWordOf (registers q) (number_in x)) (sym (value_held g fit m l floors new r given c lc first result words e k v (ap is_stored home)))
+      subst (λ x. IsWordOf (registers q) (number_in x)) (sym (value_held g fit m l floors new r given c lcs room first result words e k v (ap is_stored home)))
       (by (held_variable g.core floor_here.number floor_here.routine floor_here.frame e.floor.framed v q variable home))
     where
       own : (p : Variable) → slice_get g.core.variables ((variables_of g.core floor_here.number).first + v) ≡ Some p → IsParameter g floors (length m.callers) m.world world deep v p (registers (parameter v)) → IsWordOf (registers (parameter v)) (number_in (world.memory (local deep v)))
@@ -108,13 +109,13 @@ module _ (g : Setting) (fit : IsFitting g) (m : MirState) (l : State) (floors ne
       by : InOwn g.core floor_here.number v q ⊎ InFree g.core floor_here.number v q → IsWordOf (registers q) (number_in (world.memory (local deep v)))
       by (inl i) =
           subst (λ x. IsWordOf (registers x) (number_in (world.memory (local deep v)))) (sym i.own)
-          (own i.variable (row_is v i.variable variable.0 i.row) (parameter_is g fit m l floors new r given c lc first result words e v i.variable (row_there g fit m l floors new r given c lc first result words e v i.variable i.low i.row)))
+          (own i.variable (row_is v i.variable variable.0 i.row) (parameter_is g fit m l floors new r given c lcs room first result words e v i.variable (row_there g fit m l floors new r given c lcs room first result words e v i.variable i.low i.row)))
       by (inr i) =
-          let few = (few_given g fit m l floors new r given c lc first result words e).0 in
+          let few = (few_given g fit m l floors new r given c lcs room first result words e).0 in
           let high = i.high in
-          let value = value_unset g fit m l floors new r given c lc first result words e v (omega arith) in
+          let value = value_unset g fit m l floors new r given c lcs room first result words e v (omega arith) in
           let none : number_in (world.memory (local deep v)) ≡ pos 0 = ap number_in value ∙ zero-number (suc (type_of_local g.core r v).0) g.core (type_of_local g.core r v) in
-          subst (IsWordOf (registers q)) (sym none) (zero_word (registers q) (register_free g fit m l floors new r given c lc first result words e q i.behind))
+          subst (IsWordOf (registers q)) (sym none) (zero_word (registers q) (register_free g fit m l floors new r given c lcs room first result words e q i.behind))
 
   -- variables in registers, what parameters stand for, and temporaries
   kept_begun : (k : ℕ) → AreKept g new deep (values k) world.bound no_temps registers
@@ -125,19 +126,18 @@ module _ (g : Setting) (fit : IsFitting g) (m : MirState) (l : State) (floors ne
     temporaries = λ t low.
         let behind = temporaries_behind g.core floor_here.number floor_here.routine floor_here.frame e.floor.framed in
         -- a register with 0 has the number 0
-        zero_word (registers (floor_here.frame.bank.temporaries + t)) (register_free g fit m l floors new r given c lc first result words e (floor_here.frame.bank.temporaries + t) (omega arith));
+        zero_word (registers (floor_here.frame.bank.temporaries + t)) (register_free g fit m l floors new r given c lcs room first result words e (floor_here.frame.bank.temporaries + t) (omega arith));
   }
 
   -- its floor, and the room that is left
-  activation_begun : (k : ℕ) → ActivationStands g new deep (values k) world.bound no_temps r (entered_low g.low (runtime + r) (first ∷ result ∷ words)) (l.limit + locals_of g r) (l.room - space g.low g.placement (runtime + r)) (m.charged + (managed g).charge r)
+  activation_begun : (k : ℕ) → ActivationStands g new deep (values k) world.bound no_temps r (entered_low g.low (runtime + r) (first ∷ result ∷ words)) (l.limit + locals_of g r) (room - space g.low g.placement (runtime + r)) (m.charged + (managed g).charge r)
   activation_begun k =
       let a = e.stays.activation in
       let left = e.left in
       let had = a.left in
-      let enough = a.enough in
-      let top = a.top in
-      let space_is = space_here g fit m l floors new r given c lc first result words e in
-      let locals = locals_here g fit m l floors new r given c lc first result words e in
+      let enough = e.enough in
+      let top = e.top in
+      let locals = locals_here g fit m l floors new r given c lcs room first result words e in
       let base = e.base in
       record {
         floor = e.floor;
@@ -181,7 +181,7 @@ module _ (g : Setting) (fit : IsFitting g) (m : MirState) (l : State) (floors ne
       let whole = type_is_arranged g.core fit.program.extents of (fits.types root offset stored) in
       let size = whole.size in
       let base = e.base in
-      let locals = locals_here g fit m l floors new r given c lc first result words e in
+      let locals = locals_here g fit m l floors new r given c lcs room first result words e in
       let zeros : AreZeros memory (floor_here.base + offset) (bytes_in (arrangement_of g.core of)) = λ x low. memory_zero (floor_here.base + offset + x) (omega arith) (omega arith) in
       zero_lies (suc of.0) (suc of.0) g.core of memory (floor_here.base + offset) whole.arranged zeros
 
@@ -200,19 +200,19 @@ module _ (g : Setting) (fit : IsFitting g) (m : MirState) (l : State) (floors ne
   lie_begun : AllLie g new deep (values 0) memory
   -- all that is live lies as it is meant
   lie_begun (global v) live =
-      subst (λ x. Lies (arrangement_of g.core (type_of_variable g.core v)) x memory (address_of g new (global v))) (sym (value_global g fit m l floors new r given c lc first result words e 0 v)) (lies_below (global v) live)
+      subst (λ x. Lies (arrangement_of g.core (type_of_variable g.core v)) x memory (address_of g new (global v))) (sym (value_global g fit m l floors new r given c lcs room first result words e 0 v)) (lies_below (global v) live)
   -- all that is live lies as it is meant
   lie_begun (local d v) (low, stored) = by (cases_lt d deep)
     where
       by : (d < deep) ⊎ (deep ≤ d) → Lies (arrangement_of g.core (type_of_local g.core (new d).number v)) (values 0 (local d v)) memory ((new d).base + stored_offset (home_at (new d).frame.homes (record { 0 = v })))
       by (inl less) =
           subst (LocalLies d v (values 0 (local d v))) (sym (e.same d (omega arith)))
-          (λ stored. subst (λ x. Lies (arrangement_of g.core (type_of_local g.core (floors d).number v)) x memory (address_of g floors (local d v))) (sym (value_below g fit m l floors new r given c lc first result words e 0 d v less)) (lies_below (local d v) (omega arith, stored))) stored
+          (λ stored. subst (λ x. Lies (arrangement_of g.core (type_of_local g.core (floors d).number v)) x memory (address_of g floors (local d v))) (sym (value_below g fit m l floors new r given c lcs room first result words e 0 d v less)) (lies_below (local d v) (omega arith, stored))) stored
       by (inr more) =
           let same : d ≡ deep = omega arith in
           subst (λ i. LocalLies i v (values 0 (local i v)) (new i)) (sym same)
           (λ stored. subst (λ x. Lies (arrangement_of g.core (type_of_local g.core floor_here.number v)) x memory (address_of g new (local deep v)))
-          (sym (zero_stored g fit m l floors new r given c lc first result words e 0 v (omega arith) (ap is_stored stored.1)))
+          (sym (zero_stored g fit m l floors new r given c lcs room first result words e 0 v (omega arith) (ap is_stored stored.1)))
           (zero_there (Local (record { 0 = v })) (stored_offset (home_at floor_here.frame.homes (record { 0 = v }))) stored)) stored
   -- all that is live lies as it is meant
   lie_begun (temporary d of n) (low, stored) = by (cases_lt d deep)
@@ -220,12 +220,12 @@ module _ (g : Setting) (fit : IsFitting g) (m : MirState) (l : State) (floors ne
       by : (d < deep) ⊎ (deep ≤ d) → Lies (arrangement_of g.core of) (values 0 (temporary d of n)) memory ((new d).base + offset_of g.core (Temporary of n) (new d).frame.temporaries (new d).frame.roots)
       by (inl less) =
           subst (TemporaryLies d of n (values 0 (temporary d of n))) (sym (e.same d (omega arith)))
-          (λ stored. subst (λ x. Lies (arrangement_of g.core of) x memory (address_of g floors (temporary d of n))) (sym (value_temporary g fit m l floors new r given c lc first result words e 0 d of n less)) (lies_below (temporary d of n) (omega arith, stored))) stored
+          (λ stored. subst (λ x. Lies (arrangement_of g.core of) x memory (address_of g floors (temporary d of n))) (sym (value_temporary g fit m l floors new r given c lcs room first result words e 0 d of n less)) (lies_below (temporary d of n) (omega arith, stored))) stored
       by (inr more) =
           let same : d ≡ deep = omega arith in
           subst (λ i. TemporaryLies i of n (values 0 (temporary i of n)) (new i)) (sym same)
           (λ stored. subst (λ x. Lies (arrangement_of g.core of) x memory (address_of g new (temporary deep of n)))
-          (sym (zero_temporary g fit m l floors new r given c lc first result words e 0 of n))
+          (sym (zero_temporary g fit m l floors new r given c lcs room first result words e 0 of n))
           (zero_there (Temporary of n) (offset_of g.core (Temporary of n) floor_here.frame.temporaries floor_here.frame.roots) stored)) stored
   -- all that is live lies as it is meant
   lie_begun (object name) live = absurd live
@@ -248,7 +248,7 @@ module _ (g : Setting) (fit : IsFitting g) (m : MirState) (l : State) (floors ne
   }
 
   -- all but the place where both go on
-  pub stays_begun : Stays g new (above_at g fit m l floors new r given c lc first result words e 0) (below_begun g fit m l floors new r given c lc first result words e)
+  pub stays_begun : Stays g new (above_at g fit m l floors new r given c lcs room first result words e 0) (below_begun g fit m l floors new r given c lcs room first result words e)
   stays_begun =
       let s = e.stays in
       let lowest = (floors_here g fit floors m l s).lowest (length m.callers) (omega arith) in
@@ -260,10 +260,11 @@ module _ (g : Setting) (fit : IsFitting g) (m : MirState) (l : State) (floors ne
         depth = refl;
         activation = activation_begun 0;
         callers = e.waits (values 0) world.bound
-            (λ d v low. value_below g fit m l floors new r given c lc first result words e 0 d v (omega arith))
-            (λ d v low. bound_below g fit m l floors new r given c lc first result words e d v (omega arith));
+            (λ d v low. value_below g fit m l floors new r given c lcs room first result words e 0 d v (omega arith))
+            (λ d v low. bound_below g fit m l floors new r given c lcs room first result words e d v (omega arith));
         lie = lie_begun;
         fixed = λ x low fixed. memory_below x (omega arith) ∙ s.fixed x low fixed;
+        due = count_below g fit (length m.pending) l.memory memory (λ x low. memory_below x (omega arith)) s.due;
         bytes = λ x low. small x low (cases_lt x l.limit);
         output = s.output;
         errors = s.errors;

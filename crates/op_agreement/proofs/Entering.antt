@@ -93,16 +93,17 @@ abbrev pub charge_in : Option Routine → ℕ
 charge_in None = 0
 charge_in (Some routine) = routine.charge
 
--- the caller waits, whatever the activation above it has
-abbrev pub Waits : Setting → MirState → State → (new : ℕ → Floor) → (r : ℕ) → MirCaller → Caller → (result : ℕ) → Type 0
-Waits g m l new r c lc result =
+-- callers wait in so much room, whatever the activation above them has
+abbrev pub Waits : Setting → MirState → State → (new : ℕ → Floor) → (r : ℕ) → MirCaller → List Caller → (room result : ℕ) → Type 0
+Waits g m l new r c lcs room result =
     (values : Holder → Value) (bound : ℕ → ℕ → Place)
     → ((d v : ℕ) → d ≤ length m.callers → values (local d v) ≡ m.world.memory (local d v))
     → ((d v : ℕ) → d ≤ length m.callers → bound d v ≡ m.world.bound d v)
-    → CallersStand g new values bound (c ∷ m.callers) (lc ∷ l.callers) r result (l.limit + locals_of g r) (l.room - space_of g r) (m.charged + (managed g).charge r)
+    → CallersStand g new values bound (c ∷ m.callers) lcs r result (l.limit + locals_of g r) (room - space_of g r) (m.charged + (managed g).charge r)
 
--- Low code has come to where a routine begins, with these arguments, on a floor of its own, and with the charge that its caller had.
-pub record Enters (g : Setting) (m : MirState) (l : State) (floors new : ℕ → Floor) (r : ℕ) (given : List Handed) (c : MirCaller) (lc : Caller) (first result : ℕ) (words : List ℕ) : Type 0 where
+-- Low code has come to where a routine begins, with these arguments, on a floor of its own, and with the charge that its caller had. The state below
+-- is the one of the caller; between the two there may be more callers, who take a part of its room.
+pub record Enters (g : Setting) (m : MirState) (l : State) (floors new : ℕ → Floor) (r : ℕ) (given : List Handed) (c : MirCaller) (lcs : List Caller) (room : ℕ) (first result : ℕ) (words : List ℕ) : Type 0 where
   pub stays : Stays g floors m l
   pub exists : r < length g.mir.routines
   pub are : AreHanded g floors (length m.callers) m.world given (parameter_rows g.core r) words
@@ -112,9 +113,11 @@ pub record Enters (g : Setting) (m : MirState) (l : State) (floors new : ℕ →
   pub number : (new (suc (length m.callers))).number ≡ r
   pub base : (new (suc (length m.callers))).base ≡ l.limit
   pub floor : IsFloor g (new (suc (length m.callers)))
-  pub waits : Waits g m l new r c lc result
+  pub enough : first + 1024 + space_of g r ≤ room
+  pub top : l.limit + room ≤ g.top
+  pub waits : Waits g m l new r c lcs room result
 
-module _ (g : Setting) (fit : IsFitting g) (m : MirState) (l : State) (floors new : ℕ → Floor) (r : ℕ) (given : List Handed) (c : MirCaller) (lc : Caller) (first result : ℕ) (words : List ℕ) (e : Enters g m l floors new r given c lc first result words) where
+module _ (g : Setting) (fit : IsFitting g) (m : MirState) (l : State) (floors new : ℕ → Floor) (r : ℕ) (given : List Handed) (c : MirCaller) (lcs : List Caller) (room : ℕ) (first result : ℕ) (words : List ℕ) (e : Enters g m l floors new r given c lcs room first result words) where
   -- how many activations are below it
   abbrev pub deep : ℕ
   deep = suc (length m.callers)
@@ -153,9 +156,9 @@ module _ (g : Setting) (fit : IsFitting g) (m : MirState) (l : State) (floors ne
   abbrev pub below_begun : State
   below_begun = record l {
     top = entered_low g.low (runtime + r) (first ∷ result ∷ words);
-    callers = lc ∷ l.callers;
+    callers = lcs;
     limit = l.limit + locals_of g r;
-    room = l.room - space_of g r;
+    room = room - space_of g r;
     memory = memory_begun;
   }
 
@@ -229,14 +232,6 @@ module _ (g : Setting) (fit : IsFitting g) (m : MirState) (l : State) (floors ne
   -- it is charged what its routine says
   pub charge_here : (managed g).charge r ≡ floor_here.routine.charge
   charge_here = ap (managed g).charge (sym e.number) ∙ ap charge_in e.floor.found
-
-  -- and takes no more than it is charged
-  pub space_here : space_of g r ≤ (managed g).charge r
-  space_here =
-      let small = fits_here.space (subst (λ n. n < length g.mir.routines) (sym e.number) e.exists) in
-      let charge = charge_here in
-      let there : space_of g floor_here.number ≡ space_of g r = ap (space_of g) e.number in
-      omega arith
 
   -- ---- parameters
 

@@ -1,5 +1,5 @@
 -- An error ends the program: its line goes to the error stream, and its number is the status.
-use Rattle.std.proofs.Common.{◌≡◌, ◌≤◌, ◌<◌, ℕ, ◌+◌, List, [], ◌∷◌, ◌++◌, length, Some, None, refl, sym, ap, ap₂, ◌∙◌, subst, arith}
+use Rattle.std.proofs.Common.{◌≡◌, ◌≤◌, ◌<◌, inl, inr, ℕ, ◌+◌, List, [], ◌∷◌, ◌++◌, length, Some, None, refl, sym, ap, ap₂, ◌∙◌, subst, arith}
 use Rattle.std.specs.Prelude.{◌^◌, ◌%◌, Bool, true, false, ◌&&◌, codes, nat_lt, slice_get, if◌then◌else◌}
 use Rattle.std.proofs.lemmas.Bool.{cond-true}
 use Rattle.std.proofs.lemmas.Bool.Decides.{nat_tests}
@@ -40,13 +40,16 @@ pub limit_above : (g : Setting) (floors : ℕ → Floor) (values : Holder → Va
 limit_above g floors values bound [] [] number address limit room charged (is, at) = omega arith
 limit_above g floors values bound [] (l ∷ ls) number address limit room charged s = absurd s
 limit_above g floors values bound (c ∷ cs) [] number address limit room charged s = absurd s
-limit_above g floors values bound (c ∷ cs) (l ∷ ls) number address limit room charged (below, under, spare, declared, low, charge, at, more, frames, receiver, to, typed, result, nameless, made, position, activation, callers) =
+limit_above g floors values bound (c ∷ cs) (l ∷ ls) number address limit room charged (inr (below, under, spare, status, a, ended, others, are, charge, at, more, closing, activation, callers)) =
+    let deeper = limit_above g floors values bound cs others c.routine (a.registers result_address.0) below spare under callers in
+    omega arith
+limit_above g floors values bound (c ∷ cs) (l ∷ ls) number address limit room charged (inl (below, under, spare, declared, low, charge, at, more, frames, receiver, to, typed, result, nameless, made, position, activation, callers)) =
     let deeper = limit_above g floors values bound cs ls c.routine (l.activation.registers result_address.0) below spare under callers in
     omega arith
 
 -- ---- what an error writes
 
-abbrev error_line : ℕ → List ℕ
+abbrev pub error_line : ℕ → List ℕ
 error_line n = codes "Runtime error " ++ digits_of n ++ line_feed
 
 line_there : (g : Setting) (e : RuntimeError) → slice_get (literals_of g.core g.mir) (3 + place_of_error e) ≡ Some (error_line (number_of_error e))
@@ -107,26 +110,50 @@ module _ (g : Setting) where
       may : (x : ℕ) → g.placement.rights.readable x ≡ true → x < l.limit → (g.placement.rights.readable x && nat_lt x l.limit) ≡ true
       may x right low = let t : nat_lt x l.limit ≡ true = grind (arith, nat_tests) in ap₂ (λ a b. a && b) right t
 
-  pub error_ends : IsFitting g → (floors : ℕ → Floor) (m : MirState) (l : State) → Stays g floors m l → (e : RuntimeError) (f : ℕ → ℕ) (rest : List Instr) → (k : State) × Goes g 5 5 (at l f (block_of g.low l.top.routine (error_block_of (here m floors).frame.bank e).0)) k × Stands g (record m { world = failed g.core (number_of_error e) m.world; rest = rest }) k
-  error_ends fit floors m l s e f rest =
-      let a = s.activation in
+  -- the code of an error ends the program, wherever it stands
+  pub record ErrorEnds (l : State) (e : RuntimeError) (f : ℕ → ℕ) : Type 0 where
+    pub to : State
+    pub goes : Goes g 5 5 (at l f (error_code (number_of_error e) (3 + place_of_error e))) to
+    pub ending : to.ending ≡ Ended (number_of_error e)
+    pub output : to.output ≡ l.output
+    pub errors : to.errors ≡ l.errors ++ error_line (number_of_error e)
+    pub input : to.input ≡ l.input
+
+  pub error_runs : IsFitting g → (l : State) → g.bottom ≤ l.limit → Rattle.op_agreement.specs.Stands.IsFixed g l.memory → (e : RuntimeError) (f : ℕ → ℕ) → ErrorEnds l e f
+  error_runs fit l above fixed e f =
       let n = number_of_error e in
       let id = 3 + place_of_error e in
       let line = error_line n in
       let at_ = g.placement.address (literal id) in
-      let (may, is) = literal_there l at_ line (fit.placed.literals id line (line_there g e)) (limit_above g floors m.world.memory m.world.bound m.callers l.callers m.routine (l.top.registers result_address.0) l.limit l.room m.charged s.callers) s.fixed in
-      let code : block_of g.low l.top.routine (error_block_of (here m floors).frame.bank e).0 ≡ error_code n id =
-      ap₂ (λ r b. block_of g.low r (b + place_of_error e)) a.same a.floor.fits.errors ∙ a.floor.expanded.errors e in
-      let f2 = after_two l f id in (
-        over l f2 line n,
-        goes_from g 5 (at l f (block_of g.low l.top.routine (error_block_of (here m floors).frame.bank e).0)) (at l f (error_code n id)) (over l f2 line n) (ap (at l f) code)
-            (goes_then g 2 3 5 (at l f (error_code n id)) (at l f2 (Write Errors left result_address ∷ Const left n ∷ Exit left ∷ [])) (over l f2 line n) (omega arith) (begins l f n id)
+      let (may, is) = literal_there l at_ line (fit.placed.literals id line (line_there g e)) above fixed in
+      let f2 = after_two l f id in
+      record {
+        to = over l f2 line n;
+        goes = goes_then g 2 3 5 (at l f (error_code n id)) (at l f2 (Write Errors left result_address ∷ Const left n ∷ Exit left ∷ [])) (over l f2 line n) (omega arith) (begins l f n id)
             (goes_then g 1 2 3 (at l f2 (Write Errors left result_address ∷ Const left n ∷ Exit left ∷ [])) (said l f2 (Const left n ∷ Exit left ∷ []) line) (over l f2 line n) (omega arith)
             (writes l f2 (Const left n ∷ Exit left ∷ []) at_ line refl refl may is)
-            (ends l f2 line n))),
-        stands (failed g.core n m.world) (failed_is g.core fit.program.exceptions n m.world) (over l f2 line n) (ap (λ x. Ended x) (small_number e)) s.output (ap (λ x. x ++ line) s.errors) s.input,
-      )
+            (ends l f2 line n));
+        ending = ap (λ x. Ended x) (small_number e);
+        output = refl;
+        errors = refl;
+        input = refl;
+      }
+
+  -- and so does the program above
+  pub error_stands : IsFitting g → (m : MirState) (e : RuntimeError) (k : State) → k.ending ≡ Ended (number_of_error e) → k.output ≡ m.world.output → k.errors ≡ m.world.errors ++ error_line (number_of_error e) → k.input ≡ m.world.input → Stands g (record m { world = failed g.core (number_of_error e) m.world }) k
+  error_stands fit m e k ending output errors input = by (failed g.core (number_of_error e) m.world) (failed_is g.core fit.program.exceptions (number_of_error e) m.world)
     where
-      stands : (w : World) → w ≡ stopped (number_of_error e) m.world → (k : State) → k.ending ≡ Ended (number_of_error e) → k.output ≡ m.world.output → k.errors ≡ m.world.errors ++ error_line (number_of_error e) → k.input ≡ m.world.input → Stands g (record m { world = w; rest = rest }) k
-      stands w is k ending output errors input =
-          subst (λ x. Stands g (record m { world = x; rest = rest }) k) (sym is) (record { ending = ending; output = output; errors = errors; input = input })
+      by : (w : World) → w ≡ stopped (number_of_error e) m.world → Stands g (record m { world = w }) k
+      by w is = subst (λ x. Stands g (record m { world = x }) k) (sym is) (record { ending = ending; output = output; errors = errors; input = input })
+
+  pub error_ends : IsFitting g → (floors : ℕ → Floor) (m : MirState) (l : State) → Stays g floors m l → (e : RuntimeError) (f : ℕ → ℕ) (rest : List Instr) → (k : State) × Goes g 5 5 (at l f (block_of g.low l.top.routine (error_block_of (here m floors).frame.bank e).0)) k × Stands g (record m { world = failed g.core (number_of_error e) m.world; rest = rest }) k
+  error_ends fit floors m l s e f rest =
+      let a = s.activation in
+      let above = limit_above g floors m.world.memory m.world.bound m.callers l.callers m.routine (l.top.registers result_address.0) l.limit l.room m.charged s.callers in
+      let runs = error_runs fit l above s.fixed e f in
+      let code : block_of g.low l.top.routine (error_block_of (here m floors).frame.bank e).0 ≡ error_code (number_of_error e) (3 + place_of_error e) =
+      ap₂ (λ r b. block_of g.low r (b + place_of_error e)) a.same a.floor.fits.errors ∙ a.floor.expanded.errors e in (
+        runs.to,
+        goes_from g 5 (at l f (block_of g.low l.top.routine (error_block_of (here m floors).frame.bank e).0)) (at l f (error_code (number_of_error e) (3 + place_of_error e))) runs.to (ap (at l f) code) runs.goes,
+        error_stands fit (record m { rest = rest }) e runs.to runs.ending (runs.output ∙ s.output) (runs.errors ∙ ap (λ x. x ++ error_line (number_of_error e)) s.errors) (runs.input ∙ s.input),
+      )

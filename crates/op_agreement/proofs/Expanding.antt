@@ -10,7 +10,8 @@ use Rattle.op_constants.specs.Literals.{block_literals, literals_of, routine_lit
 use Rattle.op_core.proofs.Agreeing.{some_is}
 use Rattle.op_core.proofs.OneType.{stays_front}
 use Rattle.op_core.specs.declared.program.Core.{Core}
-use Rattle.op_expand.specs.Calls.{runtime}
+use Rattle.op_expand.specs.Calls.{closing_number, has_closing, runtime}
+use Rattle.op_expand.specs.Closing.{closing_routine, closing_routines}
 use Rattle.op_expand.specs.Frames.{frame_of}
 use Rattle.op_expand.specs.Programs.{first_literal, low_of, program_literal, routines_from}
 use Rattle.op_expand.specs.Routines.{all_blocks, beginning, behind_blocks, behind_code, blocks_of, code_of, error_block, error_blocks, error_code, low_parameters, low_routine, most_charge, routine_with}
@@ -125,26 +126,26 @@ module _ (core : Core) (mir : Mir) (stack : ℕ) where
   last = low_routine core mir (length mir.routines) (program_literal core mir) mir.program
 
   -- behind the run-time routines
-  others : (low_of core mir stack).routines ≡ runtime_routines ++ (from ++ last ∷ [])
+  others : (low_of core mir stack).routines ≡ runtime_routines ++ (from ++ last ∷ closing_routines core mir stack)
   unfolding from last
-  others = append_assoc runtime_routines from (last ∷ [])
+  others = append_assoc runtime_routines from (last ∷ closing_routines core mir stack)
 
   -- the program's routines have their numbers behind those of the run-time routines
-  behind_runtime : (r : ℕ) → slice_get (low_of core mir stack).routines (runtime + r) ≡ slice_get (from ++ last ∷ []) r
-  behind_runtime r = ap (λ rs. slice_get rs (runtime + r)) others ∙ behind_front runtime_routines (from ++ last ∷ []) r
+  behind_runtime : (r : ℕ) → slice_get (low_of core mir stack).routines (runtime + r) ≡ slice_get (from ++ last ∷ closing_routines core mir stack) r
+  behind_runtime r = ap (λ rs. slice_get rs (runtime + r)) others ∙ behind_front runtime_routines (from ++ last ∷ closing_routines core mir stack) r
 
   -- a routine of the program, or the program itself, whose number is the next one
-  found_by : (main : Bool) (r : ℕ) (x : Routine) → nat_eq r (length mir.routines) ≡ main → (if main then Some mir.program else slice_get mir.routines r) ≡ Some x → IsLowRoutine core mir (literals_of core mir) r (slice_get (from ++ last ∷ []) r) x
+  found_by : (main : Bool) (r : ℕ) (x : Routine) → nat_eq r (length mir.routines) ≡ main → (if main then Some mir.program else slice_get mir.routines r) ≡ Some x → IsLowRoutine core mir (literals_of core mir) r (slice_get (from ++ last ∷ closing_routines core mir stack) r) x
   unfolding from last
   found_by true r x main is =
       let number : length mir.routines ≡ r = grind (arith, nat_tests) in
       let count : length from + 0 ≡ length mir.routines = omega (arith, routines_count core mir 0 first_literal mir.routines) in
-      let at = subst (λ k. slice_get (from ++ last ∷ []) k ≡ Some last) count (behind_front from (last ∷ []) 0) in
-      let stands : IsLowRoutine core mir (literals_of core mir) (length mir.routines) (slice_get (from ++ last ∷ []) (length mir.routines)) mir.program = record { id = program_literal core mir; at = at; literals = program_numbered core mir } in
-      subst (λ k. IsLowRoutine core mir (literals_of core mir) k (slice_get (from ++ last ∷ []) k) x) number (subst (IsLowRoutine core mir (literals_of core mir) (length mir.routines) (slice_get (from ++ last ∷ []) (length mir.routines))) (some_is is) stands)
+      let at = subst (λ k. slice_get (from ++ last ∷ closing_routines core mir stack) k ≡ Some last) count (behind_front from (last ∷ closing_routines core mir stack) 0) in
+      let stands : IsLowRoutine core mir (literals_of core mir) (length mir.routines) (slice_get (from ++ last ∷ closing_routines core mir stack) (length mir.routines)) mir.program = record { id = program_literal core mir; at = at; literals = program_numbered core mir } in
+      subst (λ k. IsLowRoutine core mir (literals_of core mir) k (slice_get (from ++ last ∷ closing_routines core mir stack) k) x) number (subst (IsLowRoutine core mir (literals_of core mir) (length mir.routines) (slice_get (from ++ last ∷ closing_routines core mir stack) (length mir.routines))) (some_is is) stands)
   found_by false r x main is =
       let stands = routine_stands core mir (literals_of core mir) mir.routines 0 first_literal r r x (omega arith) is (routines_numbered core mir) in
-      record { id = stands.id; at = stays_front from (last ∷ []) r (low_routine core mir r stands.id x) stands.at; literals = stands.literals }
+      record { id = stands.id; at = stays_front from (last ∷ closing_routines core mir stack) r (low_routine core mir r stands.id x) stands.at; literals = stands.literals }
 
   -- with the run-time routines in front
   found_low : (r : ℕ) (x : Routine) → routine_at mir r ≡ Some x → IsLowRoutine core mir (literals_of core mir) r (slice_get (low_of core mir stack).routines (runtime + r)) x
@@ -156,7 +157,7 @@ module _ (g : Setting) (low : g.low ≡ low_of g.core g.mir g.stack) where
   -- the run-time routines stand in front of all others
   pub has_runtime : ((r : ℕ) → r < length runtime_routines → g.placement.frame r ≤ 64) → HasRuntime g.low g.placement
   has_runtime frames = record {
-    others = from g.core g.mir g.stack ++ last g.core g.mir g.stack ∷ [];
+    others = from g.core g.mir g.stack ++ last g.core g.mir g.stack ∷ closing_routines g.core g.mir g.stack;
     routines = ap (λ l. l.routines) low ∙ others g.core g.mir g.stack;
     frames = frames;
   }
@@ -169,6 +170,20 @@ module _ (g : Setting) (low : g.low ≡ low_of g.core g.mir g.stack) where
   pub low_found : (r : ℕ) (x : Routine) → routine_at g.mir r ≡ Some x → IsLowRoutine g.core g.mir (literals_of g.core g.mir) r (slice_get g.low.routines (runtime + r)) x
   low_found r x found =
       subst (λ l. IsLowRoutine g.core g.mir (literals_of g.core g.mir) r (slice_get l.routines (runtime + r)) x) (sym low) (found_low g.core g.mir g.stack r x found)
+
+  -- the closing stands behind all others
+  pub closing_made : has_closing g.core ≡ true → length g.mir.routines ≡ length g.core.routines → slice_get g.low.routines (closing_number g.core) ≡ Some (closing_routine g.core g.mir g.stack)
+  unfolding from last
+  closing_made closes number =
+      let all = from g.core g.mir g.stack in
+      let ends = last g.core g.mir g.stack ∷ closing_routines g.core g.mir g.stack in
+      let at : closing_number g.core ≡ runtime + (length g.core.routines + 1) = omega arith in
+      let count : length all + 1 ≡ length g.core.routines + 1 = omega (arith, routines_count g.core g.mir 0 first_literal g.mir.routines, number) in
+      ap (λ l. slice_get l.routines (closing_number g.core)) low
+      ∙ ap (slice_get (low_of g.core g.mir g.stack).routines) at
+      ∙ behind_runtime g.core g.mir g.stack (length g.core.routines + 1)
+      ∙ subst (λ n. slice_get (all ++ ends) n ≡ slice_get (closing_routines g.core g.mir g.stack) 0) count (behind_front all ends 1)
+      ∙ ap (λ b. slice_get (if b then closing_routine g.core g.mir g.stack ∷ [] else []) 0) closes
 
   module _ (r : ℕ) (x : Routine) (found : routine_at g.mir r ≡ Some x) (charge : x.charge ≤ most_charge) where
     abbrev frame : Frame

@@ -135,7 +135,7 @@ loaded_word Signed32 memory a bytes =
     omega arith
 
 -- bytes stay bytes below a limit
-bounded_below : (limit : ℕ) (memory : ℕ → ℕ) (a : ℕ) (bytes : List ℕ) → ((x : ℕ) → x < limit → memory x < 2 ^ 8) → ((k : ℕ) → get_or bytes k 0 < 2 ^ 8) → (x : ℕ) → x < limit → with_bytes memory a bytes x < 2 ^ 8
+pub bounded_below : (limit : ℕ) (memory : ℕ → ℕ) (a : ℕ) (bytes : List ℕ) → ((x : ℕ) → x < limit → memory x < 2 ^ 8) → ((k : ℕ) → get_or bytes k 0 < 2 ^ 8) → (x : ℕ) → x < limit → with_bytes memory a bytes x < 2 ^ 8
 bounded_below limit memory a bytes all few x low =
     let t : nat_lt x limit ≡ true = grind (arith, nat_tests) in
     let same : memory x ≡ masked x = sym (ap (λ b. if b then memory x else 0) t) in

@@ -202,7 +202,7 @@ module _ (core : Core) (r : ℕ) where
   fine_names mir x small (Unless t block) fine = tt
   fine_names mir x small (Switch t arms) fine = tt
   fine_names mir x small (Dispatch t block) fine = tt
-  fine_names mir x small (MakeDue f) fine = absurd fine
+  fine_names mir x small (MakeDue f) fine = tt
   fine_names mir x small (Stop t) fine = tt
   fine_names mir x small Return fine = tt
 

@@ -22,7 +22,7 @@ use Rattle.op_core.specs.declared.ids.RoutineId.{RoutineId}
 use Rattle.op_core.specs.declared.program.Core.{Core}
 use Rattle.op_core.specs.declared.routine.Variable.{Variable}
 use Rattle.op_meaning.specs.Costs.{given_bytes}
-use Rattle.op_meaning.specs.Shapes.{is_reference, shape_of}
+use Rattle.op_meaning.specs.Shapes.{shape_of}
 use Rattle.op_mir.specs.declared.instruction.Call.{Call as Operands}
 use Rattle.op_mir.specs.declared.instruction.Given.{Given}
 use Rattle.op_mir.specs.declared.instruction.Given.TheVariants.{ByValue, ByReference, ByPlace, ByCopy}
@@ -166,7 +166,7 @@ module _ (g : Setting) (fit : IsFitting g) (m : MirState) (l : State) (floors : 
     there_new = floor_there floors (suc (length m.callers)) floor_new
 
     -- low code has come to where it begins
-    enters : CallerWaits → Enters g m l floors floors_new callee.0 b.given caller_above caller_below (b.registers 0 - (managed g).charge callee.0) b.result b.words
+    enters : CallerWaits → Enters g m l floors floors_new callee.0 b.given caller_above (caller_below ∷ l.callers) l.room (b.registers 0 - (managed g).charge callee.0) b.result b.words
     enters waits =
         let s = next.stays in
         let a = s.activation in
@@ -175,7 +175,10 @@ module _ (g : Setting) (fit : IsFitting g) (m : MirState) (l : State) (floors : 
         let scratch = fits.scratch in
         let zeroth : b.registers 0 ≡ l.top.registers 0 = b.kept 0 (omega arith) in
         let left = a.left in
+        let enough = a.enough in
         let room = within in
+        let charge : (managed g).charge callee.0 ≡ x.charge = ap charge_in found in
+        let takes : space g.low g.placement (runtime + callee.0) ≤ x.charge = (fit.routines callee.0 x found charge_small).space next.fine.0 in
         let same = floors_below floors (length m.callers) floor_new in
         record {
           stays = s;
@@ -187,6 +190,8 @@ module _ (g : Setting) (fit : IsFitting g) (m : MirState) (l : State) (floors : 
           number = ap (λ f. f.number) there_new;
           base = ap (λ f. f.base) there_new;
           floor = subst (IsFloor g) (sym there_new) floor_stands;
+          enough = omega arith;
+          top = a.top;
           waits = λ values bound variables places. waits floors_new values bound same variables places (ap (λ f. f.frame.locals) there_new ∙ sym floor_stands.expanded.locals);
         }
 
@@ -225,7 +230,7 @@ module _ (g : Setting) (fit : IsFitting g) (m : MirState) (l : State) (floors : 
     comes_by waits =
         let first = b.registers 0 - (managed g).charge callee.0 in
         let begun = begun_below g callee.0 b.registers (rest_below g m l floors (Call callee call) is id next) b.to (first ∷ b.result ∷ b.words) l in
-        let receives : Receives g (Stands g begun_above) (sum_by (receive_most g.core) (parameter_rows g.core (floors_new (suc (length m.callers))).number)) begun = begun_stands g fit m l floors floors_new callee.0 b.given caller_above caller_below first b.result b.words (enters waits) next.ending in
+        let receives : Receives g (Stands g begun_above) (sum_by (receive_most g.core) (parameter_rows g.core (floors_new (suc (length m.callers))).number)) begun = begun_stands g fit m l floors floors_new callee.0 b.given caller_above (caller_below ∷ l.callers) l.room first b.result b.words (enters waits) next.ending in
         record {
           to = receives.to;
           goes = goes_within g 1 (most_for_one * mir_cost (managed g) m) l receives.to (goes_then g 1 0 1 l begun receives.to (omega arith) b.goes receives.goes) begun_costs;

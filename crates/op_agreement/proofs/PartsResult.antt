@@ -54,7 +54,7 @@ use Rattle.op_agreement.specs.Chart.{Floor, IsAt}
 use Rattle.op_agreement.specs.Coding.{code_for}
 use Rattle.op_agreement.specs.Fitting.{IsFitting}
 use Rattle.op_agreement.specs.Settings.{Setting, managed}
-use Rattle.op_agreement.specs.Stands.{CallersStand, ResultGoes, Stands, Stays}
+use Rattle.op_agreement.specs.Stands.{AreStillDue, CallersStand, ResultGoes, Stands, Stays}
 use Rattle.op_agreement.specs.Steps.{most_for_one}
 use Rattle.op_agreement.specs.Typed.{IsTypedReceiver, HasResult}
 
@@ -145,7 +145,7 @@ module _ (g : Setting) (fit : IsFitting g) (m : MirState) (l : State) (floors : 
   -- the code has come to the return, and the memory is that of the value that was put
   done : (memory : ℕ → ℕ) → Stays g floors put_above (put_below memory) → (f : ℕ → ℕ) → Goes g 0 (200 + 6 * size_in g.core of) l (having l f (LowReturn left ∷ rest) memory) → Comes g m l
   done memory s f goes =
-      let w = waits g floors put_above (put_below memory) s c cs lc lcs above lows in
+      let w = waits g floors put_above (put_below memory) s c cs lc lcs above lows of (ap (λ r. result_of (slice_get g.core.routines r)) (sym next.stays.activation.number) ∙ some) in
       let k = gone_below g fit put_above (put_below memory) floors s c cs lc lcs above lows w (f 0) in
       let first = the_caller.charge in
       let second = w.charge in
@@ -269,9 +269,9 @@ module _ (g : Setting) (fit : IsFitting g) (m : MirState) (l : State) (floors : 
 
 -- ---- all functions, and all routines
 
-module _ (g : Setting) (fit : IsFitting g) (m : MirState) (l : State) (floors : ℕ → Floor) (is : List Instruction) (id : ℕ) (next : Next g m l floors Return is id) (of : TypeId) (some : result_of (slice_get g.core.routines (here m floors).number) ≡ Some of) (has : HasResult g.core (here m floors).number of) where
+module _ (g : Setting) (fit : IsFitting g) (m : MirState) (l : State) (floors : ℕ → Floor) (is : List Instruction) (id : ℕ) (next : Next g m l floors Return is id) (due : AreStillDue g m) (of : TypeId) (some : result_of (slice_get g.core.routines (here m floors).number) ≡ Some of) (has : HasResult g.core (here m floors).number of) where
   function_by : (cs : List MirCaller) (ls : List Caller) → m.callers ≡ cs → l.callers ≡ ls → CallersStand g floors m.world.memory m.world.bound cs ls m.routine (l.top.registers result_address.0) l.limit l.room m.charged → Comes g m l
-  function_by [] ls above lows s = main_comes g fit m l floors is id next above
+  function_by [] ls above lows s = main_comes g fit m l floors is id next above due
   function_by (c ∷ cs) [] above lows s = absurd s
   function_by (c ∷ cs) (lc ∷ lcs) above lows s = by c.receiver refl typed_here known.result
     where
@@ -297,9 +297,9 @@ module _ (g : Setting) (fit : IsFitting g) (m : MirState) (l : State) (floors : 
   function_comes = function_by m.callers l.callers refl refl next.stays.callers
 
 -- every return comes along
-pub return_comes : (g : Setting) → IsFitting g → (m : MirState) (l : State) (floors : ℕ → Floor) (is : List Instruction) (id : ℕ) → Next g m l floors Return is id → Comes g m l
-return_comes g fit m l floors is id next = by (result_of (slice_get g.core.routines (here m floors).number)) refl
+pub return_comes : (g : Setting) → IsFitting g → (m : MirState) (l : State) (floors : ℕ → Floor) (is : List Instruction) (id : ℕ) → AreStillDue g m → Next g m l floors Return is id → Comes g m l
+return_comes g fit m l floors is id due next = by (result_of (slice_get g.core.routines (here m floors).number)) refl
   where
     by : (result : Option TypeId) → result_of (slice_get g.core.routines (here m floors).number) ≡ result → Comes g m l
-    by None none = procedure_comes g fit m l floors is id next none
-    by (Some of) some = function_comes g fit m l floors is id next of some (fit.program.results (here m floors).number of some)
+    by None none = procedure_comes g fit m l floors is id next due none
+    by (Some of) some = function_comes g fit m l floors is id next due of some (fit.program.results (here m floors).number of some)

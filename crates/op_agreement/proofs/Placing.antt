@@ -24,6 +24,7 @@ use Rattle.op_meaning.specs.World.{World}
 use Rattle.op_mir.specs.Machine.{MirCaller, MirState}
 use Rattle.op_mir.specs.declared.path.Root.TheVariants.{Local}
 use Rattle.op_agreement.proofs.Charting.{live_apart, live_stands, same_is}
+use Rattle.op_agreement.proofs.Counting.{count_below}
 use Rattle.op_agreement.proofs.Entered.{plain_at}
 use Rattle.op_agreement.proofs.Entering.{Enters, above_at, is_stored, registers_begun, value_below, value_held, value_past, values_at, world_after}
 use Rattle.op_agreement.proofs.Keeping.{InFree, InOwn, held_variable, temporaries_behind}
@@ -63,7 +64,7 @@ level_up : (level : Bool) (k v : ℕ) → (level && nat_eq v k) ≡ false → (l
 level_up true k v other = next_up k v other
 level_up false k v other = refl
 
-module _ (g : Setting) (fit : IsFitting g) (m : MirState) (l : State) (floors new : ℕ → Floor) (r : ℕ) (given : List Handed) (c : MirCaller) (lc : Caller) (first result : ℕ) (words : List ℕ) (e : Enters g m l floors new r given c lc first result words) where
+module _ (g : Setting) (fit : IsFitting g) (m : MirState) (l : State) (floors new : ℕ → Floor) (r : ℕ) (given : List Handed) (c : MirCaller) (lcs : List Caller) (room : ℕ) (first result : ℕ) (words : List ℕ) (e : Enters g m l floors new r given c lcs room first result words) where
   abbrev deep : ℕ
   deep = suc (length m.callers)
 
@@ -71,16 +72,16 @@ module _ (g : Setting) (fit : IsFitting g) (m : MirState) (l : State) (floors ne
   floor_here = new (suc (length m.callers))
 
   abbrev world : World
-  world = world_after g fit m l floors new r given c lc first result words e
+  world = world_after g fit m l floors new r given c lcs room first result words e
 
   abbrev values : ℕ → Holder → Value
-  values = values_at g fit m l floors new r given c lc first result words e
+  values = values_at g fit m l floors new r given c lcs room first result words e
 
   abbrev above : ℕ → MirState
-  above = above_at g fit m l floors new r given c lc first result words e
+  above = above_at g fit m l floors new r given c lcs room first result words e
 
   abbrev registers : ℕ → ℕ
-  registers = registers_begun g fit m l floors new r given c lc first result words e
+  registers = registers_begun g fit m l floors new r given c lcs room first result words e
 
   -- Parameters in front of number k stand where they are kept; the others have their words still. What lies below the new activation is as it
   -- was.
@@ -163,7 +164,7 @@ module _ (g : Setting) (fit : IsFitting g) (m : MirState) (l : State) (floors ne
               subst (λ y. Lies (arrangement_of g.core (type_held g.core new y)) (values (k + 1) y) memory (address_of g new y)) (sym (same_is x (local deep k) same))
               (subst (λ a. Lies (arrangement_of g.core (type_of_local g.core floor_here.number k)) (values (k + 1) (local deep k)) memory a) (ap (λ n. floor_here.base + n) (sym offset_is))
               (subst (λ t. Lies (arrangement_of g.core t) (values (k + 1) (local deep k)) memory (floor_here.base + offset)) (sym type_here)
-              (subst (λ v. Lies (arrangement_of g.core p.of) v memory (floor_here.base + offset)) (sym (value_past g fit m l floors new r given c lc first result words e (k + 1) k (omega arith))) there)))
+              (subst (λ v. Lies (arrangement_of g.core p.of) v memory (floor_here.base + offset)) (sym (value_past g fit m l floors new r given c lcs room first result words e (k + 1) k (omega arith))) there)))
           by false other =
               let floors_stand = floors_here g fit new (above k) lk was in
               let top = limit_here g fit new (above k) lk was in
@@ -204,12 +205,12 @@ module _ (g : Setting) (fit : IsFitting g) (m : MirState) (l : State) (floors ne
           let moved = callers_moved g new new (values k) (values (k + 1)) world.bound world.bound (c ∷ m.callers) lk.callers r (lk.top.registers result_address.0) lk.limit lk.room (above k).charged
           (record {
             floors = λ d low. refl;
-            variables = λ d v q low variable home. value_below g fit m l floors new r given c lc first result words e (k + 1) d v low ∙ sym (value_below g fit m l floors new r given c lc first result words e k d v low);
+            variables = λ d v q low variable home. value_below g fit m l floors new r given c lcs room first result words e (k + 1) d v low ∙ sym (value_below g fit m l floors new r given c lcs room first result words e k d v low);
             places = λ d v low variable. refl;
           }) was.callers in
           record {
             running = refl;
-            plain = plain_at g fit m l floors new r given c lc first result words e (k + 1);
+            plain = plain_at g fit m l floors new r given c lcs room first result words e (k + 1);
             pending = was.pending;
             depth = refl;
             activation = record {
@@ -219,7 +220,7 @@ module _ (g : Setting) (fit : IsFitting g) (m : MirState) (l : State) (floors ne
               kept = record {
                 variables = λ v q variable home.
                     let low : q < floor_here.frame.bank.temporaries = (subst (HomeFits floor_here.frame) home (fits.homes (record { 0 = v }) variable.0)).1 in
-                    let same : values (k + 1) (local deep v) ≡ values k (local deep v) = value_held g fit m l floors new r given c lc first result words e (k + 1) v (ap is_stored home) ∙ sym (value_held g fit m l floors new r given c lc first result words e k v (ap is_stored home)) in
+                    let same : values (k + 1) (local deep v) ≡ values k (local deep v) = value_held g fit m l floors new r given c lcs room first result words e (k + 1) v (ap is_stored home) ∙ sym (value_held g fit m l floors new r given c lcs room first result words e k v (ap is_stored home)) in
                     subst (λ x. IsWordOf x (number_in (values (k + 1) (local deep v)))) (sym (kept_on q (omega arith) (register_other v q variable home)))
                     (subst (λ x. IsWordOf (lk.top.registers q) (number_in x)) (sym same) (a.kept.variables v q variable home));
                 references = λ v variable. subst (IsAt g new deep (world.bound deep v) (type_of_local g.core floor_here.number v)) (sym (reference_kept v variable)) (a.kept.references v variable);
@@ -234,6 +235,7 @@ module _ (g : Setting) (fit : IsFitting g) (m : MirState) (l : State) (floors ne
             callers = subst (λ x. CallersStand g new (values (k + 1)) world.bound (c ∷ m.callers) lk.callers r x lk.limit lk.room (above k).charged) (sym first_is) moved;
             lie = lie_on;
             fixed = λ x low fixed. changed x (omega arith) (inl (omega arith)) ∙ was.fixed x low fixed;
+            due = count_below g fit (length m.pending) lk.memory memory (λ x low. changed x (omega arith) (inl (omega arith))) was.due;
             bytes = bytes;
             output = was.output;
             errors = was.errors;

@@ -1,6 +1,6 @@
 -- What a step of managed code costs at least: one, what it moves, and the charge of the activation under way, which is 256 at least but for the
 -- program itself.
-use Rattle.std.proofs.Common.{◌≡◌, ◌≤◌, ◌<◌, ℕ, suc, ◌+◌, ◌*◌, List, [], ◌∷◌, length, Option, Some, None, refl, sym, ap, ap₂, ◌∙◌, subst, arith}
+use Rattle.std.proofs.Common.{◌≡◌, ◌≤◌, ◌<◌, inl, inr, ℕ, ◌+◌, ◌*◌, List, [], ◌∷◌, length, Option, Some, None, refl, sym, ap, ap₂, ◌∙◌, arith}
 use Rattle.op_expand.specs.Calls.{result_address}
 use Rattle.op_low.specs.State.{Caller, State}
 use Rattle.op_mir.specs.Machine.{MirCaller, MirState, charge_here, instr_bytes, mir_cost, mir_cost_by, mir_effort, mir_step, next_bytes}
@@ -55,6 +55,16 @@ module _ (g : Setting) (fit : IsFitting g) (m : MirState) (l : State) (floors : 
   pub heavy : (IsLight i → ⊥) → Heavy
   heavy other = by m.callers l.callers refl next.stays.callers
     where
+      paid_by : (c : MirCaller) (cs : List MirCaller) → m.callers ≡ c ∷ cs → m.routine < length g.core.routines → Heavy
+      paid_by c cs above low =
+          let a = next.stays.activation in
+          let number = a.number in
+          let many = fit.program.number in
+          let few : (here m floors).number < length g.mir.routines = omega arith in
+          let some = (fit.routines (here m floors).number (here m floors).routine a.floor.found a.floor.charge).charged few in
+          let is = charge_of_floor c cs above in
+          record { least = omega arith; paid = next.paid.charged few; charge = is }
+
       by : (cs : List MirCaller) (ls : List Caller) → m.callers ≡ cs → CallersStand g floors m.world.memory m.world.bound cs ls m.routine (l.top.registers result_address.0) l.limit l.room m.charged → Heavy
       by [] [] above s =
           let number = next.stays.activation.number in
@@ -63,14 +73,8 @@ module _ (g : Setting) (fit : IsFitting g) (m : MirState) (l : State) (floors : 
           absurd (other (next.paid.itself (omega arith)))
       by [] (lc ∷ lcs) above s = absurd s
       by (c ∷ cs) [] above s = absurd s
-      by (c ∷ cs) (lc ∷ lcs) above (below, under, spare, declared, low, charge, at, more, frames, receiver, to, typed, result, nameless, made, position, activation, callers) =
-          let a = next.stays.activation in
-          let number = a.number in
-          let many = fit.program.number in
-          let few : (here m floors).number < length g.mir.routines = omega arith in
-          let some = (fit.routines (here m floors).number (here m floors).routine a.floor.found a.floor.charge).charged few in
-          let is = charge_of_floor c cs above in
-          record { least = omega arith; paid = next.paid.charged few; charge = is }
+      by (c ∷ cs) (lc ∷ lcs) above (inl (below, under, spare, declared, low, charge, at_, more, frames, receiver, to, typed, result, nameless, made, position, activation, callers)) = paid_by c cs above low
+      by (c ∷ cs) (lc ∷ lcs) above (inr (below, under, spare, status, a, ended, others, are, charge, at_, more, closing, activation, callers)) = paid_by c cs above closing.low
 
   -- so it may cost so much
   pub afford : (IsLight i → ⊥) → (n : ℕ) → n ≤ 8192 + 32 * bytes_moved → n ≤ most_for_one * mir_cost (managed g) m

@@ -1,5 +1,5 @@
 -- A routine begins: low code comes to where its parameters are received, and states stand for one another again.
-use Rattle.std.proofs.Common.{◌≡◌, ◌≤◌, ◌<◌, inl, inr, ℕ, suc, ◌+◌, List, [], ◌∷◌, ◌++◌, length, Option, Some, None, refl, sym, ap, ◌∙◌, subst, arith, append_assoc, ◌*◌}
+use Rattle.std.proofs.Common.{◌≡◌, ◌≤◌, ◌<◌, inl, inr, ℕ, suc, ◌+◌, List, [], ◌∷◌, ◌++◌, length, Option, Some, None, refl, sym, ap, ◌∙◌, subst, arith, append_assoc}
 use Rattle.std.specs.Prelude.{Bool, true, false, ◌&&◌, nat_eq, nat_le, slice_get, if◌then◌else◌}
 use Rattle.std.proofs.Math.Path.{fun_ext}
 use Rattle.std.specs.Option.{option_map}
@@ -68,7 +68,7 @@ front_is core frame r low returning =
     by None = refl
     by (Some of) = refl
 
-module _ (g : Setting) (fit : IsFitting g) (m : MirState) (l : State) (floors new : ℕ → Floor) (r : ℕ) (given : List Handed) (c : MirCaller) (lc : Caller) (first result : ℕ) (words : List ℕ) (e : Enters g m l floors new r given c lc first result words) where
+module _ (g : Setting) (fit : IsFitting g) (m : MirState) (l : State) (floors new : ℕ → Floor) (r : ℕ) (given : List Handed) (c : MirCaller) (lcs : List Caller) (room : ℕ) (first result : ℕ) (words : List ℕ) (e : Enters g m l floors new r given c lcs room first result words) where
   abbrev deep : ℕ
   deep = suc (length m.callers)
 
@@ -76,13 +76,13 @@ module _ (g : Setting) (fit : IsFitting g) (m : MirState) (l : State) (floors ne
   floor_here = new (suc (length m.callers))
 
   abbrev world : World
-  world = world_after g fit m l floors new r given c lc first result words e
+  world = world_after g fit m l floors new r given c lcs room first result words e
 
   abbrev values : ℕ → Holder → Value
-  values = values_at g fit m l floors new r given c lc first result words e
+  values = values_at g fit m l floors new r given c lcs room first result words e
 
   abbrev HasReceived : ℕ → List LowInstruction → State → Type 0
-  HasReceived = Received g fit m l floors new r given c lc first result words e
+  HasReceived = Received g fit m l floors new r given c lcs room first result words e
 
   abbrev rows_here : List Variable
   rows_here = parameter_rows g.core floor_here.number
@@ -94,8 +94,8 @@ module _ (g : Setting) (fit : IsFitting g) (m : MirState) (l : State) (floors ne
   values_up k held = fun_ext (λ h. by h (same_holder h (local deep k)) refl)
     where
       by : (h : Holder) (b : Bool) → same_holder h (local deep k) ≡ b → values k h ≡ values (k + 1) h
-      by h true same = subst (λ x. values k x ≡ values (k + 1) x) (sym (same_is h (local deep k) same)) (value_held g fit m l floors new r given c lc first result words e k k held ∙ sym (value_held g fit m l floors new r given c lc first result words e (k + 1) k held))
-      by h false other = sym (value_other g fit m l floors new r given c lc first result words e k h other)
+      by h true same = subst (λ x. values k x ≡ values (k + 1) x) (sym (same_is h (local deep k) same)) (value_held g fit m l floors new r given c lcs room first result words e k k held ∙ sym (value_held g fit m l floors new r given c lcs room first result words e (k + 1) k held))
+      by h false other = sym (value_other g fit m l floors new r given c lcs room first result words e k h other)
 
   -- the state of managed code with these values
   abbrev above_with : (Holder → Value) → MirState
@@ -134,10 +134,10 @@ module _ (g : Setting) (fit : IsFitting g) (m : MirState) (l : State) (floors ne
       by (StoredHome offset) home =
           let (few, there) = get_take (parameters_of g.core floor_here.number) (rows g.core.variables (variables_of g.core floor_here.number)) k p found in
           let (low, row) = row_found g.core.variables (variables_of g.core floor_here.number) k p there in
-          handed few low row (parameter_is g fit m l floors new r given c lc first result words e k p found)
+          handed few low row (parameter_is g fit m l floors new r given c lcs room first result words e k p found)
         where
-          handed : k < parameters_of g.core floor_here.number → k < (variables_of g.core floor_here.number).count → slice_get g.core.variables ((variables_of g.core floor_here.number).first + k) ≡ Some p → IsParameter g floors (length m.callers) m.world world deep k p (registers_begun g fit m l floors new r given c lc first result words e (parameter k)) → Receives g (HasReceived (k + 1) rest) (receive_most g.core p) lk
-          handed few low row (inl (value, is)) = stored_received g fit m l floors new r given c lc first result words e k p offset (record { few = few; low = low; row = row; value = value; home = home }) lk rest was is
+          handed : k < parameters_of g.core floor_here.number → k < (variables_of g.core floor_here.number).count → slice_get g.core.variables ((variables_of g.core floor_here.number).first + k) ≡ Some p → IsParameter g floors (length m.callers) m.world world deep k p (registers_begun g fit m l floors new r given c lcs room first result words e (parameter k)) → Receives g (HasReceived (k + 1) rest) (receive_most g.core p) lk
+          handed few low row (inl (value, is)) = stored_received g fit m l floors new r given c lcs room first result words e k p offset (record { few = few; low = low; row = row; value = value; home = home }) lk rest was is
           handed few low row (inr (reference, at_, small)) =
               let variable : IsVariable g.core floor_here.number k true = (low, ap refers row ∙ reference) in
               let clash : StoredHome offset ≡ Held (register (parameter k)) = sym home ∙ e.floor.fits.references (record { 0 = k }) variable in
@@ -190,31 +190,31 @@ module _ (g : Setting) (fit : IsFitting g) (m : MirState) (l : State) (floors ne
           by false is = refl
           by true is =
               let (level, high) = differs d v (is_stored (home_at floor_here.frame.homes (record { 0 = v }))) is in
-              ap (λ i. zero_of g.core (type_of_local g.core i v)) e.number ∙ sym (value_unset g fit m l floors new r given c lc first result words e v (omega arith)) ∙ ap (λ i. world.memory (local i v)) (sym level)
+              ap (λ i. zero_of g.core (type_of_local g.core i v)) e.number ∙ sym (value_unset g fit m l floors new r given c lcs room first result words e v (omega arith)) ∙ ap (λ i. world.memory (local i v)) (sym level)
 
   -- ---- the first block
 
   -- Behind the parameters both go on at the first block of the routine, and states stand for one another.
-  pub begun_stands : m.world.ending ≡ GoingOn → Receives g (Stands g (above_with world.memory)) (sum_by (receive_most g.core) rows_here) (below_begun g fit m l floors new r given c lc first result words e)
+  pub begun_stands : m.world.ending ≡ GoingOn → Receives g (Stands g (above_with world.memory)) (sum_by (receive_most g.core) rows_here) (below_begun g fit m l floors new r given c lcs room first result words e)
   begun_stands ending =
-      let fits = fits_here g fit m l floors new r given c lc first result words e in
+      let fits = fits_here g fit m l floors new r given c lcs room first result words e in
       let (block, found) = some_at floor_here.routine.blocks 0 fits.some in
       let stands = e.floor.expanded.blocks 0 block found in
       let rest = code_of g.core g.mir floor_here.frame floor_here.number stands.id block.code in
       let exists = e.exists in
       let many = fit.program.number in
       let number = e.number in
-      let begun = below_begun g fit m l floors new r given c lc first result words e in
+      let begun = below_begun g fit m l floors new r given c lcs room first result words e in
       let front = front_is g.core floor_here.frame floor_here.number (omega arith) e.floor.fits.returning in
       let code : begun.top.now ≡ all_received g.core floor_here.frame 0 rows_here ++ rest = ap (λ n. block_of g.low (runtime + n) 0) (sym number) ∙ stands.code ∙ ap (λ x. x ++ rest) front in
       let start : HasReceived 0 (all_received g.core floor_here.frame 0 rows_here ++ rest) begun = record {
-        stays = stays_begun g fit m l floors new r given c lc first result words e;
+        stays = stays_begun g fit m l floors new r given c lcs room first result words e;
         arrived = λ x from to. refl;
-        below = λ x low. memory_below g fit m l floors new r given c lc first result words e x low;
+        below = λ x low. memory_below g fit m l floors new r given c lcs room first result words e x low;
         code = code;
       } in
       let all = all_from 0 rows_here (λ j p is. let zeroth : 0 + j ≡ j = omega arith in ap (slice_get rows_here) zeroth ∙ is) rest begun start in
-      let few : length given ≡ length rows_here = (as_many g floors (length m.callers) m.world given (parameter_rows g.core r) words e.are).0 ∙ ap length (rows_are g fit m l floors new r given c lc first result words e) in
+      let few : length given ≡ length rows_here = (as_many g floors (length m.callers) m.world given (parameter_rows g.core r) words e.are).0 ∙ ap length (rows_are g fit m l floors new r given c lcs room first result words e) in
       let position : Position g floor_here (block_at ((managed g).blocks floor_here.number) 0) rest = record {
         is = block.code;
         id = stands.id;

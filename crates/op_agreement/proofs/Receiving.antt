@@ -77,7 +77,7 @@ received_by core frame k p (StoredHome offset) = received_stored core frame k p 
 received_by core frame k p (Held q) = []
 received_by core frame k p (Shared id) = []
 
-module _ (g : Setting) (fit : IsFitting g) (m : MirState) (l : State) (floors new : ℕ → Floor) (r : ℕ) (given : List Handed) (c : MirCaller) (lc : Caller) (first result : ℕ) (words : List ℕ) (e : Enters g m l floors new r given c lc first result words) where
+module _ (g : Setting) (fit : IsFitting g) (m : MirState) (l : State) (floors new : ℕ → Floor) (r : ℕ) (given : List Handed) (c : MirCaller) (lcs : List Caller) (room : ℕ) (first result : ℕ) (words : List ℕ) (e : Enters g m l floors new r given c lcs room first result words) where
   abbrev deep : ℕ
   deep = suc (length m.callers)
 
@@ -85,23 +85,23 @@ module _ (g : Setting) (fit : IsFitting g) (m : MirState) (l : State) (floors ne
   floor_here = new (suc (length m.callers))
 
   abbrev world : World
-  world = world_after g fit m l floors new r given c lc first result words e
+  world = world_after g fit m l floors new r given c lcs room first result words e
 
   abbrev values : ℕ → Holder → Value
-  values = values_at g fit m l floors new r given c lc first result words e
+  values = values_at g fit m l floors new r given c lcs room first result words e
 
   abbrev above : ℕ → MirState
-  above = above_at g fit m l floors new r given c lc first result words e
+  above = above_at g fit m l floors new r given c lcs room first result words e
 
   abbrev registers : ℕ → ℕ
-  registers = registers_begun g fit m l floors new r given c lc first result words e
+  registers = registers_begun g fit m l floors new r given c lcs room first result words e
 
   abbrev HasReceived : ℕ → List LowInstruction → State → Type 0
-  HasReceived = Received g fit m l floors new r given c lc first result words e
+  HasReceived = Received g fit m l floors new r given c lcs room first result words e
 
   -- ---- a parameter that is stored
 
-  module _ (k : ℕ) (p : Variable) (offset : ℕ) (i : IsStoredValue g fit m l floors new r given c lc first result words e k p offset) (lk : State) (rest : List LowInstruction) where
+  module _ (k : ℕ) (p : Variable) (offset : ℕ) (i : IsStoredValue g fit m l floors new r given c lcs room first result words e k p offset) (lk : State) (rest : List LowInstruction) where
     abbrev from : VirtualRegister
     from = register (parameter k)
 
@@ -139,12 +139,12 @@ module _ (g : Setting) (fit : IsFitting g) (m : MirState) (l : State) (floors ne
     number_received was (kind, shape, value, fits, word) =
         let s = was.stays in
         let scratch = e.floor.fits.scratch in
-        let own = register_low g fit m l floors new r given c lc first result words e k p offset i in
-        let small = small_here g fit m l floors new r given c lc first result words e k p offset i in
+        let own = register_low g fit m l floors new r given c lcs room first result words e k p offset i in
+        let small = small_here g fit m l floors new r given c lcs room first result words e k p offset i in
         let z = number_in (world.memory (local deep k)) in
         let typed : PathTo g.core floor_here.number (view_path path) p.of = record {
           from = p.of;
-          root = (variable_here g fit m l floors new r given c lc first result words e k p offset i, type_here g fit m l floors new r given c lc first result words e k p offset i);
+          root = (variable_here g fit m l floors new r given c lcs room first result words e k p offset i, type_here g fit m l floors new r given c lcs room first result words e k p offset i);
           reaches = refl;
           words = tt;
           small = small;
@@ -166,7 +166,7 @@ module _ (g : Setting) (fit : IsFitting g) (m : MirState) (l : State) (floors ne
           to = to;
           goes = goes_within g 0 (receive_most g.core p) lk to (goes_from g 0 lk (at lk lk.top.registers (place_before ++ (stored_by kind ∷ rest))) to begins
               (goes_then g least 1 0 (at lk lk.top.registers (place_before ++ (stored_by kind ∷ rest))) (at lk reached.h (stored_by kind ∷ rest)) to (omega arith) reached.goes stores.goes)) (omega arith);
-          holds = received_on g fit m l floors new r given c lc first result words e k p offset i lk (received_number g.core floor_here.frame k p.of ++ rest) rest was reached.h stores.memory
+          holds = received_on g fit m l floors new r given c lcs room first result words e k p offset i lk (received_number g.core floor_here.frame k p.of ++ rest) rest was reached.h stores.memory
               (λ x low other. reached.kept x (omega arith))
               (λ x low far. stores.changed x low (outside x a (size_in g.core p.of) at_ full far))
               stores.bytes lies;
@@ -202,7 +202,7 @@ module _ (g : Setting) (fit : IsFitting g) (m : MirState) (l : State) (floors ne
 
         moved : ((x : ℕ) → x < size_in g.core p.of → memory (place + x) ≡ l.memory (there + x)) → Lies (arrangement_of g.core p.of) (value_at m.world q) memory place
         moved same =
-            let whole = type_is_arranged g.core fit.program.extents p.of (small_here g fit m l floors new r given c lc first result words e k p offset i) in
+            let whole = type_is_arranged g.core fit.program.extents p.of (small_here g fit m l floors new r given c lcs room first result words e k p offset i) in
             let size = whole.size in
             copied (arrangement_of g.core p.of) (value_at m.world q) l.memory memory there place whole.arranged (λ x low. same x (omega arith))
             (part_lies (arrangement_of g.core (type_held g.core floors q.holder)) (arrangement_of g.core p.of) q.path (m.world.memory q.holder) l.memory (address_of g floors q.holder) is.distance is.leads (e.stays.lie q.holder is.live))
@@ -213,7 +213,7 @@ module _ (g : Setting) (fit : IsFitting g) (m : MirState) (l : State) (floors ne
 
     -- where it stands with the caller
     source_stands : (q : Place) → IsAt g floors (length m.callers) q p.of source → 0 < size_in g.core p.of → PlaceStands g fit m l floors e.stays q p.of source
-    source_stands q is some = place_stands g fit m l floors e.stays q p.of source is (small_here g fit m l floors new r given c lc first result words e k p offset i) some
+    source_stands q is some = place_stands g fit m l floors e.stays q p.of source is (small_here g fit m l floors new r given c lcs room first result words e k p offset i) some
 
     -- it takes its bytes from there
     parts_received : (was : HasReceived k (taking ++ rest) lk) → ArePartsHanded g floors (length m.callers) m.world (world.memory (local deep k)) p source → Receives g (HasReceived (k + 1) rest) (receive_most g.core p) lk
@@ -221,7 +221,7 @@ module _ (g : Setting) (fit : IsFitting g) (m : MirState) (l : State) (floors ne
         let s = was.stays in
         let a = s.activation in
         let scratch = e.floor.fits.scratch in
-        let own = register_low g fit m l floors new r given c lc first result words e k p offset i in
+        let own = register_low g fit m l floors new r given c lcs room first result words e k p offset i in
         let size = size_in g.core p.of in
         let base = e.base in
         let stack = floors_here g fit new (above k) lk s in
@@ -236,9 +236,9 @@ module _ (g : Setting) (fit : IsFitting g) (m : MirState) (l : State) (floors ne
           room = let enough = a.enough in omega arith;
           top = a.top;
           bytes = s.bytes;
-          variable = variable_here g fit m l floors new r given c lc first result words e k p offset i;
+          variable = variable_here g fit m l floors new r given c lcs room first result words e k p offset i;
           home = i.home;
-          typed = ap (size_in g.core) (sym (type_here g fit m l floors new r given c lc first result words e k p offset i));
+          typed = ap (size_in g.core) (sym (type_here g fit m l floors new r given c lcs room first result words e k p offset i));
           other = λ same. omega arith;
           holds = was.arrived (parameter k) (omega arith) (omega arith);
           readable = λ x low high. (source_stands q is (omega arith)).readable x low high;
@@ -249,7 +249,7 @@ module _ (g : Setting) (fit : IsFitting g) (m : MirState) (l : State) (floors ne
         record {
           to = record (at lk taken.registers rest) { memory = taken.memory };
           goes = goes_within g 0 (receive_most g.core p) lk (record (at lk taken.registers rest) { memory = taken.memory }) taken.goes (let same : copied_bytes g.core p ≡ size = ap₂ (λ a b. if a then 0 else if is_composite b then size else 0) i.value shape in omega arith);
-          holds = received_on g fit m l floors new r given c lc first result words e k p offset i lk (taking ++ rest) rest was taken.registers taken.memory taken.kept taken.others taken.bytes lies;
+          holds = received_on g fit m l floors new r given c lcs room first result words e k p offset i lk (taking ++ rest) rest was taken.registers taken.memory taken.kept taken.others taken.bytes lies;
         }
 
     -- by its type

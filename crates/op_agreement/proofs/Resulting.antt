@@ -92,7 +92,7 @@ module _ (g : Setting) (fit : IsFitting g) (m : MirState) (l : State) (floors : 
   value = m.world.memory (local (length m.callers) (result_of_routine g.core (here m floors).number))
 
   pub caller : Waits g floors m l c cs lc lcs
-  caller = waits g floors m l next.stays c cs lc lcs above lows
+  caller = waits g floors m l next.stays c cs lc lcs above lows of (ap (λ r. result_of (slice_get g.core.routines r)) (sym next.stays.activation.number) ∙ some)
 
   abbrev pub returned : Receiver → Value → MirState
   returned receiver x = record {

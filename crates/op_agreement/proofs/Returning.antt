@@ -1,5 +1,5 @@
 -- A procedure returns, and its caller goes on.
-use Rattle.std.proofs.Common.{◌≡◌, ◌≤◌, ◌<◌, ℕ, suc, ◌+◌, ◌-◌, List, [], ◌∷◌, length, Option, None, refl, sym, ap, ap₂, ◌∙◌, subst, arith, ◌*◌}
+use Rattle.std.proofs.Common.{◌≡◌, ◌≤◌, ◌<◌, inl, inr, ℕ, suc, ◌+◌, ◌-◌, List, [], ◌∷◌, length, Option, None, refl, sym, ap, ap₂, ◌∙◌, subst, arith, ◌*◌}
 use Rattle.std.specs.Prelude.{false, nat_eq, slice_get, if◌then◌else◌}
 use Rattle.std.proofs.lemmas.Bool.Decides.{nat_tests}
 use Rattle.op_compute.specs.Bank.{scratch_of}
@@ -19,7 +19,7 @@ use Rattle.op_low.specs.State.{Caller, State, Running, routine_of, space, with_v
 use Rattle.op_low.specs.declared.ids.VirtualRegister.{VirtualRegister}
 use Rattle.op_meaning.specs.Calls.{received, result_in}
 use Rattle.op_meaning.specs.Items.{Receiver, nowhere, to_temp, to_place}
-use Rattle.op_meaning.specs.Values.{Value, Holder, global, local, temporary, object, number_in}
+use Rattle.op_meaning.specs.Values.{Value, number_in}
 use Rattle.op_meaning.specs.World.{Running as GoingOn}
 use Rattle.op_mir.specs.Machine.{MirCaller, MirState, execute, mir_returned, mir_step, tables, mir_cost}
 use Rattle.op_mir.specs.Plain.{IsNameless}
@@ -32,21 +32,16 @@ use Rattle.op_agreement.proofs.Branching.{begins_here, step_here}
 use Rattle.op_agreement.proofs.Closing.{main_comes, running_costs}
 use Rattle.op_agreement.proofs.Computing.{rest_above, rest_below}
 use Rattle.op_agreement.proofs.Going.{goes_from, goes_one, goes_to, goes_within}
+use Rattle.op_agreement.proofs.GoingBack.{closing_again, procedure_returning}
+pub use Rattle.op_agreement.proofs.GoingBack.{live_deeper}
 use Rattle.op_agreement.proofs.Standing.{Next, SameVariables, Temporaries, here, kept_registers, stands_on}
-use Rattle.op_agreement.specs.Chart.{Floor, Live}
+use Rattle.op_agreement.specs.Chart.{Floor}
 use Rattle.op_agreement.specs.Fitting.{IsFitting}
 use Rattle.op_agreement.specs.Settings.{Setting, managed}
 use Rattle.op_agreement.specs.Coding.{code_for}
-use Rattle.op_agreement.specs.Stands.{ActivationStands, CallersStand, Position, Stands, Stays}
+use Rattle.op_agreement.specs.Stands.{ActivationStands, AreStillDue, CallersStand, Position, Stands, Stays}
 use Rattle.op_agreement.specs.Steps.{Comes, most_for_one}
 use Rattle.op_agreement.specs.Typed.{IsTypedReceiver}
-
--- what is live where fewer activations are below is so where more are
-pub live_deeper : (core : Core) (floors : ℕ → Floor) (d e : ℕ) (h : Holder) → d ≤ e → Live core floors d h → Live core floors e h
-live_deeper core floors d e (global v) less live = live
-live_deeper core floors d e (local f v) less (low, stored) = (omega arith, stored)
-live_deeper core floors d e (temporary f of n) less (low, stored) = (omega arith, stored)
-live_deeper core floors d e (object name) less live = absurd live
 
 module _ (g : Setting) (fit : IsFitting g) (m : MirState) (l : State) (floors : ℕ → Floor) (s : Stays g floors m l) (c : MirCaller) (cs : List MirCaller) (lc : Caller) (lcs : List Caller) (above : m.callers ≡ c ∷ cs) (below spare under : ℕ) (frames : c.frames ≡ []) (nameless : (t : ℕ) → IsNameless (c.temps t)) (made : c.made ≡ []) (position : Position g (floors (length cs)) c.rest lc.activation.now) (activation : ActivationStands g floors (length cs) m.world.memory m.world.bound c.temps c.routine lc.activation below spare under) (callers : CallersStand g floors m.world.memory m.world.bound cs lcs c.routine (lc.activation.registers result_address.0) below spare under) (room : below ≤ l.limit) where
   -- the state of managed code with these temporaries, and the one of low code with this value in a register
@@ -95,6 +90,7 @@ module _ (g : Setting) (fit : IsFitting g) (m : MirState) (l : State) (floors : 
           callers = subst (λ x. CallersStand g floors m.world.memory m.world.bound cs lcs c.routine x below spare under) (sym first) callers;
           lie = λ h live. s.lie h (live_deeper g.core floors (length cs) (length m.callers) h (omega arith) live);
           fixed = s.fixed;
+          due = s.due;
           bytes = λ x low. s.bytes x (omega arith);
           output = s.output;
           errors = s.errors;
@@ -115,10 +111,7 @@ to_scratch frame Nowhere free e = refl
 to_scratch frame (Temporary t) free e = absurd cc
 to_scratch frame (Place of to) free e = absurd cc
 
-procedure_returning : (core : Core) (r : ℕ) → r < length core.routines → result_of (slice_get core.routines r) ≡ None → returning_of core r ≡ Nothing
-procedure_returning core r low none = let t : nat_eq r (length core.routines) ≡ false = grind (arith, nat_tests) in rw (t, none) refl
-
-module _ (g : Setting) (fit : IsFitting g) (m : MirState) (l : State) (floors : ℕ → Floor) (is : List Instruction) (id : ℕ) (next : Next g m l floors Return is id) (none : result_of (slice_get g.core.routines (here m floors).number) ≡ None) where
+module _ (g : Setting) (fit : IsFitting g) (m : MirState) (l : State) (floors : ℕ → Floor) (is : List Instruction) (id : ℕ) (next : Next g m l floors Return is id) (due : AreStillDue g m) (none : result_of (slice_get g.core.routines (here m floors).number) ≡ None) where
   abbrev rest : List LowInstruction
   rest = rest_below g m l floors Return is id next
 
@@ -127,9 +120,11 @@ module _ (g : Setting) (fit : IsFitting g) (m : MirState) (l : State) (floors : 
 
   procedure_by : (cs : List MirCaller) (ls : List Caller) → m.callers ≡ cs → l.callers ≡ ls → CallersStand g floors m.world.memory m.world.bound cs ls m.routine (l.top.registers result_address.0) l.limit l.room m.charged → Comes g m l
   unfolding code_for execute act
-  procedure_by [] ls above lows s = main_comes g fit m l floors is id next above
+  procedure_by [] ls above lows s = main_comes g fit m l floors is id next above due
   procedure_by (c ∷ cs) [] above lows s = absurd s
-  procedure_by (c ∷ cs) (lc ∷ lcs) above lows (below, under, spare, declared, low, charge, at_, more, frames, receiver, to, typed, result, nameless, made, position, activation, callers) =
+  procedure_by (c ∷ cs) (lc ∷ lcs) above lows (inr (below, under, spare, status, a, ended, others, are, charge, at_, more, waits, activation, callers)) =
+      closing_again g fit m l floors is id next c cs lc ended others above (lows ∙ ap (λ xs. lc ∷ xs) are) below under spare status a charge at_ more waits activation callers
+  procedure_by (c ∷ cs) (lc ∷ lcs) above lows (inl (below, under, spare, declared, low, charge, at_, more, frames, receiver, to, typed, result, nameless, made, position, activation, callers)) =
       let s = next.stays in
       let a = s.activation in
       let number : (here m floors).number ≡ m.routine = a.number in

@@ -11,6 +11,7 @@ use Rattle.op_low.specs.State.{State}
 use Rattle.op_low.specs.declared.instruction.Instruction.{Instruction as LowInstruction}
 use Rattle.op_meaning.specs.Shapes.{variables_of}
 use Rattle.op_meaning.specs.Values.{Value, Holder, local, Place, number_in}
+use Rattle.op_meaning.specs.Frames.{Frame}
 use Rattle.op_meaning.specs.World.{Running as GoingOn}
 use Rattle.op_mir.specs.Code.{Instr}
 use Rattle.op_mir.specs.Machine.{MirState, execute, mir_acted, mir_done, mir_step, mir_step_by, mir_stepped}
@@ -109,6 +110,40 @@ stays_registers g floors m l temps rest f now same are nameless s =
       callers = subst (λ x. CallersStand g floors m.world.memory m.world.bound m.callers l.callers m.routine x l.limit l.room m.charged) (sym first) s.callers;
       lie = s.lie;
       fixed = s.fixed;
+      due = s.due;
+      bytes = s.bytes;
+      output = s.output;
+      errors = s.errors;
+      input = s.input;
+    }
+
+-- scratch registers of the activation under way change, and what it is to do
+pub stays_closing : (g : Setting) (floors : ℕ → Floor) (m : MirState) (l : State) (frames : List Frame) (rest : List Instr) (f : ℕ → ℕ) (now : List LowInstruction) → SameVariables (here m floors) l.top.registers f → Temporaries (here m floors) m.world.temps f → Stays g floors m l → Stays g floors (record m { rest = rest; frames = frames }) (at l f now)
+stays_closing g floors m l frames rest f now same are s =
+    let a = s.activation in
+    let fits = a.floor.fits in
+    let behind = fits.behind in
+    let zeroth : f 0 ≡ l.top.registers 0 = same 0 (omega arith) in
+    let first : f 1 ≡ l.top.registers 1 = same 1 (omega arith) in
+    record {
+      running = refl;
+      plain = s.plain;
+      pending = s.pending;
+      depth = s.depth;
+      activation = record {
+        floor = a.floor;
+        number = a.number;
+        same = a.same;
+        kept = kept_registers g floors (length m.callers) m.world.memory m.world.bound m.world.temps m.world.temps l.top.registers f fits same are a.kept;
+        left = ap (λ x. x + m.charged) zeroth ∙ a.left;
+        base = a.base;
+        enough = subst (λ x. x + 1024 ≤ l.room) (sym zeroth) a.enough;
+        top = a.top;
+      };
+      callers = subst (λ x. CallersStand g floors m.world.memory m.world.bound m.callers l.callers m.routine x l.limit l.room m.charged) (sym first) s.callers;
+      lie = s.lie;
+      fixed = s.fixed;
+      due = s.due;
       bytes = s.bytes;
       output = s.output;
       errors = s.errors;

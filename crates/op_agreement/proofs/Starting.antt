@@ -1,10 +1,11 @@
 -- The beginning: the main part takes the bytes of stack from a word behind the globals, and goes on at the first instruction.
-use Rattle.std.proofs.Common.{◌≡◌, ◌≤◌, ◌<◌, ◌⊎◌, inl, inr, ℕ, zero, suc, ◌+◌, ◌-◌, List, [], ◌∷◌, ◌++◌, length, Option, Some, None, refl, sym, ap, ◌∙◌, subst, arith, get_or}
+use Rattle.std.proofs.Common.{◌≡◌, ◌≤◌, ◌<◌, ◌⊎◌, inl, inr, ℕ, zero, suc, ◌+◌, ◌-◌, List, [], ◌∷◌, ◌++◌, append_assoc, drop, flat_map, length, Option, Some, None, refl, sym, ap, ◌∙◌, subst, arith, get_or}
 use Rattle.std.specs.Prelude.{◌^◌, ◌&&◌, Bool, true, false, pos, map, nat_eq, nat_lt, replicate, slice_get, slice_index, if◌then◌else◌}
-use Rattle.std.specs.Option.{option_map}
+use Rattle.std.specs.Option.{option_map, option_to_list}
 use Rattle.std.proofs.lemmas.Bool.{cond-true, cases_lt}
 use Rattle.std.proofs.lemmas.Bool.Decides.{nat_tests}
 use Rattle.std.proofs.lemmas.List.{length-replicate}
+use Rattle.std.proofs.lemmas.List.Concat.{flat_map-cons}
 use Rattle.std.proofs.lemmas.Option.{slice_get-map, slice_get_past}
 use Rattle.op_constants.proofs.FirstLies.{first_lies, zeros_lie}
 use Rattle.op_constants.proofs.TypesArranged.{some_at, type_is_arranged}
@@ -12,9 +13,11 @@ use Rattle.op_constants.proofs.Lying.{kept, number-same}
 use Rattle.op_constants.proofs.Zeros.{nothing_lies}
 use Rattle.op_constants.specs.Lies.{Lies, arrangement_of}
 use Rattle.op_core.specs.Initial.{FirstValue}
+use Rattle.op_core.specs.declared.ids.RoutineId.{RoutineId}
 use Rattle.op_core.specs.declared.program.Core.{Core}
+use Rattle.op_core.specs.declared.program.Unit.{Unit as UnitRow}
 use Rattle.op_core.specs.declared.types.IntegerKind.TheVariants.{Signed32}
-use Rattle.op_expand.specs.Calls.{left, runtime}
+use Rattle.op_expand.specs.Calls.{finalizations, finalizations_of, left, runtime}
 use Rattle.op_expand.specs.Frames.{frame_of}
 use Rattle.op_expand.specs.Homes.{offset_of}
 use Rattle.op_expand.specs.Routines.{begun_with_stack, beginning, code_of}
@@ -23,12 +26,12 @@ use Rattle.op_low.specs.Machine.{act, load, start}
 use Rattle.op_low.specs.State.{State, Running, bad, block_of, keep, routine_of, space}
 use Rattle.op_low.specs.declared.instruction.Instruction.TheVariants.{Address, Load}
 use Rattle.op_low.specs.declared.instruction.Instruction.{Instruction as LowInstruction}
-use Rattle.op_meaning.specs.Frames.{Program}
+use Rattle.op_meaning.specs.Frames.{Pending, Program}
 use Rattle.op_meaning.specs.Shapes.{first_of, type_of_variable, variables_in, zero_of}
 use Rattle.op_meaning.specs.Start.{first_memory}
 use Rattle.op_meaning.specs.Values.{Value, Holder, global, local, temporary, object}
 use Rattle.op_mir.proofs.PlainLemmas.{nameless_first, nameless_zero}
-use Rattle.op_mir.specs.Code.{blocks_in}
+use Rattle.op_mir.specs.Code.{Instr, becoming_due, blocks_in, blocks_of, entering, items_of, program_blocks, ret, unit_code}
 use Rattle.op_mir.specs.Machine.{block_at, block_or, mir_start}
 use Rattle.op_mir.specs.Plain.{IsNameless}
 use Rattle.op_mir.specs.View.{routine_at, view_block, view_instruction, view_routine}
@@ -42,13 +45,14 @@ use Rattle.op_rv.specs.Step.{can_access, offset_from}
 use Rattle.op_rv.specs.declared.instruction.LoadOp.TheVariants.{Lw}
 use Rattle.op_rv.specs.declared.symbol.Symbol.TheVariants.{Global}
 use Rattle.op_agreement.proofs.Closing.{main_returning}
+use Rattle.op_agreement.proofs.Counting.{count_below}
 use Rattle.op_agreement.proofs.Going.{Goes, goes_fewer, goes_from, goes_one, goes_then, goes_to}
 use Rattle.op_agreement.proofs.Memory.{may_access}
 use Rattle.op_agreement.proofs.Standing.{stands_on}
 use Rattle.op_agreement.specs.Chart.{AllLie, Floor}
 use Rattle.op_agreement.specs.Fitting.{IsFitting, RoutineFits, global_address}
 use Rattle.op_agreement.specs.Settings.{Setting}
-use Rattle.op_agreement.specs.Stands.{IsFloor, Position}
+use Rattle.op_agreement.specs.Stands.{ArePending, AreStillDue, IsCounted, IsFloor, Position, dues_in}
 use Rattle.op_agreement.specs.Starting.{IsLoaded, Starts, low_begins, program_in, stack_address}
 use Rattle.op_agreement.specs.Typed.{IsVariable}
 
@@ -71,6 +75,19 @@ first_nameless g (global v) = by ((program_in g).first v) refl
 first_nameless g (local d v) = tt
 first_nameless g (temporary d of n) = tt
 first_nameless g (object name) = tt
+
+-- the code of a unit makes its finalization part due
+dues_unit : (first last : Option RoutineId) (rest : List Instr) → dues_in ((entering first ++ becoming_due last) ++ rest) ≡ option_to_list last ++ dues_in rest
+dues_unit None None rest = refl
+dues_unit None (Some f) rest = refl
+dues_unit (Some r) None rest = refl
+dues_unit (Some r) (Some f) rest = refl
+
+dues_units : (us : List UnitRow) → dues_in (flat_map unit_code us ++ ret ∷ []) ≡ finalizations_of us
+dues_units [] = refl
+dues_units (u ∷ us) =
+    let front : flat_map unit_code (u ∷ us) ++ ret ∷ [] ≡ unit_code u ++ (flat_map unit_code us ++ ret ∷ []) = ap (λ xs. xs ++ ret ∷ []) (flat_map-cons unit_code u us) ∙ append_assoc (unit_code u) (flat_map unit_code us) (ret ∷ []) in
+    ap dues_in front ∙ dues_unit u.initialization u.finalization (flat_map unit_code us ++ ret ∷ []) ∙ ap (λ fs. option_to_list u.finalization ++ fs) (dues_units us)
 
 module _ (g : Setting) (fit : IsFitting g) (loaded : IsLoaded g) (input : List ℕ) where
   -- ---- the lowest activation
@@ -204,6 +221,16 @@ module _ (g : Setting) (fit : IsFitting g) (loaded : IsLoaded g) (input : List �
       nothing_lies (arrangement_of g.core of) memory_first (g.bottom + far) arranged.arranged (λ x less. zero_here (g.bottom + far + x) (omega arith) (omega arith))
   lies_first (object name) live = absurd live
 
+  -- ---- finalization parts
+
+  -- the program itself makes all of them due
+  still_due : AreStillDue g (mir_start (program_in g) input)
+  still_due open_ =
+      let t : nat_eq number_here number_here ≡ true = grind (arith, nat_tests) in
+      ap (λ b. dues_in (block_at (if b then program_blocks (program_in g) else blocks_of (items_of (program_in g) number_here)) 0)) t
+      ∙ dues_units g.core.units
+      ∙ ap (λ (p : List Pending). drop (length p) (finalizations g.core)) (sym loaded.pending)
+
   -- ---- where the code goes on
 
   first_block : (block : Block) → slice_get main.blocks 0 ≡ Some block → Starts g input
@@ -224,12 +251,12 @@ module _ (g : Setting) (fit : IsFitting g) (loaded : IsLoaded g) (input : List �
         to = begun told rest;
         goes = goes_from g 0 (low_begins g input) (begun (slice_index []) (begun_with_stack g.core ++ rest)) (begun told rest) (begins_is (begun_with_stack g.core ++ rest) now)
             (goes_fewer g 2 0 (begun (slice_index []) (begun_with_stack g.core ++ rest)) (begun told rest) (omega arith) (goes_then g 1 1 2 (begun (slice_index []) (begun_with_stack g.core ++ rest)) (begun with_address (Load Lw left left (pos 0) ∷ rest)) (begun told rest) (omega arith) (addressed (Load Lw left left (pos 0) ∷ rest)) (loads rest)));
-        stands = stands_on g (mir_start (program_in g) input) (begun told rest) refl refl (record {
+        stands = (still_due, stands_on g (mir_start (program_in g) input) (begun told rest) refl refl (record {
           floors = floors_first;
           stays = record {
             running = refl;
             plain = record { raised = refl; made = refl; temps = λ t. tt; memory = first_nameless g };
-            pending = loaded.pending;
+            pending = subst (ArePending (finalizations g.core)) (sym loaded.pending) (record { few = omega arith; are = refl });
             depth = refl;
             activation = record {
               floor = floor_first;
@@ -249,13 +276,14 @@ module _ (g : Setting) (fit : IsFitting g) (loaded : IsLoaded g) (input : List �
             callers = (refl, ap (λ n. g.bottom + n) locals_are);
             lie = lies_first;
             fixed = λ x low fixed. low_kept x low;
+            due = subst (λ pending. IsCounted g (length pending) memory_first) (sym loaded.pending) (count_below g fit 0 g.loaded memory_first low_kept (λ some. let none : g.stack ≡ g.stack + 0 = omega arith in loaded.stack_told ∙ none));
             bytes = λ x low. byte x (cases_lt x g.bottom) low;
             output = refl;
             errors = refl;
             input = refl;
           };
           position = position;
-        });
+        }));
       }
     where
       zeroth : (t : ℕ) → told ((floors_first 0).frame.bank.temporaries + t) ≡ 0

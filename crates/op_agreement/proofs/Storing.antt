@@ -137,6 +137,7 @@ module _ (g : Setting) (floors : ℕ → Floor) (m : MirState) (l : State) (s : 
         callers = subst (λ x. CallersStand g floors set m.world.bound m.callers l.callers m.routine x l.limit l.room m.charged) (sym first) moved;
         lie = λ k live. subst (λ x. Lies (arrangement_of g.core (type_held g.core floors k)) x l.memory (address_of g floors k)) (sym (set_other k (λ e. not_live (subst (Live g.core floors level) e live)))) (s.lie k live);
         fixed = s.fixed;
+        due = s.due;
         bytes = s.bytes;
         output = s.output;
         errors = s.errors;

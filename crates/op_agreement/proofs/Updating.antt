@@ -25,12 +25,13 @@ use Rattle.op_mir.specs.Machine.{MirCaller, MirState}
 use Rattle.op_mir.specs.Plain.{IsPlainWorld}
 use Rattle.op_mir.specs.declared.instruction.Receiver.{Receiver as DeclaredReceiver}
 use Rattle.op_mir.specs.declared.path.Root.TheVariants.{Local, Temporary}
-use Rattle.op_agreement.proofs.Charting.{FloorsStand, floors_stand, live_apart, live_stands, same_is}
+use Rattle.op_agreement.proofs.Charting.{FloorsStand, due_apart, floors_stand, live_apart, live_stands, same_is}
+use Rattle.op_agreement.proofs.Counting.{count_kept}
 use Rattle.op_agreement.proofs.Standing.{here, kept_registers, SameVariables, Temporaries}
 use Rattle.op_agreement.specs.Chart.{AllLie, Floor, IsAt, Live, address_of, stored_offset, type_held}
 use Rattle.op_agreement.specs.Fitting.{IsFitting}
-use Rattle.op_agreement.specs.Settings.{Apart, Setting, StoredAt}
-use Rattle.op_agreement.specs.Stands.{ActivationStands, AreKept, CallersStand, IsFixed, IsFloor, Position, ResultGoes, Stays}
+use Rattle.op_agreement.specs.Settings.{Apart, Setting, StoredAt, due_address}
+use Rattle.op_agreement.specs.Stands.{ActivationStands, AreKept, CallersStand, IsCounted, IsFixed, IsFloor, Position, ResultGoes, Stays}
 use Rattle.op_agreement.specs.Typed.{IsVariable}
 
 -- ---- the same floors up to some depth
@@ -121,9 +122,28 @@ module _ (g : Setting) (old new : ℕ → Floor) where
     callers_moved [] [] number address limit room charged u (main, at_) = (main, subst (λ f. limit ≡ g.bottom + f.frame.locals) (sym (u.floors 0 (omega arith))) at_)
     callers_moved [] (l ∷ ls) number address limit room charged u s = absurd s
     callers_moved (c ∷ cs) [] number address limit room charged u s = absurd s
-    callers_moved (c ∷ cs) (l ∷ ls) number address limit room charged u (below, under, spare, declared, low, charge, at_, more, frames, receiver, to, typed, result, nameless, made, position, activation, callers) =
+    callers_moved (c ∷ cs) (l ∷ ls) number address limit room charged u (inr (below, under, spare, status, a, ended, others, are, charge, at_, more, closing, activation, callers)) =
         let deeper = shallower (suc (length cs)) (length cs) (omega arith) u in
-        let same : old (length cs) ≡ new (length cs) = sym (u.floors (length cs) (omega arith)) in (
+        inr (
+          below,
+          under,
+          spare,
+          status,
+          a,
+          ended,
+          others,
+          are,
+          charge,
+          subst (λ f. limit ≡ below + f.frame.locals) (sym (u.floors (suc (length cs)) (omega arith))) at_,
+          more,
+          closing,
+          activation_moved (length cs) deeper.floors (λ v r is home. u.variables (length cs) v r (omega arith) is home) (λ v is. u.places (length cs) v (omega arith) is) c.temps c.routine a below spare under activation,
+          callers_moved cs others c.routine (a.registers result_address.0) below spare under deeper callers,
+        )
+    callers_moved (c ∷ cs) (l ∷ ls) number address limit room charged u (inl (below, under, spare, declared, low, charge, at_, more, frames, receiver, to, typed, result, nameless, made, position, activation, callers)) =
+        let deeper = shallower (suc (length cs)) (length cs) (omega arith) u in
+        let same : old (length cs) ≡ new (length cs) = sym (u.floors (length cs) (omega arith)) in
+        inl (
           below,
           under,
           spare,
@@ -256,6 +276,21 @@ module _ (g : Setting) (fit : IsFitting g) (floors : ℕ → Floor) (m : MirStat
         by (inr from) (inr behind) may = inr behind
         by (inr from) (inl to) may = let clash : true ≡ false = sym (may from to) ∙ fixed in absurd cc
 
+    -- and so many finalization parts are counted
+    due_put : IsCounted g (length m.pending) memory
+    due_put closes =
+        let (at_, within) = within_holder q of a is some small in
+        let due = fit.placed.due in
+        let below = due.below in
+        let bottom = floors_here.lowest depth_here (omega arith) in
+        let last = floors_here.last in
+        count_kept g fit (length m.pending) l.memory memory
+        (λ x from to. changed x (omega arith) (by x from to at_ within (due_apart g fit floors depth_here l.limit floors_here limit_here (due_address g) due q.holder is.live))) s.due closes
+      where
+        by : (x : ℕ) → due_address g ≤ x → x < due_address g + 4 → a ≡ address_of g floors q.holder + is.distance → is.distance + size_in g.core of ≤ size_in g.core (type_held g.core floors q.holder) → Apart (address_of g floors q.holder) (size_in g.core (type_held g.core floors q.holder)) (due_address g) 4 → (x < a) ⊎ (a + size_in g.core of ≤ x)
+        by x from to at_ within (inl before) = inr (omega arith)
+        by x from to at_ within (inr behind) = inl (omega arith)
+
     pub stays_put : (rest : List Instr) (f : ℕ → ℕ) (now : List LowInstruction) → IsPlainWorld (with_value q v m.world) → ((x : ℕ) → x < l.limit → memory x < 2 ^ 8) → Lies (arrangement_of g.core of) v memory a → SameVariables (here m floors) l.top.registers f → Temporaries (here m floors) m.world.temps f → Stays g floors (record m { world = with_value q v m.world; rest = rest }) (record (at l f now) { memory = memory })
     stays_put rest f now plain bytes there same are =
         let a = s.activation in
@@ -283,6 +318,7 @@ module _ (g : Setting) (fit : IsFitting g) (floors : ℕ → Floor) (m : MirStat
           callers = subst (λ x. CallersStand g floors (with_value q v m.world).memory m.world.bound m.callers l.callers m.routine x l.limit l.room m.charged) (sym first) moved;
           lie = value_put there;
           fixed = fixed_put;
+          due = due_put;
           bytes = bytes;
           output = s.output;
           errors = s.errors;

@@ -1,5 +1,5 @@
 -- The caller of a routine that begins waits: what is said of it, and of the callers below it, with the new activation above them.
-use Rattle.std.proofs.Common.{◌≡◌, ◌≤◌, ◌<◌, ℕ, suc, ◌+◌, ◌-◌, List, [], ◌∷◌, length, None, refl, sym, ap, ◌∙◌, subst, arith}
+use Rattle.std.proofs.Common.{◌≡◌, ◌≤◌, ◌<◌, inl, ℕ, suc, ◌+◌, ◌-◌, List, [], ◌∷◌, length, None, refl, sym, ap, ◌∙◌, subst, arith}
 use Rattle.std.specs.Prelude.{false, ◌&&◌, nat_eq, if◌then◌else◌}
 use Rattle.std.proofs.lemmas.Bool.Decides.{nat_tests}
 use Rattle.op_compute.specs.Bank.{scratch_of}
@@ -134,7 +134,8 @@ module _ (g : Setting) (fit : IsFitting g) (m : MirState) (l : State) (floors : 
       } in
       let floor_same : floors d ≡ new d = sym (same d (omega arith)) in
       let goes : ResultGoes g new d call.receiver (view_receiver call.receiver) (record { activation = waiting; to = b.to; landing = None }) b.result =
-      result_waits g floors new d same call.receiver (view_receiver call.receiver) (record { activation = waiting; to = b.to; landing = None }) b.result b.receives in (
+      result_waits g floors new d same call.receiver (view_receiver call.receiver) (record { activation = waiting; to = b.to; landing = None }) b.result b.receives in
+      inl (
         l.limit,
         m.charged,
         l.room,

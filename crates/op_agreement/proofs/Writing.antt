@@ -41,6 +41,7 @@ use Rattle.op_agreement.proofs.Branching.{begins_here, has_of, step_here, two_of
 use Rattle.op_agreement.proofs.Cases.{behind_act}
 use Rattle.op_agreement.proofs.Charting.{live_stands}
 use Rattle.op_agreement.proofs.Computing.{rest_above, rest_below, rest_stands}
+use Rattle.op_agreement.proofs.Counting.{count_below}
 use Rattle.op_agreement.proofs.Elements.{KeptBelow}
 use Rattle.op_agreement.proofs.ErrorsEnd.{limit_above, literal_there}
 use Rattle.op_agreement.proofs.Following.{Comes}
@@ -121,6 +122,7 @@ module _ (g : Setting) (fit : IsFitting g) (m : MirState) (l : State) (floors : 
         callers = subst (λ x. CallersStand g floors m.world.memory m.world.bound m.callers l.callers m.routine x l.limit l.room m.charged) (sym first) s.callers;
         lie = λ x live. lies x live;
         fixed = λ x low fixed. let above = above_bottom in kept_memory x (omega arith) ∙ s.fixed x low fixed;
+        due = count_below g fit (length m.pending) l.memory memory (λ x low. let above = above_bottom in kept_memory x (omega arith)) s.due;
         bytes = λ x low. subst (λ b. b < 2 ^ 8) (sym (kept_memory x low)) (s.bytes x low);
         output = ap (λ x. x ++ text) s.output;
         errors = s.errors;

@@ -10,7 +10,7 @@ use Rattle.op_simulation.specs.Matching.{Agreement, Matching, Follows}
 use Rattle.op_agreement.specs.Fitting.{IsFitting}
 use Rattle.op_agreement.specs.Settings.{Setting, managed}
 use Rattle.op_agreement.specs.Starting.{IsLoaded, Starts}
-use Rattle.op_agreement.specs.Stands.{Stands}
+use Rattle.op_agreement.specs.Stands.{StandsFor}
 use Rattle.op_agreement.specs.Steps.{counted, most_for_one}
 
 -- ---- the bytes of each stream
@@ -42,7 +42,7 @@ pub record SameBytes (above : List Shown) (below : List Event) : Type 0 where
 -- states that stand for one another; low code is never bad on the way, and costs no more than so much for a cost of one; the bytes of each
 -- stream are the same
 abbrev pub lowered : (g : Setting) → Matching (mir_machine (managed g)) (counted g)
-lowered g = record { states = Stands g; moments = λ m l. l.ending ≢ Bad; traces = SameBytes; factor = most_for_one }
+lowered g = record { states = StandsFor g; moments = λ m l. l.ending ≢ Bad; traces = SameBytes; factor = most_for_one }
 
 -- a step of managed code is one or more of low code
 abbrev pub LowCodeFollows : Type 0
@@ -53,7 +53,7 @@ abbrev pub ProgramsStart : Type 0
 ProgramsStart = (g : Setting) → IsFitting g → IsLoaded g → (input : List ℕ) → Starts g input
 
 abbrev pub AgreesForEver : Type 0
-AgreesForEver = (g : Setting) → IsFitting g → (m : MirState) (l : State) → Stands g m l → Agreement (lowered g) m l
+AgreesForEver = (g : Setting) → IsFitting g → (m : MirState) (l : State) → StandsFor g m l → Agreement (lowered g) m l
 
 -- and is never bad
 abbrev pub NeverBecomesBad : Type 0

@@ -4,13 +4,15 @@ use Rattle.op_constants.specs.Arranged.{IsSmall}
 use Rattle.op_constants.specs.Literals.{literals_of}
 use Rattle.op_constants.specs.Offsets.{size_in}
 use Rattle.op_core.specs.Sizes.{KeepsExtents}
+use Rattle.op_core.specs.declared.ids.RoutineId.{RoutineId}
 use Rattle.op_core.specs.declared.ids.TypeId.{TypeId}
 use Rattle.op_core.specs.declared.types.CoreType.TheVariants.{Integer}
 use Rattle.op_core.specs.declared.types.IntegerKind.TheVariants.{Signed8}
-use Rattle.op_expand.specs.Calls.{runtime}
+use Rattle.op_expand.specs.Calls.{closing_number, finalizations, has_closing, runtime}
+use Rattle.op_expand.specs.Closing.{closing_routine}
 use Rattle.op_expand.specs.Frames.{frame_of, parameters_of}
 use Rattle.op_expand.specs.Routines.{most_charge}
-use Rattle.op_low.specs.State.{space}
+use Rattle.op_low.specs.State.{routine_of, space}
 use Rattle.op_meaning.specs.Expressions.{result_of}
 use Rattle.op_meaning.specs.Shapes.{type_of_variable}
 use Rattle.op_mir.specs.View.{routine_at}
@@ -21,7 +23,7 @@ use Rattle.op_rt_text.specs.Running.{HasRuntime}
 use Rattle.op_rv.specs.State.{bytes_from}
 use Rattle.op_rv.specs.declared.symbol.Symbol.{Symbol}
 use Rattle.op_rv.specs.declared.symbol.Symbol.TheVariants.{Global}
-use Rattle.op_agreement.specs.Settings.{Setting, Apart, FrameFits, HaveHomes, IsExpanded}
+use Rattle.op_agreement.specs.Settings.{Setting, Apart, FrameFits, HaveHomes, IsExpanded, due_address}
 use Rattle.op_agreement.specs.Typed.{IsGlobal, AreFine, HasResult, parameter_rows}
 
 -- Values are arranged by their types, each parameter has its row and each result its variable, errors end the program, no stack has more than 2^26
@@ -68,6 +70,14 @@ global_address g v = g.placement.address (Global (record { 0 = v }))
 abbrev pub global_size : Setting → ℕ → ℕ
 global_size g v = size_in g.core (type_of_variable g.core v)
 
+-- the word that tells the bytes of stack, and counts the finalization parts that are due, stands below the stack, apart from the global variables
+pub record DueStands (g : Setting) (at : ℕ) : Type 0 where
+  pub words : at % 4 ≡ 0
+  pub readable : (x : ℕ) → at ≤ x → x < at + 4 → g.placement.rights.readable x ≡ true
+  pub writable : (x : ℕ) → at ≤ x → x < at + 4 → g.placement.rights.writable x ≡ true
+  pub below : at + 4 ≤ g.bottom
+  pub apart : (v : ℕ) → IsGlobal g.core v → Apart (global_address g v) (global_size g v) at 4
+
 -- the stack lies behind all else, by whole words, and may be read and written
 pub record IsPlacedProgram (g : Setting) : Type 0 where
   pub runtime : HasRuntime g.low g.placement
@@ -75,13 +85,36 @@ pub record IsPlacedProgram (g : Setting) : Type 0 where
   pub literals : (id : ℕ) (bytes : List ℕ) → slice_get (literals_of g.core g.mir) id ≡ Some bytes → LiteralStands g (g.placement.address (literal id)) bytes
   pub globals : (v : ℕ) → IsGlobal g.core v → GlobalStands g v (global_address g v) (global_size g v)
   pub apart : (v u : ℕ) → v ≢ u → IsGlobal g.core v → IsGlobal g.core u → Apart (global_address g v) (global_size g v) (global_address g u) (global_size g u)
+  pub due : DueStands g (due_address g)
   pub whole : g.bottom % 4 ≡ 0
   pub top : g.top < 2 ^ 32
   pub readable : (x : ℕ) → g.bottom ≤ x → x < g.top → g.placement.rights.readable x ≡ true
   pub writable : (x : ℕ) → g.bottom ≤ x → x < g.top → g.placement.rights.writable x ≡ true
+
+-- ---- the closing
+
+-- what the closing takes of the stack while a finalization part is done
+abbrev pub closing_space : Setting → ℕ
+closing_space g = space g.low g.placement (closing_number g.core)
+
+-- A finalization part is a procedure without parameters. Its activations take less than they are charged, so that there is room for the closing too.
+pub record PartFits (g : Setting) (r : ℕ) : Type 0 where
+  pub exists : r < length g.mir.routines
+  pub parameters : parameters_of g.core r ≡ 0
+  pub result : result_of (slice_get g.core.routines r) ≡ None
+  pub space : (x : Routine) → slice_get g.mir.routines r ≡ Some x → x.charge ≤ most_charge → space g.low g.placement (runtime + r) + closing_space g ≤ x.charge
+
+-- The closing stands in low code, takes a few words of the stack, and does no more parts than a program may have units.
+pub record ClosingFits (g : Setting) : Type 0 where
+  pub few : length (finalizations g.core) ≤ 1024
+  pub exists : closing_number g.core < length g.low.routines
+  pub routine : routine_of g.low (closing_number g.core) ≡ closing_routine g.core g.mir g.stack
+  pub space : closing_space g ≤ 20
+  pub parts : (k : ℕ) (f : RoutineId) → slice_get (finalizations g.core) k ≡ Some f → PartFits g f.0
 
 -- the premises of the agreement
 pub record IsFitting (g : Setting) : Type 0 where
   pub program : IsArrangedProgram g
   pub routines : (r : ℕ) (x : Routine) → routine_at g.mir r ≡ Some x → x.charge ≤ most_charge → RoutineFits g r x
   pub placed : IsPlacedProgram g
+  pub closing : has_closing g.core ≡ true → ClosingFits g

@@ -9,7 +9,7 @@ use Rattle.op_constants.specs.Literals.{block_literals, literals_of}
 use Rattle.op_constants.specs.Offsets.{size_in}
 use Rattle.op_core.specs.declared.ids.TypeId.{TypeId}
 use Rattle.op_core.specs.declared.program.Core.{Core}
-use Rattle.op_expand.specs.Calls.{runtime}
+use Rattle.op_expand.specs.Calls.{due_word, runtime}
 use Rattle.op_expand.specs.Frames.{returning_of}
 use Rattle.op_expand.specs.Homes.{home_at, is_one_root, offset_of, parameter}
 use Rattle.op_expand.specs.Routines.{error_code, low_parameters}
@@ -54,6 +54,10 @@ pub record Setting : Type 0 where
 -- managed code as its machine sees it
 abbrev pub managed : Setting → Code
 managed g = view_of g.core g.stack g.mir
+
+-- the address of the word that tells the bytes of stack, and counts the finalization parts that are due
+abbrev pub due_address : Setting → ℕ
+due_address g = g.placement.address (due_word g.core)
 
 -- ---- the homes of a routine's variables and temporaries
 

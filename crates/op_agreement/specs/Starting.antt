@@ -16,7 +16,7 @@ use Rattle.op_rv.specs.State.{word_at}
 use Rattle.op_rv.specs.declared.symbol.Symbol.TheVariants.{Global}
 use Rattle.op_agreement.specs.Fitting.{global_address, global_size}
 use Rattle.op_agreement.specs.Settings.{Setting, managed}
-use Rattle.op_agreement.specs.Stands.{Stands}
+use Rattle.op_agreement.specs.Stands.{StandsFor}
 use Rattle.op_agreement.specs.Steps.{Goes}
 use Rattle.op_agreement.specs.Typed.{IsGlobal}
 
@@ -51,4 +51,4 @@ low_begins g input = start g.low g.placement g.bottom (g.top - g.bottom) g.loade
 pub record Starts (g : Setting) (input : List ℕ) : Type 0 where
   pub to : State
   pub goes : Goes g 0 2 (low_begins g input) to
-  pub stands : Stands g (mir_start (program_in g) input) to
+  pub stands : StandsFor g (mir_start (program_in g) input) to

@@ -13,6 +13,7 @@ use Rattle.op_core.specs.declared.ids.TypeId.{TypeId}
 use Rattle.op_core.specs.declared.program.Core.{Core}
 use Rattle.op_core.specs.declared.routine.Variable.{Variable}
 use Rattle.op_core.specs.declared.types.IntegerKind.{IntegerKind}
+use Rattle.op_expand.specs.Calls.{has_closing}
 use Rattle.op_expand.specs.Frames.{parameters_of}
 use Rattle.op_meaning.specs.Actions.{Action, constant, load, store, copy, look, begin_with, pick, check, neighbour, write_text}
 use Rattle.op_meaning.specs.Expressions.{result_of}
@@ -131,7 +132,7 @@ abbrev pub AreTargets : Routine → List Arm → Type 0
 AreTargets x [] = Unit {0}
 AreTargets x (a ∷ arms) = IsTarget x a.block × AreTargets x arms
 
--- An instruction of a routine names what is there, at its types. The units of a program have no finalization.
+-- An instruction of a routine names what is there, at its types. Only in the program itself a finalization part becomes due.
 abbrev pub IsFine : Core → Mir → ℕ → Routine → Instruction → Type 0
 IsFine core mir r x (Act a landing) = (action_fits mir x a ≡ true) × IsTypedAction core r (view_action core r a)
 IsFine core mir r x (Call id call) =
@@ -142,7 +143,7 @@ IsFine core mir r x (When t block) = (has x t ≡ true) × IsTarget x block
 IsFine core mir r x (Unless t block) = (has x t ≡ true) × IsTarget x block
 IsFine core mir r x (Switch t arms) = (has x t ≡ true) × HasWordArms arms × AreTargets x arms
 IsFine core mir r x (Dispatch t block) = (has x t ≡ true) × (block.0 + 3 < length x.blocks)
-IsFine core mir r x (MakeDue f) = ⊥
+IsFine core mir r x (MakeDue f) = (r ≡ length mir.routines) × (has_closing core ≡ true)
 IsFine core mir r x (Stop t) = has x t ≡ true
 IsFine core mir r x Return = Unit {0}
 
@@ -159,10 +160,10 @@ abbrev pub labels_in : List Arm → ℕ
 labels_in [] = 0
 labels_in (a ∷ arms) = length a.labels + labels_in arms
 
--- the program itself, which is charged nothing, calls without arguments and results, goes on and returns
+-- the program itself, which is charged nothing, calls without arguments and results, makes finalization parts due, and returns
 abbrev pub IsLight : Instruction → Type 0
 IsLight (Call id call) = (call.given ≡ []) × (call.receiver ≡ Nowhere)
-IsLight (Jump block) = Unit {0}
+IsLight (MakeDue f) = Unit {0}
 IsLight Return = Unit {0}
 IsLight _ = ⊥
 

@@ -150,7 +150,7 @@ module _ (core : Core) (mir : Mir) (stack : ℕ) (w : Placed) (image : List ℕ)
         let b = run riscv_machine (lower.point (low_point n)) runs.along.first in
         let goes = upper.states n in
         let world : m.world ≡ s.world = ap (λ (x : MirState). x.world) goes.same in
-        let same = same_states g m l (subst (Stands g m) (sym (low_is n)) (middle.states (upper.point n))) in
+        let same = same_states g m l (subst (Stands g m) (sym (low_is n)) (middle.states (upper.point n)).1) in
         let saw = seen w l b (lower.states (low_point n)) in
         subst (LooksAlike s) (sym (image_is n)) (record {
           output = saw.output ∙ same.output ∙ ap (λ (x : World). x.output) world;

@@ -42,7 +42,7 @@ use Rattle.op_correctness.specs.SimpleCore.{IsSimpleCore}
 -- ---- what the test gives
 
 simple_core : (core : Core) → IsPlainCore core → IsSimpleCore core
-simple_core core class = record { simple = class.simple; counted = class.counted; exceptions = class.exceptions; finalizations = class.finalizations }
+simple_core core class = record { simple = class.simple; counted = class.counted; exceptions = class.exceptions; few = class.few }
 
 core_charges : (core : Core) → IsPlainCore core → HaveCharges core
 core_charges core class r low = record { variables = class.charged r; parameters = class.parameters r; statements = class.works 0 r }

@@ -1,34 +1,42 @@
 -- What the agreement with low code asks of a program, of a sound one of the class, where it is placed as is asked.
-use Rattle.std.proofs.Common.{◌≡◌, ◌≤◌, ◌<◌, ◌+◌, ℕ, false, length, Option, Some, None, refl, ap}
-use Rattle.std.specs.Prelude.{slice_get}
+use Rattle.std.proofs.Common.{◌≡◌, ◌≤◌, ◌<◌, ◌+◌, ℕ, false, length, Option, Some, None, refl, ap, arith}
+use Rattle.std.proofs.lemmas.Option.{slice_get_within}
+use Rattle.std.specs.Prelude.{slice_get, true}
 use Rattle.op_constants.proofs.SoundFirst.{first_type}
 use Rattle.op_constants.proofs.TypesArranged.{some_at}
 use Rattle.op_core.specs.Sound.{IsSound, IsSoundNesting}
+use Rattle.op_core.specs.declared.ids.RoutineId.{RoutineId}
 use Rattle.op_core.specs.declared.ids.TypeId.{TypeId}
 use Rattle.op_core.specs.declared.routine.Role.TheVariants.{Result}
 use Rattle.op_core.specs.declared.routine.Routine.{Routine as Row}
+use Rattle.op_expand.specs.Calls.{has_closing, closing_number, finalizations}
+use Rattle.op_expand.specs.Closing.{closing_routine}
 use Rattle.op_expand.specs.Frames.{parameters_of}
 use Rattle.op_expand.specs.Programs.{low_of}
 use Rattle.op_expand.specs.Routines.{most_charge}
+use Rattle.op_low.specs.State.{routine_or}
 use Rattle.op_lower.specs.Lowers.{Lowers}
 use Rattle.op_meaning.specs.Expressions.{result_of}
 use Rattle.op_meaning.specs.Shapes.{is_reference, result_of_routine, variables_of}
 use Rattle.op_mir.specs.View.{routine_at}
 use Rattle.op_mir.specs.declared.code.Routine.{Routine}
-use Rattle.op_agreement.proofs.Expanding.{is_expanded}
+use Rattle.op_agreement.proofs.Expanding.{is_expanded, closing_made}
 use Rattle.op_agreement.proofs.Framing.{frame_fits}
 use Rattle.op_agreement.proofs.Rooting.{have_homes}
-use Rattle.op_agreement.specs.Fitting.{IsArrangedProgram, IsFitting, IsPlacedProgram, RoutineFits}
+use Rattle.op_agreement.specs.Fitting.{IsArrangedProgram, IsFitting, IsPlacedProgram, RoutineFits, ClosingFits, closing_space, PartFits}
 use Rattle.op_agreement.specs.Framing.{HasVariables}
 use Rattle.op_agreement.specs.Settings.{Setting}
 use Rattle.op_agreement.specs.Typed.{HasResult, parameter_rows}
+use Rattle.op_sizes.proofs.ClosingSmall.{finalizations_few}
 use Rattle.op_typing.proofs.Callees.{RowIs, result_stands}
-use Rattle.op_typing.proofs.Rows.{some_then}
+use Rattle.op_typing.proofs.Rows.{some_then, each_row}
 use Rattle.op_typing.specs.Typed.{HasVariable}
+use Rattle.op_correctness.proofs.Finalizations.{PartIs, parts_are}
 use Rattle.op_correctness.proofs.Paid.{blocks_paid, least_charged}
 use Rattle.op_correctness.proofs.Places.{variable_is}
 use Rattle.op_correctness.proofs.ParameterRows.{parameters_counted}
 use Rattle.op_correctness.proofs.RoutineCode.{blocks_fine, has_block}
+use Rattle.op_correctness.proofs.Space.{at_row}
 use Rattle.op_correctness.proofs.Variables.{variables_fit}
 use Rattle.op_correctness.specs.Charges.{HaveCharges}
 use Rattle.op_correctness.specs.SimpleCore.{IsSimpleCore}
@@ -74,10 +82,33 @@ module _ (g : Setting) (sound : IsSound g.core) (nesting : IsSoundNesting g.core
           homes = have_homes g.core r x has;
           frame = frame_fits g.core r x has;
           expanded = is_expanded g low r x found charge;
-          space = spacious r x found charge;
+          space = spacious.charged r x found charge;
           charged = least_charged g.core g.mir g.stack sound nesting is lowers r x found charge;
         }
 
+    -- So does the closing.
+    closing_fits : has_closing g.core ≡ true → ClosingFits g
+    closing_fits closes =
+        let made = closing_made g low closes lowers.number in
+        record {
+          few = let units = is.few in let parts = finalizations_few g.core.units in omega arith;
+          exists = slice_get_within g.low.routines (closing_number g.core) (closing_routine g.core g.mir g.stack) made;
+          routine = ap routine_or made;
+          space = spacious.closing closes;
+          parts = λ k f there. part_fits (spacious.closing closes) f (each_row (PartIs g.core) (finalizations g.core) k f (parts_are g.core g.core.units sound.units is.simple.units) there);
+        }
+      where
+        part_fits : closing_space g ≤ 20 → (f : RoutineId) → PartIs g.core f → PartFits g f.0
+        part_fits small f part =
+            let number = lowers.number in
+            let low_part = part.low in
+            record {
+              exists = omega arith;
+              parameters = part.parameters;
+              result = part.result;
+              space = λ x there charge. let taken = spacious.parts f.0 x (at_row g.mir f.0 x there) charge (slice_get_within g.mir.routines f.0 x there) part.parameters in omega arith;
+            }
+
     -- So the program fits where it is placed as is asked.
     pub program_fits : HaveCharges g.core → g.stack ≤ most_charge → IsPlacedProgram g → IsFitting g
-    program_fits charges stack placed = record { program = program_arranged charges stack; routines = routine_fits; placed = placed }
+    program_fits charges stack placed = record { program = program_arranged charges stack; routines = routine_fits; placed = placed; closing = closing_fits }

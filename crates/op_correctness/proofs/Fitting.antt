@@ -9,6 +9,7 @@ use Rattle.op_constants.specs.Literals.{literals_of}
 use Rattle.op_constants.specs.Offsets.{size_in}
 use Rattle.op_core.specs.Rows.{rows}
 use Rattle.op_core.specs.Sound.{IsSound, IsSoundNesting, RoleAndType, is_of_block, role_and_type}
+use Rattle.op_core.specs.declared.ids.RoutineId.{RoutineId}
 use Rattle.op_core.specs.declared.ids.TypeId.{TypeId}
 use Rattle.op_core.specs.declared.program.Core.{Core}
 use Rattle.op_core.specs.declared.routine.Body.{Body}
@@ -17,7 +18,8 @@ use Rattle.op_core.specs.declared.routine.Role.{Role}
 use Rattle.op_core.specs.declared.routine.Role.TheVariants.{Object, Parameter, Result}
 use Rattle.op_core.specs.declared.routine.Routine.{Routine as Row}
 use Rattle.op_core.specs.declared.routine.Variable.{Variable}
-use Rattle.op_expand.specs.Frames.{frame_of}
+use Rattle.op_expand.specs.Calls.{finalizations}
+use Rattle.op_expand.specs.Frames.{frame_of, parameters_of}
 use Rattle.op_expand.specs.Programs.{low_of}
 use Rattle.op_expand.specs.Routines.{most_charge}
 use Rattle.op_frames.proofs.GlobalsUnder.{globals_fit}
@@ -26,7 +28,7 @@ use Rattle.op_frames.proofs.Lowered.{some_blocks}
 use Rattle.op_frames.proofs.RegistersUnder.{registers_small}
 use Rattle.op_frames.proofs.SoundSizes.{single_some, sizes_small}
 use Rattle.op_frames.specs.Charged.{IsCharged}
-use Rattle.op_frames.specs.Fitting.{AreFitting, IsFitting, registers_of_routine}
+use Rattle.op_frames.specs.Fitting.{AreFitting, IsFitting, IsPart, registers_of_routine}
 use Rattle.op_frames.specs.Made.{AreMade, Every, IsCode}
 use Rattle.op_frames.specs.Named.{IsNamed}
 use Rattle.op_frames.specs.Wholes.{AreWholesIn}
@@ -50,6 +52,7 @@ use Rattle.op_typing.specs.Simple.{IsSimpleProgram, IsSimpleRoutine}
 use Rattle.op_typing.specs.Typed.{AreTypedBlocks}
 use Rattle.op_wholes.proofs.FramesFit.{all_named, frame_fits}
 use Rattle.op_wholes.specs.Listed.{wholes_of_statements}
+use Rattle.op_correctness.proofs.Finalizations.{PartIs, parts_are}
 use Rattle.op_correctness.proofs.Named.{blocks_named}
 use Rattle.op_correctness.proofs.ProgramCode.{program_fits}
 use Rattle.op_correctness.proofs.Targeting.{blocks_targeted}
@@ -123,8 +126,8 @@ module _ (core : Core) (sound : IsSound core) (nesting : IsSoundNesting core) (i
       let begins = has_rows core sound simple r row there in
       kept core (rows core.variables (variables_of core r)) charge.variables (rows_own (rows core.parameters row.parameters) row.result begins.others (rows core.variables (variables_of core r)) begins.of_block begins.are)
 
-  -- Its frame takes no more than it is charged.
-  pub frame_charged : x.charge ≤ most_charge → (frame_of core r x).locals + 4 * (registers_of_routine core r x + 1) ≤ x.charge
+  -- Its frame takes no more than it is charged, and less where it has few parameters.
+  pub frame_charged : x.charge ≤ most_charge → (frame_of core r x).locals + 4 * (registers_of_routine core r x + 1) + 4 * (63 - parameters_of core r) ≤ x.charge
   frame_charged less =
       let (b, body) = has_body in
       let within = frame_fits core 0 r row b sound simple there body x lowered (is.counted 0 r) rows_kept charge.parameters charge.statements in
@@ -173,6 +176,11 @@ module _ (core : Core) (mir : Mir) (sound : IsSound core) (nesting : IsSoundNest
       let (row, there) = row_of r x at in
       routine_fits core sound nesting is r (charges r (slice_get_within core.routines r row there)) row there x (lowers.routines r x at)
 
+  -- and each finalization part is one
+  each_part : (fs : List RoutineId) → All (PartIs core) fs → Every (IsPart core) fs
+  each_part [] are = tt
+  each_part (f ∷ fs) are = let here = All-head (PartIs core) f fs are in ((here.low, here.parameters), each_part fs (All-tail (PartIs core) f fs are))
+
   -- So does the program.
   pub are_fitting : AreFitting core mir
   are_fitting = record {
@@ -180,6 +188,7 @@ module _ (core : Core) (mir : Mir) (sound : IsSound core) (nesting : IsSoundNest
     number = lowers.number;
     routines = each_fits;
     program = subst (λ n. IsFitting core n mir.program) (sym lowers.number) (program_fits core sound nesting is.simple mir.program lowers.program);
+    parts = each_part (finalizations core) (parts_are core core.units sound.units is.simple.units);
   }
 
   -- The low code names what is there, whatever the stack.

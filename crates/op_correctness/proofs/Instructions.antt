@@ -69,7 +69,7 @@ leaves_it core r Return last = tt
 
 module _ (core : Core) (sound : IsSound core) (simple : IsSimpleProgram core) (mir : Mir) (number : length mir.routines ≡ length core.routines) (types : mir.counts.types ≡ length core.types) (variables : mir.counts.variables ≡ length core.variables) (r : ℕ) (x : Routine) (locals : x.locals ≡ (variables_of core r).count) where
   -- an instruction that is typed, leads to blocks of the routine, and names temporaries that it has
-  instruction_fine : (i : Instruction) → IsTypedInstr core r (view_instruction core r i) → IsTargeted (length x.blocks) (view_instruction core r i) → in_instruction i ≤ x.temporaries → IsFine core mir r x i
+  instruction_fine : (i : Instruction) → IsTypedInstr core r (view_instruction core r i) → IsTargeted core r (length x.blocks) (view_instruction core r i) → in_instruction i ≤ x.temporaries → IsFine core mir r x i
   unfolding in_instruction
   instruction_fine (Act a landing) typed targeted low = (action_there core sound mir r x types variables locals a typed low, action_is core sound r (view_action core r a) typed)
   instruction_fine (Call id call) typed targeted low =
@@ -81,14 +81,14 @@ module _ (core : Core) (sound : IsSound core) (simple : IsSimpleProgram core) (m
   instruction_fine (Unless t block) typed targeted low = (has_it core sound mir r x types variables locals t low, targeted)
   instruction_fine (Switch t arms) typed targeted low = (has_it core sound mir r x types variables locals t low, arms_words arms typed, arms_lead x arms targeted)
   instruction_fine (Dispatch t block) typed targeted low = (has_it core sound mir r x types variables locals t (omega (arith, low)), targeted)
-  instruction_fine (MakeDue f) typed targeted low = absurd targeted
+  instruction_fine (MakeDue f) typed (own, closing) low = (omega (arith, own, number), closing)
   instruction_fine (Stop t) typed targeted low = has_it core sound mir r x types variables locals t low
   instruction_fine Return typed targeted low = tt
 
   -- ---- code
 
   -- and all instructions of such code
-  all_fine : (code : List Instruction) → AreTypedInstrs core r (map (view_instruction core r) code) → Every (IsTargeted (length x.blocks)) (map (view_instruction core r) code) → Every (λ i. in_instruction i ≤ x.temporaries) code → All (IsFine core mir r x) code
+  all_fine : (code : List Instruction) → AreTypedInstrs core r (map (view_instruction core r) code) → Every (IsTargeted core r (length x.blocks)) (map (view_instruction core r) code) → Every (λ i. in_instruction i ≤ x.temporaries) code → All (IsFine core mir r x) code
   all_fine [] typed targeted low = All-nil (IsFine core mir r x)
   all_fine (i ∷ code) typed (leads, targeted) (here, low) =
       let first = All-head (IsTypedInstr core r) (view_instruction core r i) (map (view_instruction core r) code) typed in
@@ -102,9 +102,9 @@ module _ (core : Core) (sound : IsSound core) (simple : IsSimpleProgram core) (m
   code_fine (i ∷ j ∷ code) fine (here, paid) leaves = (All-head (IsFine core mir r x) i (j ∷ code) fine, here, inr (code_fine (j ∷ code) (All-tail (IsFine core mir r x) i (j ∷ code) fine) paid leaves))
 
   -- Each instruction of a block of typed code, whose branches lead to blocks, is fine.
-  pub each_fine : (block : Block) → AreTypedInstrs core r (view_block core r block) → IsCode (IsTargeted (length x.blocks)) (view_block core r block) → in_block block ≤ x.temporaries → All (IsFine core mir r x) block.code
+  pub each_fine : (block : Block) → AreTypedInstrs core r (view_block core r block) → IsCode (IsTargeted core r (length x.blocks)) (view_block core r block) → in_block block ≤ x.temporaries → All (IsFine core mir r x) block.code
   each_fine block typed is low = all_fine block.code typed is.each (most_each in_instruction block.code x.temporaries low)
 
   -- And so is the block, if they are paid.
-  pub block_fine : (block : Block) → AreTypedInstrs core r (view_block core r block) → IsCode (IsTargeted (length x.blocks)) (view_block core r block) → in_block block ≤ x.temporaries → Every (IsPaid mir r x) block.code → AreFine core mir r x block.code
+  pub block_fine : (block : Block) → AreTypedInstrs core r (view_block core r block) → IsCode (IsTargeted core r (length x.blocks)) (view_block core r block) → in_block block ≤ x.temporaries → Every (IsPaid mir r x) block.code → AreFine core mir r x block.code
   block_fine block typed is low paid = code_fine block.code (each_fine block typed is low) paid is.leaves

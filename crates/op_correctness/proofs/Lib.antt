@@ -3,6 +3,7 @@ pub mod Calls
 pub mod Composing
 pub mod Correct
 pub mod Ending
+pub mod Finalizations
 pub mod Fits
 pub mod Fitting
 pub mod Instructions

@@ -37,7 +37,7 @@ use Rattle.op_agreement.specs.Fitting.{IsPlacedProgram}
 use Rattle.op_agreement.specs.Settings.{Setting}
 use Rattle.op_agreement.specs.Starting.{IsLoaded}
 use Rattle.op_agreement.specs.Typed.{IsGlobal}
-use Rattle.op_correctness.proofs.Placing.{global_stands, globals_apart, literal_stands, stack_word, values_loaded, zeros_loaded}
+use Rattle.op_correctness.proofs.Placing.{global_stands, globals_apart, literal_stands, stack_word, values_loaded, zeros_loaded, due_stands}
 use Rattle.op_correctness.specs.Placed.{setting_in}
 
 -- ---- the stack
@@ -96,6 +96,7 @@ module _ (core : Core) (mir : Mir) (settings : Settings) (image : List ℕ) (mea
         literals = λ id bytes is. literal_stands core mir settings image means id bytes is;
         globals = λ v global. let (row, is) = row_at v global in global_stands core mir settings image means v row is (made v row global is) (small_row v row global is);
         apart = λ v u differ one other. let (a, is_a) = row_at v one in let (b, is_b) = row_at u other in globals_apart core mir settings image means v u a b differ is_a is_b (made v a one is_a) (made u b other is_b);
+        due = due_stands core mir settings image means (stack_made g low_is) (λ v global. let (row, is) = row_at v global in (row, is, made v row global is)) few;
         whole = omega arith;
         top = omega arith;
         readable = means.setting.readable;

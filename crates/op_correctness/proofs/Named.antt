@@ -204,7 +204,7 @@ module _ (core : Core) (sound : IsSound core) where
     -- ---- instructions
 
     -- what an instruction names, where its branches lead to blocks
-    instruction_named : (r blocks : ℕ) (i : Instr) → IsTypedInstr core r i → IsTargeted blocks i → IsNamed core blocks i
+    instruction_named : (r blocks : ℕ) (i : Instr) → IsTypedInstr core r i → IsTargeted core r blocks i → IsNamed core blocks i
     instruction_named r blocks (do_act a landing) typed targeted = action_named r a typed
     instruction_named r blocks (do_call q given receiver landing) typed targeted = call_named r q given receiver typed
     instruction_named r blocks (jump k) typed targeted = targeted.1
@@ -217,13 +217,13 @@ module _ (core : Core) (sound : IsSound core) where
     instruction_named r blocks ret typed targeted = tt
 
     -- and each instruction of a block
-    code_named : (r blocks : ℕ) (code : List Instr) → AreTypedInstrs core r code → Every (IsTargeted blocks) code → Every (IsNamed core blocks) code
+    code_named : (r blocks : ℕ) (code : List Instr) → AreTypedInstrs core r code → Every (IsTargeted core r blocks) code → Every (IsNamed core blocks) code
     code_named r blocks [] typed targeted = tt
     code_named r blocks (i ∷ code) typed (leads, targeted) =
         (instruction_named r blocks i (All-head (IsTypedInstr core r) i code typed) leads, code_named r blocks code (All-tail (IsTypedInstr core r) i code typed) targeted)
 
     -- Typed blocks whose branches lead to blocks name what is there.
-    pub blocks_named : (r blocks : ℕ) (bs : List (List Instr)) → AreTypedBlocks core r bs → Every (IsCode (IsTargeted blocks)) bs → Every (IsCode (IsNamed core blocks)) bs
+    pub blocks_named : (r blocks : ℕ) (bs : List (List Instr)) → AreTypedBlocks core r bs → Every (IsCode (IsTargeted core r blocks)) bs → Every (IsCode (IsNamed core blocks)) bs
     blocks_named r blocks [] typed are = tt
     blocks_named r blocks (code ∷ bs) typed (first, are) =
         let here = All-head (AreTypedInstrs core r) code bs typed in

@@ -1,13 +1,11 @@
 -- What the steps of a routine's code cost is within its charge: it is charged 256 bytes at least, and for each label of its branches. The program
 -- itself is charged nothing, and its code costs little.
-use Rattle.std.proofs.Common.{◌≡◌, ◌≤◌, ◌<◌, ◌⊎◌, inl, inr, ℕ, ◌+◌, ◌-◌, ◌*◌, List, [], ◌∷◌, length, Some, refl, ap, sym, subst, arith}
-use Rattle.std.specs.Prelude.{◌^◌, map, min, slice_get}
+use Rattle.std.proofs.Common.{◌≡◌, ◌≤◌, ◌<◌, ◌⊎◌, inl, inr, ℕ, ◌+◌, ◌*◌, List, [], ◌∷◌, length, Some, refl, ap, sym, subst, arith}
+use Rattle.std.specs.Prelude.{map, slice_get}
 use Rattle.std.proofs.lemmas.Option.{slice_get_within}
 use Rattle.op_constants.proofs.TypesArranged.{some_at}
 use Rattle.op_core.specs.Sound.{IsSound, IsSoundNesting}
 use Rattle.op_core.specs.declared.program.Core.{Core}
-use Rattle.op_core.specs.declared.routine.Body.{Body}
-use Rattle.op_core.specs.declared.routine.Routine.{Routine as Row}
 use Rattle.op_expand.specs.Routines.{most_charge}
 use Rattle.op_frames.proofs.Lowered.{code_is}
 use Rattle.op_frames.proofs.RegistersUnder.{covers_all}
@@ -15,7 +13,6 @@ use Rattle.op_frames.specs.Made.{Every, IsCode}
 use Rattle.op_frames.specs.Within.{IsWithin, labels_among}
 use Rattle.op_lower.specs.Lowers.{Lowers}
 use Rattle.op_lower.specs.Seen.{seen_blocks}
-use Rattle.op_meaning.specs.Charge.{charge_of}
 use Rattle.op_mir.specs.View.{routine_at, view_arm, view_block, view_instruction}
 use Rattle.op_mir.specs.declared.code.Block.{Block}
 use Rattle.op_mir.specs.declared.code.Mir.{Mir}
@@ -86,7 +83,7 @@ module _ (core : Core) (mir : Mir) (stack : ℕ) (sound : IsSound core) (nesting
   blocks_paid k block there = by (which mir r x found)
     where
       by : IsOwn mir r x ⊎ (slice_get mir.routines r ≡ Some x) → Every (IsPaid mir r x) block.code
-      by (inl (number, own)) = light_paid block.code number (every_at (λ b. Every IsLight b.code) x.blocks k block (subst (λ (y : Routine). Every (λ b. Every IsLight b.code) y.blocks) (sym own) (own_light core r 0 core.units is.finalizations mir.program.blocks (lowers.program.blocks core r))) there)
+      by (inl (number, own)) = light_paid block.code number (every_at (λ b. Every IsLight b.code) x.blocks k block (subst (λ (y : Routine). Every (λ b. Every IsLight b.code) y.blocks) (sym own) (own_light core r 0 mir.program.blocks (lowers.program.blocks core r))) there)
       by (inr row) =
           let within : Every (IsCode (IsWithin (2 * nodes core stack r) (2 * nodes core stack r + 1))) (seen_blocks core r x.blocks) =
           code_is (IsWithin (2 * nodes core stack r) (2 * nodes core stack r + 1)) core stack r x (λ k some less. tt) tt (lowers.routines r x row) (items_made core stack r (length x.blocks) (is.counted stack r)) in

@@ -5,6 +5,7 @@ use Rattle.std.specs.List.{flat_map}
 use Rattle.std.proofs.lemmas.List.Concat.{flat_map-cons}
 use Rattle.std.specs.Int.{bytes_low_first}
 use Rattle.std.specs.Option.{option_map}
+use Rattle.op_agreement.specs.Typed.{IsGlobal}
 use Rattle.op_build.specs.Built.{program_layout, program_low}
 use Rattle.op_constants.specs.FirstBytes.{first_bytes}
 use Rattle.op_constants.specs.Literals.{literals_of}
@@ -29,7 +30,7 @@ use Rattle.op_rv.proofs.Memory.{with_bytes-within, word_at-stored}
 use Rattle.op_rv.specs.State.{bytes_from, with_bytes, word_at}
 use Rattle.op_rv.specs.declared.symbol.Symbol.TheVariants.{Global}
 use Rattle.op_agreement.specs.Settings.{Apart}
-use Rattle.op_agreement.specs.Fitting.{GlobalStands, LiteralStands}
+use Rattle.op_agreement.specs.Fitting.{GlobalStands, LiteralStands, DueStands}
 use Rattle.op_correctness.specs.Placed.{placed_in, setting_in}
 
 -- ---- literals
@@ -139,3 +140,21 @@ module _ (core : Core) (mir : Mir) (settings : Settings) (image : List ℕ) (mea
   stack_word there less =
       let stands = means.globals.each (record { 0 = length core.variables }) (stack_global (1024 * settings.stack)) there in
       (stands, word_told (setting_in core mir settings image).loaded (at_of (length core.variables)) (1024 * settings.stack) (omega arith) stands.stands)
+
+  -- the word stands apart from the global variables
+  pub due_stands : slice_get (program_low core mir settings).globals (length core.variables) ≡ Some (stack_global (1024 * settings.stack)) → ((v : ℕ) → IsGlobal core v → (row : Variable) × (slice_get core.variables v ≡ Some row) × (slice_get (program_low core mir settings).globals v ≡ Some (global_of core (Some row)))) → settings.stack ≤ 65536 → DueStands (setting_in core mir settings image) (at_of (length core.variables))
+  due_stands there made less =
+      let stands = means.globals.each (record { 0 = length core.variables }) (stack_global (1024 * settings.stack)) there in
+      let below = stands.below in
+      record {
+        words = stands.aligned;
+        readable = stands.readable;
+        writable = stands.writable;
+        below = stands.below;
+        apart = λ v global.
+            let (row, is, found) = made v global in
+            let size : size_in core (type_of_variable core v) ≡ variable_size (global_of core (Some row)) = ap (λ o. size_in core (type_of_row o)) is ∙ sym (size_of_global row) in
+            let less_row : v < length core.variables = global.0 in
+            subst (λ n. Apart (at_of v) n (at_of (length core.variables)) 4) (sym size)
+            (means.globals.apart (record { 0 = v }) (record { 0 = length core.variables }) (global_of core (Some row)) (stack_global (1024 * settings.stack)) (λ same. omega (arith, same, less_row)) found there);
+      }

@@ -120,10 +120,10 @@ nothing_received Nowhere e = refl
 nothing_received (ToTemporary t) e = absurd cc
 nothing_received (Place of to) e = absurd cc
 
--- no temporary, one scratch register at most, and no place
+-- no temporary, two scratch registers at most, and no place
 pub record TakesLittle (core : Core) (r : ℕ) (i : Instruction) : Type 0 where
   pub temporaries : in_instruction i ≤ 0
-  pub room : room_of_instruction core r i ≤ 1
+  pub room : room_of_instruction core r i ≤ 2
   pub roots : (roots : List Root) → with_instruction roots i ≡ roots
 
 module _ (core : Core) (r : ℕ) where
@@ -137,9 +137,9 @@ module _ (core : Core) (r : ℕ) where
       let same : (roots : List Root) → with_receiver (fold with_given roots call.given) call.receiver ≡ roots = λ roots. ap₂ (λ gs y. with_receiver (fold with_given roots gs) y) gs y in
       record { temporaries = omega (arith, none); room = room_is id.0 (map view_given call.given) (view_receiver call.receiver) given receiver; roots = same }
     where
-      room_is : (q : ℕ) (gs : List MeantGiven) (y : MeantReceiver) → gs ≡ [] → y ≡ nowhere → room_in (do_call q gs y None) ≤ 1
+      room_is : (q : ℕ) (gs : List MeantGiven) (y : MeantReceiver) → gs ≡ [] → y ≡ nowhere → room_in (do_call q gs y None) ≤ 2
       room_is q gs y given receiver = let one : 1 + receiver_room y + givens_room gs ≡ 1 = ap₂ (λ gs y. 1 + receiver_room y + givens_room gs) given receiver in omega (arith, one)
-  little (MakeDue f) own = record { temporaries = le_refl 0; room = le_refl 1; roots = λ roots. refl }
+  little (MakeDue f) own = record { temporaries = le_refl 0; room = le_refl 2; roots = λ roots. refl }
   little Return own = record { temporaries = le_refl 0; room = omega arith; roots = λ roots. refl }
   little (Act a landing) own = absurd own
   little (Jump block) own = absurd own
@@ -158,7 +158,7 @@ module _ (core : Core) (r : ℕ) where
   code_temporaries [] are = tt
   code_temporaries (i ∷ code) (first, are) = (first.temporaries, code_temporaries code are)
 
-  code_room : (code : List Instruction) → Every (TakesLittle core r) code → Every (λ i. room_of_instruction core r i ≤ 1) code
+  code_room : (code : List Instruction) → Every (TakesLittle core r) code → Every (λ i. room_of_instruction core r i ≤ 2) code
   code_room [] are = tt
   code_room (i ∷ code) (first, are) = (first.room, code_room code are)
 
@@ -175,9 +175,9 @@ module _ (core : Core) (r : ℕ) where
   blocks_temporaries [] are = tt
   blocks_temporaries (b ∷ bs) (first, are) = (most_at in_instruction b.code 0 (code_temporaries b.code first), blocks_temporaries bs are)
 
-  blocks_room : (bs : List Block) → Every (λ b. Every (TakesLittle core r) b.code) bs → Every (λ b. room_of_block core r b ≤ 1) bs
+  blocks_room : (bs : List Block) → Every (λ b. Every (TakesLittle core r) b.code) bs → Every (λ b. room_of_block core r b ≤ 2) bs
   blocks_room [] are = tt
-  blocks_room (b ∷ bs) (first, are) = (most_at (room_of_instruction core r) b.code 1 (code_room b.code first), blocks_room bs are)
+  blocks_room (b ∷ bs) (first, are) = (most_at (room_of_instruction core r) b.code 2 (code_room b.code first), blocks_room bs are)
 
   blocks_roots : (bs : List Block) (roots : List Root) → Every (λ b. Every (TakesLittle core r) b.code) bs → fold with_block roots bs ≡ roots
   blocks_roots [] roots are = refl
@@ -233,7 +233,7 @@ module _ (core : Core) (sound : IsSound core) (nesting : IsSoundNesting core) (s
   pub program_registers : registers_of_routine core number x ≤ 4
   program_registers =
       let first : (variables_room core number x).register ≡ 2 = ap (λ (room : Room). room.register) room_is in
-      let rooms = most_at (room_of_block core number) x.blocks 1 (blocks_room core number x.blocks each_little) in
+      let rooms = most_at (room_of_block core number) x.blocks 2 (blocks_room core number x.blocks each_little) in
       let none = is.temporaries in
       omega (arith, first, rooms, none)
 

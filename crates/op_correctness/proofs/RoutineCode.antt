@@ -79,18 +79,18 @@ module _ (core : Core) (mir : Mir) (stack : ℕ) (sound : IsSound core) (nesting
   typed : AreTypedBlocks core r (seen_blocks core r x.blocks)
   typed = subst (λ o. AreTypedBlocks core r (view_routine core r o)) found (mir_is_typed core mir stack sound nesting is.simple (lowers.blocks stack) r)
 
-  targeted : Every (IsCode (IsTargeted (length x.blocks))) (seen_blocks core r x.blocks)
+  targeted : Every (IsCode (IsTargeted core r (length x.blocks))) (seen_blocks core r x.blocks)
   targeted = by (which mir r x found)
     where
-      by : IsOwn mir r x ⊎ (slice_get mir.routines r ≡ Some x) → Every (IsCode (IsTargeted (length x.blocks))) (seen_blocks core r x.blocks)
-      by (inl (number, own)) = subst (λ (y : Routine). Every (IsCode (IsTargeted (length y.blocks))) (seen_blocks core r y.blocks)) (sym own) (subst (Every (IsCode (IsTargeted (length mir.program.blocks)))) (sym (lowers.program.blocks core r)) (own_targeted (length mir.program.blocks) core.units is.finalizations))
+      by : IsOwn mir r x ⊎ (slice_get mir.routines r ≡ Some x) → Every (IsCode (IsTargeted core r (length x.blocks))) (seen_blocks core r x.blocks)
+      by (inl (number, own)) = subst (λ (y : Routine). Every (IsCode (IsTargeted core r (length y.blocks))) (seen_blocks core r y.blocks)) (sym own) (subst (Every (IsCode (IsTargeted core r (length mir.program.blocks)))) (sym (lowers.program.blocks core r)) (own_targeted core r (length mir.program.blocks) (let count = lowers.number in omega (arith, number, count))))
       by (inr row) = blocks_targeted (IsWithin (2 * nodes core stack r) (2 * nodes core stack r + 1)) core stack r x (lowers.routines r x row) (items_made core stack r (length x.blocks) (is.counted stack r))
 
   low : Every (λ b. in_block b ≤ x.temporaries) x.blocks
   low = by (which mir r x found)
     where
       by : IsOwn mir r x ⊎ (slice_get mir.routines r ≡ Some x) → Every (λ b. in_block b ≤ x.temporaries) x.blocks
-      by (inl (number, own)) = subst (λ (y : Routine). Every (λ b. in_block b ≤ x.temporaries) y.blocks) (sym own) (own_low core r x.temporaries core.units is.finalizations mir.program.blocks (lowers.program.blocks core r))
+      by (inl (number, own)) = subst (λ (y : Routine). Every (λ b. in_block b ≤ x.temporaries) y.blocks) (sym own) (own_low core r x.temporaries mir.program.blocks (lowers.program.blocks core r))
       by (inr row) = let same = (lowers.routines r x row).temporaries in most_each in_block x.blocks x.temporaries (omega (arith, same))
 
   -- it has a block
@@ -110,8 +110,8 @@ module _ (core : Core) (mir : Mir) (stack : ℕ) (sound : IsSound core) (nesting
     typed_there : AreTypedInstrs core r (view_block core r block)
     typed_there = each_row (AreTypedInstrs core r) (seen_blocks core r x.blocks) k (view_block core r block) typed (seen_at core r x.blocks k block there)
 
-    targeted_there : IsCode (IsTargeted (length x.blocks)) (view_block core r block)
-    targeted_there = every_at (IsCode (IsTargeted (length x.blocks))) (seen_blocks core r x.blocks) k (view_block core r block) targeted (seen_at core r x.blocks k block there)
+    targeted_there : IsCode (IsTargeted core r (length x.blocks)) (view_block core r block)
+    targeted_there = every_at (IsCode (IsTargeted core r (length x.blocks))) (seen_blocks core r x.blocks) k (view_block core r block) targeted (seen_at core r x.blocks k block there)
 
     low_there : in_block block ≤ x.temporaries
     low_there = every_at (λ b. in_block b ≤ x.temporaries) x.blocks k block low there

@@ -7,11 +7,13 @@ use Rattle.std.proofs.lemmas.Option.{slice_get_within}
 use Rattle.op_constants.proofs.TypesArranged.{some_at}
 use Rattle.op_core.specs.Sound.{IsSound, IsSoundNesting}
 use Rattle.op_core.specs.declared.program.Core.{Core}
-use Rattle.op_expand.specs.Calls.{runtime}
+use Rattle.op_expand.specs.Calls.{runtime, has_closing, closing_number}
+use Rattle.op_expand.specs.Closing.{closing_routines, closing_routine}
 use Rattle.op_expand.specs.Frames.{frame_of, parameters_of}
 use Rattle.op_expand.specs.Homes.{parameter}
 use Rattle.op_expand.specs.Programs.{first_literal, low_of, no_bytes, program_literal, routines_from}
 use Rattle.op_expand.specs.Routines.{behind_blocks, low_parameters, low_routine, most_charge}
+use Rattle.op_frames.proofs.LowFine.{closing_small}
 use Rattle.op_frames.proofs.ProgramFine.{low_frame}
 use Rattle.op_frames.proofs.SoundSizes.{sizes_small}
 use Rattle.op_frames.specs.Fitting.{IsFitting, registers_of_routine}
@@ -26,9 +28,9 @@ use Rattle.op_mir.specs.declared.code.Routine.{Routine}
 use Rattle.op_rt_text.specs.Runtime.{runtime_routines}
 use Rattle.op_select.specs.Frames.{frame_of as frame_bytes}
 use Rattle.op_select.specs.Going.{Setting as Placed, placement_of}
-use Rattle.op_agreement.proofs.Expanding.{low_found}
+use Rattle.op_agreement.proofs.Expanding.{low_found, closing_made}
 use Rattle.op_agreement.specs.Settings.{Setting}
-use Rattle.op_correctness.proofs.Fitting.{each_fits, frame_charged, row_of}
+use Rattle.op_correctness.proofs.Fitting.{each_fits, frame_charged, row_of, are_fitting}
 use Rattle.op_correctness.proofs.ProgramCode.{program_fits, program_locals, program_registers}
 use Rattle.op_correctness.specs.Charges.{HaveCharges}
 use Rattle.op_correctness.specs.Placed.{setting_by}
@@ -54,7 +56,7 @@ takes_parameters : (routine : LowRoutine) (n : ℕ) → routine.parameters ≡ n
 takes_parameters routine n e = grind (arith, nat_tests, e)
 
 -- the number of a routine is not that of the program
-at_row : (mir : Mir) (r : ℕ) (x : Routine) → slice_get mir.routines r ≡ Some x → routine_at mir r ≡ Some x
+pub at_row : (mir : Mir) (r : ℕ) (x : Routine) → slice_get mir.routines r ≡ Some x → routine_at mir r ≡ Some x
 at_row mir r x at =
     let low = slice_get_within mir.routines r x at in
     let other : nat_eq r (length mir.routines) ≡ false = ne_eqb r (length mir.routines) (λ e. omega (arith, low, e)) in
@@ -80,7 +82,7 @@ module _ (core : Core) (mir : Mir) (stack : ℕ) (sound : IsSound core) (nesting
 
   -- behind the run-time routines stand those of the program, and the program itself
   others : List LowRoutine
-  others = routines_from core mir 0 first_literal mir.routines ++ low_routine core mir (length mir.routines) (program_literal core mir) mir.program ∷ []
+  others = routines_from core mir 0 first_literal mir.routines ++ low_routine core mir (length mir.routines) (program_literal core mir) mir.program ∷ closing_routines core mir stack
 
   -- the same routines with as many literals and global variables as are asked for: registers and locals of a routine do not depend on them
   enough_for : (literals : ℕ) → Low
@@ -93,7 +95,7 @@ module _ (core : Core) (mir : Mir) (stack : ℕ) (sound : IsSound core) (nesting
 
   routines_are : w.low.routines ≡ runtime_routines ++ others
   unfolding others
-  routines_are = ap (λ l. l.routines) low ∙ append_assoc runtime_routines (routines_from core mir 0 first_literal mir.routines) (low_routine core mir (length mir.routines) (program_literal core mir) mir.program ∷ [])
+  routines_are = ap (λ l. l.routines) low ∙ append_assoc runtime_routines (routines_from core mir 0 first_literal mir.routines) (low_routine core mir (length mir.routines) (program_literal core mir) mir.program ∷ closing_routines core mir stack)
 
   -- each routine of the program is called with its parameters
   calls : (f k : ℕ) → f < length core.routines → k ≡ parameters_of core f → takes (slice_get w.low.routines (runtime + f)) (suc (suc k)) ≡ true
@@ -104,13 +106,17 @@ module _ (core : Core) (mir : Mir) (stack : ℕ) (sound : IsSound core) (nesting
       let parameters : (low_routine core mir f found.id x).parameters ≡ suc (suc k) = parameters_by (nat_lt most_charge x.charge) core mir f found.id x refl ∙ own_parameters core f k less e in
       subst (λ o. takes o (suc (suc k)) ≡ true) (sym found.at) (takes_parameters (low_routine core mir f found.id x) (suc (suc k)) parameters)
 
+  -- and so is the closing
+  ends : has_closing core ≡ true → takes (slice_get w.low.routines (closing_number core)) 2 ≡ true
+  ends closes = subst (λ o. takes o 2 ≡ true) (sym (closing_made g low closes lowers.number)) refl
+
   -- a routine of low code that fits has no more registers than are counted, and the locals of its frame
   routine_small : (r id : ℕ) (x : Routine) → IsFitting core r x → x.charge ≤ most_charge → ((low_routine core mir r id x).registers ≤ registers_of_routine core r x) × ((low_routine core mir r id x).locals ≡ (frame_of core r x).locals)
   unfolding enough_for
   routine_small r id x fits charge =
       let literals = behind_blocks core r id x.blocks in
       let many : length (replicate (suc (length core.variables)) no_bytes) ≡ suc (length core.variables) = length-replicate (suc (length core.variables)) no_bytes in
-      low_frame (enough_for literals) core mir (sizes_small core sound) others routines_are (omega (arith, many)) (omega arith) calls r id x fits (omega arith) charge
+      low_frame (enough_for literals) core mir (sizes_small core sound) others routines_are (omega (arith, many)) (omega arith) calls ends r id x fits (omega arith) charge
 
   -- what an activation of it takes
   space_of : (r : ℕ) (x : Routine) → routine_at mir r ≡ Some x → IsFitting core r x → x.charge ≤ most_charge → space w.low (placement_of w) (runtime + r) ≤ (frame_of core r x).locals + 4 * (registers_of_routine core r x + 1)
@@ -133,9 +139,31 @@ module _ (core : Core) (mir : Mir) (stack : ℕ) (sound : IsSound core) (nesting
       let within = frame_charged core sound nesting is r (charges r (slice_get_within core.routines r row there)) row there x (lowers.routines r x at) charge in
       omega (arith, taken, within)
 
-  -- So it does wherever the image is.
+  -- One without parameters takes less.
+  space_left : (r : ℕ) (x : Routine) → slice_get mir.routines r ≡ Some x → x.charge ≤ most_charge → parameters_of core r ≡ 0 → space w.low (placement_of w) (runtime + r) + 20 ≤ x.charge
+  space_left r x at charge none =
+      let (row, there) = row_of core mir sound nesting is charges lowers r x at in
+      let fits = each_fits core mir sound nesting is charges lowers r x at in
+      let taken = space_of r x (at_row mir r x at) fits charge in
+      let within = frame_charged core sound nesting is r (charges r (slice_get_within core.routines r row there)) row there x (lowers.routines r x at) charge in
+      omega (arith, taken, within, none)
+
+  -- The closing takes a few words.
+  closing_space : has_closing core ≡ true → space w.low (placement_of w) (closing_number core) ≤ 20
+  unfolding frame_bytes
+  closing_space closes =
+      let same : routine_of w.low (closing_number core) ≡ closing_routine core mir stack = ap routine_or (closing_made g low closes lowers.number) in
+      let registers = closing_small core mir stack (are_fitting core mir sound nesting is charges lowers) in
+      let taken : space w.low (placement_of w) (closing_number core) ≡ 0 + 4 * ((closing_routine core mir stack).registers + 1) = ap (λ (y : LowRoutine). y.locals + 4 * (y.registers + 1)) same in
+      omega (arith, taken, registers)
+
+  -- So it is wherever the image is.
   pub is_spacious : (image : List ℕ) → IsSpacious (setting_by core mir stack w image)
-  is_spacious image r x found charge low_number = space_charged r x (at_other mir r x low_number found) charge
+  is_spacious image = record {
+    charged = λ r x found charge low_number. space_charged r x (at_other mir r x low_number found) charge;
+    parts = λ r x found charge low_number none. space_left r x (at_other mir r x low_number found) charge none;
+    closing = closing_space;
+  }
 
   -- The program itself takes a few words.
   pub program_space : space w.low (placement_of w) (runtime + length core.routines) ≤ 1024

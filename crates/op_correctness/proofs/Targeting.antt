@@ -11,13 +11,13 @@ use Rattle.op_mir.specs.Code.{Arm, Instr, branch_if, branch_unless, items_of}
 use Rattle.op_mir.specs.declared.code.Routine.{Routine}
 use Rattle.op_correctness.specs.Targets.{IsTargetNumber, IsTargeted}
 
-unless_targeted : (n : ℕ) (truth : Bool) (t k : ℕ) → 0 < k → k < n → IsTargeted n (branch_unless truth t k)
-unless_targeted n true t k some less = (some, less)
-unless_targeted n false t k some less = (some, less)
+unless_targeted : (core : Core) (r n : ℕ) (truth : Bool) (t k : ℕ) → 0 < k → k < n → IsTargeted core r n (branch_unless truth t k)
+unless_targeted core r n true t k some less = (some, less)
+unless_targeted core r n false t k some less = (some, less)
 
-if_targeted : (n : ℕ) (truth : Bool) (t k : ℕ) → 0 < k → k < n → IsTargeted n (branch_if truth t k)
-if_targeted n true t k some less = (some, less)
-if_targeted n false t k some less = (some, less)
+if_targeted : (core : Core) (r n : ℕ) (truth : Bool) (t k : ℕ) → 0 < k → k < n → IsTargeted core r n (branch_if truth t k)
+if_targeted core r n true t k some less = (some, less)
+if_targeted core r n false t k some less = (some, less)
 
 arms_targeted : (n : ℕ) (cs : Cases) (arms : List Arm) → ArmsOf n cs arms → Every (λ (a : Arm). IsTargetNumber n a.block) arms
 arms_targeted n no_cases [] are = tt
@@ -26,15 +26,15 @@ arms_targeted n (cases labels items others) [] are = absurd are
 arms_targeted n (cases labels items others) (arm ∷ arms) (same, some, less, rest) = ((some, less), arms_targeted n others arms rest)
 
 -- what is asked of each item but of its branches is asked of items of every kind
-module _ (Q : Instr → Type 0) (n : ℕ) where
+module _ (Q : Instr → Type 0) (core : Core) (r n : ℕ) where
   mutual
-    pub targeted : (items : Items) → AreMade Q n items → AreMade (IsTargeted n) n items
+    pub targeted : (items : Items) → AreMade Q n items → AreMade (IsTargeted core r n) n items
     targeted none made = tt
     targeted (then_do i others) (first, rest) = (item_targeted i first, targeted others rest)
 
-    item_targeted : (i : Item) → IsMade Q n i → IsMade (IsTargeted n) n i
+    item_targeted : (i : Item) → IsMade Q n i → IsMade (IsTargeted core r n) n i
     item_targeted (act a) made = tt
-    item_targeted (also truth t items) (branch, made) = (λ k some less. unless_targeted n truth t k some less, targeted items made)
+    item_targeted (also truth t items) (branch, made) = (λ k some less. unless_targeted core r n truth t k some less, targeted items made)
     item_targeted (choose t first otherwise) (branch, one, other) = (λ k some less. (some, less), targeted first one, targeted otherwise other)
     item_targeted (select t cs otherwise) (branch, ones, other) = (λ arms are. arms_targeted n cs arms are, cases_targeted cs ones, targeted otherwise other)
     item_targeted (loop l) made = turns_targeted l made
@@ -50,14 +50,14 @@ module _ (Q : Instr → Type 0) (n : ℕ) where
     item_targeted (construct c r given to) made = absurd made
     item_targeted (free takes_nil t) made = absurd made
 
-    turns_targeted : (l : Turns) → AreMadeTurns Q n l → AreMadeTurns (IsTargeted n) n l
-    turns_targeted (turns head t ends between body) (branch, a, b, c) = (λ k some less. if_targeted n ends t k some less, targeted head a, targeted between b, targeted body c)
+    turns_targeted : (l : Turns) → AreMadeTurns Q n l → AreMadeTurns (IsTargeted core r n) n l
+    turns_targeted (turns head t ends between body) (branch, a, b, c) = (λ k some less. if_targeted core r n ends t k some less, targeted head a, targeted between b, targeted body c)
 
-    cases_targeted : (cs : Cases) → AreMadeCases Q n cs → AreMadeCases (IsTargeted n) n cs
+    cases_targeted : (cs : Cases) → AreMadeCases Q n cs → AreMadeCases (IsTargeted core r n) n cs
     cases_targeted no_cases made = tt
     cases_targeted (cases labels items others) (first, rest) = (targeted items first, cases_targeted others rest)
 
 -- so are the blocks of a routine
-pub blocks_targeted : (Q : Instr → Type 0) (core : Core) (stack r : ℕ) (routine : Routine) → IsRoutine core r routine → AreMade Q (length routine.blocks) (items_of (program_of core stack) r) → Every (IsCode (IsTargeted (length routine.blocks))) (seen_blocks core r routine.blocks)
+pub blocks_targeted : (Q : Instr → Type 0) (core : Core) (stack r : ℕ) (routine : Routine) → IsRoutine core r routine → AreMade Q (length routine.blocks) (items_of (program_of core stack) r) → Every (IsCode (IsTargeted core r (length routine.blocks))) (seen_blocks core r routine.blocks)
 blocks_targeted Q core stack r routine is made =
-    code_is (IsTargeted (length routine.blocks)) core stack r routine (λ k some less. (some, less)) tt is (targeted Q (length routine.blocks) (items_of (program_of core stack) r) made)
+    code_is (IsTargeted core r (length routine.blocks)) core stack r routine (λ k some less. (some, less)) tt is (targeted Q core r (length routine.blocks) (items_of (program_of core stack) r) made)

@@ -1,6 +1,5 @@
 -- What is asked of a program beside soundness, which a test at run time finds.
-use Rattle.std.specs.Prelude.{◌≡◌, ℕ, None}
-use Rattle.std.specs.List.{All}
+use Rattle.std.specs.Prelude.{◌≡◌, ◌≤◌, ℕ, None, length}
 use Rattle.op_core.specs.declared.program.Core.{Core}
 use Rattle.op_frames.specs.Counted.{AreCountedStatements}
 use Rattle.op_meaning.specs.Frames.{program_of}
@@ -13,5 +12,5 @@ pub record IsSimpleCore (core : Core) : Type 0 where
   pub counted : (stack r : ℕ) → AreCountedStatements ((program_of core stack).body r)
   -- errors end it
   pub exceptions : core.exceptions ≡ None
-  -- nothing is due when it ends
-  pub finalizations : All (λ u. u.finalization ≡ None) core.units
+  -- it has no more units than the closing looks through
+  pub few : length core.units ≤ 1024

@@ -1,20 +1,22 @@
 -- Where branches lead: to blocks that are there, and none to the first one.
-use Rattle.std.specs.Prelude.{◌<◌, ℕ, ◌+◌}
+use Rattle.std.specs.Prelude.{◌≡◌, ◌<◌, ℕ, ◌+◌, length, true}
+use Rattle.op_core.specs.declared.program.Core.{Core}
+use Rattle.op_expand.specs.Calls.{has_closing}
 use Rattle.op_frames.specs.Made.{Every}
 use Rattle.op_mir.specs.Code.{Arm, Instr, do_act, do_call, jump, when, unless, switch, dispatch, make_due, stop, ret}
 
 abbrev pub IsTargetNumber : (blocks k : ℕ) → Type 0
 IsTargetNumber blocks k = (0 < k) × (k < blocks)
 
--- in code of so many blocks, of units without a finalization part
-abbrev pub IsTargeted : ℕ → Instr → Type 0
-IsTargeted blocks (do_act a landing) = Unit {0}
-IsTargeted blocks (do_call r given receiver landing) = Unit {0}
-IsTargeted blocks (jump k) = IsTargetNumber blocks k
-IsTargeted blocks (when t k) = IsTargetNumber blocks k
-IsTargeted blocks (unless t k) = IsTargetNumber blocks k
-IsTargeted blocks (switch t arms) = Every (λ (a : Arm). IsTargetNumber blocks a.block) arms
-IsTargeted blocks (dispatch t k) = k + 3 < blocks
-IsTargeted blocks (make_due f) = ⊥
-IsTargeted blocks (stop t) = Unit {0}
-IsTargeted blocks ret = Unit {0}
+-- in code of so many blocks; only in that of the program itself a finalization part becomes due
+abbrev pub IsTargeted : Core → (r blocks : ℕ) → Instr → Type 0
+IsTargeted core r blocks (do_act a landing) = Unit {0}
+IsTargeted core r blocks (do_call q given receiver landing) = Unit {0}
+IsTargeted core r blocks (jump k) = IsTargetNumber blocks k
+IsTargeted core r blocks (when t k) = IsTargetNumber blocks k
+IsTargeted core r blocks (unless t k) = IsTargetNumber blocks k
+IsTargeted core r blocks (switch t arms) = Every (λ (a : Arm). IsTargetNumber blocks a.block) arms
+IsTargeted core r blocks (dispatch t k) = k + 3 < blocks
+IsTargeted core r blocks (make_due f) = (r ≡ length core.routines) × (has_closing core ≡ true)
+IsTargeted core r blocks (stop t) = Unit {0}
+IsTargeted core r blocks ret = Unit {0}

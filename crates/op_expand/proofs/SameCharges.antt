@@ -1,10 +1,12 @@
 -- Of the other routines of a program, the low code of a routine reads the charges alone.
-use Rattle.std.proofs.Common.{◌≡◌, ℕ, ◌+◌, List, [], ◌∷◌, ◌++◌, Option, Some, None, ap, ◌∙◌, length, refl}
+use Rattle.std.proofs.Common.{◌≡◌, ℕ, ◌+◌, List, [], ◌∷◌, ◌++◌, Option, Some, None, ap, append_assoc, ◌∙◌, length, refl}
 use Rattle.std.specs.Prelude.{nat_lt, slice_get, if◌then◌else◌}
 use Rattle.std.proofs.lemmas.Option.{slice_get-map}
 use Rattle.op_constants.specs.Literals.{literals_in}
 use Rattle.op_core.specs.declared.program.Core.{Core}
-use Rattle.op_expand.specs.Calls.{charge_of}
+use Rattle.op_core.specs.declared.ids.RoutineId.{RoutineId}
+use Rattle.op_expand.specs.Calls.{charge_of, finalizations, has_closing}
+use Rattle.op_expand.specs.Closing.{closing_routines, finding_code, part_blocks}
 use Rattle.op_expand.specs.Frames.{frame_of}
 use Rattle.op_expand.specs.Programs.{first_literal, program_literal, routine_without_code, routines_from, without_code}
 use Rattle.op_expand.specs.Routines.{beginning, behind_blocks, behind_code, blocks_of, code_of, error_block, error_blocks, instruction_code, low_parameters, low_routine, most_charge, routine_with}
@@ -47,17 +49,31 @@ same_routines : (core : Core) (mir : Mir) (r id : ℕ) (xs : List Routine) → r
 same_routines core mir r id [] = refl
 same_routines core mir r id (x ∷ xs) = rw (same_routine core mir r id x, same_routines core mir (r + 1) (behind_blocks core r id x.blocks) xs) refl
 
+same_parts : (core : Core) (mir : Mir) (stack parts before : ℕ) (fs : List RoutineId) → part_blocks core (without_code mir) stack parts before fs ≡ part_blocks core mir stack parts before fs
+same_parts core mir stack parts before [] = refl
+same_parts core mir stack parts before (f ∷ fs) = rw (same_charge mir f.0, same_parts core mir stack parts (before + 1) fs) refl
+
+same_closing : (core : Core) (mir : Mir) (stack : ℕ) → closing_routines core (without_code mir) stack ≡ closing_routines core mir stack
+same_closing core mir stack =
+    let fs = finalizations core in
+    ap (λ blocks. if has_closing core then routine_with 2 0 (record { code = finding_code core stack (length fs) } ∷ blocks ++ error_block 202 5 ∷ []) ∷ [] else []) (same_parts core mir stack (length fs) 0 fs)
+
 -- ---- low code that is made with the charges alone
 
 pub low_is : (routines others : List LowRoutine) (entry first literals counted : ℕ) (globals zeros : List GlobalVariable) → routines ≡ others → entry ≡ first → literals ≡ counted → globals ≡ zeros → ◌≡◌ {A = Low} (record { routines = routines; entry = record { 0 = entry }; counts = record { literals = literals; tables = 0; descriptors = 0 }; globals = globals }) (record { routines = others; entry = record { 0 = first }; counts = record { literals = counted; tables = 0; descriptors = 0 }; globals = zeros })
 low_is routines others entry first literals counted globals zeros e f g h = rw (e, f, g, h) refl
 
 -- behind these routines, of which nothing need be known
-pub routines_are : (core : Core) (charges mir : Mir) (fixed front now all : List LowRoutine) (id literal : ℕ) → charges ≡ without_code mir → front ≡ fixed → now ≡ front ++ routines_from core charges 0 first_literal mir.routines → id ≡ length mir.routines → literal ≡ program_literal core mir → all ≡ now ++ low_routine core charges id literal mir.program ∷ [] → all ≡ fixed ++ routines_from core mir 0 first_literal mir.routines ++ low_routine core mir (length mir.routines) (program_literal core mir) mir.program ∷ []
-routines_are core charges mir fixed front now all id literal e f g h i j =
-    rw (j, g, f, h, i, e) (
-    ap (λ rs. fixed ++ rs ++ low_routine core (without_code mir) (length mir.routines) (program_literal core mir) mir.program ∷ []) (same_routines core mir 0 first_literal mir.routines)
-    ∙ ap (λ r. fixed ++ routines_from core mir 0 first_literal mir.routines ++ r ∷ []) (same_routine core mir (length mir.routines) (program_literal core mir) mir.program)
+pub routines_are : (core : Core) (charges mir : Mir) (fixed front now last all : List LowRoutine) (stack id literal : ℕ) → charges ≡ without_code mir → front ≡ fixed → now ≡ front ++ routines_from core charges 0 first_literal mir.routines → id ≡ length mir.routines → literal ≡ program_literal core mir → last ≡ now ++ low_routine core charges id literal mir.program ∷ [] → all ≡ last ++ closing_routines core charges stack → all ≡ fixed ++ routines_from core mir 0 first_literal mir.routines ++ low_routine core mir (length mir.routines) (program_literal core mir) mir.program ∷ closing_routines core mir stack
+routines_are core charges mir fixed front now last all stack id literal e f g h i j k =
+    let program = length mir.routines in
+    let own = low_routine core (without_code mir) program (program_literal core mir) mir.program in
+    rw (k, j, g, f, h, i, e) (
+    ap (λ rs. ((fixed ++ rs) ++ own ∷ []) ++ closing_routines core (without_code mir) stack) (same_routines core mir 0 first_literal mir.routines)
+    ∙ append_assoc (fixed ++ routines_from core mir 0 first_literal mir.routines) (own ∷ []) (closing_routines core (without_code mir) stack)
+    ∙ append_assoc fixed (routines_from core mir 0 first_literal mir.routines) (own ∷ closing_routines core (without_code mir) stack)
+    ∙ ap (λ r. fixed ++ routines_from core mir 0 first_literal mir.routines ++ r ∷ closing_routines core (without_code mir) stack) (same_routine core mir program (program_literal core mir) mir.program)
+    ∙ ap (λ rs. fixed ++ routines_from core mir 0 first_literal mir.routines ++ low_routine core mir program (program_literal core mir) mir.program ∷ rs) (same_closing core mir stack)
     )
 
 pub literals_are : (core : Core) (mir : Mir) (id literal : ℕ) → id ≡ length mir.routines → literal ≡ program_literal core mir → behind_blocks core id literal mir.program.blocks ≡ behind_blocks core (length mir.routines) (program_literal core mir) mir.program.blocks

@@ -1,12 +1,17 @@
--- Calls and returns. (Free Pascal Reference Guide, "Using functions and procedures", "Function results" and "Parameter lists".)
-use Rattle.std.specs.Prelude.{◌+◌, ◌-◌, ◌^◌, ℕ, min, List, [], ◌∷◌, ◌++◌, Option, Some, None, slice_get, if◌then◌else◌}
+-- Calls, returns, and where a program ends. (Free Pascal Reference Guide, "Using functions and procedures", "Function results",
+-- "Parameter lists" and "Units".)
+use Rattle.std.specs.Prelude.{◌+◌, ◌-◌, ◌^◌, ℕ, pos, Bool, true, false, min, List, [], ◌∷◌, ◌++◌, length, Option, Some, None, slice_get, if◌then◌else◌}
+use Rattle.std.specs.List.{list_any}
+use Rattle.std.specs.Option.{option_to_list}
 use Rattle.op_compute.specs.Bank.{error_block_of, register_of, scratch_of}
 use Rattle.op_compute.specs.Conversions.{low_bits_code}
 use Rattle.op_compute.specs.declared.bank.RuntimeError.TheVariants.{StackOverflow}
 use Rattle.op_constants.specs.Offsets.{size_in}
 use Rattle.op_constants.specs.Shapes.{is_composite}
+use Rattle.op_core.specs.declared.ids.RoutineId.{RoutineId}
 use Rattle.op_core.specs.declared.ids.TypeId.{TypeId}
 use Rattle.op_core.specs.declared.program.Core.{Core}
+use Rattle.op_core.specs.declared.program.Unit.{Unit as UnitRow}
 use Rattle.op_core.specs.declared.types.IntegerKind.{IntegerKind}
 use Rattle.op_core.specs.declared.types.IntegerKind.TheVariants.{Signed32}
 use Rattle.op_expand.specs.Homes.{parameter}
@@ -18,7 +23,7 @@ use Rattle.op_expand.specs.declared.frame.Returning.TheVariants.{Ending, Nothing
 use Rattle.op_expand.specs.declared.spot.Spot.{Spot}
 use Rattle.op_low.specs.declared.ids.VirtualRegister.{VirtualRegister}
 use Rattle.op_low.specs.declared.instruction.Instruction.{Instruction}
-use Rattle.op_low.specs.declared.instruction.Instruction.TheVariants.{Const, Alu, Branch, Exit, Return}
+use Rattle.op_low.specs.declared.instruction.Instruction.TheVariants.{Address, AluImm, Const, Alu, Branch, Exit, Load, Move, Return, Store}
 use Rattle.op_meaning.specs.Shapes.{shape_of}
 use Rattle.op_meaning.specs.Statements.{kind_of}
 use Rattle.op_mir.specs.declared.code.Mir.{Mir}
@@ -33,6 +38,11 @@ use Rattle.op_mir.specs.declared.path.Root.TheVariants.{Local}
 use Rattle.op_rt_text.specs.Names.{call, register}
 use Rattle.op_rv.specs.declared.instruction.AluOp.TheVariants.{Sub}
 use Rattle.op_rv.specs.declared.instruction.BranchOp.TheVariants.{Bltu}
+use Rattle.op_rv.specs.declared.instruction.ImmOp.TheVariants.{Addi}
+use Rattle.op_rv.specs.declared.instruction.LoadOp.TheVariants.{Lw}
+use Rattle.op_rv.specs.declared.instruction.StoreOp.TheVariants.{Sw}
+use Rattle.op_rv.specs.declared.symbol.Symbol.{Symbol}
+use Rattle.op_rv.specs.declared.symbol.Symbol.TheVariants.{Global}
 
 -- the bytes of stack that are left
 abbrev pub left : VirtualRegister
@@ -115,6 +125,55 @@ call_code core mir frame r operands =
     ++ charging_code frame given (charge_of mir r)
     ++ call (runtime + r) (given ∷ result.base ∷ givens_in core frame operands.given result.free) (receiver_of frame operands.receiver given) ∷ []
 
+-- ---- where a program ends
+
+-- the finalization parts, in the order in which they become due
+abbrev pub finalizations_of : List UnitRow → List RoutineId
+finalizations_of [] = []
+finalizations_of (u ∷ us) = option_to_list u.finalization ++ finalizations_of us
+
+abbrev pub finalizations : Core → List RoutineId
+finalizations core = finalizations_of core.units
+
+abbrev pub is_there : {A : Type 0} → Option A → Bool
+is_there None = false
+is_there (Some a) = true
+
+-- whether a program has some
+abbrev pub has_closing : Core → Bool
+has_closing core = list_any (λ u. is_there u.finalization) core.units
+
+-- Those that are due are counted by the word that tells the bytes of stack: it is so much more than these, which the program reads once, at its
+-- beginning.
+abbrev pub due_word : Core → Symbol
+due_word core = Global (record { 0 = length core.variables })
+
+-- one more is due
+abbrev pub due_code : Core → Frame → List Instruction
+due_code core frame =
+    Address (scratch_of frame.bank 0) (due_word core)
+    ∷ Load Lw (scratch_of frame.bank 1) (scratch_of frame.bank 0) (pos 0)
+    ∷ AluImm Addi (scratch_of frame.bank 1) (scratch_of frame.bank 1) (pos 1)
+    ∷ Store Sw (scratch_of frame.bank 1) (scratch_of frame.bank 0) (pos 0)
+    ∷ []
+
+-- The closing is a routine behind all others. It takes the bytes of stack that are left and the status, and never returns.
+abbrev pub closing_number : Core → ℕ
+closing_number core = runtime + length core.routines + 1
+
+abbrev pub closing_call : Core → VirtualRegister → Instruction
+closing_call core status = call (closing_number core) (left ∷ status ∷ []) left
+
+-- the program ends with the status in a register, once its finalization parts are done
+abbrev pub stop_code : Core → VirtualRegister → List Instruction
+stop_code core status = if has_closing core then closing_call core status ∷ [] else Move left status ∷ Exit left ∷ []
+
+-- and with 0 where it returns; code always leaves its block, so there is an end behind the call
+abbrev pub ending_code : Core → Frame → List Instruction
+ending_code core frame =
+    if has_closing core then Const (scratch_of frame.bank 0) 0 ∷ closing_call core (scratch_of frame.bank 0) ∷ Exit left ∷ []
+    else Const left 0 ∷ Exit left ∷ []
+
 -- ---- returns; they take registers in which nothing stands any more
 
 abbrev number_by : Core → Frame → IntegerKind → LocalId → Option VirtualRegister → List Instruction
@@ -135,6 +194,6 @@ abbrev pub result_code : Core → Frame → TypeId → LocalId → List Instruct
 result_code core frame of v = if is_composite (shape_of core of) then parts_code core frame of v else number_code core frame (kind_of core of) v
 
 abbrev pub return_code : Core → Frame → Returning → List Instruction
-return_code core frame Ending = Const left 0 ∷ Exit left ∷ []
+return_code core frame Ending = ending_code core frame
 return_code core frame Nothing = Return left ∷ []
 return_code core frame (Result of v) = result_code core frame of v

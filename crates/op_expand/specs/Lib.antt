@@ -1,4 +1,5 @@
 pub mod Calls
+pub mod Closing
 pub mod Frames
 pub mod Homes
 pub mod Moves

@@ -1,5 +1,5 @@
 -- Programs of managed code as programs of low code: the run-time routines, those of the program in the order of their numbers, and the
--- program itself, with which it begins.
+-- program itself, with which it begins; and where it ends.
 use Rattle.std.specs.Prelude.{ℕ, ◌+◌, List, [], ◌∷◌, ◌++◌, length, map, Option, Some, None, replicate, slice_get, slice_set}
 use Rattle.std.specs.Int.{bytes_low_first}
 use Rattle.std.specs.List.{fold}
@@ -12,6 +12,7 @@ use Rattle.op_core.specs.declared.ids.VariableId.{VariableId}
 use Rattle.op_core.specs.declared.program.Core.{Core}
 use Rattle.op_core.specs.declared.routine.Variable.{Variable}
 use Rattle.op_expand.specs.Calls.{runtime}
+use Rattle.op_expand.specs.Closing.{closing_routines}
 use Rattle.op_expand.specs.Routines.{behind_blocks, low_routine}
 use Rattle.op_low.specs.declared.code.Low.{Low}
 use Rattle.op_low.specs.declared.code.Routine.{Routine as LowRoutine}
@@ -74,7 +75,7 @@ abbrev pub low_of : Core → Mir → (stack : ℕ) → Low
 low_of core mir stack =
     let program = length mir.routines in
     record {
-      routines = runtime_routines ++ routines_from core mir 0 first_literal mir.routines ++ low_routine core mir program (program_literal core mir) mir.program ∷ [];
+      routines = runtime_routines ++ routines_from core mir 0 first_literal mir.routines ++ low_routine core mir program (program_literal core mir) mir.program ∷ closing_routines core mir stack;
       entry = record { 0 = runtime + program };
       counts = record { literals = behind_blocks core program (program_literal core mir) mir.program.blocks; tables = 0; descriptors = 0 };
       globals = globals_in core ++ stack_global stack ∷ [];

@@ -9,7 +9,7 @@ use Rattle.op_core.specs.Rows.{rows}
 use Rattle.op_core.specs.declared.ids.TypeId.{TypeId}
 use Rattle.op_core.specs.declared.program.Core.{Core}
 use Rattle.op_core.specs.declared.routine.Variable.{Variable}
-use Rattle.op_expand.specs.Calls.{call_code, left, result_address, return_code}
+use Rattle.op_expand.specs.Calls.{call_code, due_code, left, result_address, return_code, stop_code}
 use Rattle.op_expand.specs.Frames.{frame_of, parameters_of}
 use Rattle.op_expand.specs.Homes.{home_at, parameter}
 use Rattle.op_expand.specs.Moves.{action_code, store_code, taken_code}
@@ -22,7 +22,7 @@ use Rattle.op_expand.specs.declared.homes.Home.TheVariants.{Stored}
 use Rattle.op_low.specs.declared.code.Block.{Block as LowBlock}
 use Rattle.op_low.specs.declared.code.Routine.{Routine as LowRoutine}
 use Rattle.op_low.specs.declared.instruction.Instruction.{Instruction as LowInstruction}
-use Rattle.op_low.specs.declared.instruction.Instruction.TheVariants.{Address, Const, Exit, Jump as LowJump, Load, Move, Write}
+use Rattle.op_low.specs.declared.instruction.Instruction.TheVariants.{Address, Const, Exit, Jump as LowJump, Load, Write}
 use Rattle.op_low.specs.declared.instruction.Output.TheVariants.{Errors}
 use Rattle.op_meaning.specs.Shapes.{shape_of, variables_of}
 use Rattle.op_meaning.specs.Statements.{kind_of}
@@ -46,8 +46,8 @@ instruction_code core mir frame id (When t block) = true_code (work_of frame.ban
 instruction_code core mir frame id (Unless t block) = false_code (work_of frame.bank) (register_of frame.bank t) block
 instruction_code core mir frame id (Switch t arms) = switch_code (work_of frame.bank) (register_of frame.bank t) arms
 instruction_code core mir frame id (Dispatch t block) = dispatch_code (work_of frame.bank) (register_of frame.bank t) block
-instruction_code core mir frame id (MakeDue f) = Const (scratch_of frame.bank 0) 0 ∷ []
-instruction_code core mir frame id (Stop t) = Move left (register_of frame.bank t) ∷ Exit left ∷ []
+instruction_code core mir frame id (MakeDue f) = due_code core frame
+instruction_code core mir frame id (Stop t) = stop_code core (register_of frame.bank t)
 instruction_code core mir frame id Return = return_code core frame frame.returning
 
 -- the literals of the code have the numbers from `id` on

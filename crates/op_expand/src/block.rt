@@ -1,12 +1,11 @@
 //! Instructions and blocks.
-ghost use Rattle.op_compute.specs.Bank.{register_of};
-ghost use Rattle.op_expand.specs.Calls.{left};
 ghost use Rattle.op_low.specs.declared.instruction.Instruction.{Instruction as LowInstruction};
 ghost use Rattle.op_expand.specs.Routines.{behind_blocks, behind_code, blocks_of, code_of, error_block, error_blocks, error_code, instruction_code};
 ghost use Rattle.std.specs.Prelude.{◌≡◌, ◌∷◌, ◌++◌, [], IfOk, OnOk};
 
 use crate::action::push_action;
 use crate::call::{LEFT, RESULT_ADDRESS, push_call_of, push_return};
+use crate::closing::{push_due, push_exit, push_stop};
 use crate::frame::Frame;
 use crate::homes::sum;
 use crate::push::push_address;
@@ -42,8 +41,8 @@ fn push_instruction(
         Instruction::Unless { temporary, block } => branch_if_false(code, bank, *temporary, *block),
         Instruction::Switch { temporary, arms } => switch(code, bank, *temporary, arms.as_slice()),
         Instruction::Dispatch { temporary, block } => dispatch(code, bank, *temporary, *block),
-        Instruction::MakeDue { .. } => push_const(code, bank.scratch(0)?, 0),
-        Instruction::Stop { status } => push_stop(code, bank.temporary(*status)?),
+        Instruction::MakeDue { .. } => push_due(code, core, frame),
+        Instruction::Stop { status } => push_stop(alloc, code, core, bank.temporary(*status)?),
         Instruction::Return => push_return(alloc, code, core, frame),
     }
 }
@@ -164,27 +163,6 @@ fn error_block(alloc: Global, error: u32, line: LiteralId) -> Result<op_low::Blo
     Ok(op_low::Block {
         code: Sequence::from(code),
     })
-}
-
-/// The program ends with the status that is in the register.
-fn push_stop(
-    code: &mut Vec<op_low::Instruction>,
-    status: op_low::VirtualRegister,
-) -> Result<(), NoMemory>
-    ensures { OnOk result (code.new.items ≡ code.old.items ++ LowInstruction.Move left status ∷ LowInstruction.Exit left ∷ []) }
-{
-    let to = LEFT;
-    push(code, op_low::Instruction::Move { to, from: status })?;
-    push_exit(code, LEFT)
-}
-
-fn push_exit(
-    code: &mut Vec<op_low::Instruction>,
-    status: op_low::VirtualRegister,
-) -> Result<(), NoMemory>
-    ensures { OnOk result (code.new.items ≡ code.old.items ++ LowInstruction.Exit status ∷ []) }
-{
-    push(code, op_low::Instruction::Exit { status })
 }
 
 /// The block of error 202.

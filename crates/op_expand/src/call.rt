@@ -4,6 +4,7 @@ ghost use Rattle.op_expand.specs.Calls.{call_code, charge_of, charging_code, giv
 ghost use Rattle.op_expand.specs.Places.{place_code, place_of};
 ghost use Rattle.std.specs.Prelude.{◌≡◌, ◌++◌, IfOk, OnOk};
 
+use crate::closing::push_ending;
 use crate::copy::{by_words, limit_of, push_bytes};
 use crate::frame::{Frame, Returning};
 use crate::homes::{parameter, sum};
@@ -136,7 +137,7 @@ fn receiver_of(
 }
 
 /// What a routine is charged, as far as a word has it: no stack has more.
-fn charge_of(mir: &Mir, routine: RoutineId) -> u32
+pub fn charge_of(mir: &Mir, routine: RoutineId) -> u32
     ensures { result ≡ charge_of mir.now routine.0 }
 {
     match mir.routines.as_slice().get(routine.0 as usize) {
@@ -257,10 +258,7 @@ pub fn push_return(
     ensures { OnOk result (code.new.items ≡ code.old.items ++ return_code core.now frame.now frame.now.returning) }
 {
     match frame.returning {
-        Returning::Ending => {
-            push_const(code, LEFT, 0)?;
-            push(code, Instruction::Exit { status: LEFT })
-        }
+        Returning::Ending => push_ending(alloc, code, core, frame),
         Returning::Nothing => push(code, Instruction::Return { value: LEFT }),
         Returning::Result { of, variable } => {
             push_result(alloc, code, core, frame, of, variable)

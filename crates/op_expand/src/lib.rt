@@ -3,11 +3,13 @@
 //! `expand` takes a program in managed code beside its tables, and gives the same program in low code, exactly the one that
 //! `specs/Programs.antt` says. Each instruction becomes straight code on its own; blocks keep their numbers, and behind them stand those
 //! of the run-time errors. Numbers are kept in registers and all else in the locals of a routine, as `specs/Frames.antt` tells.
+//! A program with finalization parts ends in a routine of its own (`specs/Closing.antt`).
 #![tactic(auto)]
 
 mod action;
 mod block;
 mod call;
+mod closing;
 mod copy;
 mod frame;
 mod global;

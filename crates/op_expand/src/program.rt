@@ -4,6 +4,7 @@ ghost use Rattle.op_expand.specs.Routines.{behind_blocks, low_routine};
 ghost use Rattle.std.specs.Prelude.{◌≡◌, ◌∷◌, ◌++◌, [], IfOk, OnOk, length};
 
 use crate::block::behind_blocks;
+use crate::closing::push_closing_routine;
 use crate::global::globals;
 use crate::homes::sum;
 use crate::routine::routine;
@@ -42,6 +43,7 @@ fn expanded(
     let mut low = routines(alloc)?;
     let (id, first) = push_routines(alloc, &mut low, core, charges, list)?;
     let literals = push_routine(alloc, &mut low, core, charges, id, first, program)?;
+    push_closing_routine(alloc, &mut low, core, charges, stack)?;
     Ok(Low {
         routines: Sequence::from(low),
         entry: op_rv::RoutineId(sum(RUNTIME, id.0)?),

@@ -49,7 +49,8 @@ fn parameters_in(core: &Core, id: RoutineId) -> Result<u32, NoMemory>
     sum(2, parameters_of(core, id)?)
 }
 
-fn routine_with(
+/// A routine with as many registers as its code names.
+pub fn routine_with(
     parameters: u32,
     locals: u32,
     blocks: Vec<op_low::Block>,

@@ -1,34 +1,31 @@
 -- The low code of calls, of returns and of instructions has its operands in range.
-use Rattle.std.proofs.Common.{◌≡◌, ◌<◌, ◌≤◌, ℕ, zero, suc, ℤ, pos, negsuc, ◌+◌, ◌*◌, ◌-◌, ◌^◌, min, max, Bool, true, false, List, [], ◌∷◌, ◌++◌, length, map, nat_eq, nat_le, nat_lt, slice_get, Option, Some, None, refl, sym, ap, ◌∙◌, subst, arith, if◌then◌else◌, FitsSigned}
+use Rattle.std.proofs.Common.{◌≡◌, ◌<◌, ◌≤◌, ℕ, suc, ◌+◌, ◌-◌, ◌^◌, min, max, Bool, true, false, List, [], ◌∷◌, length, map, nat_lt, slice_get, Option, Some, None, refl, sym, ap, subst, arith, if◌then◌else◌}
 use Rattle.std.proofs.lemmas.Bool.Decides.{nat_tests}
-use Rattle.std.proofs.lemmas.List.{length-map}
-use Rattle.op_compute.specs.Bank.{error_block_of, register_of, scratch_of, work_of}
+use Rattle.op_compute.specs.Bank.{scratch_of}
 use Rattle.op_constants.specs.Offsets.{size_in}
 use Rattle.op_constants.specs.Shapes.{is_composite}
 use Rattle.op_core.specs.declared.ids.TypeId.{TypeId}
 use Rattle.op_core.specs.declared.program.Core.{Core}
 use Rattle.op_core.specs.declared.types.IntegerKind.{IntegerKind}
 use Rattle.op_core.specs.declared.types.IntegerKind.TheVariants.{Signed8, Unsigned8, Signed16, Unsigned16, Signed32}
-use Rattle.op_expand.specs.Calls.{left, result_address, value_code, value_spot, given_code, given_spot, givens_code, givens_in, receiver_code, receiver_spot, receiver_of, charge_of, charging_code, call_code, number_code, parts_code, result_code, return_code}
-use Rattle.op_expand.specs.Homes.{home_at, parameter}
-use Rattle.op_expand.specs.Moves.{bytes_code, by_words, held, limit_of, load_code, near}
-use Rattle.op_expand.specs.Places.{after, at_register, at_scratch, home_of, place_code, place_of}
+use Rattle.op_expand.specs.Calls.{left, result_address, value_code, value_spot, given_code, given_spot, givens_code, givens_in, receiver_code, receiver_spot, receiver_of, charge_of, charging_code, call_code, number_code, parts_code, return_code, closing_number, ending_code, has_closing, stop_code, closing_call, due_code}
+use Rattle.op_expand.specs.Homes.{parameter}
+use Rattle.op_expand.specs.Moves.{by_words, held, limit_of}
+use Rattle.op_expand.specs.Places.{at_register, home_of, place_of}
 use Rattle.op_expand.specs.declared.frame.Frame.{Frame}
 use Rattle.op_expand.specs.declared.frame.Returning.{Returning}
 use Rattle.op_expand.specs.declared.frame.Returning.TheVariants.{Ending, Nothing, Result}
-use Rattle.op_expand.specs.declared.spot.Spot.{Spot}
 use Rattle.op_frames.proofs.ComputingFine.{joined, low_bits_fine}
-use Rattle.op_frames.proofs.Fine.{Bounds, Below, Leads, IsFine, AreFine}
-use Rattle.op_frames.proofs.MovesFine.{HasRuntime, IsHeld, held_fine, room_of, path_fine, path_spot, local_path, load_fine, bytes_fine, register_below}
+use Rattle.op_frames.proofs.Fine.{Bounds, Below, IsFine, AreFine}
+use Rattle.op_frames.proofs.MovesFine.{HasRuntime, IsHeld, held_fine, path_fine, path_spot, local_path, load_fine, bytes_fine, register_below}
 use Rattle.op_frames.proofs.PlacesFine.{IsFrame, Temporaries, IsSpot, most_each, place_near}
 use Rattle.op_frames.specs.Made.{Every}
 use Rattle.op_frames.specs.Named.{IsNamedGiven, IsNamedReceiver}
 use Rattle.op_frames.specs.Scratch.{given_room, givens_room, receiver_room}
-use Rattle.op_low.specs.Valid.{takes}
+use Rattle.op_low.specs.Valid.{takes, has_symbol}
 use Rattle.op_low.specs.declared.ids.VirtualRegister.{VirtualRegister}
-use Rattle.op_low.specs.declared.instruction.Instruction.{Instruction}
-use Rattle.op_low.specs.declared.instruction.Instruction.TheVariants.{Const, Alu, Branch, Exit, Return}
-use Rattle.op_lower.specs.Temporaries.{in_given, in_receiver, most_of, up_to}
+use Rattle.op_low.specs.declared.instruction.Instruction.TheVariants.{Const, Exit, Move}
+use Rattle.op_lower.specs.Temporaries.{in_given, in_receiver, most_of}
 use Rattle.op_meaning.specs.Shapes.{shape_of}
 use Rattle.op_meaning.specs.Statements.{kind_of}
 use Rattle.op_mir.specs.View.{view_given, view_receiver}
@@ -47,18 +44,22 @@ use Rattle.op_rt_text.specs.Names.{register}
 least_word : (k : ℕ) → min k (2 ^ 32 - 1) < 2 ^ 32
 least_word k = omega arith
 
-charge_word : (mir : Mir) (r : ℕ) → charge_of mir r < 2 ^ 32
+pub charge_word : (mir : Mir) (r : ℕ) → charge_of mir r < 2 ^ 32
 charge_word mir r = by (slice_get mir.routines r) refl
   where
     by : (o : Option Routine) → slice_get mir.routines r ≡ o → charge_of mir r < 2 ^ 32
     by None e = let zero : 0 < 2 ^ 32 = omega arith in rw e zero
     by (Some routine) e = rw e (least_word routine.charge)
 
--- a result with parts needs a third register
-abbrev pub HasThird : Bounds → Core → Returning → Type 0
-HasThird m core Ending = Unit {0}
-HasThird m core Nothing = Unit {0}
-HasThird m core (Result of v) = is_composite (shape_of core of) ≡ true → 3 ≤ m.registers
+-- the closing takes what is left of the stack, and the status
+abbrev pub TakesClosing : Bounds → Core → Type 0
+TakesClosing m core = has_closing core ≡ true → takes (slice_get m.low.routines (closing_number core)) 2 ≡ true
+
+-- the program itself needs a register for the status of the closing, and a result with parts a third one
+abbrev pub CanReturn : Bounds → Core → Frame → Returning → Type 0
+CanReturn m core frame Ending = TakesClosing m core × (frame.bank.scratch + 1 ≤ m.registers)
+CanReturn m core frame Nothing = Unit {0}
+CanReturn m core frame (Result of v) = is_composite (shape_of core of) ≡ true → 3 ≤ m.registers
 
 module _ (m : Bounds) (core : Core) (frame : Frame) (n : ℕ) (is : IsFrame m core frame) (temporaries : Temporaries frame n) (runtime : HasRuntime m) where
   left_there : Below m left
@@ -177,7 +178,36 @@ module _ (m : Bounds) (core : Core) (frame : Frame) (n : ℕ) (is : IsFrame m co
   result_by true of v three = parts_fine of v (three refl)
   result_by false of v three = number_fine (kind_of core of) v
 
-  pub return_fine : (returning : Returning) → HasThird m core returning → AreFine m (return_code core frame returning)
-  return_fine Ending h = ((left_there, omega arith), (left_there, tt))
+  -- ---- where a program ends
+
+  closing_fine : (status : VirtualRegister) → Below m status → takes (slice_get m.low.routines (closing_number core)) 2 ≡ true → IsFine m (closing_call core status)
+  closing_fine status below two = ((left_there, (below, tt)), left_there, two, refl)
+
+  pub stop_fine : (status : VirtualRegister) → Below m status → TakesClosing m core → AreFine m (stop_code core status)
+  stop_fine status below closing = by (has_closing core) refl
+    where
+      by : (b : Bool) → has_closing core ≡ b → AreFine m (if b then closing_call core status ∷ [] else Move left status ∷ Exit left ∷ [])
+      by true e = (closing_fine status below (closing e), tt)
+      by false e = ((left_there, below), (left_there, tt))
+
+  ending_fine : TakesClosing m core → frame.bank.scratch + 1 ≤ m.registers → AreFine m (ending_code core frame)
+  ending_fine closing one = by (has_closing core) refl
+    where
+      there : Below m (scratch_of frame.bank 0)
+      there = omega (arith, one)
+
+      by : (b : Bool) → has_closing core ≡ b → AreFine m (if b then Const (scratch_of frame.bank 0) 0 ∷ closing_call core (scratch_of frame.bank 0) ∷ Exit left ∷ [] else Const left 0 ∷ Exit left ∷ [])
+      by true e = ((there, omega arith), (closing_fine (scratch_of frame.bank 0) there (closing e), (left_there, tt)))
+      by false e = ((left_there, omega arith), (left_there, tt))
+
+  -- one finalization part more is due
+  pub due_fine : frame.bank.scratch + 2 ≤ m.registers → AreFine m (due_code core frame)
+  unfolding has_symbol
+  due_fine two =
+      let there : nat_lt (length core.variables) (length m.low.globals) ≡ true = grind (arith, nat_tests, is.globals) in
+      ((omega (arith, two), there), ((omega (arith, two), omega (arith, two), refl), ((omega (arith, two), omega (arith, two), refl), ((omega (arith, two), omega (arith, two), refl), tt))))
+
+  pub return_fine : (returning : Returning) → CanReturn m core frame returning → AreFine m (return_code core frame returning)
+  return_fine Ending h = ending_fine h.0 h.1
   return_fine Nothing h = (left_there, tt)
   return_fine (Result of v) h = result_by (is_composite (shape_of core of)) of v h

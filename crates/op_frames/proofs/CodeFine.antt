@@ -1,9 +1,9 @@
 -- The low code of instructions and of blocks has its operands in range, and its last instruction leaves it.
-use Rattle.std.proofs.Common.{◌≡◌, ◌<◌, ◌≤◌, ◌⊎◌, ℕ, zero, suc, pos, ◌+◌, ◌*◌, ◌-◌, max, Bool, true, false, List, [], ◌∷◌, ◌++◌, length, map, nat_eq, nat_le, nat_lt, slice_get, option_map, Option, Some, None, append-nil, true≢false, refl, sym, ap, ◌∙◌, subst, arith, if◌then◌else◌, inl, inr, FitsSigned}
+use Rattle.std.proofs.Common.{◌≡◌, ◌<◌, ◌≤◌, ◌⊎◌, ℕ, suc, ◌+◌, Bool, true, false, List, [], ◌∷◌, ◌++◌, length, map, slice_get, option_map, Option, Some, None, append-nil, true≢false, refl, sym, ap, ◌∙◌, subst, arith, if◌then◌else◌, inl, inr, FitsSigned}
 use Rattle.std.specs.Int.{w32}
-use Rattle.op_compute.specs.Bank.{register_of, scratch_of, work_of}
+use Rattle.op_compute.specs.Bank.{scratch_of}
 use Rattle.op_compute.specs.Branches.{block_of}
-use Rattle.op_constants.specs.FirstBytes.{first_bytes, first_number}
+use Rattle.op_constants.specs.FirstBytes.{first_number}
 use Rattle.op_constants.specs.Literals.{action_literals, first_of_row, literals_in}
 use Rattle.op_constants.specs.Offsets.{size_in}
 use Rattle.op_constants.specs.Shapes.{is_composite}
@@ -13,32 +13,30 @@ use Rattle.op_core.specs.declared.routine.Variable.{Variable}
 use Rattle.op_core.specs.declared.statement.Label.{Label}
 use Rattle.op_core.specs.declared.types.IntegerKind.{IntegerKind}
 use Rattle.op_core.specs.Initial.{FirstValue, first_value_of}
-use Rattle.op_expand.specs.Calls.{call_code, left, result_address, number_code, parts_code, result_code, return_code}
-use Rattle.op_expand.specs.Frames.{frame_of, parameters_of}
+use Rattle.op_expand.specs.Calls.{left, result_address, number_code, parts_code, return_code, closing_call, has_closing}
+use Rattle.op_expand.specs.Frames.{frame_of}
 use Rattle.op_expand.specs.Homes.{parameter}
 use Rattle.op_expand.specs.Places.{at_register, place_code, place_of}
 use Rattle.op_expand.specs.Moves.{action_code, by_words, bytes_code, limit_of, load_code, begun_by, begun_code, held, near, number_begun, parts_begun, row_of, writing_code}
-use Rattle.op_expand.specs.Routines.{instruction_code, code_of, behind_code, behind_blocks, blocks_of}
+use Rattle.op_expand.specs.Routines.{instruction_code, code_of}
 use Rattle.op_expand.specs.declared.frame.Frame.{Frame}
 use Rattle.op_expand.specs.declared.frame.Returning.{Returning}
 use Rattle.op_expand.specs.declared.frame.Returning.TheVariants.{Ending, Nothing, Result}
-use Rattle.op_frames.proofs.CallsFine.{HasThird, call_fine, return_fine}
-use Rattle.op_frames.proofs.ComputingFine.{IsWork, IsArm, HasWord, joined, constant_fine, true_fine, false_fine, switch_fine, dispatch_fine}
-use Rattle.op_frames.proofs.Fine.{Bounds, Below, Leads, IsFine, AreFine}
+use Rattle.op_frames.proofs.CallsFine.{CanReturn, TakesClosing, call_fine, due_fine, return_fine, stop_fine}
+use Rattle.op_frames.proofs.ComputingFine.{IsArm, HasWord, joined, constant_fine, true_fine, false_fine, switch_fine, dispatch_fine}
+use Rattle.op_frames.proofs.Fine.{Bounds, Below, AreFine}
 use Rattle.op_frames.proofs.MovesFine.{HasRuntime, load_fine, store_fine, copy_fine, path_fine, number_begun_fine, number_held_fine, parts_begun_fine, pick_fine, text_fine, register_below, written_fine, the_work, computation_fine}
 use Rattle.op_frames.proofs.PlacesFine.{IsFrame, Temporaries}
-use Rattle.op_frames.specs.Made.{Every, IsLast, Leaves, IsCode}
+use Rattle.op_frames.specs.Made.{Every, IsLast, Leaves}
 use Rattle.op_frames.specs.Named.{IsNamed, IsNamedAction, IsNamedArm, IsNamedLabel}
 use Rattle.op_frames.specs.Scratch.{action_room, room_in}
-use Rattle.op_low.specs.Valid.{leaves, leaves_if, takes}
-use Rattle.op_low.specs.declared.code.Block.{Block as LowBlock}
+use Rattle.op_low.specs.Valid.{leaves, takes}
 use Rattle.op_low.specs.declared.ids.VirtualRegister.{VirtualRegister}
 use Rattle.op_low.specs.declared.instruction.Instruction.{Instruction as LowInstruction}
-use Rattle.op_low.specs.declared.instruction.Instruction.TheVariants.{Jump as LowJump, Return as LowReturn}
-use Rattle.op_lower.specs.Temporaries.{in_action, in_instruction, in_writing, up_to}
-use Rattle.op_meaning.specs.Shapes.{Shape, single, composite, of_chars, of_elements, of_instance, shape_of, type_of_local, type_of_row, variables_of}
+use Rattle.op_low.specs.declared.instruction.Instruction.TheVariants.{Jump as LowJump, Return as LowReturn, Const, Exit}
+use Rattle.op_lower.specs.Temporaries.{in_action, in_instruction, in_writing}
+use Rattle.op_meaning.specs.Shapes.{Shape, single, composite, of_chars, of_elements, of_instance, shape_of, type_of_local, variables_of}
 use Rattle.op_meaning.specs.Statements.{kind_of}
-use Rattle.op_mir.specs.Code.{Instr, jump, ret}
 use Rattle.op_mir.specs.View.{first_at, view_action, view_arm, view_computation, view_instruction, view_writing}
 use Rattle.op_mir.specs.declared.action.Action.{Action}
 use Rattle.op_mir.specs.declared.action.Action.TheVariants.{Constant, Load, Store, Copy, Look, BeginWith, Pick, Compute, Write, WriteText}
@@ -46,7 +44,6 @@ use Rattle.op_mir.specs.declared.action.Computation.{Computation}
 use Rattle.op_mir.specs.declared.action.Computation.TheVariants.{Arithmetic, Compare, Negate, Complement, Invert, Absolute, Odd, Upper, LowBits, Check, Neighbour, Single, Span, Combine, Contains, CheckSet}
 use Rattle.op_mir.specs.declared.action.Writing.{Writing}
 use Rattle.op_mir.specs.declared.action.Writing.TheVariants.{Number, Truth, Char}
-use Rattle.op_mir.specs.declared.code.Block.{Block}
 use Rattle.op_mir.specs.declared.code.Mir.{Mir}
 use Rattle.op_mir.specs.declared.code.Routine.{Routine}
 use Rattle.op_mir.specs.declared.ids.BlockId.{BlockId as ManagedBlock}
@@ -92,7 +89,11 @@ result_ends false core frame of v = number_ends core frame (kind_of core of) v
 
 return_ends : (core : Core) (frame : Frame) (returning : Returning) → Ends (return_code core frame returning)
 unfolding leaves
-return_ends core frame Ending = refl
+return_ends core frame Ending = by (has_closing core)
+  where
+    by : (b : Bool) → Ends (if b then Const (scratch_of frame.bank 0) 0 ∷ closing_call core (scratch_of frame.bank 0) ∷ Exit left ∷ [] else Const left 0 ∷ Exit left ∷ [])
+    by true = refl
+    by false = refl
 return_ends core frame Nothing = refl
 return_ends core frame (Result of v) = result_ends (is_composite (shape_of core of)) core frame of v
 
@@ -130,7 +131,8 @@ pub record CanBegin (m : Bounds) (core : Core) (frame : Frame) (v : LocalId) : T
 abbrev pub CanDo : Bounds → Core → Frame → Instruction → Type 0
 CanDo m core frame (Act (BeginWith v) landing) = CanBegin m core frame v
 CanDo m core frame (Call r operands) = takes (slice_get m.low.routines (8 + r.0)) (suc (suc (length operands.given))) ≡ true
-CanDo m core frame Return = HasThird m core frame.returning
+CanDo m core frame (Stop t) = TakesClosing m core
+CanDo m core frame Return = CanReturn m core frame frame.returning
 CanDo m core frame _ = Unit {0}
 
 module _ (m : Bounds) (core : Core) (r : ℕ) (routine : Routine) (n blocks : ℕ) (is : IsFrame m core (frame_of core r routine)) (temporaries : Temporaries (frame_of core r routine) n) (runtime : HasRuntime m) (fewer : blocks ≤ m.blocks) where
@@ -243,6 +245,6 @@ module _ (m : Bounds) (core : Core) (r : ℕ) (routine : Routine) (n blocks : �
   instruction_fine mir id (Unless t block) named c room there can = false_fine m _ (the_work m core (frame_of core r routine) n is temporaries runtime room) _ (register_below m core (frame_of core r routine) n is temporaries runtime t c) block (omega (arith, named, fewer))
   instruction_fine mir id (Switch t arms) named c room there can = switch_fine m _ (the_work m core (frame_of core r routine) n is temporaries runtime room) _ (register_below m core (frame_of core r routine) n is temporaries runtime t c) arms (arms_words arms named)
   instruction_fine mir id (Dispatch t block) named c room there can = dispatch_fine m _ (the_work m core (frame_of core r routine) n is temporaries runtime room) _ (register_below m core (frame_of core r routine) n is temporaries runtime t (omega (arith, c))) block (omega (arith, named, fewer))
-  instruction_fine mir id (MakeDue f) named t room there can = ((omega (arith, room), omega arith), tt)
-  instruction_fine mir id (Stop t) named c room there can = let there_is = register_below m core (frame_of core r routine) n is temporaries runtime t c in ((omega (arith, there_is), there_is), (omega (arith, there_is), tt))
+  instruction_fine mir id (MakeDue f) named t room there can = due_fine m core (frame_of core r routine) n is temporaries runtime (omega (arith, room))
+  instruction_fine mir id (Stop t) named c room there can = stop_fine m core (frame_of core r routine) n is temporaries runtime _ (register_below m core (frame_of core r routine) n is temporaries runtime t c) can
   instruction_fine mir id Return named t room there can = return_fine m core (frame_of core r routine) n is temporaries runtime (frame_of core r routine).returning can

@@ -1,12 +1,11 @@
 -- A frame takes no more bytes than its routine is charged, if its temporaries of record and array types take no more than the text says.
-use Rattle.std.proofs.Common.{◌≡◌, ◌<◌, ◌≤◌, ◌⊎◌, ℕ, zero, suc, ◌+◌, ◌-◌, ◌*◌, ◌/◌, ◌%◌, ◌^◌, max, min, Bool, true, false, ◌||◌, List, [], ◌∷◌, length, nat_lt, Option, Some, None, slice_get, inl, inr, refl, sym, ap, ◌∙◌, subst, arith, if◌then◌else◌}
+use Rattle.std.proofs.Common.{◌≡◌, ◌≤◌, ◌⊎◌, ℕ, ◌+◌, ◌-◌, ◌*◌, max, Bool, true, false, ◌||◌, List, [], ◌∷◌, length, nat_lt, Some, slice_get, inl, inr, refl, arith, if◌then◌else◌}
 use Rattle.std.specs.List.{list_any, sum_by}
 use Rattle.std.proofs.lemmas.List.Sums.{sum_by-cons}
 use Rattle.op_constants.specs.Offsets.{size_in}
 use Rattle.op_constants.specs.Shapes.{is_composite}
 use Rattle.op_core.specs.Rows.{rows}
 use Rattle.op_core.specs.Sizes.{type_at}
-use Rattle.op_core.specs.Typing.{takes_place}
 use Rattle.op_core.specs.declared.ids.TypeId.{TypeId}
 use Rattle.op_core.specs.declared.program.Core.{Core}
 use Rattle.op_core.specs.declared.routine.Body.{Body}
@@ -16,7 +15,6 @@ use Rattle.op_core.specs.declared.routine.Routine.{Routine as Row}
 use Rattle.op_core.specs.declared.routine.Variable.{Variable}
 use Rattle.op_expand.specs.Frames.{first_room, frame_of, parameters_of, variables_room}
 use Rattle.op_expand.specs.Homes.{end_of, is_one_root, keeping_of, room_behind, room_by, roots_of, rounded, size_of_root}
-use Rattle.op_expand.specs.Routines.{most_charge}
 use Rattle.op_expand.specs.declared.homes.Keeping.{Keeping}
 use Rattle.op_expand.specs.declared.homes.Keeping.TheVariants.{AsGiven, InRegister, InMemory}
 use Rattle.op_expand.specs.declared.homes.Room.{Room}
@@ -26,13 +24,13 @@ use Rattle.op_frames.proofs.RegistersUnder.{covers_all, first_well, step_words}
 use Rattle.op_frames.proofs.StatementsWithin.{all_well}
 use Rattle.op_frames.specs.Charged.{IsCharged}
 use Rattle.op_frames.specs.Counted.{AreCountedStatements}
-use Rattle.op_frames.specs.Fitting.{registers_of_routine, room_of_block, scratch_of_routine}
-use Rattle.op_frames.specs.Made.{AreMade, Every}
+use Rattle.op_frames.specs.Fitting.{registers_of_routine, room_of_block}
+use Rattle.op_frames.specs.Made.{Every}
 use Rattle.op_frames.specs.Within.{IsWithin}
 use Rattle.op_lower.specs.Lowers.{IsRoutine}
 use Rattle.op_lower.specs.Temporaries.{most_of}
 use Rattle.op_meaning.specs.Calls.{env_of}
-use Rattle.op_meaning.specs.Charge.{charge_of, is_open, nodes_of, parameter_words, statements_weight, variable_words, variables_weight, words_in, words_of}
+use Rattle.op_meaning.specs.Charge.{charge_of, is_open, nodes_of, statements_weight, variable_words, variables_weight, words_in, words_of}
 use Rattle.op_meaning.specs.Expressions.{first_here}
 use Rattle.op_meaning.specs.Frames.{program_of}
 use Rattle.op_meaning.specs.Shapes.{is_reference, shape_of, variables_of}
@@ -40,7 +38,6 @@ use Rattle.op_meaning.specs.Statements.{first_items, work_of_all}
 use Rattle.op_mir.specs.declared.code.Routine.{Routine}
 use Rattle.op_mir.specs.declared.path.Root.{Root}
 use Rattle.op_mir.specs.declared.path.Root.TheVariants.{Local}
-use Rattle.op_tree.specs.declared.heading.ParameterMode.{ParameterMode}
 use Rattle.op_tree.specs.declared.heading.ParameterMode.TheVariants.{Value, Var, Const_, Out}
 
 -- ---- variables in memory
@@ -117,7 +114,7 @@ module _ (core : Core) (stack r : ℕ) (row : Row) (b : Body) (there : slice_get
       → Every (λ v. IsCharged v.role × (v.role ≡ Object → size_in core v.of ≤ 4)) (rows core.variables (variables_of core r))
       → sum_by (size_of_root core) (roots_of routine) ≤ 4 * words_of (statements_weight core ((program_of core stack).body r))
       → parameters_of core r ≤ 64 → (1 ≤ nodes_of (statements_weight core ((program_of core stack).body r))) ⊎ (parameters_of core r ≤ 63)
-      → (frame_of core r routine).locals + 4 * (registers_of_routine core r routine + 1) ≤ charge_of core (record { 0 = r })
+      → (frame_of core r routine).locals + 4 * (registers_of_routine core r routine + 1) + 4 * (63 - parameters_of core r) ≤ charge_of core (record { 0 = r })
   frame_small routine is counted opens sizes kept wholes few most =
       let p = program_of core stack in
       let nodes = nodes_of (statements_weight core (p.body r)) in
@@ -132,6 +129,6 @@ module _ (core : Core) (stack r : ℕ) (row : Row) (b : Body) (there : slice_get
       let ends = end_is core (variables_room core r routine).offset (roots_of routine) in
       total (frame_of core r routine).locals (variables_room core r routine).offset (sum_by (size_of_root core) (roots_of routine)) (variables_room core r routine).register routine.temporaries (most_of (room_of_block core r) routine.blocks) (parameters_of core r) (words_of (variables_weight core (rows core.variables (variables_of core r)))) (words_of (statements_weight core (p.body r))) nodes (charge_of core (record { 0 = r })) ends variables wholes under.0 under.1 few most (covers_all core stack r row b there body)
     where
-      total : (locals offset wholes registers temporaries rooms parameters words more nodes charge : ℕ) → locals ≡ offset + wholes → 4 * registers + offset ≤ 4 * (2 + parameters) + 0 + 4 * words → wholes ≤ 4 * more → temporaries ≤ 2 * nodes → rooms ≤ 2 * nodes + 1 → parameters ≤ 64 → (1 ≤ nodes) ⊎ (parameters ≤ 63) → 272 + 4 * words + 4 * more + 16 * nodes ≤ charge → locals + 4 * (registers + temporaries + max 2 rooms + 1) ≤ charge
+      total : (locals offset wholes registers temporaries rooms parameters words more nodes charge : ℕ) → locals ≡ offset + wholes → 4 * registers + offset ≤ 4 * (2 + parameters) + 0 + 4 * words → wholes ≤ 4 * more → temporaries ≤ 2 * nodes → rooms ≤ 2 * nodes + 1 → parameters ≤ 64 → (1 ≤ nodes) ⊎ (parameters ≤ 63) → 272 + 4 * words + 4 * more + 16 * nodes ≤ charge → locals + 4 * (registers + temporaries + max 2 rooms + 1) + 4 * (63 - parameters) ≤ charge
       total locals offset wholes registers temporaries rooms parameters words more nodes charge a b c d e f (inl g) h = omega (arith, a, b, c, d, e, f, g, h)
       total locals offset wholes registers temporaries rooms parameters words more nodes charge a b c d e f (inr g) h = omega (arith, a, b, c, d, e, f, g, h)

@@ -1,4 +1,5 @@
 pub mod CallsFine
+pub mod ClosingFine
 pub mod CodeFine
 pub mod ComputingFine
 pub mod ExpressionsWithin

@@ -1,27 +1,31 @@
 -- The low code of a program that fits may be built.
-use Rattle.std.proofs.Common.{◌≡◌, ◌<◌, ◌≤◌, ℕ, zero, suc, pos, ◌+◌, ◌*◌, ◌/◌, ◌%◌, Bool, true, false, ◌&&◌, List, [], ◌∷◌, ◌++◌, length, map, replicate, nat_eq, nat_le, nat_lt, slice_get, slice_set, fold, flat_map, Option, Some, None, refl, sym, ap, ◌∙◌, subst, arith, le_refl, append_assoc, length-append, if◌then◌else◌}
+use Rattle.std.proofs.Common.{◌≡◌, ◌<◌, ◌≤◌, ℕ, zero, suc, ◌+◌, Bool, true, false, ◌&&◌, List, [], ◌∷◌, ◌++◌, length, replicate, nat_eq, nat_le, nat_lt, slice_get, slice_set, fold, flat_map, Some, refl, sym, ap, ◌∙◌, subst, arith, le_refl, append_assoc, length-append, if◌then◌else◌}
 use Rattle.std.proofs.lemmas.Bool.{ne_eqb}
 use Rattle.std.proofs.lemmas.Bool.Decides.{nat_tests}
 use Rattle.std.proofs.lemmas.List.{length-replicate, length-set}
 use Rattle.std.proofs.lemmas.List.Concat.{flat_map-cons}
 use Rattle.std.proofs.lemmas.List.Folds.{list_all-append}
 use Rattle.std.proofs.lemmas.List.Sums.{sum_by-append}
-use Rattle.std.specs.List.{list_all, sum_by}
+use Rattle.std.specs.List.{list_all}
 use Rattle.op_constants.specs.Literals.{block_literals, instruction_literals, literals_in, literals_of, routine_literals, routines_literals}
 use Rattle.op_constants.specs.Fixed.{fixed_literals}
+use Rattle.op_core.specs.declared.ids.RoutineId.{RoutineId}
 use Rattle.op_core.specs.declared.ids.VariableId.{VariableId}
 use Rattle.op_core.specs.declared.program.Core.{Core}
+use Rattle.op_expand.specs.Calls.{has_closing, closing_number, finalizations}
+use Rattle.op_expand.specs.Closing.{closing_routine, closing_routines}
 use Rattle.op_expand.specs.Frames.{parameters_of}
 use Rattle.op_expand.specs.Homes.{parameter}
 use Rattle.op_expand.specs.Programs.{behind_routines, first_literal, global_of, globals_in, low_of, no_bytes, program_literal, routines_from, stack_global, with_global}
 use Rattle.op_expand.specs.Routines.{behind_blocks, behind_code, low_parameters, low_routine, most_charge}
+use Rattle.op_frames.proofs.ClosingFine.{closing_registers, closing_valid}
 use Rattle.op_frames.proofs.ProgramFine.{from_valid, low_valid}
 use Rattle.op_frames.proofs.RoutineFine.{blocks_grow}
-use Rattle.op_frames.specs.Fitting.{AreFitting, IsFitting}
+use Rattle.op_frames.specs.Fitting.{AreFitting, IsFitting, IsPart}
+use Rattle.op_frames.specs.Made.{Every}
 use Rattle.op_image.specs.Building.{is_buildable, is_laid_out}
 use Rattle.op_layout.specs.Places.{layout_of, places_from}
-use Rattle.op_layout.specs.declared.layout.LiteralPlace.{LiteralPlace}
-use Rattle.op_link.specs.Memory.{constants_size, global_size, globals_size, variable_size}
+use Rattle.op_link.specs.Memory.{constants_size, global_size, globals_size}
 use Rattle.op_low.specs.Valid.{is_valid, is_valid_routine, takes}
 use Rattle.op_low.specs.declared.code.Routine.{Routine as LowRoutine}
 use Rattle.op_mir.specs.declared.code.Block.{Block}
@@ -175,9 +179,9 @@ module _ (core : Core) (mir : Mir) (stack : ℕ) where
         let b = globals_count core in
         omega (arith, a, b)
 
-    others : (low_of core mir stack).routines ≡ runtime_routines ++ (from ++ last ∷ [])
+    others : (low_of core mir stack).routines ≡ runtime_routines ++ (from ++ last ∷ closing_routines core mir stack)
     unfolding from last
-    others = append_assoc runtime_routines from (last ∷ [])
+    others = append_assoc runtime_routines from (last ∷ closing_routines core mir stack)
 
     calls : (f k : ℕ) → f < length core.routines → k ≡ parameters_of core f → takes (slice_get (low_of core mir stack).routines (8 + f)) (suc (suc k)) ≡ true
     unfolding from
@@ -186,28 +190,56 @@ module _ (core : Core) (mir : Mir) (stack : ℕ) where
         let inside : f < length from = omega (arith, from_count core mir mir.routines 0 first_literal, there) in
         let zero_f : 0 + f ≡ f = omega arith in
         let own = from_at core mir mir.routines 0 first_literal f (suc (suc k)) there (ap (low_parameters core) zero_f ∙ own_parameters core f k less e) in
-        let at : slice_get (low_of core mir stack).routines (8 + f) ≡ slice_get from f = ap (λ rs. slice_get rs (8 + f)) others ∙ slice_behind runtime_routines (from ++ last ∷ []) f ∙ slice_front from (last ∷ []) f inside in
+        let at : slice_get (low_of core mir stack).routines (8 + f) ≡ slice_get from f = ap (λ rs. slice_get rs (8 + f)) others ∙ slice_behind runtime_routines (from ++ last ∷ closing_routines core mir stack) f ∙ slice_front from (last ∷ closing_routines core mir stack) f inside in
         subst (λ o. takes o (suc (suc k)) ≡ true) (sym at) own
 
     begins : takes (slice_get (low_of core mir stack).routines (8 + length mir.routines)) 0 ≡ true
     unfolding from last
     begins =
         let count : length from + 0 ≡ length mir.routines = omega (arith, from_count core mir mir.routines 0 first_literal) in
-        let there = subst (λ k. slice_get (from ++ last ∷ []) k ≡ Some last) count (slice_behind from (last ∷ []) 0) in
-        let at : slice_get (low_of core mir stack).routines (8 + length mir.routines) ≡ Some last = ap (λ rs. slice_get rs (8 + length mir.routines)) others ∙ slice_behind runtime_routines (from ++ last ∷ []) (length mir.routines) ∙ there in
+        let there = subst (λ k. slice_get (from ++ last ∷ closing_routines core mir stack) k ≡ Some last) count (slice_behind from (last ∷ closing_routines core mir stack) 0) in
+        let at : slice_get (low_of core mir stack).routines (8 + length mir.routines) ≡ Some last = ap (λ rs. slice_get rs (8 + length mir.routines)) others ∙ slice_behind runtime_routines (from ++ last ∷ closing_routines core mir stack) (length mir.routines) ∙ there in
         let none : takes (Some last) 0 ≡ true = eq_true _ _ (low_has core mir (length mir.routines) (program_literal core mir) mir.program ∙ no_parameters core (length mir.routines) fits.number) in
         subst (λ o. takes o 0 ≡ true) (sym at) none
+
+    -- the closing stands behind all other routines
+    ends : has_closing core ≡ true → takes (slice_get (low_of core mir stack).routines (closing_number core)) 2 ≡ true
+    unfolding from last
+    ends closes =
+        let closing = last ∷ closing_routines core mir stack in
+        let number : closing_number core ≡ 8 + (length mir.routines + 1) = omega (arith, fits.number) in
+        let count : length from + 1 ≡ length mir.routines + 1 = omega (arith, from_count core mir mir.routines 0 first_literal) in
+        let there = subst (λ k. slice_get (from ++ closing) k ≡ slice_get (closing_routines core mir stack) 0) count (slice_behind from closing 1) in
+        let at : slice_get (low_of core mir stack).routines (closing_number core) ≡ Some (closing_routine core mir stack) =
+        ap (slice_get (low_of core mir stack).routines) number ∙ ap (λ rs. slice_get rs (8 + (length mir.routines + 1))) others ∙ slice_behind runtime_routines (from ++ closing) (length mir.routines + 1) ∙ there
+        ∙ ap (λ b. slice_get (if b then closing_routine core mir stack ∷ [] else []) 0) closes in
+        subst (λ o. takes o 2 ≡ true) (sym at) refl
+
+    parts_taken : (fs : List RoutineId) → Every (IsPart core) fs → Every (λ f. takes (slice_get (low_of core mir stack).routines (8 + f.0)) 2 ≡ true) fs
+    parts_taken [] are = tt
+    parts_taken (f ∷ fs) are = (calls f.0 0 are.0.0 (sym are.0.1), parts_taken fs are.1)
+
+    -- it takes four registers
+    pub closing_small : (closing_routine core mir stack).registers ≤ 4
+    closing_small = closing_registers (low_of core mir stack) core mir stack globals_there enough (parts_taken (finalizations core) fits.parts)
+
+    closing_there : list_all (is_valid_routine (low_of core mir stack)) (closing_routines core mir stack) ≡ true
+    closing_there = by (has_closing core)
+      where
+        by : (b : Bool) → list_all (is_valid_routine (low_of core mir stack)) (if b then closing_routine core mir stack ∷ [] else []) ≡ true
+        by false = refl
+        by true = and_true _ true (closing_valid (low_of core mir stack) core mir stack globals_there enough (parts_taken (finalizations core) fits.parts)) refl
 
     pub valid : is_valid (low_of core mir stack) ≡ true
     unfolding is_valid from last
     valid =
         let low = low_of core mir stack in
         let grows = blocks_grow core (length mir.routines) (program_literal core mir) mir.program.blocks in
-        let zeros = valid_routines low (from ++ last ∷ []) others (omega (arith, enough)) in
-        let own = from_valid low core mir fits.sizes (from ++ last ∷ []) others globals_there enough calls mir.routines 0 first_literal (λ k x e. let zero_k : 0 + k ≡ k = omega arith in subst (λ j. IsFitting core j x) (sym zero_k) (fits.routines k x e)) grows in
-        let program = low_valid low core mir fits.sizes (from ++ last ∷ []) others globals_there enough calls (length mir.routines) (program_literal core mir) mir.program fits.program (le_refl _) in
+        let zeros = valid_routines low (from ++ last ∷ closing_routines core mir stack) others (omega (arith, enough)) in
+        let own = from_valid low core mir fits.sizes (from ++ last ∷ closing_routines core mir stack) others globals_there enough calls ends mir.routines 0 first_literal (λ k x e. let zero_k : 0 + k ≡ k = omega arith in subst (λ j. IsFitting core j x) (sym zero_k) (fits.routines k x e)) grows in
+        let program = low_valid low core mir fits.sizes (from ++ last ∷ closing_routines core mir stack) others globals_there enough calls ends (length mir.routines) (program_literal core mir) mir.program fits.program (le_refl _) in
         let front = list_all-append (is_valid_routine low) runtime_routines from ∙ and_true _ _ zeros own in
-        let all = list_all-append (is_valid_routine low) (runtime_routines ++ from) (last ∷ []) ∙ and_true _ _ front (and_true _ true program refl) in
+        let all = list_all-append (is_valid_routine low) (runtime_routines ++ from) (last ∷ closing_routines core mir stack) ∙ and_true _ _ front (and_true _ _ program closing_there) in
         and_true _ _ begins all
 
     stack_bytes : global_size (stack_global stack) ≡ 4

@@ -1,44 +1,37 @@
 -- The low code of a program that fits is valid.
-use Rattle.std.proofs.Common.{◌≡◌, ◌<◌, ◌≤◌, ℕ, zero, suc, pos, ◌+◌, ◌*◌, ◌%◌, ◌^◌, max, Bool, true, false, ◌&&◌, List, [], ◌∷◌, ◌++◌, length, map, take, replicate, nat_eq, nat_le, nat_lt, slice_get, slice_set, fold, Option, Some, None, inr, refl, sym, ap, ◌∙◌, subst, arith, le_refl, append_assoc, length-append, length-take, if◌then◌else◌}
-use Rattle.std.proofs.lemmas.Bool.{ne_eqb}
+use Rattle.std.proofs.Common.{◌≡◌, ◌<◌, ◌≤◌, ℕ, suc, ◌+◌, max, Bool, true, false, ◌&&◌, List, [], ◌∷◌, ◌++◌, length, map, take, nat_eq, nat_lt, slice_get, Option, Some, inr, refl, sym, ap, ◌∙◌, subst, arith, le_refl, length-append, if◌then◌else◌}
 use Rattle.std.proofs.lemmas.Bool.Decides.{nat_tests}
-use Rattle.std.proofs.lemmas.List.{length-map, length-replicate}
-use Rattle.std.proofs.lemmas.List.Folds.{list_all-append}
+use Rattle.std.proofs.lemmas.List.{length-map}
 use Rattle.std.specs.List.{list_all}
 use Rattle.op_compute.specs.Bank.{scratch_of}
 use Rattle.op_constants.specs.Offsets.{size_in}
 use Rattle.op_core.specs.Rows.{rows}
 use Rattle.op_core.specs.declared.ids.TypeId.{TypeId}
-use Rattle.op_core.specs.declared.ids.VariableId.{VariableId}
 use Rattle.op_core.specs.declared.program.Core.{Core}
-use Rattle.op_core.specs.declared.routine.Variable.{Variable}
-use Rattle.op_expand.specs.Frames.{bank_of, frame_of, first_room, parameters_of, spare_of, variables_room}
+use Rattle.op_expand.specs.Calls.{has_closing, closing_number}
+use Rattle.op_expand.specs.Frames.{frame_of, first_room, parameters_of, variables_room}
 use Rattle.op_expand.specs.Homes.{homes_from, parameter, roots_of}
-use Rattle.op_expand.specs.Programs.{first_literal, global_of, globals_in, behind_routines, low_of, no_bytes, program_literal, routines_from, stack_global, with_global}
+use Rattle.op_expand.specs.Programs.{behind_routines, routines_from}
 use Rattle.op_expand.specs.Registers.{registers_in}
 use Rattle.op_expand.specs.Routines.{all_blocks, beginning, behind_blocks, blocks_of, error_block, error_blocks, low_parameters, low_routine, most_charge, routine_with}
-use Rattle.op_expand.specs.declared.frame.Frame.{Frame}
 use Rattle.op_expand.specs.declared.frame.Returning.{Returning}
 use Rattle.op_expand.specs.declared.frame.Returning.TheVariants.{Ending, Nothing, Result}
-use Rattle.op_expand.specs.declared.homes.Home.{Home}
-use Rattle.op_frames.proofs.CallsFine.{HasThird}
-use Rattle.op_frames.proofs.CodeFine.{CanBegin, CanDo}
-use Rattle.op_frames.proofs.Fine.{Bounds, Below, AreFine}
+use Rattle.op_frames.proofs.CallsFine.{CanReturn, TakesClosing}
+use Rattle.op_frames.proofs.CodeFine.{CanDo}
+use Rattle.op_frames.proofs.Fine.{Bounds, Below}
 use Rattle.op_frames.proofs.FramesFine.{behind_grows, beginning_fine, homes_below, locals_whole, spare_below, taken_few}
 use Rattle.op_frames.proofs.MadeLemmas.{every_append}
 use Rattle.op_frames.proofs.MovesFine.{HasRuntime}
 use Rattle.op_frames.proofs.PlacesFine.{IsFrame, Temporaries, most_each}
 use Rattle.op_frames.proofs.RoutineFine.{IsFineBlock, IsGood, IsGoodBlock, blocks_count, blocks_fine, blocks_grow, errors_fine, registers_under, stack_fine, valid_routine}
-use Rattle.op_frames.specs.Fitting.{AreFitting, IsFitting, registers_of_routine, room_of_block, room_of_instruction, scratch_of_routine}
-use Rattle.op_frames.specs.Made.{Every, IsCode, Leaves}
+use Rattle.op_frames.specs.Fitting.{IsFitting, registers_of_routine, room_of_block, room_of_instruction, scratch_of_routine}
+use Rattle.op_frames.specs.Made.{Every, IsCode}
 use Rattle.op_frames.specs.Named.{IsNamed}
-use Rattle.op_low.specs.Valid.{is_valid, is_valid_routine, most_locals, most_registers, takes}
-use Rattle.op_low.specs.declared.code.Block.{Block as LowBlock}
+use Rattle.op_low.specs.Valid.{is_valid_routine, most_registers, takes}
 use Rattle.op_low.specs.declared.code.Low.{Low}
 use Rattle.op_low.specs.declared.code.Routine.{Routine as LowRoutine}
 use Rattle.op_lower.specs.Temporaries.{in_block, in_blocks, in_instruction, most_of}
-use Rattle.op_meaning.specs.Shapes.{is_reference, variables_of}
-use Rattle.op_mir.specs.Code.{Instr}
+use Rattle.op_meaning.specs.Shapes.{variables_of}
 use Rattle.op_mir.specs.View.{view_block, view_given, view_instruction}
 use Rattle.op_mir.specs.declared.action.Action.{Action}
 use Rattle.op_mir.specs.declared.action.Action.TheVariants.{Constant, Load, Store, Copy, Look, BeginWith, Pick, Compute, Write, WriteText}
@@ -46,12 +39,9 @@ use Rattle.op_mir.specs.declared.code.Block.{Block}
 use Rattle.op_mir.specs.declared.code.Mir.{Mir}
 use Rattle.op_mir.specs.declared.code.Routine.{Routine}
 use Rattle.op_mir.specs.declared.ids.BlockId.{BlockId}
-use Rattle.op_mir.specs.declared.ids.LocalId.{LocalId}
 use Rattle.op_mir.specs.declared.instruction.Instruction.{Instruction}
 use Rattle.op_mir.specs.declared.instruction.Instruction.TheVariants.{Act, Call, Jump, When, Unless, Switch, Dispatch, MakeDue, Stop, Return}
-use Rattle.op_rt_text.proofs.ValidRoutines.{valid_routines}
 use Rattle.op_rt_text.specs.Runtime.{runtime_routines}
-use Rattle.op_rv.specs.declared.objects.GlobalVariable.{GlobalVariable}
 
 and_true : (a b : Bool) → a ≡ true → b ≡ true → (a && b) ≡ true
 and_true a b p q = cc
@@ -66,11 +56,11 @@ under_over a b e less = grind (arith, nat_tests)
 
 module _ (m : Bounds) (core : Core) (r : ℕ) (routine : Routine) (n blocks most : ℕ) (is : IsFrame m core (frame_of core r routine)) (temporaries : Temporaries (frame_of core r routine) n) (runtime : HasRuntime m) (fewer : blocks ≤ m.blocks) (mir : Mir)
     (spare : Below m (frame_of core r routine).spare) (two : (frame_of core r routine).bank.scratch + 2 ≤ m.registers) (three : 3 ≤ m.registers) (room : (frame_of core r routine).bank.scratch + most ≤ m.registers)
-    (calls : (f k : ℕ) → f < length core.routines → k ≡ parameters_of core f → takes (slice_get m.low.routines (8 + f)) (suc (suc k)) ≡ true) where
-  has_third : (returning : Returning) → HasThird m core returning
-  has_third Ending = tt
-  has_third Nothing = tt
-  has_third (Result of v) = λ e. three
+    (calls : (f k : ℕ) → f < length core.routines → k ≡ parameters_of core f → takes (slice_get m.low.routines (8 + f)) (suc (suc k)) ≡ true) (ends : TakesClosing m core) where
+  can_return : (returning : Returning) → CanReturn m core (frame_of core r routine) returning
+  can_return Ending = (ends, omega (arith, two))
+  can_return Nothing = tt
+  can_return (Result of v) = λ e. three
 
   can_act : (a : Action) (landing : Option BlockId) → CanDo m core (frame_of core r routine) (Act a landing)
   can_act (BeginWith v) landing = record { spare = spare; one = omega (arith, two); another = inr two }
@@ -93,8 +83,8 @@ module _ (m : Bounds) (core : Core) (r : ℕ) (routine : Routine) (n blocks most
   can_do (Switch t arms) named = tt
   can_do (Dispatch t block) named = tt
   can_do (MakeDue f) named = tt
-  can_do (Stop t) named = tt
-  can_do Return named = has_third (frame_of core r routine).returning
+  can_do (Stop t) named = ends
+  can_do Return named = can_return (frame_of core r routine).returning
 
   good_code : (code : List Instruction) → Every (IsNamed core blocks) (map (view_instruction core r) code) → Every (λ i. in_instruction i ≤ n) code → Every (λ i. room_of_instruction core r i ≤ most) code → Every (IsGood m core r routine n blocks is temporaries runtime fewer mir) code
   good_code [] named t w = tt
@@ -116,7 +106,7 @@ least_max : (k : ℕ) → k ≤ max 2 k
 least_max k = omega arith
 
 module _ (low : Low) (core : Core) (mir : Mir) (sizes : (of : TypeId) → size_in core of ≤ 1048576) (others : List LowRoutine) (routines : low.routines ≡ runtime_routines ++ others) (globals : length core.variables < length low.globals) (enough : 7 ≤ low.counts.literals)
-    (calls : (f k : ℕ) → f < length core.routines → k ≡ parameters_of core f → takes (slice_get low.routines (8 + f)) (suc (suc k)) ≡ true) where
+    (calls : (f k : ℕ) → f < length core.routines → k ≡ parameters_of core f → takes (slice_get low.routines (8 + f)) (suc (suc k)) ≡ true) (ends : has_closing core ≡ true → takes (slice_get low.routines (closing_number core)) 2 ≡ true) where
   parameters_by : (last : Bool) (k : ℕ) → (if last then 0 else parameter k) ≤ 2 + k
   parameters_by true k = omega arith
   parameters_by false k = le_refl (2 + k)
@@ -176,7 +166,7 @@ module _ (low : Low) (core : Core) (mir : Mir) (sizes : (of : TypeId) → size_i
         let spare = spare_below m (parameters_of core r) (scratch_of frame.bank 1) 0 (take (parameters_of core r) homes) few_parameters (taken_few (parameters_of core r) homes) scratch in
         let t : in_blocks routine.blocks ≤ routine.temporaries = omega (arith, fits.temporaries) in
         let rooms = most_each (room_of_block core r) routine.blocks most (least_max (most_of (room_of_block core r) routine.blocks)) in
-        let good = good_blocks m core r routine routine.temporaries (length routine.blocks) most the_frame the_temporaries the_runtime fewer mir spare two three (omega arith) calls routine.blocks fits.code (most_each in_block routine.blocks routine.temporaries t) rooms in
+        let good = good_blocks m core r routine routine.temporaries (length routine.blocks) most the_frame the_temporaries the_runtime fewer mir spare two three (omega arith) calls ends routine.blocks fits.code (most_each in_block routine.blocks routine.temporaries t) rooms in
         let one : frame.bank.scratch + 1 ≤ m.registers = omega (arith, two) in
         let front = beginning_fine m core r routine routine.temporaries the_frame the_temporaries the_runtime few_parameters one in
         let fine = blocks_fine m core r routine routine.temporaries (length routine.blocks) the_frame the_temporaries the_runtime fewer mir id (beginning core frame r) routine.blocks front good literals in

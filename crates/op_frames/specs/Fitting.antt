@@ -1,10 +1,12 @@
 -- What is asked of a program in managed code, so that its low code is valid.
-use Rattle.std.specs.Prelude.{◌≡◌, ◌<◌, ◌≤◌, ℕ, ◌+◌, max, true, List, length, Option, Some, slice_get}
+use Rattle.std.specs.Prelude.{◌≡◌, ◌<◌, ◌≤◌, ℕ, ◌+◌, max, true, length, Some, slice_get}
 use Rattle.op_constants.specs.Offsets.{size_in}
 use Rattle.op_core.specs.Rows.{rows}
+use Rattle.op_core.specs.declared.ids.RoutineId.{RoutineId}
 use Rattle.op_core.specs.declared.ids.TypeId.{TypeId}
 use Rattle.op_core.specs.declared.program.Core.{Core}
 use Rattle.op_core.specs.declared.routine.Variable.{Variable}
+use Rattle.op_expand.specs.Calls.{finalizations}
 use Rattle.op_expand.specs.Frames.{frame_of, parameters_of, variables_room}
 use Rattle.op_expand.specs.Routines.{most_charge}
 use Rattle.op_frames.specs.Made.{Every, IsCode}
@@ -44,9 +46,14 @@ pub record IsFitting (core : Core) (r : ℕ) (routine : Routine) : Type 0 where
   pub registers : routine.charge ≤ most_charge → registers_of_routine core r routine ≤ most_registers
   pub locals : routine.charge ≤ most_charge → (frame_of core r routine).locals ≤ most_locals
 
+-- a finalization part is a routine without parameters
+abbrev pub IsPart : Core → RoutineId → Type 0
+IsPart core f = (f.0 < length core.routines) × (parameters_of core f.0 ≡ 0)
+
 -- The number behind those of all routines is that of the program itself.
 pub record AreFitting (core : Core) (mir : Mir) : Type 0 where
   pub sizes : (of : TypeId) → size_in core of ≤ 1048576
   pub number : length mir.routines ≡ length core.routines
   pub routines : (r : ℕ) (routine : Routine) → slice_get mir.routines r ≡ Some routine → IsFitting core r routine
   pub program : IsFitting core (length mir.routines) mir.program
+  pub parts : Every (IsPart core) (finalizations core)

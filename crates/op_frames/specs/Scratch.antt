@@ -46,6 +46,6 @@ room_in (when t k) = 3
 room_in (unless t k) = 3
 room_in (switch t arms) = 3
 room_in (dispatch t k) = 3
-room_in (make_due f) = 1
+room_in (make_due f) = 2
 room_in (stop t) = 0
 room_in ret = 0

@@ -72,6 +72,6 @@ IsWithin top room (when t k) = (t < top) × (3 ≤ room)
 IsWithin top room (unless t k) = (t < top) × (3 ≤ room)
 IsWithin top room (switch t arms) = (t < top) × (3 ≤ room) × (labels_among arms ≤ room)
 IsWithin top room (dispatch t k) = (t + 1 < top) × (3 ≤ room)
-IsWithin top room (make_due f) = 1 ≤ room
+IsWithin top room (make_due f) = 2 ≤ room
 IsWithin top room (stop t) = t < top
 IsWithin top room ret = Unit {0}

@@ -1,5 +1,5 @@
 -- A program that passes the test is of the class.
-use Rattle.std.proofs.Common.{◌≡◌, ◌<◌, ◌≤◌, ◌⊎◌, inl, inr, ℕ, zero, suc, ◌+◌, Bool, true, false, ◌&&◌, if◌then◌else◌, nat_eq, nat_lt, Option, Some, None, List, [], ◌∷◌, length, slice_get, filter, flat_map, map, reverse, take, drop, refl, ap, subst, arith}
+use Rattle.std.proofs.Common.{◌≡◌, ◌<◌, ◌≤◌, ◌⊎◌, inl, inr, ℕ, zero, suc, ◌+◌, Bool, true, false, ◌&&◌, if◌then◌else◌, nat_eq, nat_lt, Option, Some, None, List, [], ◌∷◌, length, slice_get, filter, flat_map, map, reverse, take, drop, refl, ap, subst, arith, nat_le}
 use Rattle.std.proofs.lemmas.Bool.{and_parts, not-true, or_cases}
 use Rattle.std.proofs.lemmas.Bool.Decides.{nat_tests}
 use Rattle.std.proofs.lemmas.List.Elements.{All-cons, All-nil}
@@ -36,7 +36,7 @@ use Rattle.op_plain.proofs.Parts.{Tests, below, failed, tests_of}
 use Rattle.op_plain.proofs.SimpleLemmas.{simple_test}
 use Rattle.op_plain.proofs.WrittenLemmas.{statements_written}
 use Rattle.op_plain.specs.Claims.{IsPlainCore, PlainByItems}
-use Rattle.op_plain.specs.Plain.{are_plain_statements, has_work, is_plain_body, is_plain_program, is_plain_result, is_plain_role, is_plain_routine, is_plain_unit, is_plain_variable, takes_few}
+use Rattle.op_plain.specs.Plain.{are_plain_statements, has_work, is_plain_body, is_plain_program, is_plain_result, is_plain_role, is_plain_routine, is_plain_unit, is_plain_variable, takes_few, most_units}
 use Rattle.op_sizes.specs.Written.{AreWrittenStatements}
 use Rattle.op_typing.proofs.SimpleTestLemmas.{simple_by_test}
 use Rattle.op_typing.specs.SimpleTests.{begins_itself, gives_nothing, is_none, is_of_unit, is_procedure, is_solid_type}
@@ -168,19 +168,12 @@ module _ (core : Core) (tests : Tests core) where
     part_exists None e = tt
     part_exists (Some q) e = part_there q (slice_get core.routines q.0) refl e
 
-    none_exists : (part : Option RoutineId) → is_none part ≡ true → IfExists (program_of core stack) part
-    none_exists None e = tt
-    none_exists (Some q) e = failed e
-
     units_plain : (us : List UnitRow) → list_all (is_plain_unit core) us ≡ true → ArePlainUnits (program_of core stack) us
     units_plain [] all = tt
     units_plain (u ∷ us) all =
         let parts = and_parts (is_plain_unit core u) (list_all (is_plain_unit core) us) all in
-        let first = and_parts (is_procedure core u.initialization) (is_none u.finalization) parts.0 in
-        (part_exists u.initialization first.0, none_exists u.finalization first.1, units_plain us parts.1)
-
-  none_last : (u : UnitRow) → is_plain_unit core u ≡ true → u.finalization ≡ None
-  none_last u e = none_is u.finalization (and_parts (is_procedure core u.initialization) _ e).1
+        let first = and_parts (is_procedure core u.initialization) (is_procedure core u.finalization) parts.0 in
+        (part_exists u.initialization first.0, part_exists u.finalization first.1, units_plain us parts.1)
 
   -- ---- bodies
 
@@ -239,6 +232,9 @@ module _ (core : Core) (tests : Tests core) where
   variable_sized : (v : Variable) → is_plain_variable core v ≡ true → IsCharged v.role × (v.role ≡ Object → size_in core v.of ≤ 4)
   variable_sized v e = (variable_charged v e, λ is. absurd (no_object v.role (and_parts (is_plain_role v.role) _ e).0 is))
 
+few_units : (n : ℕ) → nat_le n most_units ≡ true → n ≤ 1024
+few_units n e = grind (arith, nat_tests)
+
 pub plain_by_test : (core : Core) → is_plain_program core ≡ true → IsPlainCore core
 plain_by_test core e =
     let tests = tests_of core e in
@@ -249,7 +245,7 @@ plain_by_test core e =
       exceptions = none_is core.exceptions tests.exceptions;
       endings = λ r. ending_by_row core tests r (slice_get core.routines r) refl;
       units = λ stack. units_plain core tests stack core.units tests.units;
-      finalizations = all_pass (is_plain_unit core) (λ u. u.finalization ≡ None) core.units (none_last core tests) tests.units;
+      few = few_units (length core.units) tests.few;
       globals = pending_none core tests;
       parameters = λ r. (works_by core tests 0 r (slice_get core.routines r) refl).1;
       works = λ stack r. (works_by core tests stack r (slice_get core.routines r) refl).0;

@@ -37,8 +37,11 @@ module _ (name : Name) where
   function_fails : with_parts (Some (record { 0 = 0 })) None ≡ false
   function_fails = refl
 
-  last_part_fails : with_parts None (Some (record { 0 = 1 })) ≡ false
-  last_part_fails = refl
+  last_part_passes : with_parts None (Some (record { 0 = 1 })) ≡ true
+  last_part_passes = refl
+
+  last_function_fails : with_parts None (Some (record { 0 = 0 })) ≡ false
+  last_function_fails = refl
 
   -- for i := 1 to 3 do
   --   try

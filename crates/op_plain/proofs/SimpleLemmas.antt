@@ -6,17 +6,15 @@ use Rattle.op_core.specs.Expression.{Expression, expression, Root, constant, var
 use Rattle.op_core.specs.Statement.{Item, plain, padded, BuiltIn, write, count, include, exclude, Statement, block, if_then, if_else, case_of, while_do, repeat_until, for_to, for_in, try_finally, raise, call as call_statement, assign, exit_with, halt, built_in, Statements, no_statements, statements, Branches, no_branches, branches, stmts_of}
 use Rattle.op_core.specs.declared.constant.Const.{Const}
 use Rattle.op_core.specs.declared.constant.Const.TheVariants.{Ordinal, Text, Set as SetOf, Nil as NilOf}
-use Rattle.op_core.specs.declared.ids.RoutineId.{RoutineId}
 use Rattle.op_core.specs.declared.ids.TypeId.{TypeId}
 use Rattle.op_core.specs.declared.program.Core.{Core}
-use Rattle.op_core.specs.declared.program.Unit.{Unit as UnitRow}
 use Rattle.op_core.specs.declared.routine.Body.{Body}
 use Rattle.op_core.specs.declared.routine.Routine.{Routine}
 use Rattle.op_core.specs.declared.routine.Variable.{Variable}
 use Rattle.op_plain.proofs.Parts.{Tests, failed}
-use Rattle.op_plain.specs.Plain.{are_plain_arguments, are_plain_branches, are_plain_elements, are_plain_statements, are_plain_steps, is_plain_amount, is_plain_argument, is_plain_bare, is_plain_body, is_plain_built_in, is_plain_constant, is_plain_element, is_plain_expression, is_plain_item, is_plain_result, is_plain_root, is_plain_routine, is_plain_statement, is_plain_step, is_plain_unit, is_plain_variable}
+use Rattle.op_plain.specs.Plain.{are_plain_arguments, are_plain_branches, are_plain_elements, are_plain_statements, are_plain_steps, is_plain_amount, is_plain_argument, is_plain_bare, is_plain_body, is_plain_built_in, is_plain_constant, is_plain_element, is_plain_expression, is_plain_item, is_plain_result, is_plain_root, is_plain_routine, is_plain_statement, is_plain_step, is_plain_variable}
 use Rattle.op_typing.specs.Simple.{is_text, text_after}
-use Rattle.op_typing.specs.SimpleTests.{are_simple_arguments, are_simple_branches, are_simple_elements, are_simple_statements, are_simple_steps, begins_itself, is_none, is_procedure, is_simple, is_simple_argument, is_simple_body, is_simple_built_in, is_simple_element, is_simple_item, is_simple_program, is_simple_root, is_simple_routine, is_simple_statement, is_simple_step, is_simple_unit, is_solid_result, is_solid_variable}
+use Rattle.op_typing.specs.SimpleTests.{are_simple_arguments, are_simple_branches, are_simple_elements, are_simple_statements, are_simple_steps, begins_itself, is_simple, is_simple_argument, is_simple_body, is_simple_built_in, is_simple_element, is_simple_item, is_simple_program, is_simple_root, is_simple_routine, is_simple_statement, is_simple_step, is_solid_result, is_solid_variable}
 
 both : {a b c d : Bool} → (a ≡ true → c ≡ true) → (b ≡ true → d ≡ true) → (a && b) ≡ true → (c && d) ≡ true
 both f g e = let parts = and_parts _ _ e in and_from _ _ (f parts.0) (g parts.1)
@@ -154,18 +152,10 @@ module _ (core : Core) where
   variable_begins : (v : Variable) → is_plain_variable core v ≡ true → begins_itself v ≡ true
   variable_begins v e = (and_parts (begins_itself v) _ (and_parts _ _ e).1).0
 
-  unit_simple : (u : UnitRow) → is_plain_unit core u ≡ true → is_simple_unit core u ≡ true
-  unit_simple u e = both same (no_part u.finalization) e
-    where
-      no_part : (part : Option RoutineId) → is_none part ≡ true → is_procedure core part ≡ true
-      no_part None e = refl
-      no_part (Some q) e = failed e
-
 pub simple_test : (core : Core) → Tests core → is_simple_program core ≡ true
 unfolding is_simple_program
 simple_test core tests =
     let solid = all_also (is_plain_variable core) (is_solid_variable core) core.variables (variable_solid core) tests.variables in
     let begin = all_also (is_plain_variable core) begins_itself core.variables (variable_begins core) tests.variables in
     let routines = all_also (is_plain_routine core) (is_simple_routine core) core.routines (routine_simple core) tests.routines in
-    let units = all_also (is_plain_unit core) (is_simple_unit core) core.units (unit_simple core) tests.units in
-    and_true tests.arrays (and_true tests.parameters (and_true solid (and_true begin (and_true routines units))))
+    and_true tests.arrays (and_true tests.parameters (and_true solid (and_true begin (and_true routines tests.units))))

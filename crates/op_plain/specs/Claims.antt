@@ -1,6 +1,5 @@
 -- What is proved of programs that pass the test.
-use Rattle.std.specs.Prelude.{◌≡◌, ◌≤◌, ◌⊎◌, ℕ, true, [], None}
-use Rattle.std.specs.List.{All}
+use Rattle.std.specs.Prelude.{◌≡◌, ◌≤◌, ◌⊎◌, ℕ, true, [], None, length}
 use Rattle.op_constants.specs.Offsets.{size_in}
 use Rattle.op_core.specs.Rows.{rows}
 use Rattle.op_core.specs.declared.program.Core.{Core}
@@ -28,11 +27,11 @@ pub record IsPlainCore (core : Core) : Type 0 where
   pub counted : (stack r : ℕ) → AreCountedStatements ((program_of core stack).body r)
   -- conversions that are not written stand apart, and each branch of a case has a label
   pub written : (stack r : ℕ) → AreWrittenStatements ((program_of core stack).body r)
-  -- errors end the program, nothing has to be ended behind a routine or the program, and what units have are first parts, which are there
+  -- errors end the program, nothing has to be ended behind a routine or the program, and the parts of units are there
   pub exceptions : core.exceptions ≡ None
   pub endings : (r : ℕ) → ending_of core r ≡ []
   pub units : (stack : ℕ) → ArePlainUnits (program_of core stack) core.units
-  pub finalizations : All (λ u. u.finalization ≡ None) core.units
+  pub few : length core.units ≤ 1024
   pub globals : first_pending core ≡ []
   -- at most 64 parameters, and where there are so many a node of the body
   pub parameters : (r : ℕ) → parameters_of core r ≤ 64

@@ -1,7 +1,7 @@
 -- A test of whether a program is of the class that the theorems of the compiler are about: it works on numbers, sets, records and arrays
 -- with bounds, and on texts only as they are written in it; its routines stand in no other one, nothing is read, and nothing is raised. Each node of a tree
 -- is asked once for all of it. (Free Pascal Reference Guide, "Types", "Expressions" and "Statements".)
-use Rattle.std.specs.Prelude.{ℕ, Bool, true, false, not, ◌&&◌, ◌||◌, Option, Some, None, nat_eq, nat_lt, List, length}
+use Rattle.std.specs.Prelude.{ℕ, Bool, true, false, not, ◌&&◌, ◌||◌, Option, Some, None, nat_eq, nat_le, nat_lt, List, length}
 use Rattle.std.specs.List.{list_all}
 use Rattle.op_core.specs.Expression.{Expression, expression, Root, constant, variable, object, call, construct, set, eof, eoln, Steps, no_steps, steps, Action, bracket, index, method, operate, apply, Elements, no_elements, elements, Element, one, range, Arguments, no_arguments, arguments, Argument, value, place, array, listed}
 use Rattle.op_core.specs.Statement.{Item, plain, padded, BuiltIn, write, count, include, exclude, Statement, empty, block, if_then, if_else, case_of, while_do, repeat_until, for_to, for_in, try_finally, try_on, try_on_else, raise, reraise, call as call_statement, assign, exit_with, halt, built_in, Statements, no_statements, statements, Branches, no_branches, branches, stmts_of}
@@ -178,9 +178,13 @@ is_plain_body core parameters (Some b) = takes_few parameters (stmts_of b.statem
 abbrev pub is_plain_routine : Core → Routine → Bool
 is_plain_routine core x = is_of_unit x.owner && (is_none x.enclosing && (is_plain_result core x.result && is_plain_body core x.parameters.count x.body))
 
--- if it has a first part, that is there and gives nothing; it has no last one
+-- its parts are there, if it has some, and give nothing
 abbrev pub is_plain_unit : Core → UnitRow → Bool
-is_plain_unit core u = is_procedure core u.initialization && is_none u.finalization
+is_plain_unit core u = is_procedure core u.initialization && is_procedure core u.finalization
+
+-- the closing looks through so many finalization parts, which is more than a program may have units
+abbrev pub most_units : ℕ
+most_units = 1024
 
 unfoldable pub is_plain_program : Core → Bool
 is_plain_program core =
@@ -190,4 +194,5 @@ is_plain_program core =
     && (list_all (is_solid_parameter core) core.parameters
     && (list_all (is_plain_variable core) core.variables
     && (list_all (is_plain_routine core) core.routines
-    && list_all (is_plain_unit core) core.units)))))
+    && (list_all (is_plain_unit core) core.units
+    && nat_le (length core.units) most_units))))))

@@ -14,9 +14,11 @@ use op_types::is_managed;
 /// As many parameters a routine has at most.
 const MOST_PARAMETERS: u32 = 64;
 
+/// The closing looks through so many finalization parts, which is more than a program may have units.
+const MOST_UNITS: usize = 1024;
+
 /// Whether the program is of the class that the theorems of the compiler are about. It works on numbers, sets, records and arrays with
-/// bounds, and on texts as they are written in it; there are no exceptions, no routine stands in another one, and no unit has a
-/// finalization part.
+/// bounds, and on texts as they are written in it; there are no exceptions, and no routine stands in another one.
 #[tactic(auto, unfolding(crate::specs::Plain::is_plain_program))]
 pub fn is_plain(core: &Core) -> bool
     ensures { result ≡ is_plain_program core.now }
@@ -28,6 +30,7 @@ pub fn is_plain(core: &Core) -> bool
         && are_plain_variables(core)
         && are_plain_routines(core)
         && are_plain_units(core)
+        && core.units.as_slice().len() <= MOST_UNITS
 }
 
 fn are_counted(core: &Core) -> bool
@@ -143,7 +146,7 @@ fn takes_few(parameters: u32, body: &Body) -> bool
 fn is_plain_unit(core: &Core, unit: &Unit) -> bool
     ensures { result ≡ is_plain_unit core.now unit.now }
 {
-    is_procedure(core, unit.initialization) && unit.finalization.is_none()
+    is_procedure(core, unit.initialization) && is_procedure(core, unit.finalization)
 }
 
 /// Whether a part of a unit is there, if it has one, and gives nothing.

@@ -1,4 +1,5 @@
 pub mod BytesSmall
+pub mod ClosingSmall
 pub mod ComputingSmall
 pub mod ExpressionsSmall
 pub mod ExpressionTexts

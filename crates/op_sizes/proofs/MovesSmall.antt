@@ -12,7 +12,7 @@ use Rattle.op_core.specs.declared.ids.TypeId.{TypeId}
 use Rattle.op_core.specs.declared.program.Core.{Core}
 use Rattle.op_core.specs.declared.types.IntegerKind.{IntegerKind}
 use Rattle.op_core.specs.declared.types.IntegerKind.TheVariants.{Signed8, Unsigned8, Signed16, Unsigned16, Signed32}
-use Rattle.op_expand.specs.Calls.{call_code, charge_of, charging_code, given_code, given_spot, givens_code, givens_in, left, number_code, parts_code, receiver_code, receiver_of, receiver_spot, result_address, return_code, runtime, value_code}
+use Rattle.op_expand.specs.Calls.{call_code, charge_of, charging_code, given_code, given_spot, givens_code, givens_in, left, number_code, parts_code, receiver_code, receiver_of, receiver_spot, result_address, return_code, runtime, value_code, has_closing, closing_call}
 use Rattle.op_expand.specs.Homes.{parameter}
 use Rattle.op_expand.specs.Moves.{action_code, begun_by, begun_code, by_words, bytes_code, copy_code, copy_number, held, is_short, limit_of, load_code, load_op, near, number_begun, parts_begun, row_of, store_code, store_op, taken_code, unit_code, units_code, units_in, writing_code}
 use Rattle.op_expand.specs.Places.{after, at_register, behind_code, element_code, home_code, home_of, home_spot, index_code, place_code, place_of, power_of, reach_code, scale_code, scaled, step_code, step_spot, steps_code, steps_spot}
@@ -24,7 +24,7 @@ use Rattle.op_expand.specs.declared.homes.Home.{Home}
 use Rattle.op_expand.specs.declared.homes.Home.TheVariants.{Held, Stored, Shared}
 use Rattle.op_expand.specs.declared.spot.Spot.{Spot}
 use Rattle.op_low.specs.declared.ids.VirtualRegister.{VirtualRegister}
-use Rattle.op_low.specs.declared.instruction.Instruction.TheVariants.{Alu, Branch, Const, Local as LocalAddress, Load as LoadWord, Return as LowReturn, Shift, Store as StoreWord}
+use Rattle.op_low.specs.declared.instruction.Instruction.TheVariants.{Alu, Branch, Const, Local as LocalAddress, Load as LoadWord, Return as LowReturn, Shift, Store as StoreWord, Exit, Move}
 use Rattle.op_meaning.specs.Shapes.{shape_of, type_of_row}
 use Rattle.op_meaning.specs.Statements.{kind_of}
 use Rattle.op_mir.specs.View.{view_action, view_given, view_instruction, view_path, view_receiver, view_step}
@@ -298,7 +298,7 @@ module _ (core : Core) (frame : Frame) where
       omega (arith, p, b, one, two)
 
   return_small : (returning : Returning) → code_weight (return_code core frame returning) ≤ 22
-  return_small Ending = omega arith
+  return_small Ending = either (has_closing core) (Const (scratch_of frame.bank 0) 0 ∷ closing_call core (scratch_of frame.bank 0) ∷ Exit left ∷ []) (Const left 0 ∷ Exit left ∷ []) 22 (omega arith) (omega arith)
   return_small Nothing = omega arith
   return_small (Result of v) = either (is_composite (shape_of core of)) (parts_code core frame of v) (number_code core frame (kind_of core of) v) 22 (parts_small of v) (number_small (kind_of core of) v)
 
@@ -313,5 +313,5 @@ module _ (core : Core) (frame : Frame) where
   instruction_small mir r id (Switch t arms) = switch_small (work_of frame.bank) (register_of frame.bank t) arms
   instruction_small mir r id (Dispatch t block) = dispatch_small (work_of frame.bank) (register_of frame.bank t) block
   instruction_small mir r id (MakeDue f) = omega arith
-  instruction_small mir r id (Stop t) = omega arith
+  instruction_small mir r id (Stop t) = either (has_closing core) (closing_call core (register_of frame.bank t) ∷ []) (Move left (register_of frame.bank t) ∷ Exit left ∷ []) 3 (omega arith) (omega arith)
   instruction_small mir r id Return = return_small frame.returning

@@ -90,3 +90,21 @@ variables_named core x owner begins =
     let sum = ap names_among begins.are in
     let parts = sum_by-append (λ (p : RoleAndType). declared_by p.0) first begins.others in
     omega (arith, heading, block, many, long, split, roles, sum, parts)
+
+-- ---- and so are its parameters
+
+given_named : (core : Core) (x : Row) → x.owner ≡ OfUnit → length (rows core.parameters x.parameters) ≤ names_among (first_rows core x)
+given_named core x owner = rw owner (
+    let ps = rows core.parameters x.parameters in
+    let named = parameters_named ps in
+    let sum = sum_by-append (λ (p : RoleAndType). declared_by p.0) (parameters ps) (results x.result) in
+    omega (arith, named, sum)
+    )
+
+pub parameters_are_named : (core : Core) (x : Row) → x.owner ≡ OfUnit → HasRows core x → length (rows core.parameters x.parameters) ≤ own_names core x
+parameters_are_named core x owner begins =
+    let heading = given_named core x owner in
+    let roles = by_roles (rows core.variables x.variables) in
+    let sum = ap names_among begins.are in
+    let parts = sum_by-append (λ (p : RoleAndType). declared_by p.0) (first_rows core x) begins.others in
+    omega (arith, heading, roles, sum, parts)

@@ -1,5 +1,5 @@
 -- The code, the constants and the initial globals of an image take no more bytes than the size of the program.
-use Rattle.std.proofs.Common.{◌≡◌, ◌≤◌, ℕ, suc, ◌+◌, ◌*◌, List, [], ◌∷◌, ◌++◌, length, length-append, length-take, length-drop, map, drop, Option, Some, None, IsSome, slice_get, refl, sym, ap, subst, arith}
+use Rattle.std.proofs.Common.{◌≡◌, ◌≤◌, ℕ, suc, ◌+◌, ◌*◌, List, [], ◌∷◌, ◌++◌, length, length-append, length-take, length-drop, map, drop, Option, Some, None, IsSome, slice_get, refl, sym, ap, subst, arith, Bool, true, false, if◌then◌else◌}
 use Rattle.std.proofs.lemmas.List.Concat.{flat_map-cons}
 use Rattle.std.proofs.lemmas.List.Elements.{All-cons, All-head, All-nil, All-tail}
 use Rattle.std.proofs.lemmas.List.Sums.{sum_by-cons}
@@ -16,6 +16,9 @@ use Rattle.op_core.specs.declared.program.Unit.{Unit as UnitRow}
 use Rattle.op_core.specs.declared.routine.Body.{Body}
 use Rattle.op_core.specs.declared.routine.Owner.TheVariants.{Unit as OfUnit}
 use Rattle.op_core.specs.declared.routine.Routine.{Routine as Row}
+use Rattle.op_expand.specs.Calls.{has_closing}
+use Rattle.op_expand.specs.Closing.{closing_routines, closing_routine}
+use Rattle.op_expand.specs.Frames.{parameters_of}
 use Rattle.op_expand.specs.Programs.{first_literal, low_of, program_literal, routines_from}
 use Rattle.op_expand.specs.Routines.{behind_blocks, low_routine}
 use Rattle.op_frames.specs.Counted.{AreCountedStatements}
@@ -36,10 +39,11 @@ use Rattle.op_mir.specs.declared.code.Routine.{Routine}
 use Rattle.op_rt_text.specs.Runtime.{runtime_routines}
 use Rattle.op_select.specs.Selection.{object_routine_of, select_of}
 use Rattle.op_sizes.proofs.BytesSmall.{object_bytes, routine_bytes}
+use Rattle.op_sizes.proofs.ClosingSmall.{closing_weight, finalizations_few}
 use Rattle.op_sizes.proofs.ExpressionTexts.{both_text}
 use Rattle.op_sizes.proofs.FirstValues.{firsts_kept, initial_kept}
 use Rattle.op_sizes.proofs.LinkedSmall.{linked_less, routines_bytes}
-use Rattle.op_sizes.proofs.NamesCounted.{variables_named}
+use Rattle.op_sizes.proofs.NamesCounted.{variables_named, parameters_are_named}
 use Rattle.op_sizes.proofs.RoutinesSmall.{program_light, routine_light}
 use Rattle.op_sizes.proofs.StatementTexts.{all_keeps}
 use Rattle.op_sizes.proofs.TextsKept.{all_bytes, blocks_kept, blocks_text, code_text, routine_kept, total, total_join}
@@ -70,11 +74,13 @@ runtime_less =
 
 -- ---- a routine of the program
 
--- a body of it, with one variable more than the names that it declares
+-- a body of it, with one variable more than the names that it declares, and a name for each parameter
 record IsOwn (core : Core) (x : Row) : Type 0 where
   body : Body
   has : x.body ≡ Some body
   few : x.variables.count ≤ own_names core x + 1
+  owner : x.owner ≡ OfUnit
+  given : x.parameters.count ≤ own_names core x
 
 -- the routines, and the rows of routines, are those from number r on
 module _ (core : Core) where
@@ -111,6 +117,12 @@ module _ (core : Core) (mir : Mir) (counted : (r : ℕ) → AreCountedStatements
   text_there : (r : ℕ) (x : Row) → slice_get core.routines r ≡ Some x → (b : Body) → x.body ≡ Some b → body_literals (statements_in x.body) ≡ statements_literals ((program_of core 0).body r)
   text_there r x there b has = rw there (rw has refl)
 
+  parameters_there : (r : ℕ) (x : Row) → slice_get core.routines r ≡ Some x → x.owner ≡ OfUnit → parameters_of core r ≡ x.parameters.count
+  parameters_there r x there owner = rw (there, owner) (none_more x.parameters.count)
+    where
+      none_more : (n : ℕ) → 0 + n ≡ n
+      none_more n = omega arith
+
   texts_less : (r : ℕ) (y : Routine) → IsRoutine core r y → total (routine_literals core r y) ≤ variables_size core (rows core.variables (variables_of core r)) + (statements_literals ((program_of core 0).body r) + nodes_of (statements_weight core ((program_of core 0).body r)))
   texts_less r y is =
       let p = program_of core 0 in
@@ -124,8 +136,8 @@ module _ (core : Core) (mir : Mir) (counted : (r : ℕ) → AreCountedStatements
       let b = all_keeps core (env_of p r) first_here (p.body r) (counted r) in
       omega (arith, kept, seen, blocks, both, a, b)
 
-  -- a routine takes 804 bytes more than what is written in it counts for, if it has a result
-  one_less : (r id : ℕ) (x : Row) (y : Routine) → slice_get core.routines r ≡ Some x → IsRoutine core r y → IsOwn core x → routine_bytes (object_routine_of (low_routine core mir r id y)) + total (routine_literals core r y) ≤ row_bytes x + 804
+  -- a routine takes 484 bytes more than what is written in it counts for, if it has a result
+  one_less : (r id : ℕ) (x : Row) (y : Routine) → slice_get core.routines r ≡ Some x → IsRoutine core r y → IsOwn core x → routine_bytes (object_routine_of (low_routine core mir r id y)) + total (routine_literals core r y) ≤ row_bytes x + 484
   one_less r id x y there is own =
       let bytes = object_bytes (low_routine core mir r id y) in
       let light = routine_light core 0 r (counted r) (written r) mir id y is in
@@ -135,7 +147,10 @@ module _ (core : Core) (mir : Mir) (counted : (r : ℕ) → AreCountedStatements
       let count = ap (λ o. (variables_in o).count) there in
       let firsts = ap (λ o. variables_size core (rows core.variables (variables_in o))) there in
       let few = own.few in
-      omega (arith, bytes, light, texts, nodes, literals, count, firsts, few)
+      let given = own.given in
+      let parameters = parameters_there r x there own.owner in
+      let received = length-take (parameters_of core r) (rows core.variables (variables_of core r)) in
+      omega (arith, bytes, light, texts, nodes, literals, count, firsts, few, given, parameters, received)
 
   -- ---- all routines, from number r on
 
@@ -143,7 +158,7 @@ module _ (core : Core) (mir : Mir) (counted : (r : ℕ) → AreCountedStatements
   rows_bytes [] = 0
   rows_bytes (x ∷ xs) = row_bytes x + rows_bytes xs
 
-  routines_less : (r id : ℕ) (xs : List Row) (ys : List Routine) → length ys ≡ length xs → AreRows core r xs → AreOwn core r ys → All (IsOwn core) xs → routines_bytes (map object_routine_of (routines_from core mir r id ys)) + total (routines_literals core r ys) ≤ rows_bytes xs + 804 * length xs
+  routines_less : (r id : ℕ) (xs : List Row) (ys : List Routine) → length ys ≡ length xs → AreRows core r xs → AreOwn core r ys → All (IsOwn core) xs → routines_bytes (map object_routine_of (routines_from core mir r id ys)) + total (routines_literals core r ys) ≤ rows_bytes xs + 484 * length xs
   routines_less r id [] [] same rows_are are own = omega arith
   routines_less r id (x ∷ xs) [] same rows_are are own = omega (arith, same)
   routines_less r id [] (y ∷ ys) same rows_are are own = omega (arith, same)
@@ -230,7 +245,11 @@ own_of core x row owner = by x.body refl (row.has_body owner)
         let fits = row.runs.1 in
         let front = length-take x.variables.count (drop x.variables.first core.variables) in
         let behind = length-drop x.variables.first core.variables in
-        record { body = b; has = e; few = omega (arith, named, fits, front, behind) }
+        let given = parameters_are_named core x owner (row.begins some) in
+        let given_fits = row.runs.0 in
+        let given_front = length-take x.parameters.count (drop x.parameters.first core.parameters) in
+        let given_behind = length-drop x.parameters.first core.parameters in
+        record { body = b; has = e; few = omega (arith, named, fits, front, behind); owner = owner; given = omega (arith, given, given_fits, given_front, given_behind) }
 
 all_own : (core : Core) (xs : List Row) → All (IsRowOf core) xs → All (λ x. x.owner ≡ OfUnit) xs → All (IsOwn core) xs
 all_own core [] sound owners = All-nil (IsOwn core)
@@ -253,6 +272,18 @@ module _ (core : Core) (mir : Mir) (lowers : Lowers core mir) (sound : IsSound c
       let past : length core.routines ≤ length mir.routines = let same = lowers.number in omega (arith, same) in
       ap (λ o. (variables_in o).count) (slice_get_past core.routines (length mir.routines) past)
 
+  -- the closing, where there is one
+  closing_less : (stack : ℕ) → routines_bytes (map object_routine_of (closing_routines core mir stack)) ≤ 652 + 480 * length core.units
+  closing_less stack = by (has_closing core)
+    where
+      by : (b : Bool) → routines_bytes (map object_routine_of (if b then closing_routine core mir stack ∷ [] else [])) ≤ 652 + 480 * length core.units
+      by false = omega arith
+      by true =
+          let bytes = object_bytes (closing_routine core mir stack) in
+          let weight = closing_weight core mir stack in
+          let few = finalizations_few core.units in
+          omega (arith, bytes, weight, few)
+
   pub image_less : (stack : ℕ) (settings : Settings) → linked_size (select_of (low_of core mir stack)) (layout_of (literals_of core mir)) settings ≤ program_size core
   unfolding select_of
   image_less stack settings =
@@ -260,7 +291,8 @@ module _ (core : Core) (mir : Mir) (lowers : Lowers core mir) (sound : IsSound c
       let own = low_routine core mir program (program_literal core mir) mir.program in
       let others = routines_from core mir 0 first_literal mir.routines in
       let linked = linked_less (select_of (low_of core mir stack)) (layout_of (literals_of core mir)) settings in
-      let one = objects_join (runtime_routines ++ others) (own ∷ []) in
+      let one = objects_join (runtime_routines ++ others) (own ∷ closing_routines core mir stack) in
+      let closing = closing_less stack in
       let two = objects_join runtime_routines others in
       let runtime = runtime_less in
       let routines = routines_less core mir counted written 0 first_literal core.routines mir.routines lowers.number rows_here own_here (all_own core core.routines sound.routines owners) in
@@ -274,4 +306,4 @@ module _ (core : Core) (mir : Mir) (lowers : Lowers core mir) (sound : IsSound c
       let text = program_text core program mir.program lowers.program in
       let globals = initial_kept core stack in
       let parts = few_parts core.units in
-      omega (arith, linked, one, two, runtime, routines, summed, bytes, light, none, constants, three, four, text, globals, parts)
+      omega (arith, linked, one, closing, two, runtime, routines, summed, bytes, light, none, constants, three, four, text, globals, parts)

@@ -49,7 +49,7 @@ use Rattle.op_sizes.proofs.ExpressionsSmall.{both_size}
 use Rattle.op_sizes.proofs.ItemsSmall.{blocks_small, code_small}
 use Rattle.op_sizes.proofs.MovesSmall.{instruction_small, store_small, taken_small}
 use Rattle.op_sizes.proofs.StatementsSmall.{all_small, first_small}
-use Rattle.op_sizes.specs.Claims.{AreSmall, IsSmall}
+use Rattle.op_sizes.specs.Claims.{AreSmall, IsSmall, received_in}
 use Rattle.op_sizes.specs.Sizes.{action_size, blocks_size, code_size, instruction_size, items_size}
 use Rattle.op_sizes.specs.Weights.{blocks_weight, code_weight}
 use Rattle.op_sizes.specs.Written.{AreWrittenStatements}
@@ -73,7 +73,7 @@ module _ (core : Core) (mir : Mir) (frame : Frame) (r : ℕ) where
       let all = join front (code_of core mir frame r id b.code) in
       omega (arith, first, rest, all)
 
-low_join : (a b : List LowBlock) → blocks_weight (a ++ b) ≡ blocks_weight a + blocks_weight b
+pub low_join : (a b : List LowBlock) → blocks_weight (a ++ b) ≡ blocks_weight a + blocks_weight b
 low_join [] b = omega arith
 low_join (x ∷ a) b = let e = low_join a b in omega (arith, e)
 
@@ -115,16 +115,13 @@ module _ (core : Core) (frame : Frame) where
       let b = length-take run.count (drop run.first core.variables) in
       omega (arith, a, b)
 
-  parameters_light : (r : ℕ) → code_weight (all_received core frame 0 (take (parameters_of core r) (rows core.variables (variables_of core r)))) ≤ 2 + 8 * (variables_of core r).count
-  parameters_light r =
-      let a = all_received_light 0 (take (parameters_of core r) (rows core.variables (variables_of core r))) in
-      let b = rows_few r in
-      omega (arith, a, b)
+  parameters_light : (r : ℕ) → code_weight (all_received core frame 0 (take (parameters_of core r) (rows core.variables (variables_of core r)))) ≤ 2 + 8 * received_in core r
+  parameters_light r = let a = all_received_light 0 (take (parameters_of core r) (rows core.variables (variables_of core r))) in omega (arith, a)
 
-beginning_light : (core : Core) (frame : Frame) (r : ℕ) → code_weight (beginning core frame r) ≤ 2 + 8 * (variables_of core r).count
+beginning_light : (core : Core) (frame : Frame) (r : ℕ) → code_weight (beginning core frame r) ≤ 2 + 8 * received_in core r
 beginning_light core frame r = by frame.returning refl
   where
-    by : (o : Returning) → frame.returning ≡ o → code_weight (beginning core frame r) ≤ 2 + 8 * (variables_of core r).count
+    by : (o : Returning) → frame.returning ≡ o → code_weight (beginning core frame r) ≤ 2 + 8 * received_in core r
     by Ending e = rw e (omega arith)
     by Nothing e = rw e (parameters_light core (record frame { returning = Nothing }) r)
     by (Result of v) e = rw e (parameters_light core (record frame { returning = Result of v }) r)
@@ -151,7 +148,7 @@ module _ (core : Core) (stack r : ℕ) (counted : AreCountedStatements ((program
       let all = both_size firsts work in
       omega (arith, a, b, all)
 
-  blocks_all : (mir : Mir) (id : ℕ) (routine : Routine) → IsRoutine core r routine → blocks_weight (all_blocks core mir r id routine) ≤ 44 * nodes + 17 * (variables_of core r).count + 46
+  blocks_all : (mir : Mir) (id : ℕ) (routine : Routine) → IsRoutine core r routine → blocks_weight (all_blocks core mir r id routine) ≤ 44 * nodes + 8 * received_in core r + 9 * (variables_of core r).count + 46
   blocks_all mir id routine is =
       let frame = frame_of core r routine in
       let front = beginning core frame r in
@@ -163,8 +160,8 @@ module _ (core : Core) (stack r : ℕ) (counted : AreCountedStatements ((program
       let all = low_join (low_blocks core mir frame r id front routine.blocks) error_blocks in
       omega (arith, begins, light, seen, small, items, all)
 
-  pub routine_light : (mir : Mir) (id : ℕ) (routine : Routine) → IsRoutine core r routine → blocks_weight (low_routine core mir r id routine).blocks ≤ 44 * nodes + 17 * (variables_of core r).count + 46
-  routine_light mir id routine is = low_light core mir r id routine (44 * nodes + 17 * (variables_of core r).count + 46) (omega arith) (blocks_all mir id routine is)
+  pub routine_light : (mir : Mir) (id : ℕ) (routine : Routine) → IsRoutine core r routine → blocks_weight (low_routine core mir r id routine).blocks ≤ 44 * nodes + 8 * received_in core r + 9 * (variables_of core r).count + 46
+  routine_light mir id routine is = low_light core mir r id routine (44 * nodes + 8 * received_in core r + 9 * (variables_of core r).count + 46) (omega arith) (blocks_all mir id routine is)
 
 -- ---- single instructions
 
@@ -259,7 +256,7 @@ entering_light : (o : Option RoutineId) → code_size (entering o) ≤ 6
 entering_light None = omega arith
 entering_light (Some r) = omega arith
 
-due_light : (o : Option RoutineId) → code_size (becoming_due o) ≤ 1
+due_light : (o : Option RoutineId) → code_size (becoming_due o) ≤ 4
 due_light None = omega arith
 due_light (Some r) = omega arith
 
@@ -267,7 +264,7 @@ code_join : (a b : List Instr) → code_size (a ++ b) ≡ code_size a + code_siz
 code_join [] b = omega arith
 code_join (i ∷ a) b = let e = code_join a b in omega (arith, e)
 
-units_light : (us : List UnitRow) → code_size (flat_map unit_code us) ≤ 7 * length us
+units_light : (us : List UnitRow) → code_size (flat_map unit_code us) ≤ 10 * length us
 units_light [] = omega arith
 units_light (u ∷ us) =
     let a = entering_light u.initialization in
@@ -286,11 +283,12 @@ units_each (u ∷ us) =
     let one = code_join (entering u.initialization) (becoming_due u.finalization) in
     subst (Every (IsLight 22)) (sym (flat_map-cons unit_code u us)) (every_append (IsLight 22) (unit_code u) (flat_map unit_code us) (each_light 22 (unit_code u) (omega (arith, a, b, one))) (units_each us))
 
-pub program_light : (core : Core) (mir : Mir) (r id : ℕ) (routine : Routine) → IsProgram core.units routine → AreSmall core mir 22 routine × (blocks_weight (low_routine core mir r id routine).blocks ≤ 7 * length core.units + 17 * (variables_of core r).count + 68)
+pub program_light : (core : Core) (mir : Mir) (r id : ℕ) (routine : Routine) → IsProgram core.units routine → AreSmall core mir 22 routine × (blocks_weight (low_routine core mir r id routine).blocks ≤ 10 * length core.units + 17 * (variables_of core r).count + 68)
 program_light core mir r id routine is =
     let frame = frame_of core r routine in
     let front = beginning core frame r in
     let begins = beginning_light core frame r in
+    let rows_there = rows_few core frame r in
     let light = blocks_light core mir frame r id front routine.blocks in
     let seen = ap blocks_size (is.blocks core r) in
     let units = units_light core.units in
@@ -298,7 +296,7 @@ program_light core mir r id routine is =
     let all = low_join (low_blocks core mir frame r id front routine.blocks) error_blocks in
     let returns : 22 ≤ 22 = omega arith in
     let each = every_append (IsLight 22) (flat_map unit_code core.units) (ret ∷ []) (units_each core.units) (returns, tt) in
-    let most = 7 * length core.units + 17 * (variables_of core r).count + 68 in (
+    let most = 10 * length core.units + 17 * (variables_of core r).count + 68 in (
       blocks_of_each core mir r 22 routine.blocks (subst (Every (Every (IsLight 22))) (sym (is.blocks core r)) (each, ((returns, tt), tt))),
-      low_light core mir r id routine most (omega arith) (omega (arith, begins, light, seen, units, whole, all)),
+      low_light core mir r id routine most (omega arith) (omega (arith, begins, rows_there, light, seen, units, whole, all)),
     )

@@ -1,11 +1,13 @@
 -- What is proved of the size of low code and of images.
-use Rattle.std.specs.Prelude.{◌≡◌, ◌≤◌, ℕ, ◌+◌, ◌*◌, List, Some, length, slice_get}
+use Rattle.std.specs.Prelude.{◌≡◌, ◌≤◌, ℕ, ◌+◌, ◌*◌, List, Some, length, slice_get, take}
 use Rattle.std.specs.List.{All}
 use Rattle.op_constants.specs.Literals.{literals_of}
+use Rattle.op_core.specs.Rows.{rows}
 use Rattle.op_core.specs.Sound.{IsSound}
 use Rattle.op_core.specs.declared.program.Core.{Core}
 use Rattle.op_core.specs.declared.routine.Owner.TheVariants.{Unit as OfUnit}
 use Rattle.op_core.specs.declared.routine.Routine.{Routine as Row}
+use Rattle.op_expand.specs.Frames.{parameters_of}
 use Rattle.op_expand.specs.Programs.{low_of}
 use Rattle.op_expand.specs.Routines.{instruction_code, low_routine}
 use Rattle.op_expand.specs.declared.frame.Frame.{Frame}
@@ -46,18 +48,23 @@ InstructionsAreSmall =
     → AreCountedStatements ((program_of core stack).body r) → AreWrittenStatements ((program_of core stack).body r)
     → AreSmall core mir (3 * charge_of core (record { 0 = r })) routine
 
--- all blocks of a routine, with its beginning and the blocks of errors: 44 for each node of its body, 17 for each of its variables
+-- how many parameters a routine receives
+abbrev pub received_in : Core → ℕ → ℕ
+received_in core r = length (take (parameters_of core r) (rows core.variables (variables_of core r)))
+
+-- all blocks of a routine, with its beginning and the blocks of errors: 44 for each node of its body, 9 for each of its variables, and 8 more for
+-- each parameter
 abbrev pub RoutinesAreSmall : Type 0
 RoutinesAreSmall =
     (core : Core) (mir : Mir) (stack r id : ℕ) (routine : Routine) → IsRoutine core r routine
     → AreCountedStatements ((program_of core stack).body r) → AreWrittenStatements ((program_of core stack).body r)
-    → blocks_weight (low_routine core mir r id routine).blocks ≤ 44 * nodes_of (statements_weight core ((program_of core stack).body r)) + 17 * (variables_of core r).count + 46
+    → blocks_weight (low_routine core mir r id routine).blocks ≤ 44 * nodes_of (statements_weight core ((program_of core stack).body r)) + 8 * received_in core r + 9 * (variables_of core r).count + 46
 
 -- what stands below all routines: one instruction, and all blocks by the units whose parts it enters
 abbrev pub ProgramIsSmall : Type 0
 ProgramIsSmall =
     (core : Core) (mir : Mir) (r id : ℕ) (routine : Routine) → IsProgram core.units routine
-    → AreSmall core mir 22 routine × (blocks_weight (low_routine core mir r id routine).blocks ≤ 7 * length core.units + 17 * (variables_of core r).count + 68)
+    → AreSmall core mir 22 routine × (blocks_weight (low_routine core mir r id routine).blocks ≤ 10 * length core.units + 17 * (variables_of core r).count + 68)
 
 -- what is linked of a program without methods takes no more bytes than the size of the program
 abbrev pub ImagesAreSmall : Type 0

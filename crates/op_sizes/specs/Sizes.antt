@@ -63,8 +63,8 @@ instruction_size (when t k) = 2
 instruction_size (unless t k) = 2
 instruction_size (switch t arms) = 1 + arms_size arms
 instruction_size (dispatch t k) = 6
-instruction_size (make_due f) = 1
-instruction_size (stop t) = 2
+instruction_size (make_due f) = 4
+instruction_size (stop t) = 3
 instruction_size ret = 22
 
 abbrev pub code_size : List Instr → ℕ
@@ -93,7 +93,7 @@ abbrev mutual
   item_size (protect t keep items finalization) = 14 + (items_size items + items_size finalization)
   item_size (leave what) = 2
   item_size (enter r given receiver) = call_size given receiver
-  item_size (halt t) = 2
+  item_size (halt t) = 3
   item_size (finish keep) = 0
   item_size (attempt keep items cs) = 0
   item_size (throw t) = 0
