@@ -10,7 +10,7 @@ ghost use Rattle.op_tree.specs.Statement.{elements_of, stmt_of, stmts_of};
 
 use crate::expression::{designator, elements, expression};
 use crate::name::{name, qualified_name};
-use crate::printer::{Printer, indent, line, outdent, tight, word};
+use crate::printer::{Printer, indent, line, outdent, tight, word, word_at};
 use op_base::NoMemory;
 use op_tree::{Branch, Direction, Handler, Name, QualifiedName, Stmt};
 
@@ -128,13 +128,22 @@ fn statement(page: &mut Printer, stmt: &Stmt) -> Result<(), NoMemory>
         } => {
             print_all!(page: guarded(body), handlers(list), word(b"else"), block_end(otherwise))
         }
-        Stmt::Raise { exception, .. } => print_all!(page: word(b"raise"), expression(exception)),
-        Stmt::Reraise { .. } => word(page, b"raise"),
-        Stmt::Inherited { .. } => word(page, b"inherited"),
-        Stmt::InheritedCall { call, .. } => print_all!(page: word(b"inherited"), designator(call)),
+        Stmt::Raise {
+            position,
+            exception,
+        } => print_all!(page: word_at(position.switches, b"raise"), expression(exception)),
+        Stmt::Reraise { position } => word_at(page, position.switches, b"raise"),
+        Stmt::Inherited { position } => word_at(page, position.switches, b"inherited"),
+        Stmt::InheritedCall { position, call } => {
+            print_all!(page: word_at(position.switches, b"inherited"), designator(call))
+        }
         Stmt::Call(call) => designator(page, call),
-        Stmt::Assign { target, value, .. } => {
-            print_all!(page: designator(target), word(b":="), expression(value))
+        Stmt::Assign {
+            target,
+            position,
+            value,
+        } => {
+            print_all!(page: designator(target), word_at(position.switches, b":="), expression(value))
         }
     }
 }
