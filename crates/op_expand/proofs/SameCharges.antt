@@ -67,14 +67,16 @@ low_is routines others entry first literals counted globals zeros e f g h = rw (
 pub routines_are : (core : Core) (charges mir : Mir) (fixed front now last all : List LowRoutine) (stack id literal : ℕ) → charges ≡ without_code mir → front ≡ fixed → now ≡ front ++ routines_from core charges 0 first_literal mir.routines → id ≡ length mir.routines → literal ≡ program_literal core mir → last ≡ now ++ low_routine core charges id literal mir.program ∷ [] → all ≡ last ++ closing_routines core charges stack → all ≡ fixed ++ routines_from core mir 0 first_literal mir.routines ++ low_routine core mir (length mir.routines) (program_literal core mir) mir.program ∷ closing_routines core mir stack
 routines_are core charges mir fixed front now last all stack id literal e f g h i j k =
     let program = length mir.routines in
-    let own = low_routine core (without_code mir) program (program_literal core mir) mir.program in
-    rw (k, j, g, f, h, i, e) (
-    ap (λ rs. ((fixed ++ rs) ++ own ∷ []) ++ closing_routines core (without_code mir) stack) (same_routines core mir 0 first_literal mir.routines)
-    ∙ append_assoc (fixed ++ routines_from core mir 0 first_literal mir.routines) (own ∷ []) (closing_routines core (without_code mir) stack)
-    ∙ append_assoc fixed (routines_from core mir 0 first_literal mir.routines) (own ∷ closing_routines core (without_code mir) stack)
-    ∙ ap (λ r. fixed ++ routines_from core mir 0 first_literal mir.routines ++ r ∷ closing_routines core (without_code mir) stack) (same_routine core mir program (program_literal core mir) mir.program)
-    ∙ ap (λ rs. fixed ++ routines_from core mir 0 first_literal mir.routines ++ low_routine core mir program (program_literal core mir) mir.program ∷ rs) (same_closing core mir stack)
-    )
+    let bare = without_code mir in
+    let whole : List LowRoutine → Mir → ℕ → ℕ → List LowRoutine = λ front c id literal. ((front ++ routines_from core c 0 first_literal mir.routines) ++ low_routine core c id literal mir.program ∷ []) ++ closing_routines core c stack in
+    let front_is : all ≡ whole front charges id literal = k ∙ ap (λ x. x ++ closing_routines core charges stack) (j ∙ ap (λ x. x ++ low_routine core charges id literal mir.program ∷ []) g) in
+    let bare_is : whole front charges id literal ≡ whole fixed bare program (program_literal core mir) =
+    ap (λ c. whole front c id literal) e ∙ ap (λ x. whole x bare id literal) f ∙ ap (λ n. whole fixed bare n literal) h ∙ ap (λ n. whole fixed bare program n) i in
+    let all_is : whole fixed bare program (program_literal core mir) ≡ whole fixed mir program (program_literal core mir) =
+    ap (λ rs. ((fixed ++ rs) ++ low_routine core bare program (program_literal core mir) mir.program ∷ []) ++ closing_routines core bare stack) (same_routines core mir 0 first_literal mir.routines)
+    ∙ ap (λ r. ((fixed ++ routines_from core mir 0 first_literal mir.routines) ++ r ∷ []) ++ closing_routines core bare stack) (same_routine core mir program (program_literal core mir) mir.program)
+    ∙ ap (λ rs. ((fixed ++ routines_from core mir 0 first_literal mir.routines) ++ low_routine core mir program (program_literal core mir) mir.program ∷ []) ++ rs) (same_closing core mir stack) in
+    front_is ∙ bare_is ∙ all_is ∙ append_assoc (fixed ++ routines_from core mir 0 first_literal mir.routines) (low_routine core mir program (program_literal core mir) mir.program ∷ []) (closing_routines core mir stack)
 
 pub literals_are : (core : Core) (mir : Mir) (id literal : ℕ) → id ≡ length mir.routines → literal ≡ program_literal core mir → behind_blocks core id literal mir.program.blocks ≡ behind_blocks core (length mir.routines) (program_literal core mir) mir.program.blocks
 literals_are core mir id literal e f = ap (λ n. behind_blocks core n literal mir.program.blocks) e ∙ ap (λ n. behind_blocks core (length mir.routines) n mir.program.blocks) f
