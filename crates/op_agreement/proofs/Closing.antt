@@ -7,7 +7,6 @@ use Rattle.std.specs.Int.{w32, int_rem_euclid}
 use Rattle.std.proofs.lemmas.Bool.{cases_lt}
 use Rattle.std.proofs.lemmas.Bool.Decides.{nat_tests}
 use Rattle.std.proofs.lemmas.Int.{to_z_pos}
-
 use Rattle.op_compute.specs.Bank.{register_of, scratch_of, work_of}
 use Rattle.op_compute.specs.Meaning.{IsWordOf}
 use Rattle.op_compute.specs.Straight.{at}

@@ -251,39 +251,42 @@ module _ (g : Setting) (fit : IsFitting g) (loaded : IsLoaded g) (input : List �
         to = begun told rest;
         goes = goes_from g 0 (low_begins g input) (begun (slice_index []) (begun_with_stack g.core ++ rest)) (begun told rest) (begins_is (begun_with_stack g.core ++ rest) now)
             (goes_fewer g 2 0 (begun (slice_index []) (begun_with_stack g.core ++ rest)) (begun told rest) (omega arith) (goes_then g 1 1 2 (begun (slice_index []) (begun_with_stack g.core ++ rest)) (begun with_address (Load Lw left left (pos 0) ∷ rest)) (begun told rest) (omega arith) (addressed (Load Lw left left (pos 0) ∷ rest)) (loads rest)));
-        stands = (still_due, stands_on g (mir_start (program_in g) input) (begun told rest) refl refl (record {
-          floors = floors_first;
-          stays = record {
-            running = refl;
-            plain = record { raised = refl; made = refl; temps = λ t. tt; memory = first_nameless g };
-            pending = subst (ArePending (finalizations g.core)) (sym loaded.pending) (record { few = omega arith; are = refl });
-            depth = refl;
-            activation = record {
-              floor = floor_first;
-              number = refl;
-              same = loaded.entry;
-              kept = record {
-                variables = λ v r variable home. absurd (no_variable v false variable);
-                references = λ v variable. absurd (no_variable v true variable);
-                words = λ v variable. absurd (no_variable v true variable);
-                temporaries = λ t low. record { number = by t; bound = subst (λ x. x < 2 ^ 32) (sym (zeroth t)) (omega arith) };
+        stands = (
+          still_due,
+          stands_on g (mir_start (program_in g) input) (begun told rest) refl refl (record {
+            floors = floors_first;
+            stays = record {
+              running = refl;
+              plain = record { raised = refl; made = refl; temps = λ t. tt; memory = first_nameless g };
+              pending = subst (ArePending (finalizations g.core)) (sym loaded.pending) (record { few = omega arith; are = refl });
+              depth = refl;
+              activation = record {
+                floor = floor_first;
+                number = refl;
+                same = loaded.entry;
+                kept = record {
+                  variables = λ v r variable home. absurd (no_variable v false variable);
+                  references = λ v variable. absurd (no_variable v true variable);
+                  words = λ v variable. absurd (no_variable v true variable);
+                  temporaries = λ t low. record { number = by t; bound = subst (λ x. x < 2 ^ 32) (sym (zeroth t)) (omega arith) };
+                };
+                left = omega arith;
+                base = ap (λ n. g.bottom + n) locals_are;
+                enough = omega arith;
+                top = omega arith;
               };
-              left = omega arith;
-              base = ap (λ n. g.bottom + n) locals_are;
-              enough = omega arith;
-              top = omega arith;
+              callers = (refl, ap (λ n. g.bottom + n) locals_are);
+              lie = lies_first;
+              fixed = λ x low fixed. low_kept x low;
+              due = subst (λ pending. IsCounted g (length pending) memory_first) (sym loaded.pending) (count_below g fit 0 g.loaded memory_first low_kept (λ some. let none : g.stack ≡ g.stack + 0 = omega arith in loaded.stack_told ∙ none));
+              bytes = λ x low. byte x (cases_lt x g.bottom) low;
+              output = refl;
+              errors = refl;
+              input = refl;
             };
-            callers = (refl, ap (λ n. g.bottom + n) locals_are);
-            lie = lies_first;
-            fixed = λ x low fixed. low_kept x low;
-            due = subst (λ pending. IsCounted g (length pending) memory_first) (sym loaded.pending) (count_below g fit 0 g.loaded memory_first low_kept (λ some. let none : g.stack ≡ g.stack + 0 = omega arith in loaded.stack_told ∙ none));
-            bytes = λ x low. byte x (cases_lt x g.bottom) low;
-            output = refl;
-            errors = refl;
-            input = refl;
-          };
-          position = position;
-        }));
+            position = position;
+          }),
+        );
       }
     where
       zeroth : (t : ℕ) → told ((floors_first 0).frame.bank.temporaries + t) ≡ 0
