@@ -134,7 +134,6 @@ impl Declarer {
     {
         self.reopen(unit)?;
         self.all_declared_in(&unit.declarations)?;
-        self.export(&unit.name)?;
         self.all_completed();
         let initialization = self.part(&unit.name, &unit.initialization)?;
         let finalization = self.part(&unit.name, &unit.finalization)?;
