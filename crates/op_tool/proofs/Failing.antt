@@ -4,12 +4,14 @@ use Rattle.op_emu.specs.Acts.{streams, faults}
 use Rattle.op_link.specs.declared.memory_map.Settings.{Settings}
 use Rattle.op_tool.specs.Command.{Asked}
 use Rattle.op_tool.specs.Compiles.{FailsAs, FailsToCheck}
-use Rattle.op_tool.specs.Effects.{Says, line}
-use Rattle.op_tool.specs.Owes.{Call, OwesBuild, OwesCheck, OwesError, OwesExec, OwesList, ReportsError}
+use Rattle.op_tool.specs.Effects.{Effect, OnlyReports, Says, line}
+use Rattle.op_tool.specs.Owes.{Call, OwesBuild, OwesCheck, OwesCommand, OwesError, OwesExec, OwesList, ReportsError}
+use Rattle.op_tool.specs.declared.command.Verb.{Verb}
+use Rattle.op_tool.specs.declared.command.Verb.TheVariants as verb
 use Rattle.op_tool.specs.declared.compiler.CompileError.{CompileError}
 use Rattle.op_tool.specs.declared.compiler.CompileError.TheVariants as errors
 use Rattle.op_tool.specs.declared.finish.Finish.{Finish}
-use Rattle.op_tool.specs.declared.finish.Finish.TheVariants.{ReadFault, Limit}
+use Rattle.op_tool.specs.declared.finish.Finish.TheVariants.{ReadFault, Limit, NoMemory}
 use Rattle.op_tool.proofs.Saying.{says_also, says_no_memory, says_refused, says_report}
 
 says_error : (now : Call) (name : List ℕ) (settings : Settings) (error : CompileError) (answer : Finish) (i o e e' : Option (List ℕ)) (r r' n c c' : ℕ) → FailsAs now.stored name settings now.file_faults_before now.file_faults_after error → now.input_faults_after ≡ now.input_faults_before → now.image ≡ [] → ReportsError error answer e e' c c' → Says (OwesError now name settings) answer (streams i i o o e e') (faults r r' n n c c')
@@ -42,3 +44,11 @@ says_check_error now name errors.ReadFault answer i o e e' r r' n c c' rose same
 says_check_error now name errors.Limit answer i o e e' r r' n c c' never same empty is = absurd never
 says_check_error now name errors.NoMemory answer i o e e' r r' n c c' free same empty is =
     says_no_memory (OwesCheck now name) answer i o e e' r r' n c c' (λ done only. (empty, only)) is
+
+-- want of memory before anything was done
+pub owes_no_memory : (one : Verb) (now : Call) (asked : Asked) (done : Effect) → now.image ≡ [] → OnlyReports (line (codes "opc: out of memory")) done → OwesCommand one now asked NoMemory done
+owes_no_memory verb.Exec now asked done empty only = inl (empty, only)
+owes_no_memory verb.Build now asked done empty only = inl (empty, only)
+owes_no_memory verb.Check now asked done empty only = (empty, only)
+owes_no_memory verb.List now asked done empty only = inl (empty, only)
+owes_no_memory verb.Run now asked done empty only = only

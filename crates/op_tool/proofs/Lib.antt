@@ -4,8 +4,10 @@ pub mod Executing
 pub mod Failing
 pub mod Grows
 pub mod Numbers
+pub mod Parsing
 pub mod Reading
 pub mod Running
 pub mod RunningFiles
 pub mod Saying
+pub mod Telling
 pub mod Words

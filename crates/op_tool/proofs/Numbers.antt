@@ -1,5 +1,5 @@
 -- The numbers of the command line.
-use Rattle.std.proofs.Common.{◌≡◌, ℕ, ◌<◌, ◌≤◌, ◌^◌, Bool, true, false, ◌&&◌, if◌then◌else◌, nat_eq, nat_lt, nat_le, Option, Some, None, List, [], ◌∷◌, length, cond, drop, refl, ap, sym, ◌∙◌, subst, arith, codes}
+use Rattle.std.proofs.Common.{◌≡◌, ℕ, ◌<◌, ◌≤◌, ◌^◌, Bool, true, false, not, ◌&&◌, if◌then◌else◌, nat_eq, nat_lt, nat_le, Option, Some, None, List, [], ◌∷◌, length, cond, drop, refl, ap, sym, ◌∙◌, subst, arith, codes}
 use Rattle.std.proofs.lemmas.Bool.Decides.{nat_tests}
 use Rattle.std.specs.Char.{digit_value}
 use Rattle.std.specs.List.{starts_with}
@@ -12,6 +12,10 @@ use Rattle.op_tool.specs.Reading.{are_digits, is_in, number_in}
 pub both : (a b : Bool) → (a && b) ≡ true → (a ≡ true) × (b ≡ true)
 both true b h = (refl, h)
 both false b h = absurd cc
+
+pub not_true : (b : Bool) → not b ≡ true → b ≡ false
+not_true true is = absurd cc
+not_true false is = refl
 
 pub both_are : (a b : Bool) → a ≡ true → b ≡ true → (a && b) ≡ true
 both_are true b p q = q
@@ -91,11 +95,11 @@ without : (b : Bool) (d : ℕ) (ds : List ℕ) → b ≡ false → drop (cond b 
 without true d ds is = absurd cc
 without false d ds is = refl
 
-alone : (b : Bool) → (b && true) ≡ false → b ≡ false
+pub alone : (b : Bool) → (b && true) ≡ false → b ≡ false
 alone true is = is
 alone false is = refl
 
-turned : (a b : ℕ) → nat_eq a b ≡ false → nat_eq b a ≡ false
+pub turned : (a b : ℕ) → nat_eq a b ≡ false → nat_eq b a ≡ false
 turned a b is = grind (arith, nat_tests)
 
 pub no_plus : (digits : List ℕ) → starts_with nat_eq digits (codes "+") ≡ false → without_leading_plus digits ≡ digits

@@ -1,111 +1,114 @@
--- What the reading of the words finds is what they ask for.
-use Rattle.std.proofs.Common.{◌≡◌, ℕ, Bool, true, false, ◌&&◌, ◌||◌, if◌then◌else◌, Option, Some, None, is_none, is_some, unwrap_or, List, [], ◌∷◌, ◌++◌, codes, bytes_eq, IfSome, MatchOption, nat_le, ◌≤◌, arith, refl, ap, sym, ◌∙◌, subst}
+-- The words that pass the tests are those that ask for something.
+use Rattle.std.proofs.Common.{◌≡◌, ℕ, Bool, true, false, not, ◌&&◌, if◌then◌else◌, Option, Some, None, is_some, List, [], ◌∷◌, ◌++◌, codes, bytes_eq, nat_le, ◌≤◌, arith, refl, ap, sym, ◌∙◌, subst}
 use Rattle.std.proofs.lemmas.Bool.Decides.{nat_tests}
-use Rattle.std.proofs.lemmas.Option.{option_and_then_some}
 use Rattle.std.proofs.lemmas.Slice.Eq.{bytes_eq-Decides}
 use Rattle.std.specs.List.{flat_map}
-use Rattle.std.specs.Option.{option_and_then, option_map}
+use Rattle.std.specs.Option.{option_map_or}
 use Rattle.op_link.specs.Memory.{are_in_range}
-use Rattle.op_tool.proofs.Numbers.{both, both_are, if_some, if_true, number_found, number_read}
-use Rattle.op_tool.specs.Command.{Asked, IsAtMostOneCommand, IsCommand, IsGiven, IsNoCommand, Piece, Range, heap_of, heap_range, is_name, is_operand, operands_of, stack_of, stack_range, step_range, steps_of, makes_image, runs_image, the_heap, the_operand, the_stack, the_steps, word_of, words_of}
-use Rattle.op_tool.specs.Reading.{Said, verb_of, asked_by, asked_in, asked_of, command_in, first_given, name_in, nothing, number_in, read, takes, with_heap, with_operand, with_option, with_stack, with_steps}
+use Rattle.op_tool.proofs.Numbers.{both, both_are, if_some, if_true, not_true, number_found, number_read}
+use Rattle.op_tool.specs.Command.{Asked, IsCommand, IsGiven, IsNoCommand, IsSomeCommand, Piece, Range, heap_of, heap_range, is_name, is_operand, operands_of, stack_of, stack_range, step_range, steps_of, makes_image, runs_image, the_heap, the_operand, the_stack, the_steps, word_of, words_of}
+use Rattle.op_tool.specs.Reading.{completes, is_command, is_given, nothing, number_in, verb_of, with_heap, with_option, with_stack, with_steps}
+use Rattle.op_tool.specs.declared.command.Met.{Met}
 use Rattle.op_tool.specs.declared.command.Verb.{Verb}
 use Rattle.op_tool.specs.declared.command.Verb.TheVariants as verb
-use Rattle.op_tool.specs.declared.command.Command.{Command}
 
--- ---- one value
+-- ---- parts of one kind
 
--- what the values of one kind make of what was said
-abbrev pub Fills : {A : Type 0} → (List ℕ → Option A) → Option A → List (List ℕ) → Option A → Type 0
-Fills meant old [] new = new ≡ old
-Fills meant old (value ∷ []) new = (old ≡ None) × (meant value ≡ new) × (is_some new ≡ true)
-Fills meant old (value ∷ again ∷ more) new = ⊥
+-- at most one of these values, which passes, and none where one was met before
+abbrev pub Once : (List ℕ → Bool) → Bool → List (List ℕ) → Type 0
+Once passes met [] = Unit {0}
+Once passes met (value ∷ []) = (met ≡ false) × (passes value ≡ true)
+Once passes met (value ∷ again ∷ more) = ⊥
 
-given : {A S : Type 0} (make : A → S) (before value : Option A) (made : S) → option_map make (first_given before value) ≡ Some made → (a : A) × (before ≡ None) × (value ≡ Some a) × (make a ≡ made)
-given make None None made is = absurd cc
-given make None (Some a) made is = (a, refl, refl, cc)
-given make (Some b) value made is = absurd cc
+-- one was met, or stands here
+abbrev pub HasOne : Bool → List (List ℕ) → Type 0
+HasOne met [] = met ≡ true
+HasOne met (value ∷ more) = Unit {0}
 
-give : {A S : Type 0} (make : A → S) (before value : Option A) (a : A) → before ≡ None → value ≡ Some a → option_map make (first_given before value) ≡ Some (make a)
-give make None None a none some = absurd cc
-give make None (Some b) a none some = let same : b ≡ a = cc in ap (λ x. Some (make x)) same
-give make (Some b) value a none some = absurd cc
+has_met : (values : List (List ℕ)) → HasOne true values
+has_met [] = refl
+has_met (value ∷ more) = tt
 
-fills_first : {A : Type 0} (meant : List ℕ → Option A) (old new : Option A) (value : List ℕ) (values : List (List ℕ)) (a : A) → old ≡ None → meant value ≡ Some a → Fills meant (Some a) values new → Fills meant old (value ∷ values) new
-fills_first meant old new value [] a none some same = (none, some ∙ sym same, ap is_some same)
-fills_first meant old new value (v ∷ []) a none some (never, meant_so, is) = absurd cc
-fills_first meant old new value (v ∷ w ∷ more) a none some never = absurd never
+once_first : (passes : List ℕ → Bool) (met : Bool) (value : List ℕ) (values : List (List ℕ)) → met ≡ false → passes value ≡ true → Once passes true values → Once passes met (value ∷ values)
+once_first passes met value [] none is once = (none, is)
+once_first passes met value (v ∷ []) none is (never, so) = absurd cc
+once_first passes met value (v ∷ w ∷ more) none is never = absurd never
 
-fill_of : {A : Type 0} (meant : List ℕ → Option A) (old new : Option A) (value : List ℕ) → old ≡ None → meant value ≡ new → is_some new ≡ true → (a : A) × (old ≡ None) × (meant value ≡ Some a) × (new ≡ Some a)
-fill_of meant old None value none some is = absurd cc
-fill_of meant old (Some a) value none some is = (a, none, some, refl)
+first_once : (passes : List ℕ → Bool) (met : Bool) (value : List ℕ) (values : List (List ℕ)) → Once passes met (value ∷ values) → (met ≡ false) × (passes value ≡ true) × Once passes true values
+first_once passes met value [] (none, is) = (none, is, tt)
+first_once passes met value (v ∷ more) never = absurd never
 
-first_fill : {A : Type 0} (meant : List ℕ → Option A) (old new : Option A) (value : List ℕ) (values : List (List ℕ)) → Fills meant old (value ∷ values) new → (a : A) × (old ≡ None) × (meant value ≡ Some a) × Fills meant (Some a) values new
-first_fill meant old new value [] (none, some, is) = fill_of meant old new value none some is
-first_fill meant old new value (v ∷ more) never = absurd never
+-- ---- words that pass
 
--- ---- pieces
-
--- what these words make of what was said
-pub record Adds (old : Said) (words : List (List ℕ)) (new : Said) : Type 0 where
+-- these words are pieces that may stand behind what was met, and complete a line of the command with it
+pub record Adds (one : Verb) (met : Met) (words : List (List ℕ)) : Type 0 where
   pub pieces : List Piece
   pub are : words ≡ flat_map words_of pieces
-  pub operand : Fills name_in old.operand (flat_map operands_of pieces) new.operand
-  pub steps : Fills (number_in step_range) old.steps (flat_map steps_of pieces) new.steps
-  pub heap : Fills (number_in heap_range) old.heap (flat_map heap_of pieces) new.heap
-  pub stack : Fills (number_in stack_range) old.stack (flat_map stack_of pieces) new.stack
+  pub operand : Once (is_operand one) met.operand (flat_map operands_of pieces)
+  pub has_operand : HasOne met.operand (flat_map operands_of pieces)
+  pub steps : Once (is_given (runs_image one) step_range) met.steps (flat_map steps_of pieces)
+  pub heap : Once (is_given (makes_image one) heap_range) met.heap (flat_map heap_of pieces)
+  pub stack : Once (is_given (makes_image one) stack_range) met.stack (flat_map stack_of pieces)
 
-add_operand : (name : List ℕ) (rest : List (List ℕ)) (old middle new : Said) → with_operand name old ≡ Some middle → Adds middle rest new → Adds old (name ∷ rest) new
-unfolding with_operand
-add_operand name rest old middle new is adds =
-    let made = given (λ value. record old { operand = Some value }) old.operand (name_in name) middle is in
-    let more = subst (λ said. Adds said rest new) (sym made.3) adds in
+add_operand : (one : Verb) (name : List ℕ) (rest : List (List ℕ)) (met : Met) → (not met.operand && (is_operand one name && completes one None (record met { operand = true }) rest)) ≡ true
+    → (completes one None (record met { operand = true }) rest ≡ true → Adds one (record met { operand = true }) rest) → Adds one met (name ∷ rest)
+add_operand one name rest met is adds =
+    let first = both (not met.operand) (is_operand one name && completes one None (record met { operand = true }) rest) is in
+    let second = both (is_operand one name) (completes one None (record met { operand = true }) rest) first.1 in
+    let more = adds second.1 in
     record {
       pieces = the_operand name ∷ more.pieces;
       are = ap (λ words. name ∷ words) more.are;
-      operand = fills_first name_in old.operand new.operand name (flat_map operands_of more.pieces) made.0 made.1 made.2 more.operand;
+      operand = once_first (is_operand one) met.operand name (flat_map operands_of more.pieces) (not_true met.operand first.0) second.0 more.operand;
+      has_operand = tt;
       steps = more.steps;
       heap = more.heap;
       stack = more.stack;
     }
 
-add_steps : (digits : List ℕ) (rest : List (List ℕ)) (old middle new : Said) → with_steps digits old ≡ Some middle → Adds middle rest new → Adds old (codes "--steps" ∷ digits ∷ rest) new
-add_steps digits rest old middle new is adds =
-    let made = given (λ value. record old { steps = Some value }) old.steps (number_in step_range digits) middle is in
-    let more = subst (λ said. Adds said rest new) (sym made.3) adds in
+add_steps : (one : Verb) (digits : List ℕ) (rest : List (List ℕ)) (met more : Met) → with_steps one digits met ≡ Some more → Adds one more rest → Adds one met (codes "--steps" ∷ digits ∷ rest)
+add_steps one digits rest met more is adds =
+    let made = if_some (not met.steps && is_given (runs_image one) step_range digits) (record met { steps = true }) more is in
+    let parts = both (not met.steps) (is_given (runs_image one) step_range digits) made.0 in
+    let further = subst (λ m. Adds one m rest) (sym made.1) adds in
     record {
-      pieces = the_steps digits ∷ more.pieces;
-      are = ap (λ words. codes "--steps" ∷ digits ∷ words) more.are;
-      operand = more.operand;
-      steps = fills_first (number_in step_range) old.steps new.steps digits (flat_map steps_of more.pieces) made.0 made.1 made.2 more.steps;
-      heap = more.heap;
-      stack = more.stack;
+      pieces = the_steps digits ∷ further.pieces;
+      are = ap (λ words. codes "--steps" ∷ digits ∷ words) further.are;
+      operand = further.operand;
+      has_operand = further.has_operand;
+      steps = once_first (is_given (runs_image one) step_range) met.steps digits (flat_map steps_of further.pieces) (not_true met.steps parts.0) parts.1 further.steps;
+      heap = further.heap;
+      stack = further.stack;
     }
 
-add_heap : (digits : List ℕ) (rest : List (List ℕ)) (old middle new : Said) → with_heap digits old ≡ Some middle → Adds middle rest new → Adds old (codes "--heap" ∷ digits ∷ rest) new
-add_heap digits rest old middle new is adds =
-    let made = given (λ value. record old { heap = Some value }) old.heap (number_in heap_range digits) middle is in
-    let more = subst (λ said. Adds said rest new) (sym made.3) adds in
+add_heap : (one : Verb) (digits : List ℕ) (rest : List (List ℕ)) (met more : Met) → with_heap one digits met ≡ Some more → Adds one more rest → Adds one met (codes "--heap" ∷ digits ∷ rest)
+add_heap one digits rest met more is adds =
+    let made = if_some (not met.heap && is_given (makes_image one) heap_range digits) (record met { heap = true }) more is in
+    let parts = both (not met.heap) (is_given (makes_image one) heap_range digits) made.0 in
+    let further = subst (λ m. Adds one m rest) (sym made.1) adds in
     record {
-      pieces = the_heap digits ∷ more.pieces;
-      are = ap (λ words. codes "--heap" ∷ digits ∷ words) more.are;
-      operand = more.operand;
-      steps = more.steps;
-      heap = fills_first (number_in heap_range) old.heap new.heap digits (flat_map heap_of more.pieces) made.0 made.1 made.2 more.heap;
-      stack = more.stack;
+      pieces = the_heap digits ∷ further.pieces;
+      are = ap (λ words. codes "--heap" ∷ digits ∷ words) further.are;
+      operand = further.operand;
+      has_operand = further.has_operand;
+      steps = further.steps;
+      heap = once_first (is_given (makes_image one) heap_range) met.heap digits (flat_map heap_of further.pieces) (not_true met.heap parts.0) parts.1 further.heap;
+      stack = further.stack;
     }
 
-add_stack : (digits : List ℕ) (rest : List (List ℕ)) (old middle new : Said) → with_stack digits old ≡ Some middle → Adds middle rest new → Adds old (codes "--stack" ∷ digits ∷ rest) new
-add_stack digits rest old middle new is adds =
-    let made = given (λ value. record old { stack = Some value }) old.stack (number_in stack_range digits) middle is in
-    let more = subst (λ said. Adds said rest new) (sym made.3) adds in
+add_stack : (one : Verb) (digits : List ℕ) (rest : List (List ℕ)) (met more : Met) → with_stack one digits met ≡ Some more → Adds one more rest → Adds one met (codes "--stack" ∷ digits ∷ rest)
+add_stack one digits rest met more is adds =
+    let made = if_some (not met.stack && is_given (makes_image one) stack_range digits) (record met { stack = true }) more is in
+    let parts = both (not met.stack) (is_given (makes_image one) stack_range digits) made.0 in
+    let further = subst (λ m. Adds one m rest) (sym made.1) adds in
     record {
-      pieces = the_stack digits ∷ more.pieces;
-      are = ap (λ words. codes "--stack" ∷ digits ∷ words) more.are;
-      operand = more.operand;
-      steps = more.steps;
-      heap = more.heap;
-      stack = fills_first (number_in stack_range) old.stack new.stack digits (flat_map stack_of more.pieces) made.0 made.1 made.2 more.stack;
+      pieces = the_stack digits ∷ further.pieces;
+      are = ap (λ words. codes "--stack" ∷ digits ∷ words) further.are;
+      operand = further.operand;
+      has_operand = further.has_operand;
+      steps = further.steps;
+      heap = further.heap;
+      stack = once_first (is_given (makes_image one) stack_range) met.stack digits (flat_map stack_of further.pieces) (not_true met.stack parts.0) parts.1 further.stack;
     }
 
 -- by the first test that holds
@@ -115,17 +118,15 @@ by_tests false true c x y z value is first second third = second refl is
 by_tests false false true x y z value is first second third = third refl is
 by_tests false false false x y z value is first second third = absurd cc
 
-add_option : (word digits : List ℕ) (rest : List (List ℕ)) (old middle new : Said) → with_option word digits old ≡ Some middle → Adds middle rest new → Adds old (word ∷ digits ∷ rest) new
+add_option : (one : Verb) (word digits : List ℕ) (rest : List (List ℕ)) (met more : Met) → with_option one word digits met ≡ Some more → Adds one more rest → Adds one met (word ∷ digits ∷ rest)
 unfolding with_option
-add_option word digits rest old middle new is adds =
-    by_tests (bytes_eq word (codes "--steps")) (bytes_eq word (codes "--heap")) (bytes_eq word (codes "--stack")) (with_steps digits old) (with_heap digits old) (with_stack digits old) middle is
-    (λ same given. subst (λ w. Adds old (w ∷ digits ∷ rest) new) (sym ((bytes_eq-Decides word (codes "--steps")).0 same)) (add_steps digits rest old middle new given adds))
-    (λ same given. subst (λ w. Adds old (w ∷ digits ∷ rest) new) (sym ((bytes_eq-Decides word (codes "--heap")).0 same)) (add_heap digits rest old middle new given adds))
-    (λ same given. subst (λ w. Adds old (w ∷ digits ∷ rest) new) (sym ((bytes_eq-Decides word (codes "--stack")).0 same)) (add_stack digits rest old middle new given adds))
+add_option one word digits rest met more is adds =
+    by_tests (bytes_eq word (codes "--steps")) (bytes_eq word (codes "--heap")) (bytes_eq word (codes "--stack")) (with_steps one digits met) (with_heap one digits met) (with_stack one digits met) more is
+    (λ same given. subst (λ w. Adds one met (w ∷ digits ∷ rest)) (sym ((bytes_eq-Decides word (codes "--steps")).0 same)) (add_steps one digits rest met more given adds))
+    (λ same given. subst (λ w. Adds one met (w ∷ digits ∷ rest)) (sym ((bytes_eq-Decides word (codes "--heap")).0 same)) (add_heap one digits rest met more given adds))
+    (λ same given. subst (λ w. Adds one met (w ∷ digits ∷ rest)) (sym ((bytes_eq-Decides word (codes "--stack")).0 same)) (add_stack one digits rest met more given adds))
 
--- ---- what was read was said
-
-abbrev pub waiting : Option (List ℕ) → List (List ℕ)
+abbrev waiting : Option (List ℕ) → List (List ℕ)
 waiting None = []
 waiting (Some word) = word ∷ []
 
@@ -133,103 +134,48 @@ by_test : {A : Type 0} {P : Type 0} (test : Bool) (x y : A) (value : A) → (if 
 by_test true x y value is first second = first is
 by_test false x y value is first second = second is
 
-pub was_said : (words : List (List ℕ)) (awaited : Option (List ℕ)) (old new : Said) → read awaited old words ≡ Some new → Adds old (waiting awaited ++ words) new
-unfolding read
-was_said [] None old new is =
-    let same : old ≡ new = cc in
-    subst (Adds old []) same (record { pieces = []; are = refl; operand = refl; steps = refl; heap = refl; stack = refl })
-was_said [] (Some word) old new is = absurd cc
-was_said (word ∷ rest) None old new is =
-    by_test (is_name word) (option_and_then (λ more. read None more rest) (with_operand word old)) (read (Some word) old rest) (Some new) is
-    (λ goes. option_and_then_some (λ more. read None more rest) (with_operand word old) new goes (λ middle made next. add_operand word rest old middle new made (was_said rest None middle new next)))
-    (λ waits. was_said rest (Some word) old new waits)
-was_said (digits ∷ rest) (Some word) old new is =
-    option_and_then_some (λ more. read None more rest) (with_option word digits old) new is (λ middle made next. add_option word digits rest old middle new made (was_said rest None middle new next))
+some_passes : {A : Type 0} {P : Type 0} (passes : A → Bool) (o : Option A) → option_map_or passes o false ≡ true → ((a : A) → o ≡ Some a → passes a ≡ true → P) → P
+some_passes passes None is then_so = absurd cc
+some_passes passes (Some a) is then_so = then_so a refl is
 
--- ---- what is said is read
+completed : (words : List (List ℕ)) (awaited : Option (List ℕ)) (one : Verb) (met : Met) → completes one awaited met words ≡ true → Adds one met (waiting awaited ++ words)
+unfolding completes
+completed [] None one met is = record { pieces = []; are = refl; operand = tt; has_operand = is; steps = tt; heap = tt; stack = tt }
+completed [] (Some word) one met is = absurd cc
+completed (word ∷ rest) None one met is =
+    by_test (is_name word) (not met.operand && (is_operand one word && completes one None (record met { operand = true }) rest)) (completes one (Some word) met rest) true is
+    (λ goes. add_operand one word rest met goes (completed rest None one (record met { operand = true })))
+    (λ waits. completed rest (Some word) one met waits)
+completed (digits ∷ rest) (Some word) one met is =
+    some_passes (λ more. completes one None more rest) (with_option one word digits met) is (λ more made next. add_option one word digits rest met more made (completed rest None one more next))
 
-name_test : (name a : List ℕ) → name_in name ≡ Some a → is_name name ≡ true
-name_test name a is = (if_some (is_name name) name a is).0
+-- ---- numbers and names of a command
 
-read_name : (name : List ℕ) (rest : List (List ℕ)) (old middle : Said) → is_name name ≡ true → with_operand name old ≡ Some middle → read None old (name ∷ rest) ≡ read None middle rest
-unfolding read
-read_name name rest old middle is made = rw (is, made) refl
+some_number : {A : Type 0} (o : Option A) → is_some o ≡ true → (a : A) × (o ≡ Some a)
+some_number None is = absurd cc
+some_number (Some a) is = (a, refl)
 
-read_option : (word digits : List ℕ) (rest : List (List ℕ)) (old middle : Said) → is_name word ≡ false → with_option word digits old ≡ Some middle → read None old (word ∷ digits ∷ rest) ≡ read None middle rest
-unfolding read
-read_option word digits rest old middle is made = rw (is, made) refl
+given_number : (taken : Bool) (range : Range) (values : List (List ℕ)) → Once (is_given taken range) false values → (number : ℕ) × IsGiven taken range values number
+given_number taken range [] once = (range.default, refl)
+given_number taken range (digits ∷ []) (none, is) =
+    let parts = both taken (is_some (number_in range digits)) is in
+    let some = some_number (number_in range digits) parts.1 in
+    (some.0, (parts.0, number_read range digits some.0 some.1))
+given_number taken range (digits ∷ again ∷ more) never = absurd never
 
-make_operand : (name : List ℕ) (old : Said) (a : List ℕ) → old.operand ≡ None → name_in name ≡ Some a → with_operand name old ≡ Some (record old { operand = Some a })
-unfolding with_operand
-make_operand name old a none some = give (λ value. record old { operand = Some value }) old.operand (name_in name) a none some
+once_given : (taken : Bool) (range : Range) (values : List (List ℕ)) (number : ℕ) → IsGiven taken range values number → Once (is_given taken range) false values
+once_given taken range [] number same = tt
+once_given taken range (digits ∷ []) number (is, meant) = (refl, both_are taken (is_some (number_in range digits)) is (ap is_some (number_found range digits number meant)))
+once_given taken range (digits ∷ again ∷ more) number never = absurd never
 
-make_steps : (digits : List ℕ) (old : Said) (a : ℕ) → old.steps ≡ None → number_in step_range digits ≡ Some a → with_option (codes "--steps") digits old ≡ Some (record old { steps = Some a })
-unfolding with_option
-make_steps digits old a none some = give (λ value. record old { steps = Some value }) old.steps (number_in step_range digits) a none some
-
-make_heap : (digits : List ℕ) (old : Said) (a : ℕ) → old.heap ≡ None → number_in heap_range digits ≡ Some a → with_option (codes "--heap") digits old ≡ Some (record old { heap = Some a })
-unfolding with_option
-make_heap digits old a none some = give (λ value. record old { heap = Some value }) old.heap (number_in heap_range digits) a none some
-
-make_stack : (digits : List ℕ) (old : Said) (a : ℕ) → old.stack ≡ None → number_in stack_range digits ≡ Some a → with_option (codes "--stack") digits old ≡ Some (record old { stack = Some a })
-unfolding with_option
-make_stack digits old a none some = give (λ value. record old { stack = Some value }) old.stack (number_in stack_range digits) a none some
-
--- all four parts are the same
-same_said : (old new : Said) → new.operand ≡ old.operand → new.steps ≡ old.steps → new.heap ≡ old.heap → new.stack ≡ old.stack → old ≡ new
-same_said old new operand steps heap stack =
-    let part : Option (List ℕ) → Option ℕ → Option ℕ → Option ℕ → Said = λ o s h t. record { operand = o; steps = s; heap = h; stack = t } in
-    sym (ap (λ o. part o new.steps new.heap new.stack) operand ∙ ap (λ s. part old.operand s new.heap new.stack) steps ∙ ap (λ h. part old.operand old.steps h new.stack) heap ∙ ap (λ t. part old.operand old.steps old.heap t) stack)
-
-pub is_read : (pieces : List Piece) (old new : Said) → Fills name_in old.operand (flat_map operands_of pieces) new.operand → Fills (number_in step_range) old.steps (flat_map steps_of pieces) new.steps → Fills (number_in heap_range) old.heap (flat_map heap_of pieces) new.heap → Fills (number_in stack_range) old.stack (flat_map stack_of pieces) new.stack → read None old (flat_map words_of pieces) ≡ Some new
-unfolding read
-is_read [] old new operand steps heap stack = ap Some (same_said old new operand steps heap stack)
-is_read (the_operand name ∷ pieces) old new operand steps heap stack =
-    let fill = first_fill name_in old.operand new.operand name (flat_map operands_of pieces) operand in
-    let middle = record old { operand = Some fill.0 } in
-    read_name name (flat_map words_of pieces) old middle (name_test name fill.0 fill.2) (make_operand name old fill.0 fill.1 fill.2) ∙ is_read pieces middle new fill.3 steps heap stack
-is_read (the_steps digits ∷ pieces) old new operand steps heap stack =
-    let fill = first_fill (number_in step_range) old.steps new.steps digits (flat_map steps_of pieces) steps in
-    let middle = record old { steps = Some fill.0 } in
-    read_option (codes "--steps") digits (flat_map words_of pieces) old middle refl (make_steps digits old fill.0 fill.1 fill.2) ∙ is_read pieces middle new operand fill.3 heap stack
-is_read (the_heap digits ∷ pieces) old new operand steps heap stack =
-    let fill = first_fill (number_in heap_range) old.heap new.heap digits (flat_map heap_of pieces) heap in
-    let middle = record old { heap = Some fill.0 } in
-    read_option (codes "--heap") digits (flat_map words_of pieces) old middle refl (make_heap digits old fill.0 fill.1 fill.2) ∙ is_read pieces middle new operand steps fill.3 stack
-is_read (the_stack digits ∷ pieces) old new operand steps heap stack =
-    let fill = first_fill (number_in stack_range) old.stack new.stack digits (flat_map stack_of pieces) stack in
-    let middle = record old { stack = Some fill.0 } in
-    read_option (codes "--stack") digits (flat_map words_of pieces) old middle refl (make_stack digits old fill.0 fill.1 fill.2) ∙ is_read pieces middle new operand steps heap fill.3
-
--- ---- numbers of a command
-
-either_some : {A : Type 0} (taken : Bool) (value : Option A) → (taken || is_none value) ≡ true → is_some value ≡ true → taken ≡ true
-either_some true value is some = refl
-either_some false None is some = absurd cc
-either_some false (Some a) is some = absurd cc
-
-was_given : (taken : Bool) (range : Range) (values : List (List ℕ)) (value : Option ℕ) → (taken || is_none value) ≡ true → Fills (number_in range) None values value → IsGiven taken range values (unwrap_or value range.default)
-was_given taken range [] value is same = ap (λ v. unwrap_or v range.default) same
-was_given taken range (digits ∷ []) None is (none, meant, some) = absurd cc
-was_given taken range (digits ∷ []) (Some number) is (none, meant, some) = (either_some taken (Some number) is refl, number_read range digits number meant)
-was_given taken range (digits ∷ again ∷ more) value is never = absurd never
-
-either_true : (taken other : Bool) → taken ≡ true → (taken || other) ≡ true
-either_true true other is = refl
-either_true false other is = absurd cc
-
-either_none : (taken : Bool) → (taken || true) ≡ true
-either_none true = refl
-either_none false = refl
-
-is_given : (taken : Bool) (range : Range) (values : List (List ℕ)) (number : ℕ) → IsGiven taken range values number → (value : Option ℕ) × Fills (number_in range) None values value × ((taken || is_none value) ≡ true) × (unwrap_or value range.default ≡ number)
-is_given taken range [] number same = (None, refl, either_none taken, sym same)
-is_given taken range (digits ∷ []) number (is, meant) = (Some number, (refl, number_found range digits number meant, refl), either_true taken false is, refl)
-is_given taken range (digits ∷ again ∷ more) number never = absurd never
+one_operand : (one : Verb) (values : List (List ℕ)) → Once (is_operand one) false values → HasOne false values → (name : List ℕ) × (values ≡ name ∷ []) × (is_operand one name ≡ true)
+one_operand one [] once never = absurd cc
+one_operand one (name ∷ []) (none, is) has = (name, refl, is)
+one_operand one (name ∷ again ∷ more) never has = absurd never
 
 -- ---- commands
 
-word_of_verb : (verb : Verb) → verb_of (word_of verb) ≡ Some verb
+pub word_of_verb : (verb : Verb) → verb_of (word_of verb) ≡ Some verb
 word_of_verb verb.Exec = refl
 word_of_verb verb.Build = refl
 word_of_verb verb.Check = refl
@@ -250,92 +196,92 @@ verb_word word its is =
     by_words (bytes_eq word (word_of verb.Exec)) (bytes_eq word (word_of verb.Build)) (bytes_eq word (word_of verb.Check)) (bytes_eq word (word_of verb.List)) (bytes_eq word (word_of verb.Run)) verb.Exec verb.Build verb.Check verb.List verb.Run its is
     (by verb.Exec) (by verb.Build) (by verb.Check) (by verb.List) (by verb.Run)
 
-one_name : (values : List (List ℕ)) (name : List ℕ) → Fills name_in None values (Some name) → values ≡ name ∷ []
-one_name [] name same = absurd cc
-one_name (v ∷ []) name (none, meant, some) = ap (λ n. n ∷ []) (if_some (is_name v) v name meant).1
-one_name (v ∷ w ∷ more) name never = absurd never
+asks : (one : Verb) (rest : List (List ℕ)) → Adds one nothing rest → IsSomeCommand (word_of one ∷ rest)
+asks one rest adds =
+    let name = one_operand one (flat_map operands_of adds.pieces) adds.operand adds.has_operand in
+    let steps = given_number (runs_image one) step_range (flat_map steps_of adds.pieces) adds.steps in
+    let heap = given_number (makes_image one) heap_range (flat_map heap_of adds.pieces) adds.heap in
+    let stack = given_number (makes_image one) stack_range (flat_map stack_of adds.pieces) adds.stack in (
+      record { verb = one; operand = name.0; settings = record { heap = heap.0; stack = stack.0 }; steps = steps.0 },
+      record {
+        pieces = adds.pieces;
+        are = ap (λ words. word_of one ∷ words) adds.are;
+        one = name.1;
+        operand = name.2;
+        steps = steps.1;
+        heap = heap.1;
+        stack = stack.1;
+      },
+    )
 
--- what a command asks for, by what was said
-abbrev pub asking : Verb → List ℕ → Said → Asked
-asking verb name said =
-    record {
-      verb = verb;
-      operand = name;
-      settings = record { heap = unwrap_or said.heap heap_range.default; stack = unwrap_or said.stack stack_range.default };
-      steps = unwrap_or said.steps step_range.default;
-    }
+pub is_some_command : (words : List (List ℕ)) → is_command words ≡ true → IsSomeCommand words
+unfolding is_command
+is_some_command [] is = absurd cc
+is_some_command (word ∷ rest) is =
+    some_passes (λ one. completes one None nothing rest) (verb_of word) is (λ one is_verb rest_passes.
+    subst (λ w. IsSomeCommand (w ∷ rest)) (sym (verb_word word one is_verb)) (asks one rest (completed rest None one nothing rest_passes)))
 
-asks : (verb : Verb) (name : List ℕ) (said : Said) (rest : List (List ℕ)) → said.operand ≡ Some name → takes verb name said ≡ true → Adds nothing rest said → IsCommand (word_of verb ∷ rest) (asking verb name said)
-asks verb name said rest is fits adds =
-    let first = both (is_operand verb name) ((runs_image verb || is_none said.steps) && (makes_image verb || is_none said.heap && is_none said.stack)) fits in
-    let second = both (runs_image verb || is_none said.steps) (makes_image verb || is_none said.heap && is_none said.stack) first.1 in
-    let third = each (makes_image verb) (is_none said.heap) (is_none said.stack) second.1 in
-    record {
-      pieces = adds.pieces;
-      are = ap (λ words. word_of verb ∷ words) adds.are;
-      one = one_name (flat_map operands_of adds.pieces) name (subst (Fills name_in None (flat_map operands_of adds.pieces)) is adds.operand);
-      operand = first.0;
-      steps = was_given (runs_image verb) step_range (flat_map steps_of adds.pieces) said.steps second.0 adds.steps;
-      heap = was_given (makes_image verb) heap_range (flat_map heap_of adds.pieces) said.heap third.0 adds.heap;
-      stack = was_given (makes_image verb) stack_range (flat_map stack_of adds.pieces) said.stack third.1 adds.stack;
-    }
-  where
-    each : (taken a b : Bool) → (taken || a && b) ≡ true → ((taken || a) ≡ true) × ((taken || b) ≡ true)
-    each true a b h = (refl, refl)
-    each false a b h = both a b h
+-- ---- commands pass
 
-pub found : (words : List (List ℕ)) (asked : Asked) → command_in words ≡ Some asked → IsCommand words asked
-unfolding command_in asked_by
-found [] asked is = absurd cc
-found (word ∷ rest) asked is =
-    option_and_then_some (λ verb. asked_in verb rest) (verb_of word) asked is (λ verb is_verb in_verb.
-    option_and_then_some (λ said. option_and_then (asked_by verb said) said.operand) (read None nothing rest) asked in_verb (λ said is_said by_said.
-    option_and_then_some (asked_by verb said) said.operand asked by_said (λ name is_name asks_so.
-    let made = if_some (takes verb name said) (asking verb name said) asked asks_so in
-    subst (λ w. IsCommand (w ∷ rest) asked) (sym (verb_word word verb is_verb))
-    (subst (IsCommand (word_of verb ∷ rest)) made.1 (asks verb name said rest is_name made.0 (was_said rest None nothing said is_said))))))
-
-is_named : (verb : Verb) (name : List ℕ) → is_operand verb name ≡ true → is_name name ≡ true
+pub is_named : (verb : Verb) (name : List ℕ) → is_operand verb name ≡ true → is_name name ≡ true
 is_named verb.Exec name is = (both _ _ is).0
 is_named verb.Build name is = (both _ _ is).0
 is_named verb.Check name is = (both _ _ is).0
 is_named verb.List name is = (both _ _ is).0
 is_named verb.Run name is = is
 
-finds_in : (verb : Verb) (name : List ℕ) (rest : List (List ℕ)) (said : Said) (asked : Asked) → read None nothing rest ≡ Some said → said.operand ≡ Some name → takes verb name said ≡ true → asking verb name said ≡ asked → command_in (word_of verb ∷ rest) ≡ Some asked
-unfolding command_in asked_by
-finds_in verb name rest said asked is_said is_name fits same =
-    ap (option_and_then (λ one. asked_in one rest)) (word_of_verb verb)
-    ∙ ap (option_and_then (λ one. option_and_then (asked_by verb one) one.operand)) is_said
-    ∙ ap (option_and_then (asked_by verb said)) is_name
-    ∙ if_true (takes verb name said) (asking verb name said) asked fits same
+meets_steps : (one : Verb) (digits : List ℕ) (met : Met) → met.steps ≡ false → is_given (runs_image one) step_range digits ≡ true → with_option one (codes "--steps") digits met ≡ Some (record met { steps = true })
+unfolding with_option
+meets_steps one digits met none is = if_true (not met.steps && is_given (runs_image one) step_range digits) (record met { steps = true }) (record met { steps = true }) (both_are (not met.steps) (is_given (runs_image one) step_range digits) (ap not none) is) refl
 
-both_taken : (taken a b : Bool) → (taken || a) ≡ true → (taken || b) ≡ true → (taken || a && b) ≡ true
-both_taken true a b p q = refl
-both_taken false a b p q = both_are a b p q
+meets_heap : (one : Verb) (digits : List ℕ) (met : Met) → met.heap ≡ false → is_given (makes_image one) heap_range digits ≡ true → with_option one (codes "--heap") digits met ≡ Some (record met { heap = true })
+unfolding with_option
+meets_heap one digits met none is = if_true (not met.heap && is_given (makes_image one) heap_range digits) (record met { heap = true }) (record met { heap = true }) (both_are (not met.heap) (is_given (makes_image one) heap_range digits) (ap not none) is) refl
 
-pub finds : (words : List (List ℕ)) (asked : Asked) → IsCommand words asked → command_in words ≡ Some asked
-finds words asked is =
-    let verb = asked.verb in
-    let name = asked.operand in
-    let steps = is_given (runs_image verb) step_range (flat_map steps_of is.pieces) asked.steps is.steps in
-    let heap = is_given (makes_image verb) heap_range (flat_map heap_of is.pieces) asked.settings.heap is.heap in
-    let stack = is_given (makes_image verb) stack_range (flat_map stack_of is.pieces) asked.settings.stack is.stack in
-    let said : Said = record { operand = Some name; steps = steps.0; heap = heap.0; stack = stack.0 } in
-    let fills : Fills name_in None (flat_map operands_of is.pieces) (Some name) = subst (λ values. Fills name_in None values (Some name)) (sym is.one) (refl, if_true (is_name name) name name (is_named verb name is.operand) refl, refl) in
-    let fits = both_are (is_operand verb name) ((runs_image verb || is_none steps.0) && (makes_image verb || is_none heap.0 && is_none stack.0)) is.operand
-    (both_are (runs_image verb || is_none steps.0) (makes_image verb || is_none heap.0 && is_none stack.0) steps.2 (both_taken (makes_image verb) (is_none heap.0) (is_none stack.0) heap.2 stack.2)) in
-    let make : ℕ → ℕ → ℕ → Asked = λ h t s. record { verb = verb; operand = name; settings = record { heap = h; stack = t }; steps = s } in
-    let same = ap (λ h. make h (unwrap_or stack.0 stack_range.default) (unwrap_or steps.0 step_range.default)) heap.3
-    ∙ ap (λ t. make asked.settings.heap t (unwrap_or steps.0 step_range.default)) stack.3 ∙ ap (make asked.settings.heap asked.settings.stack) steps.3 in
-    subst (λ ws. command_in ws ≡ Some asked) (sym is.are) (finds_in verb name (flat_map words_of is.pieces) said asked (is_read is.pieces nothing said fills steps.1 heap.1 stack.1) refl fits same)
+meets_stack : (one : Verb) (digits : List ℕ) (met : Met) → met.stack ≡ false → is_given (makes_image one) stack_range digits ≡ true → with_option one (codes "--stack") digits met ≡ Some (record met { stack = true })
+unfolding with_option
+meets_stack one digits met none is = if_true (not met.stack && is_given (makes_image one) stack_range digits) (record met { stack = true }) (record met { stack = true }) (both_are (not met.stack) (is_given (makes_image one) stack_range digits) (ap not none) is) refl
 
-pub exact : (words : List (List ℕ)) (result : Option Command) → option_map asked_of result ≡ command_in words → MatchOption result (IsNoCommand words) (λ command. IsCommand words (asked_of command))
-exact words None is = λ asked is_command. (let never = is ∙ finds words asked is_command in absurd cc)
-exact words (Some command) is = found words (asked_of command) (sym is)
+pieces_pass : (pieces : List Piece) (one : Verb) (met : Met) → Once (is_operand one) met.operand (flat_map operands_of pieces) → HasOne met.operand (flat_map operands_of pieces) → Once (is_given (runs_image one) step_range) met.steps (flat_map steps_of pieces)
+    → Once (is_given (makes_image one) heap_range) met.heap (flat_map heap_of pieces) → Once (is_given (makes_image one) stack_range) met.stack (flat_map stack_of pieces) → completes one None met (flat_map words_of pieces) ≡ true
+unfolding completes
+pieces_pass [] one met operand has steps heap stack = has
+pieces_pass (the_operand name ∷ pieces) one met operand has steps heap stack =
+    let rest = flat_map words_of pieces in
+    let passes = completes one None (record met { operand = true }) rest in
+    let first = first_once (is_operand one) met.operand name (flat_map operands_of pieces) operand in
+    ap (λ b. if b then not met.operand && (is_operand one name && passes) else completes one (Some name) met rest) (is_named one name first.1)
+    ∙ both_are (not met.operand) (is_operand one name && passes) (ap not first.0)
+    (both_are (is_operand one name) passes first.1 (pieces_pass pieces one (record met { operand = true }) first.2 (has_met (flat_map operands_of pieces)) steps heap stack))
+pieces_pass (the_steps digits ∷ pieces) one met operand has steps heap stack =
+    let first = first_once (is_given (runs_image one) step_range) met.steps digits (flat_map steps_of pieces) steps in
+    ap (λ o. option_map_or (λ more. completes one None more (flat_map words_of pieces)) o false) (meets_steps one digits met first.0 first.1)
+    ∙ pieces_pass pieces one (record met { steps = true }) operand has first.2 heap stack
+pieces_pass (the_heap digits ∷ pieces) one met operand has steps heap stack =
+    let first = first_once (is_given (makes_image one) heap_range) met.heap digits (flat_map heap_of pieces) heap in
+    ap (λ o. option_map_or (λ more. completes one None more (flat_map words_of pieces)) o false) (meets_heap one digits met first.0 first.1)
+    ∙ pieces_pass pieces one (record met { heap = true }) operand has steps first.2 stack
+pieces_pass (the_stack digits ∷ pieces) one met operand has steps heap stack =
+    let first = first_once (is_given (makes_image one) stack_range) met.stack digits (flat_map stack_of pieces) stack in
+    ap (λ o. option_map_or (λ more. completes one None more (flat_map words_of pieces)) o false) (meets_stack one digits met first.0 first.1)
+    ∙ pieces_pass pieces one (record met { stack = true }) operand has steps heap first.2
 
-pub at_most_one : (words : List (List ℕ)) → IsAtMostOneCommand words
-at_most_one words one other first second = (let same = sym (finds words one first) ∙ finds words other second in cc)
+line_passes : (one : Verb) (rest : List (List ℕ)) → completes one None nothing rest ≡ true → is_command (word_of one ∷ rest) ≡ true
+unfolding is_command
+line_passes one rest is = ap (λ o. option_map_or (λ its. completes its None nothing rest) o false) (word_of_verb one) ∙ is
+
+pub command_passes : (words : List (List ℕ)) (asked : Asked) → IsCommand words asked → is_command words ≡ true
+command_passes words asked is =
+    let one = asked.verb in
+    subst (λ ws. is_command ws ≡ true) (sym is.are)
+    (line_passes one (flat_map words_of is.pieces) (pieces_pass is.pieces one nothing
+    (subst (Once (is_operand one) false) (sym is.one) (refl, is.operand)) (subst (HasOne false) (sym is.one) tt)
+    (once_given (runs_image one) step_range (flat_map steps_of is.pieces) asked.steps is.steps)
+    (once_given (makes_image one) heap_range (flat_map heap_of is.pieces) asked.settings.heap is.heap)
+    (once_given (makes_image one) stack_range (flat_map stack_of is.pieces) asked.settings.stack is.stack)))
+
+pub is_no_command : (words : List (List ℕ)) → is_command words ≡ false → IsNoCommand words
+is_no_command words never asked is = (let passes = command_passes words asked is in absurd cc)
 
 -- ---- settings
 
@@ -352,7 +298,3 @@ settings_in_range words asked is =
     let heap = in_range_of (makes_image asked.verb) heap_range (flat_map heap_of is.pieces) asked.settings.heap (omega arith) (omega arith) is.heap in
     let stack = in_range_of (makes_image asked.verb) stack_range (flat_map stack_of is.pieces) asked.settings.stack (omega arith) (omega arith) is.stack in
     range_test asked.settings.heap asked.settings.stack heap.0 heap.1 stack.0 stack.1
-
-pub found_in_range : (words : List (List ℕ)) (result : Option Command) → option_map asked_of result ≡ command_in words → IfSome result (λ command. are_in_range command.settings ≡ true)
-found_in_range words None is = tt
-found_in_range words (Some command) is = settings_in_range words (asked_of command) (found words (asked_of command) (sym is))

@@ -127,6 +127,10 @@ pub record IsCommand (words : List (List ℕ)) (asked : Asked) : Type 0 where
   pub heap : IsGiven (makes_image asked.verb) heap_range (flat_map heap_of pieces) asked.settings.heap
   pub stack : IsGiven (makes_image asked.verb) stack_range (flat_map stack_of pieces) asked.settings.stack
 
+-- the words ask for something
+abbrev pub IsSomeCommand : List (List ℕ) → Type 0
+IsSomeCommand words = (asked : Asked) × IsCommand words asked
+
 -- the words are no command
 abbrev pub IsNoCommand : List (List ℕ) → Type 0
 IsNoCommand words = (asked : Asked) → IsCommand words asked → ⊥

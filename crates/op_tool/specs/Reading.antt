@@ -1,14 +1,14 @@
--- How the words of the command line are read, one after the other. That this finds the command that they ask for is shown of it.
-use Rattle.std.specs.Prelude.{ℕ, ◌&&◌, ◌||◌, Bool, List, [], ◌∷◌, Option, Some, None, codes, is_none, length, nat_le, nat_lt, if◌then◌else◌, bytes_eq, unwrap_or}
+-- The tests by which words are a command, one word after the other. That these are the words that ask for something is shown of them.
+use Rattle.std.specs.Prelude.{ℕ, ◌&&◌, Bool, true, false, not, List, [], ◌∷◌, Option, Some, None, codes, is_some, length, nat_le, nat_lt, if◌then◌else◌, bytes_eq}
 use Rattle.std.specs.Char.{digit_value}
 use Rattle.std.specs.List.{list_all}
-use Rattle.std.specs.Option.{option_and_then, option_map}
+use Rattle.std.specs.Option.{option_map_or}
 use Rattle.std.specs.Str.Parse.{digits_value}
 use Rattle.op_tool.specs.Command.{Asked, Range, heap_range, is_name, is_operand, stack_range, step_range, makes_image, runs_image, word_of}
 use Rattle.op_tool.specs.declared.command.Verb.{Verb}
 use Rattle.op_tool.specs.declared.command.Verb.TheVariants as verb
 use Rattle.op_tool.specs.declared.command.Command.{Command}
-use Rattle.op_tool.specs.declared.command.Said.{Said as Told}
+use Rattle.op_tool.specs.declared.command.Met.{Met}
 
 -- ---- numbers
 
@@ -25,51 +25,38 @@ number_in range digits =
 
 -- ---- pieces
 
--- what the words so far have said
-pub record Said : Type 0 where
-  pub operand : Option (List ℕ)
-  pub steps : Option ℕ
-  pub heap : Option ℕ
-  pub stack : Option ℕ
+-- the digits are the number of an option that the command takes
+abbrev pub is_given : Bool → Range → List ℕ → Bool
+is_given taken range digits = taken && is_some (number_in range digits)
 
-abbrev pub nothing : Said
-nothing = record { operand = None; steps = None; heap = None; stack = None }
+abbrev pub with_steps : Verb → List ℕ → Met → Option Met
+with_steps one digits met = if not met.steps && is_given (runs_image one) step_range digits then Some (record met { steps = true }) else None
 
--- a value that was not given before
-abbrev pub first_given : {A : Type 0} → Option A → Option A → Option A
-first_given None value = value
-first_given (Some before) value = None
+abbrev pub with_heap : Verb → List ℕ → Met → Option Met
+with_heap one digits met = if not met.heap && is_given (makes_image one) heap_range digits then Some (record met { heap = true }) else None
 
-abbrev pub name_in : List ℕ → Option (List ℕ)
-name_in name = if is_name name then Some name else None
+abbrev pub with_stack : Verb → List ℕ → Met → Option Met
+with_stack one digits met = if not met.stack && is_given (makes_image one) stack_range digits then Some (record met { stack = true }) else None
 
-unfoldable pub with_operand : List ℕ → Said → Option Said
-with_operand name said = option_map (λ value. record said { operand = Some value }) (first_given said.operand (name_in name))
+-- an option that was not met before
+unfoldable pub with_option : Verb → List ℕ → List ℕ → Met → Option Met
+with_option one word digits met =
+    if bytes_eq word (codes "--steps") then with_steps one digits met
+    else (if bytes_eq word (codes "--heap") then with_heap one digits met
+    else (if bytes_eq word (codes "--stack") then with_stack one digits met else None))
 
-abbrev pub with_steps : List ℕ → Said → Option Said
-with_steps digits said = option_map (λ value. record said { steps = Some value }) (first_given said.steps (number_in step_range digits))
+-- ---- lines
 
-abbrev pub with_heap : List ℕ → Said → Option Said
-with_heap digits said = option_map (λ value. record said { heap = Some value }) (first_given said.heap (number_in heap_range digits))
+abbrev pub nothing : Met
+nothing = record { operand = false; steps = false; heap = false; stack = false }
 
-abbrev pub with_stack : List ℕ → Said → Option Said
-with_stack digits said = option_map (λ value. record said { stack = Some value }) (first_given said.stack (number_in stack_range digits))
-
-unfoldable pub with_option : List ℕ → List ℕ → Said → Option Said
-with_option word digits said =
-    if bytes_eq word (codes "--steps") then with_steps digits said
-    else (if bytes_eq word (codes "--heap") then with_heap digits said
-    else (if bytes_eq word (codes "--stack") then with_stack digits said else None))
-
--- what is said in the end; the word of an option may wait for its digits
-unfoldable pub read : Option (List ℕ) → Said → List (List ℕ) → Option Said
-read None said [] = Some said
-read None said (word ∷ rest) =
-    if is_name word then option_and_then (λ more. read None more rest) (with_operand word said) else read (Some word) said rest
-read (Some option) said [] = None
-read (Some option) said (digits ∷ rest) = option_and_then (λ more. read None more rest) (with_option option digits said)
-
--- ---- commands
+-- these words complete a line of the command; the word of an option may wait for its digits
+unfoldable pub completes : Verb → Option (List ℕ) → Met → List (List ℕ) → Bool
+completes one None met [] = met.operand
+completes one None met (word ∷ rest) =
+    if is_name word then not met.operand && (is_operand one word && completes one None (record met { operand = true }) rest) else completes one (Some word) met rest
+completes one (Some option) met [] = false
+completes one (Some option) met (digits ∷ rest) = option_map_or (λ more. completes one None more rest) (with_option one option digits met) false
 
 abbrev pub verb_of : List ℕ → Option Verb
 verb_of word =
@@ -79,33 +66,11 @@ verb_of word =
     else (if bytes_eq word (word_of verb.List) then Some verb.List
     else (if bytes_eq word (word_of verb.Run) then Some verb.Run else None))))
 
--- the command takes what was said
-abbrev pub takes : Verb → List ℕ → Said → Bool
-takes verb name said =
-    is_operand verb name && ((runs_image verb || is_none said.steps) && (makes_image verb || is_none said.heap && is_none said.stack))
+unfoldable pub is_command : List (List ℕ) → Bool
+is_command [] = false
+is_command (word ∷ rest) = option_map_or (λ one. completes one None nothing rest) (verb_of word) false
 
-unfoldable pub asked_by : Verb → Said → List ℕ → Option Asked
-asked_by verb said name =
-    if takes verb name said then Some (record {
-      verb = verb;
-      operand = name;
-      settings = record { heap = unwrap_or said.heap heap_range.default; stack = unwrap_or said.stack stack_range.default };
-      steps = unwrap_or said.steps step_range.default;
-    })
-    else None
-
-abbrev pub asked_in : Verb → List (List ℕ) → Option Asked
-asked_in verb rest =
-    option_and_then (λ said. option_and_then (asked_by verb said) said.operand) (read None nothing rest)
-
-unfoldable pub command_in : List (List ℕ) → Option Asked
-command_in [] = None
-command_in (word ∷ rest) = option_and_then (λ verb. asked_in verb rest) (verb_of word)
-
--- ---- as the program has them
-
-abbrev pub said_of : Told → Said
-said_of told = record { operand = option_map (λ name. name.now) told.operand; steps = told.steps; heap = told.heap; stack = told.stack }
+-- ---- as the program has it
 
 abbrev pub asked_of : Command → Asked
 asked_of command = record { verb = command.verb; operand = command.operand.now; settings = command.settings; steps = command.steps }

@@ -1,9 +1,9 @@
-//! The words of the command line.
-ghost use Rattle.std.specs.Prelude.{◌≡◌, ℕ, List, None, Option, map, string_bytes, IfSome, IsTrue, MatchOption, ◌≤◌};
-ghost use Rattle.op_link.specs.Memory.{are_in_range};
+//! The commands, and the tests of the grammar of the command line.
+ghost use Rattle.std.specs.Prelude.{◌≡◌, ℕ, None, map, string_bytes, IfSome, ◌≤◌};
 ghost use Rattle.std.specs.Option.{option_map};
-ghost use Rattle.op_tool.specs.Command.{IsAtMostOneCommand, IsCommand, IsNoCommand, Range, is_name, is_operand, is_source_name, makes_image, runs_image};
-ghost use Rattle.op_tool.specs.Reading.{verb_of, asked_by, asked_of, command_in, number_in, read, said_of, takes, with_heap, with_operand, with_option, with_stack, with_steps};
+ghost use Rattle.op_tool.specs.Command.{Range, is_name, is_operand, is_source_name, makes_image, runs_image};
+ghost use Rattle.op_tool.specs.Line.{number_or};
+ghost use Rattle.op_tool.specs.Reading.{completes, is_command, number_in, verb_of, with_heap, with_option, with_stack, with_steps};
 
 use op_link::Settings;
 
@@ -35,27 +35,27 @@ pub(crate) struct Command<'a> {
 }
 
 /// The steps that an image may do where no number of them is given.
-const DEFAULT_STEPS: u64 = 4_000_000_000;
+pub(crate) const DEFAULT_STEPS: u64 = 4_000_000_000;
 
-const MOST_STEPS: u64 = 1_000_000_000_000;
+pub(crate) const MOST_STEPS: u64 = 1_000_000_000_000;
 
 /// The most digits of a number.
 const MOST_DIGITS: usize = 20;
 
-/// What the words so far have said.
+/// Which parts of a line were met.
 #[derive(Clone, Copy)]
-struct Said<'a> {
-    operand: Option<&'a str>,
-    steps: Option<u64>,
-    heap: Option<u32>,
-    stack: Option<u32>,
+struct Met {
+    operand: bool,
+    steps: bool,
+    heap: bool,
+    stack: bool,
 }
 
-const NOTHING: Said<'static> = Said {
-    operand: None,
-    steps: None,
-    heap: None,
-    stack: None,
+const NOTHING: Met = Met {
+    operand: false,
+    steps: false,
+    heap: false,
+    stack: false,
 };
 
 /// Whether this names a file: it is not empty and does not begin with `-`.
@@ -88,99 +88,31 @@ fn number(digits: &str, least: u64, most: u64) -> Option<u64>
     }
 }
 
+/// The number of an option: that of its digits, if it is in the range, and the one that stands for it where there are none.
+pub(crate) fn number_or(digits: Option<&str>, least: u64, most: u64, default: u64) -> Option<u64>
+    ensures { result ≡ number_or (record { least = least; most = most; default = default }) (option_map (λ text. text.now) digits.entry) }
+{
+    match digits {
+        Some(digits) => number(digits, least, most),
+        None => Some(default),
+    }
+}
+
 /// The same of a number of KiB.
-fn kibibytes(digits: &str, least: u32, most: u32) -> Option<u32>
-    ensures { (default : ℕ) → result ≡ number_in (record { least = least; most = most; default = default }) digits.now }
+pub(crate) fn kibibytes_or(digits: Option<&str>, least: u32, most: u32, default: u32) -> Option<u32>
+    ensures { result ≡ number_or (record { least = least; most = most; default = default }) (option_map (λ text. text.now) digits.entry) }
 {
-    match number(digits, u64::from(least), u64::from(most)) {
-        Some(number) => Some(number as u32),
-        None => None,
+    match digits {
+        Some(digits) => match number(digits, u64::from(least), u64::from(most)) {
+            Some(number) => Some(number as u32),
+            None => None,
+        },
+        None => Some(default),
     }
-}
-
-impl<'a> Said<'a> {
-    /// With this operand, if there was none and it names a file.
-    #[tactic(auto, unfolding(crate::specs::Reading::with_operand))]
-    fn with_operand(self, name: &'a str) -> Option<Said<'a>>
-        ensures { option_map said_of result ≡ with_operand name.now (said_of self.entry) }
-    {
-        if self.operand.is_some() || !is_name(name) {
-            return None;
-        }
-        Some(Said {
-            operand: Some(name),
-            ..self
-        })
-    }
-
-    /// With this number of steps, if there was none.
-    fn with_steps(self, digits: &str) -> Option<Said<'a>>
-        ensures { option_map said_of result ≡ with_steps digits.now (said_of self.entry) }
-    {
-        if self.steps.is_some() {
-            return None;
-        }
-        let steps = Some(number(digits, 1, MOST_STEPS)?);
-        Some(Said { steps, ..self })
-    }
-
-    /// With this size of the heap, if there was none.
-    fn with_heap(self, digits: &str) -> Option<Said<'a>>
-        ensures { option_map said_of result ≡ with_heap digits.now (said_of self.entry) }
-    {
-        if self.heap.is_some() {
-            return None;
-        }
-        let heap = Some(kibibytes(digits, 64, 262_144)?);
-        Some(Said { heap, ..self })
-    }
-
-    /// With this size of the stack, if there was none.
-    fn with_stack(self, digits: &str) -> Option<Said<'a>>
-        ensures { option_map said_of result ≡ with_stack digits.now (said_of self.entry) }
-    {
-        if self.stack.is_some() {
-            return None;
-        }
-        let stack = Some(kibibytes(digits, 16, 65_536)?);
-        Some(Said { stack, ..self })
-    }
-
-    /// With the option of this word, if it is one and was not given.
-    #[tactic(auto, unfolding(crate::specs::Reading::with_option))]
-    fn with_option(self, word: &str, digits: &str) -> Option<Said<'a>>
-        ensures { option_map said_of result ≡ with_option word.now digits.now (said_of self.entry) }
-    {
-        if word == "--steps" {
-            return self.with_steps(digits);
-        }
-        if word == "--heap" {
-            return self.with_heap(digits);
-        }
-        if word == "--stack" {
-            return self.with_stack(digits);
-        }
-        None
-    }
-}
-
-/// What is said once these words are read too. Nothing is said twice, so this calls itself four times at most.
-#[tactic(auto, unfolding(crate::specs::Reading::read))]
-fn read<'a>(said: Said<'a>, words: &'a [String]) -> Option<Said<'a>>
-    ensures { option_map said_of result ≡ read None (said_of said.entry) (map string_bytes words.now) }
-{
-    let Some((word, rest)) = words.split_first() else {
-        return Some(said);
-    };
-    if is_name(word.as_str()) {
-        return read(said.with_operand(word.as_str())?, rest);
-    }
-    let (digits, rest) = rest.split_first()?;
-    read(said.with_option(word.as_str(), digits.as_str())?, rest)
 }
 
 /// The command with this word.
-fn verb_of(word: &str) -> Option<Verb>
+pub(crate) fn verb_of(word: &str) -> Option<Verb>
     ensures { result ≡ verb_of word.now }
 {
     if word == "exec" {
@@ -227,50 +159,96 @@ impl Verb {
     }
 }
 
-/// Whether a command takes this operand and what was said.
-fn takes(verb: Verb, name: &str, said: Said<'_>) -> bool
-    ensures { result ≡ takes verb name.now (said_of said.entry) }
-{
-    verb.is_operand(name)
-        && (verb.runs_image() || said.steps.is_none())
-        && (verb.makes_image() || said.heap.is_none() && said.stack.is_none())
-}
-
-/// What is asked for, if the command takes it.
-#[tactic(auto, unfolding(crate::specs::Reading::asked_by))]
-fn asked_by<'a>(verb: Verb, said: Said<'a>, operand: &'a str) -> Option<Command<'a>>
-    ensures { option_map asked_of result ≡ asked_by verb (said_of said.entry) operand.now }
-{
-    if !takes(verb, operand, said) {
-        return None;
+impl Met {
+    /// With the steps, if the command takes them and they were not met.
+    fn with_steps(self, verb: Verb, digits: &str) -> Option<Met>
+        ensures { result ≡ with_steps verb digits.now self }
+    {
+        if self.steps || !verb.runs_image() || number(digits, 1, MOST_STEPS).is_none() {
+            return None;
+        }
+        Some(Met {
+            steps: true,
+            ..self
+        })
     }
-    Some(Command {
-        verb,
-        operand,
-        settings: Settings {
-            heap: said.heap.unwrap_or(Settings::DEFAULT.heap),
-            stack: said.stack.unwrap_or(Settings::DEFAULT.stack),
-        },
-        steps: said.steps.unwrap_or(DEFAULT_STEPS),
-    })
+
+    /// With the size of the heap, if the command takes it and it was not met.
+    fn with_heap(self, verb: Verb, digits: &str) -> Option<Met>
+        ensures { result ≡ with_heap verb digits.now self }
+    {
+        if self.heap || !verb.makes_image() || number(digits, 64, 262_144).is_none() {
+            return None;
+        }
+        Some(Met { heap: true, ..self })
+    }
+
+    /// With the size of the stack, if the command takes it and it was not met.
+    fn with_stack(self, verb: Verb, digits: &str) -> Option<Met>
+        ensures { result ≡ with_stack verb digits.now self }
+    {
+        if self.stack || !verb.makes_image() || number(digits, 16, 65_536).is_none() {
+            return None;
+        }
+        Some(Met {
+            stack: true,
+            ..self
+        })
+    }
+
+    /// With the option of this word, if it is one of the command's and was not met.
+    #[tactic(auto, unfolding(crate::specs::Reading::with_option))]
+    fn with_option(self, verb: Verb, word: &str, digits: &str) -> Option<Met>
+        ensures { result ≡ with_option verb word.now digits.now self }
+    {
+        if word == "--steps" {
+            return self.with_steps(verb, digits);
+        }
+        if word == "--heap" {
+            return self.with_heap(verb, digits);
+        }
+        if word == "--stack" {
+            return self.with_stack(verb, digits);
+        }
+        None
+    }
 }
 
-/// The command that is found in the words.
-#[tactic(auto, unfolding(crate::specs::Reading::command_in))]
-fn command_in(words: &[String]) -> Option<Command<'_>>
-    ensures { option_map asked_of result ≡ command_in (map string_bytes words.now) }
+/// Whether these words complete a line of the command. Nothing is met twice, so this calls itself four times at most.
+#[tactic(auto, unfolding(crate::specs::Reading::completes))]
+fn completes(verb: Verb, met: Met, words: &[String]) -> bool
+    ensures { result ≡ completes verb None met (map string_bytes words.now) }
 {
-    let (word, rest) = words.split_first()?;
-    let verb = verb_of(word.as_str())?;
-    let said = read(NOTHING, rest)?;
-    asked_by(verb, said, said.operand?)
+    let Some((word, rest)) = words.split_first() else {
+        return met.operand;
+    };
+    let word = word.as_str();
+    if is_name(word) {
+        let with_operand = Met {
+            operand: true,
+            ..met
+        };
+        return !met.operand && verb.is_operand(word) && completes(verb, with_operand, rest);
+    }
+    let Some((digits, rest)) = rest.split_first() else {
+        return false;
+    };
+    match met.with_option(verb, word, digits.as_str()) {
+        Some(more) => completes(verb, more, rest),
+        None => false,
+    }
 }
 
-/// The command that the words ask for, if they do.
-pub(crate) fn command_of(words: &[String]) -> Option<Command<'_>>
-    ensures is { MatchOption result (IsNoCommand (map string_bytes words.now)) (λ command. IsCommand (map string_bytes words.now) (asked_of command)) }
-    ensures settings { IfSome result (λ command. IsTrue (are_in_range command.settings)) }
-    ensures one { IsAtMostOneCommand (map string_bytes words.now) }
+/// Whether the words are a command, by the grammar of the command line alone. It takes no memory.
+#[tactic(auto, unfolding(crate::specs::Reading::is_command))]
+pub(crate) fn is_command(words: &[String]) -> bool
+    ensures { result ≡ is_command (map string_bytes words.now) }
 {
-    command_in(words)
+    let Some((word, rest)) = words.split_first() else {
+        return false;
+    };
+    match verb_of(word.as_str()) {
+        Some(verb) => completes(verb, NOTHING, rest),
+        None => false,
+    }
 }

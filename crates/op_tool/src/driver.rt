@@ -9,9 +9,10 @@ ghost use Rattle.op_tool.specs.Owes.{call, Owes, OwesBuild, OwesCheck, OwesExec,
 ghost use Rattle.op_tool.specs.Reading.{asked_of};
 ghost use Rattle.op_tool.specs.declared.finish.Finish.{Finish};
 
-use crate::command::{Command, Verb, command_of};
+use crate::command::{Command, Verb};
 use crate::compiler::{MAIN_START, checked};
 use crate::image_run::run_image;
+use crate::line::command_of;
 use crate::report::{report, report_bad_image, report_error, report_no_memory, report_refusal};
 use crate::{Finish, compile};
 use op_base::{FILE_MISSING, FileAnswer, Files, NoMemory, Put, Refusal, Sink, Source};
@@ -221,14 +222,15 @@ pub fn tool<F: Files, R: Source, W: Sink, E: Sink>(
     ensures unchanged { F.stored files.new ≡ F.stored files.old }
 {
     image.clear();
-    match command_of(words) {
-        Some(command) => match command.verb {
+    match command_of(alloc, words) {
+        Ok(Some(command)) => match command.verb {
             Verb::Exec => exec(alloc, &command, files, input, out, err, image),
             Verb::Build => build(alloc, &command, files, out, err, image),
             Verb::Check => check(alloc, command.operand, files, out, err),
             Verb::List => list(alloc, &command, files, out, err, image),
             Verb::Run => run(alloc, &command, files, input, out, err, image),
         },
-        None => report(err, b"opc: bad command line\n", Finish::Usage),
+        Ok(None) => report(err, b"opc: bad command line\n", Finish::Usage),
+        Err(NoMemory) => report_no_memory(err),
     }
 }

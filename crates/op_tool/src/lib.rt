@@ -6,6 +6,7 @@ mod compiler;
 mod driver;
 mod finish;
 mod image_run;
+mod line;
 mod report;
 
 pub use compiler::{CompileError, compile};
