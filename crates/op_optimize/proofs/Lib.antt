@@ -1,0 +1,24 @@
+mod Acting
+mod Actions
+mod Choosing
+mod Costs
+mod Emitting
+mod Facts
+mod Folding
+mod Gathering
+mod Meanings
+mod Naming
+mod Needing
+pub mod Optimized
+mod PlainCode
+mod RenamedCode
+mod RenamedRuns
+mod SimplifiedPlans
+mod Simplifications
+mod SimplifiedCode
+mod SimplifiedRuns
+mod Standing
+mod SimplifiedValid
+mod Staying
+mod Stepping
+mod Steps

@@ -1,0 +1,16 @@
+pub mod Contents
+pub mod Each
+pub mod Facts
+pub mod Liveness
+pub mod Optimizing
+pub mod Programs
+pub mod Reading
+pub mod Renaming
+pub mod Rewriting
+pub mod Shortening
+pub mod Simplifying
+pub mod Stepping
+pub mod Thinning
+pub mod Values
+pub mod Weights
+pub mod Worth

@@ -1,0 +1,58 @@
+-- What an instruction reads and writes, and where the code goes on behind it.
+use Rattle.std.specs.Prelude.{Bool, false, ◌||◌, Option, Some, None, nat_eq}
+use Rattle.std.specs.List.{list_any}
+use Rattle.op_low.specs.declared.ids.VirtualRegister.{VirtualRegister}
+use Rattle.op_low.specs.declared.instruction.Call.{Call as Operands}
+use Rattle.op_low.specs.declared.instruction.Instruction.{Instruction}
+use Rattle.op_low.specs.declared.instruction.Instruction.TheVariants.{Const, Address, Local, Move, Alu, AluImm, Shift, Load, Store, Call, CallAt, Branch, Jump, Return, Raise, Read, Write, Exit}
+
+abbrev pub same : VirtualRegister → VirtualRegister → Bool
+same a b = nat_eq a.0 b.0
+
+abbrev pub either : (a b r : VirtualRegister) → Bool
+either a b r = same a r || same b r
+
+unfoldable pub is_argument : Operands → VirtualRegister → Bool
+is_argument call r = list_any (λ a. same a r) call.arguments
+
+unfoldable pub reads : Instruction → VirtualRegister → Bool
+reads (Const to n) r = false
+reads (Address to symbol) r = false
+reads (Local to offset) r = false
+reads (Move to from) r = same from r
+reads (Alu op to left right) r = either left right r
+reads (AluImm op to left imm) r = same left r
+reads (Shift op to left amount) r = same left r
+reads (Load op to base offset) r = same base r
+reads (Store op v base offset) r = either v base r
+reads (Call id call) r = is_argument call r
+reads (CallAt address call) r = same address r || is_argument call r
+reads (Branch op left right block) r = either left right r
+reads (Jump block) r = false
+reads (Return v) r = same v r
+reads Raise r = false
+reads (Read to buffer size) r = either buffer size r
+reads (Write output buffer size) r = either buffer size r
+reads (Exit status) r = same status r
+
+-- the register that it writes
+unfoldable pub target_of : Instruction → Option VirtualRegister
+target_of (Const to n) = Some to
+target_of (Address to symbol) = Some to
+target_of (Local to offset) = Some to
+target_of (Move to from) = Some to
+target_of (Alu op to left right) = Some to
+target_of (AluImm op to left imm) = Some to
+target_of (Shift op to left amount) = Some to
+target_of (Load op to base offset) = Some to
+target_of (Call id call) = Some call.to
+target_of (CallAt address call) = Some call.to
+target_of (Read to buffer size) = Some to
+target_of _ = None
+
+abbrev pub is_some_one : Option VirtualRegister → VirtualRegister → Bool
+is_some_one None r = false
+is_some_one (Some to) r = same to r
+
+abbrev pub writes : Instruction → VirtualRegister → Bool
+writes i r = is_some_one (target_of i) r
