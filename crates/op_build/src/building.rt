@@ -14,6 +14,7 @@ use op_layout::Layout;
 use op_link::{LinkError, Settings};
 use op_low::Low;
 use op_mir::Mir;
+use op_optimize::optimize;
 use std::alloc::Global;
 
 /// Why managed code has no image.
@@ -36,14 +37,15 @@ impl From<NoMemory> for BuildError {
     }
 }
 
-/// The low code of a program, and its constants.
+/// What the optimizer makes of the low code of a program, and its constants.
 #[derive(Drop)]
 struct LowCode {
     low: Low,
     layout: Layout,
 }
 
-/// Constants and low code are made of managed code, which is freed routine by routine, and of its tables, which are freed then.
+/// Constants and low code are made of managed code, which is freed routine by routine, and of its tables, which are freed then. The low code is
+/// used up as better low code is made of it.
 fn low_code_of(
     alloc: Global,
     core: Core,
@@ -54,7 +56,8 @@ fn low_code_of(
     ensures { IfOk result (λ code. IsLowCode core mir settings.now code.low code.layout) }
 {
     let layout = layout(alloc, &core, &mir)?;
-    let low = expand(alloc, &core, mir, 1024 * settings.stack)?;
+    let expanded = expand(alloc, &core, mir, 1024 * settings.stack)?;
+    let low = optimize(alloc, expanded)?;
     Ok(LowCode { low, layout })
 }
 
@@ -76,8 +79,8 @@ fn image_of(alloc: Global, code: LowCode, settings: &Settings) -> Result<Vec<u8>
 
 /// The image of a program in managed code, beside its tables, with a heap and a stack as the settings say.
 ///
-/// `Limit` comes only where code, constants and initial globals take more than 67,108,864 bytes, `Unbuildable` only where the low code of
-/// the program names what does not exist or its globals take too much room, and `NoMemory` only where the allocator has no room.
+/// `Limit` comes only where code, constants and initial globals take more than 67,108,864 bytes, `Unbuildable` only where the better
+/// low code of the program names what does not exist or its globals take too much room, and `NoMemory` only where the allocator has no room.
 pub fn build(
     alloc: Global,
     core: Core,

@@ -5,6 +5,7 @@ use Rattle.op_core.specs.declared.program.Core.{Core}
 use Rattle.op_image.specs.Means.{AreBytes, Runs, image_run, low_start}
 use Rattle.op_low.specs.Machine.{NeverBad, low_machine, cost}
 use Rattle.op_low.specs.State.{State as LowState, Ending as LowEnding, Running as LowRunning, Ended as LowEnded, Bad, space}
+use Rattle.op_low.specs.declared.code.Low.{Low}
 use Rattle.op_managed.specs.Managed.{Manages, goes_along}
 use Rattle.op_meaning.specs.Frames.{State as SourceState, program_of}
 use Rattle.op_meaning.specs.Start.{start}
@@ -12,11 +13,12 @@ use Rattle.op_meaning.specs.World.{Ending, Running, Ended, World}
 use Rattle.op_mir.specs.Machine.{MirState, mir_machine, mir_start, mir_cost}
 use Rattle.op_mir.specs.Plain.{IsPlain}
 use Rattle.op_mir.specs.declared.code.Mir.{Mir}
+use Rattle.op_optimize.specs.Shortening.{Passed, Shortens}
 use Rattle.op_rv.specs.State.{State as ImageState, Running as GoesOn, Ended as HasEnded}
 use Rattle.op_select.specs.Going.{Setting as Placed, placement_of}
 use Rattle.op_select.specs.RiscvMachine.{riscv_machine}
 use Rattle.op_select.specs.Selected.{Matches, MatchesBy, selected}
-use Rattle.op_simulation.proofs.Points.{point_rises}
+use Rattle.op_simulation.proofs.Points.{point_passes}
 use Rattle.op_simulation.proofs.Runs.{run_add, run_past_end, spent_add}
 use Rattle.op_simulation.specs.Matching.{Agreement, Follows}
 use Rattle.op_simulation.specs.System.{System, run, Halted, spent}
@@ -27,12 +29,13 @@ use Rattle.op_agreement.specs.Claims.{lowered}
 use Rattle.op_agreement.specs.Fitting.{IsFitting}
 use Rattle.op_agreement.specs.Settings.{Setting, managed}
 use Rattle.op_agreement.specs.Stands.{Stands}
-use Rattle.op_agreement.specs.Starting.{IsLoaded, Starts}
+use Rattle.op_agreement.specs.Starting.{IsLoaded, Starts, low_begins}
 use Rattle.op_agreement.specs.Steps.{cost_going, counted, most_for_one}
 use Rattle.op_link.specs.Image.{start as image_begin}
 use Rattle.op_meaning.specs.Costs.{cost as cost_above}
-use Rattle.op_correctness.proofs.Settling.{counted_steps, counts_first, counts_less, counts_nothing, going, one_or_none, settles, settling, stays, while_running}
-use Rattle.op_correctness.proofs.Spending.{Between, EachCosts, between, same_run, with_cost}
+use Rattle.op_correctness.proofs.Settling.{counted_steps, counts_less, counts_nothing, going, one_or_none, settles, settling, stays, while_running}
+use Rattle.op_correctness.proofs.Shortened.{Less, better_is_good, costs_less, improved, points_rise}
+use Rattle.op_correctness.proofs.Spending.{Between, EachCosts, between, same_run}
 use Rattle.op_correctness.specs.Agrees.{EndsAlike, GoesAlong, LooksAlike, source_run, most_for_work}
 use Rattle.op_correctness.specs.Placed.{setting_by}
 
@@ -64,14 +67,15 @@ ends_through : (e : Ending) (l : LowState) (b : ImageState) → EndsAs e l.endin
 ends_through Running l b is with_b = subst (λ x. EndsWith x b) is with_b
 ends_through (Ended status) l b is with_b = subst (λ x. EndsWith x b) is with_b
 
--- what rises with each step rises with all
-above_points : (f : ℕ → ℕ) → ((n : ℕ) → f n < f (suc n)) → (m n : ℕ) → m < n → f m < f n
-above_points f rises m zero less = absurd (omega arith)
-above_points f rises m (suc n) less = by (cases_lt m n) (above_points f rises m n)
-  where
-    by : (m < n) ⊎ (n ≤ m) → (m < n → f m < f n) → f m < f (suc n)
-    by (inl before) below = let one = below before in let two = rises n in omega arith
-    by (inr same) below = let e : m ≡ n = omega arith in subst (λ k. f k < f (suc n)) (sym e) (rises n)
+-- what never falls with a step falls with none
+rises_on : (f : ℕ → ℕ) → ((n : ℕ) → f n ≤ f (suc n)) → (n k : ℕ) → f n ≤ f (n + k)
+rises_on f rises n zero = let e : n + 0 ≡ n = omega arith in let same = ap f e in omega arith
+rises_on f rises n (suc k) =
+    let e : n + suc k ≡ suc (n + k) = omega arith in
+    let same = ap f e in
+    let before = rises_on f rises n k in
+    let next = rises (n + k) in
+    omega arith
 
 run_none : {Event : Type 0} (A : System Event) (a : A.State) → run A 0 a ≡ a
 unfolding run
@@ -79,11 +83,11 @@ run_none A a = refl
 
 -- ---- the whole run
 
-module _ (core : Core) (mir : Mir) (stack : ℕ) (w : Placed) (image : List ℕ) where
+module _ (core : Core) (mir : Mir) (stack : ℕ) (low : Low) (w : Placed) (image : List ℕ) where
   abbrev g : Setting
-  g = setting_by core mir stack w image
+  g = setting_by core mir stack low w image
 
-  module _ (does : (input : List ℕ) → AreBytes input → NeverBad w.low (placement_of w) (low_start w image input) → Runs w image input) (fit : IsFitting (setting_by core mir stack w image)) (loaded : IsLoaded (setting_by core mir stack w image)) (follows : Follows (lowered (setting_by core mir stack w image))) (manages : Manages core mir) (plain : IsPlain (program_of core stack)) (own : space w.low (placement_of w) w.low.entry.0 ≤ 1024) (input : List ℕ) (bytes : AreBytes input) where
+  module _ (does : (input : List ℕ) → AreBytes input → NeverBad w.low (placement_of w) (low_start w image input) → Runs w image input) (shorter : (input : List ℕ) → NeverBad low (placement_of w) (low_begins (setting_by core mir stack low w image) input) → Shortens low w.low (placement_of w) (low_begins (setting_by core mir stack low w image) input) (low_start w image input)) (fit : IsFitting (setting_by core mir stack low w image)) (loaded : IsLoaded (setting_by core mir stack low w image)) (follows : Follows (lowered (setting_by core mir stack low w image))) (manages : Manages core mir) (plain : IsPlain (program_of core stack)) (own : space w.low (placement_of w) w.low.entry.0 ≤ 1024) (input : List ℕ) (bytes : AreBytes input) where
     abbrev begin : MirState
     begin = mir_start (program_of core stack) input
 
@@ -97,7 +101,7 @@ module _ (core : Core) (mir : Mir) (stack : ℕ) (w : Placed) (image : List ℕ)
     middle = agrees g follows begin started.to started.stands
 
     abbrev low_first : LowState
-    low_first = low_start w image input
+    low_first = low_begins g input
 
     abbrev low_at : ℕ → LowState
     low_at n = run (low_machine g.low g.placement) n low_first
@@ -116,57 +120,71 @@ module _ (core : Core) (mir : Mir) (stack : ℕ) (w : Placed) (image : List ℕ)
             let is : low_at n ≡ run (low_machine g.low g.placement) (n - started.goes.steps) started.to = ap low_at (sym e) ∙ run_add (low_machine g.low g.placement) started.goes.steps (n - started.goes.steps) low_first ∙ ap (run (low_machine g.low g.placement) (n - started.goes.steps)) there in
             subst (λ (s : LowState). s.ending ≢ Bad) (sym is) (never_bad g begin started.to middle (n - started.goes.steps))
 
-    runs : Runs w image input
-    runs = does input bytes good
+    -- ---- what the optimizer makes of it
 
-    abbrev lower : Agreement (selected w) low_first runs.along.first
+    abbrev better_first : LowState
+    better_first = low_start w image input
+
+    abbrev better_at : ℕ → LowState
+    better_at n = run (low_machine w.low (placement_of w)) n better_first
+
+    short : Shortens g.low w.low g.placement low_first better_first
+    short = shorter input good
+
+    abbrev better_g : Setting
+    better_g = improved g w.low low_first better_first short
+
+    -- ---- the image
+
+    runs : Runs w image input
+    runs = does input bytes (better_is_good g w.low low_first better_first short good)
+
+    abbrev lower : Agreement (selected w) better_first runs.along.first
     lower = runs.along.agreement
 
-    -- the point of low code, and a number of steps that leads to that of the image
+    -- the points of low code and of better low code, and a number of steps that leads to that of the image
     abbrev low_point : ℕ → ℕ
     low_point n = started.goes.steps + middle.point (upper.point n)
 
-    abbrev far : ℕ → ℕ
-    far n = runs.along.steps + lower.point (low_point n)
+    abbrev better_point : ℕ → ℕ
+    better_point n = short.point (low_point n)
 
-    far_rises : (n : ℕ) → far n < far (suc n)
-    far_rises n =
-        let one = point_rises (goes_along (program_of core stack) (managed g)) (start (program_of core stack) input) begin upper n in
-        let two = above_points middle.point (point_rises (lowered g) begin started.to middle) (upper.point n) (upper.point (suc n)) one in
-        let three = above_points lower.point (point_rises (selected w) low_first runs.along.first lower) (low_point n) (low_point (suc n)) (omega arith) in
-        omega arith
+    abbrev far : ℕ → ℕ
+    far n = runs.along.steps + lower.point (better_point n)
 
     low_is : (n : ℕ) → low_at (low_point n) ≡ run (counted g) (middle.point (upper.point n)) started.to
     low_is n = run_add (low_machine g.low g.placement) started.goes.steps (middle.point (upper.point n)) low_first ∙ ap (run (low_machine g.low g.placement) (middle.point (upper.point n))) there ∙ sym (run_counted g (middle.point (upper.point n)) started.to)
 
-    image_is : (n : ℕ) → image_run image input (far n) ≡ run riscv_machine (lower.point (low_point n)) runs.along.first
-    image_is n = run_add riscv_machine runs.along.steps (lower.point (low_point n)) _ ∙ ap (run riscv_machine (lower.point (low_point n))) runs.along.path.ends
+    image_is : (n : ℕ) → image_run image input (far n) ≡ run riscv_machine (lower.point (better_point n)) runs.along.first
+    image_is n = run_add riscv_machine runs.along.steps (lower.point (better_point n)) _ ∙ ap (run riscv_machine (lower.point (better_point n))) runs.along.path.ends
 
     far_alike : (n : ℕ) → LooksAlike (source_run (program_of core stack) input n) (image_run image input (far n))
     far_alike n =
         let s = source_run (program_of core stack) input n in
         let m = run (mir_machine (managed g)) (upper.point n) begin in
         let l = low_at (low_point n) in
-        let b = run riscv_machine (lower.point (low_point n)) runs.along.first in
+        let c = better_at (better_point n) in
+        let b = run riscv_machine (lower.point (better_point n)) runs.along.first in
         let goes = upper.states n in
         let world : m.world ≡ s.world = ap (λ (x : MirState). x.world) goes.same in
         let same = same_states g m l (subst (Stands g m) (sym (low_is n)) (middle.states (upper.point n)).1) in
-        let saw = seen w l b (lower.states (low_point n)) in
+        let looks = short.alike (low_point n) in
+        let saw = seen w c b (lower.states (better_point n)) in
         subst (LooksAlike s) (sym (image_is n)) (record {
-          output = saw.output ∙ same.output ∙ ap (λ (x : World). x.output) world;
-          errors = saw.errors ∙ same.errors ∙ ap (λ (x : World). x.errors) world;
-          input = saw.input ∙ same.input ∙ ap (λ (x : World). x.input) world;
-          ending = subst (λ (x : World). EndsAlike x.ending b.ending) world (ends_through m.world.ending l b same.ending saw.ending);
+          output = saw.output ∙ looks.output ∙ same.output ∙ ap (λ (x : World). x.output) world;
+          errors = saw.errors ∙ looks.errors ∙ same.errors ∙ ap (λ (x : World). x.errors) world;
+          input = saw.input ∙ looks.input ∙ same.input ∙ ap (λ (x : World). x.input) world;
+          ending = subst (λ (x : World). EndsAlike x.ending b.ending) world (ends_through m.world.ending l b same.ending (subst (λ e. EndsWith e b) looks.ending saw.ending));
         })
 
     -- ---- what the steps between two points cost
 
-    -- each stretch of the image is counted until it ends, as that of low code is
-    image_costs : EachCosts (selected w) low_first runs.along.first lower (λ l. cost_going g l l.ending) going (selected w).factor
+    -- each stretch of the image is counted until it ends, as that of better low code is
+    image_costs : EachCosts (selected w) better_first runs.along.first lower (λ l. cost_going better_g l l.ending) going (selected w).factor
     image_costs n = by l.ending refl (lower.states n)
       where
         l : LowState
-        l = run (low_machine g.low g.placement) n low_first
+        l = better_at n
 
         b : ImageState
         b = run riscv_machine (lower.point n) runs.along.first
@@ -174,11 +192,11 @@ module _ (core : Core) (mir : Mir) (stack : ℕ) (w : Placed) (image : List ℕ)
         more : ℕ
         more = suc (lower.stretch n).more
 
-        by : (e : LowEnding) → l.ending ≡ e → Matches w l b → spent settling more b ≤ (selected w).factor * cost_going g l l.ending
+        by : (e : LowEnding) → l.ending ≡ e → Matches w l b → spent settling more b ≤ (selected w).factor * cost_going better_g l l.ending
         by LowRunning is stands =
             let within = (lower.stretch n).within in
             let less = counts_less more b in
-            let same : cost_going g l l.ending ≡ cost g.low g.placement l.ending l = ap (cost_going g l) is ∙ sym (ap (λ e. cost g.low g.placement e l) is) in
+            let same : cost_going better_g l l.ending ≡ cost w.low (placement_of w) l.ending l = ap (cost_going better_g l) is ∙ sym (ap (λ e. cost w.low (placement_of w) e l) is) in
             subst (λ c. spent settling more b ≤ (selected w).factor * c) (sym same) (le_trans less within)
         by (LowEnded status) is stands =
             let saw = seen_by w (LowEnded status) l b is (subst (λ e. MatchesBy w e l b) is stands.states) in
@@ -197,8 +215,11 @@ module _ (core : Core) (mir : Mir) (stack : ℕ) (w : Placed) (image : List ℕ)
       middle_between : Between (lowered g) begin started.to middle (mir_cost (managed g)) (λ l. cost_going g l l.ending) most_for_one (upper.point n) managed_more
       middle_between = between (lowered g) begin started.to middle (mir_cost (managed g)) (λ l. cost_going g l l.ending) most_for_one (λ k. (middle.stretch k).within) (upper.point n) managed_more
 
-      lower_between : Between (selected w) low_first runs.along.first lower (λ l. cost_going g l l.ending) going (selected w).factor (low_point n) middle_between.more
-      lower_between = between (selected w) low_first runs.along.first lower (λ l. cost_going g l l.ending) going (selected w).factor image_costs (low_point n) middle_between.more
+      better_between : Less g w.low low_first better_first short (low_point n) middle_between.more
+      better_between = costs_less g w.low low_first better_first short (low_point n) middle_between.more
+
+      lower_between : Between (selected w) better_first runs.along.first lower (λ l. cost_going better_g l l.ending) going (selected w).factor (better_point n) better_between.more
+      lower_between = between (selected w) better_first runs.along.first lower (λ l. cost_going better_g l l.ending) going (selected w).factor image_costs (better_point n) better_between.more
 
       -- the next point is so far
       far_next : far (suc n) ≡ far n + lower_between.more
@@ -207,8 +228,9 @@ module _ (core : Core) (mir : Mir) (stack : ℕ) (w : Placed) (image : List ℕ)
           let points : upper.point (suc n) ≡ upper.point n + managed_more = omega arith in
           let middles = middle_between.at in
           let next : low_point (suc n) ≡ low_point n + middle_between.more = ap (λ k. started.goes.steps + middle.point k) points ∙ sum started.goes.steps (middle.point (upper.point n + managed_more)) (middle.point (upper.point n)) middle_between.more middles in
+          let better : better_point (suc n) ≡ better_point n + better_between.more = ap short.point next ∙ better_between.at in
           let lowers_at = lower_between.at in
-          let lasts = ap lower.point next in
+          let lasts = ap lower.point better in
           omega arith
         where
           sum : (a b c d : ℕ) → b ≡ c + d → a + b ≡ a + c + d
@@ -223,11 +245,31 @@ module _ (core : Core) (mir : Mir) (stack : ℕ) (w : Placed) (image : List ℕ)
           let l = run (low_machine g.low g.placement) (low_point n) low_first in
           let first : spent (mir_machine (managed g)) managed_more (run (mir_machine (managed g)) (upper.point n) begin) ≤ 4 * cost_above (program_of core stack) s_here = (upper.stretch n).within in
           let second = middle_between.within in
-          let same : spent (with_cost (low_machine g.low g.placement) (λ l. cost_going g l l.ending)) middle_between.more l ≡ spent (counted g) middle_between.more (run (counted g) (middle.point (upper.point n)) started.to) = ap (spent (counted g) middle_between.more) (low_is n) in
-          let third : image_cost ≤ (selected w).factor * spent (with_cost (low_machine g.low g.placement) (λ l. cost_going g l l.ending)) middle_between.more l = subst (λ b. spent settling lower_between.more b ≤ (selected w).factor * spent (with_cost (low_machine g.low g.placement) (λ l. cost_going g l l.ending)) middle_between.more l) (sym (image_is n)) lower_between.within in
+          let same : spent (counted g) middle_between.more l ≡ spent (counted g) middle_between.more (run (counted g) (middle.point (upper.point n)) started.to) = ap (spent (counted g) middle_between.more) (low_is n) in
+          let fewer = better_between.within in
+          let third : image_cost ≤ (selected w).factor * spent (counted better_g) better_between.more (better_at (better_point n)) = subst (λ b. spent settling lower_between.more b ≤ (selected w).factor * spent (counted better_g) better_between.more (better_at (better_point n))) (sym (image_is n)) lower_between.within in
           let fast : (selected w).factor ≤ 32 = omega arith in
-          let scaled = mul-le-mul_right (spent (with_cost (low_machine g.low g.placement) (λ l. cost_going g l l.ending)) middle_between.more l) fast in
+          let scaled = mul-le-mul_right (spent (counted better_g) better_between.more (better_at (better_point n))) fast in
           omega arith
+
+    -- ---- they never fall, and pass every step of the image
+
+    far_rises : (n : ℕ) → far n ≤ far (suc n)
+    far_rises n = let next = far_next n in omega arith
+
+    far_passes : (m : ℕ) → Passed far m
+    far_passes m =
+        let passed = short.passes m in
+        let n = passed.steps in
+        let one = point_passes (goes_along (program_of core stack) (managed g)) (start (program_of core stack) input) begin upper n in
+        let two = point_passes (lowered g) begin started.to middle (upper.point n) in
+        let less : n ≤ low_point n = omega arith in
+        let three = points_rise g w.low low_first better_first short n (low_point n - n) in
+        let e : n + (low_point n - n) ≡ low_point n = omega arith in
+        let at = ap short.point e in
+        let four = point_passes (selected w) better_first runs.along.first lower (better_point n) in
+        let last = passed.passed in
+        record { steps = n; passed = omega arith }
 
     -- ---- the points: the steps until the image has ended, and one for each step of the program behind its end
 
@@ -254,19 +296,35 @@ module _ (core : Core) (mir : Mir) (stack : ℕ) (w : Placed) (image : List ℕ)
     unfolding idles
     next_idles n = refl
 
-    rises : (n : ℕ) → point n < point (suc n)
-    rises n = by (going (image_run image input (far n))) refl
+    rises : (n : ℕ) → point n ≤ point (suc n)
+    rises n = let next = next_settled n in let idle_next = next_idles n in omega arith
+
+    -- where the image has ended each step of the program counts
+    idle_on : (n : ℕ) → going (image_run image input (far n)) ≡ 0 → (k : ℕ) → k ≤ idles (n + k)
+    idle_on n none zero = omega arith
+    idle_on n none (suc k) =
+        let before = idle_on n none k in
+        let risen = rises_on far far_rises n k in
+        let stayed = run_past_end riscv_machine (far n) (far (n + k)) (image_begin image input) (stays (image_run image input (far n)) none) risen in
+        let same = ap going stayed in
+        let next = next_idles (n + k) in
+        let e : n + suc k ≡ suc (n + k) = omega arith in
+        let at = ap idles e in
+        omega arith
+
+    passes : (m : ℕ) → Passed point m
+    passes m = by (going (image_run image input (far n))) refl
       where
-        by : (k : ℕ) → going (image_run image input (far n)) ≡ k → point n < point (suc n)
-        by zero none = let next = next_settled n in let idle_next = next_idles n in omega arith
+        n : ℕ
+        n = (far_passes m).steps
+
+        by : (k : ℕ) → going (image_run image input (far n)) ≡ k → Passed point m
+        by zero none = let idle_steps = idle_on n none m in record { steps = n + m; passed = omega arith }
         by (suc k) some =
-            let next = next_settled n in
-            let idle_next = next_idles n in
-            let risen = far_rises n in
-            let along_is = far_next n in
             let few = one_or_none (image_run image input (far n)).ending in
-            let first = counts_first (lower_between n).more (image_run image input (far n)) (omega arith) (omega arith) in
-            omega arith
+            let all = (settles (image_begin image input) (far n)).all (omega arith) in
+            let passed = (far_passes m).passed in
+            record { steps = n; passed = omega arith }
 
     -- where the image goes on there was no idle step
     no_idles : (n : ℕ) → going (image_run image input (far n)) ≡ 1 → idles n ≡ 0
@@ -319,24 +377,30 @@ module _ (core : Core) (mir : Mir) (stack : ℕ) (w : Placed) (image : List ℕ)
     unfolding Rattle.op_select.specs.Frames.frame_of idles
     first =
         let few = runs.along.within in
-        let low_between = between (selected w) low_first runs.along.first lower (λ l. cost_going g l l.ending) going (selected w).factor image_costs 0 started.goes.steps in
+        let better_between = costs_less g w.low low_first better_first short 0 started.goes.steps in
+        let low_between = between (selected w) better_first runs.along.first lower (λ l. cost_going better_g l l.ending) going (selected w).factor image_costs 0 better_between.more in
         let start_low = started.goes.within in
         let begins = upper.first in
         let begins_middle = middle.first in
+        let begins_better = short.first in
         let begins_lower = lower.first in
         let where_low : low_point 0 ≡ 0 + started.goes.steps = ap (λ k. started.goes.steps + middle.point k) begins ∙ plus_none started.goes.steps (middle.point 0) begins_middle in
+        let where_better : better_point 0 ≡ 0 + better_between.more = ap short.point where_low ∙ better_between.at ∙ ap (λ k. k + better_between.more) begins_better in
         let lower_at = low_between.at in
-        let point_low : lower.point (low_point 0) ≡ low_between.more = ap lower.point where_low ∙ lower_at ∙ only low_between.more (lower.point 0) begins_lower in
+        let point_low : lower.point (better_point 0) ≡ low_between.more = ap lower.point where_better ∙ lower_at ∙ only low_between.more (lower.point 0) begins_lower in
         let total : settled 0 ≡ spent settling runs.along.steps (image_begin image input) + spent settling low_between.more runs.along.first =
         ap (λ k. counted_steps (image_begin image input) (runs.along.steps + k)) point_low ∙ spent_add settling runs.along.steps low_between.more (image_begin image input)
         ∙ ap (λ b. counted_steps (image_begin image input) runs.along.steps + spent settling low_between.more b) (same_run riscv_machine going runs.along.steps (image_begin image input) ∙ runs.along.path.ends) in
         let begin_few = (settles (image_begin image input) runs.along.steps).few in
         let none : idles 0 ≡ 0 = refl in
-        let within : spent settling low_between.more runs.along.first ≤ (selected w).factor * spent (counted g) started.goes.steps low_first =
-        subst (λ b. spent settling low_between.more b ≤ (selected w).factor * spent (counted g) started.goes.steps low_first) (run_at_none (lower.point 0) runs.along.first begins_lower)
-        (subst (λ l. spent settling low_between.more (run riscv_machine (lower.point 0) runs.along.first) ≤ (selected w).factor * spent (counted g) started.goes.steps l) (run_none (low_machine g.low g.placement) low_first) low_between.within) in
+        let within : spent settling low_between.more runs.along.first ≤ (selected w).factor * spent (counted better_g) better_between.more better_first =
+        subst (λ b. spent settling low_between.more b ≤ (selected w).factor * spent (counted better_g) better_between.more better_first) (run_at_none (lower.point 0) runs.along.first begins_lower)
+        (subst (λ l. spent settling low_between.more (run riscv_machine (lower.point 0) runs.along.first) ≤ (selected w).factor * spent (counted better_g) better_between.more l) (run_none (low_machine w.low (placement_of w)) better_first) low_between.within) in
+        let fewer : spent (counted better_g) better_between.more better_first ≤ spent (counted g) started.goes.steps low_first =
+        subst (λ l. spent (counted better_g) better_between.more better_first ≤ spent (counted g) started.goes.steps l) (run_none (low_machine g.low g.placement) low_first)
+        (subst (λ l. spent (counted better_g) better_between.more l ≤ spent (counted g) started.goes.steps (low_at 0)) (low_at_none (short.point 0) better_first begins_better) better_between.within) in
         let fast : (selected w).factor ≤ 32 = omega arith in
-        let scaled = mul-le-mul_right (spent (counted g) started.goes.steps low_first) fast in
+        let scaled = mul-le-mul_right (spent (counted better_g) better_between.more better_first) fast in
         let most = own in
         omega arith
       where
@@ -346,8 +410,11 @@ module _ (core : Core) (mir : Mir) (stack : ℕ) (w : Placed) (image : List ℕ)
         only : (a b : ℕ) → b ≡ 0 → b + a ≡ a
         only a b e = omega arith
 
+        low_at_none : (k : ℕ) (l : LowState) → k ≡ 0 → run (low_machine w.low (placement_of w)) k l ≡ l
+        low_at_none k l e = ap (λ k. run (low_machine w.low (placement_of w)) k l) e ∙ run_none (low_machine w.low (placement_of w)) l
+
         run_at_none : (k : ℕ) (b : ImageState) → k ≡ 0 → run riscv_machine k b ≡ b
         run_at_none k b e = ap (λ k. run riscv_machine k b) e ∙ run_none riscv_machine b
 
     pub along : GoesAlong (program_of core stack) image input
-    along = record { point = point; rises = rises; alike = alike; safe = runs.safe; first = first; soon = soon }
+    along = record { point = point; rises = rises; passes = passes; alike = alike; safe = runs.safe; first = first; soon = soon }

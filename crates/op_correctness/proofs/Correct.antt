@@ -1,5 +1,5 @@
 -- The image of a program that passes the test does what the program means.
-use Rattle.std.proofs.Common.{◌≡◌, ◌≤◌, ℕ, ◌+◌, ◌*◌, true, List, length, None, refl, ap, arith}
+use Rattle.std.proofs.Common.{◌≡◌, ◌≤◌, ℕ, ◌+◌, ◌*◌, ◌-◌, true, List, length, None, refl, sym, ap, ◌∙◌, subst, arith}
 use Rattle.std.proofs.lemmas.Bool.Decides.{nat_tests}
 use Rattle.op_build.specs.Built.{IsBuilt, program_low}
 use Rattle.op_core.specs.Sound.{IsSound, IsSoundNesting}
@@ -11,15 +11,20 @@ use Rattle.op_constants.specs.Literals.{literals_of}
 use Rattle.op_image.specs.Building.{is_buildable}
 use Rattle.op_layout.specs.Places.{layout_of}
 use Rattle.op_image.specs.Means.{AreBytes, HasRoom, Runs, low_start}
-use Rattle.op_link.specs.Image.{first_failing}
+use Rattle.op_link.specs.Image.{first_failing, regions_in}
 use Rattle.op_link.specs.Memory.{are_in_range}
+use Rattle.op_link.specs.Region.{byte_in}
 use Rattle.op_link.specs.declared.memory_map.Settings.{Settings}
 use Rattle.op_low.specs.Machine.{NeverBad}
 use Rattle.op_low.specs.State.{space}
+use Rattle.op_low.specs.Valid.{is_valid}
+use Rattle.op_low.specs.declared.code.Low.{Low}
 use Rattle.op_lower.specs.Lowers.{Lowers}
 use Rattle.op_managed.specs.Managed.{Manages}
 use Rattle.op_meaning.specs.Frames.{program_of}
 use Rattle.op_mir.specs.declared.code.Mir.{Mir}
+use Rattle.op_optimize.proofs.Optimized.{shortens, thins}
+use Rattle.op_optimize.specs.Optimizing.{Optimizes}
 use Rattle.op_plain.proofs.PlainLemmas.{plain_by_test}
 use Rattle.op_plain.specs.Claims.{IsPlainCore}
 use Rattle.op_plain.specs.Plain.{is_plain_program}
@@ -30,10 +35,12 @@ use Rattle.op_agreement.specs.Fitting.{IsFitting, IsPlacedProgram}
 use Rattle.op_agreement.specs.Starting.{IsLoaded}
 use Rattle.op_correctness.proofs.Composing.{along}
 use Rattle.op_correctness.proofs.Fits.{program_fits}
-use Rattle.op_correctness.proofs.Fitting.{low_is_buildable}
+use Rattle.op_correctness.proofs.Better.{stays_buildable}
+use Rattle.op_correctness.proofs.Fitting.{low_is_buildable, low_is_valid}
 use Rattle.op_correctness.proofs.Loaded.{bottom_is, loaded, placed}
 use Rattle.op_correctness.proofs.PlainItems.{program_plain}
 use Rattle.op_correctness.proofs.Space.{is_spacious, program_space}
+use Rattle.op_correctness.proofs.Thinner.{same_space}
 use Rattle.op_correctness.specs.Agrees.{Agrees}
 use Rattle.op_correctness.specs.Charges.{HaveCharges}
 use Rattle.op_correctness.specs.Placed.{placed_in, setting_by, setting_in}
@@ -53,17 +60,22 @@ stack_few settings range = grind (arith, nat_tests, range)
 
 -- ---- over any place of the program
 
-module _ (core : Core) (mir : Mir) (stack : ℕ) (w : Placed) (image : List ℕ) (class : IsPlainCore core) (sound : IsSound core) (nesting : IsSoundNesting core) (lowers : Lowers core mir) (manages : Manages core mir) (low : w.low ≡ low_of core mir stack) where
-  fits : stack ≤ most_charge → IsPlacedProgram (setting_by core mir stack w image) → IsFitting (setting_by core mir stack w image)
+module _ (core : Core) (mir : Mir) (stack : ℕ) (low : Low) (is_low : low ≡ low_of core mir stack) (w : Placed) (image : List ℕ) (class : IsPlainCore core) (sound : IsSound core) (nesting : IsSoundNesting core) (lowers : Lowers core mir) (manages : Manages core mir) (optimizes : Optimizes low w.low) where
+  fits : stack ≤ most_charge → IsPlacedProgram (setting_by core mir stack low w image) → IsFitting (setting_by core mir stack low w image)
   fits few is_placed =
-      program_fits (setting_by core mir stack w image) sound nesting (simple_core core class) lowers low
-      (is_spacious core mir stack sound nesting (simple_core core class) (core_charges core class) lowers w low image) (core_charges core class) few is_placed
+      program_fits (setting_by core mir stack low w image) sound nesting (simple_core core class) lowers is_low
+      (is_spacious core mir stack sound nesting (simple_core core class) (core_charges core class) lowers low is_low w optimizes image) (core_charges core class) few is_placed
 
-  agrees_by : space w.low (placement_of w) w.low.entry.0 ≤ 1024 → first_failing image ≡ None → ((input : List ℕ) → AreBytes input → NeverBad w.low (placement_of w) (low_start w image input) → Runs w image input) → stack ≤ most_charge → IsPlacedProgram (setting_by core mir stack w image) → IsLoaded (setting_by core mir stack w image) → Agrees (program_of core stack) image
+  low_valid : is_valid low ≡ true
+  low_valid = subst (λ l. is_valid l ≡ true) (sym is_low) (low_is_valid core mir sound nesting (simple_core core class) (core_charges core class) lowers stack)
+
+  agrees_by : space w.low (placement_of w) w.low.entry.0 ≤ 1024 → first_failing image ≡ None → ((input : List ℕ) → AreBytes input → NeverBad w.low (placement_of w) (low_start w image input) → Runs w image input) → stack ≤ most_charge → IsPlacedProgram (setting_by core mir stack low w image) → IsLoaded (setting_by core mir stack low w image) → Agrees (program_of core stack) image
   agrees_by own loads does few is_placed is_loaded = record {
     loads = loads;
     along = λ input bytes.
-        along core mir stack w image does (fits few is_placed) is_loaded (low_code_follows (setting_by core mir stack w image) (fits few is_placed)) manages
+        along core mir stack low w image does
+        (λ bytes_in good. shortens low w.low optimizes (placement_of w) low_valid w.bottom (w.top - w.bottom) (byte_in (regions_in image)) bytes_in good)
+        (fits few is_placed) is_loaded (low_code_follows (setting_by core mir stack low w image) (fits few is_placed)) manages
         (program_plain core stack sound nesting (simple_core core class) class.endings class.globals) own input bytes;
   }
 
@@ -76,18 +88,25 @@ module _ (core : Core) (mir : Mir) (settings : Settings) (image : List ℕ) (pla
   few : settings.stack ≤ 65536
   few = stack_few settings range
 
-  -- the program's own code takes less than what the stack has beside the charges
-  own_space : space (placed_in core mir settings image).low (placement_of (placed_in core mir settings image)) (runtime + length core.routines) ≤ 1024
-  own_space = program_space core mir (1024 * settings.stack) sound nesting (simple_core core class) (core_charges core class) lowers (placed_in core mir settings image) refl
+  abbrev better : Low
+  better = built.better
 
-  entry_space : space (placed_in core mir settings image).low (placement_of (placed_in core mir settings image)) (program_low core mir settings).entry.0 ≤ 1024
+  abbrev w : Placed
+  w = placed_in core mir settings better image
+
+  -- the program's own code takes less than what the stack has beside the charges
+  own_space : space (program_low core mir settings) (placement_of w) (runtime + length core.routines) ≤ 1024
+  own_space = program_space core mir (1024 * settings.stack) sound nesting (simple_core core class) (core_charges core class) lowers (program_low core mir settings) refl w built.optimizes
+
+  entry_space : space better (placement_of w) better.entry.0 ≤ 1024
   entry_space =
-      let number : (program_low core mir settings).entry.0 ≡ runtime + length core.routines = entry (setting_in core mir settings image) refl lowers.number in
-      let same : space (placed_in core mir settings image).low (placement_of (placed_in core mir settings image)) (program_low core mir settings).entry.0 ≡ space (placed_in core mir settings image).low (placement_of (placed_in core mir settings image)) (runtime + length core.routines) = ap (space (placed_in core mir settings image).low (placement_of (placed_in core mir settings image))) number in
+      let number : better.entry.0 ≡ runtime + length core.routines = ap (λ e. e.0) built.optimizes.entry ∙ entry (setting_in core mir settings better image) refl lowers.number in
+      let same : space better (placement_of w) better.entry.0 ≡ space (program_low core mir settings) (placement_of w) (runtime + length core.routines) =
+      ap (space better (placement_of w)) number ∙ same_space (program_low core mir settings) better (thins (program_low core mir settings) better built.optimizes) (placement_of w) (runtime + length core.routines) in
       let own = own_space in
       omega arith
 
-  has_room : HasRoom (placed_in core mir settings image)
+  has_room : HasRoom (placed_in core mir settings better image)
   has_room =
       let bottom = bottom_is settings in
       let less = few in
@@ -99,10 +118,10 @@ module _ (core : Core) (mir : Mir) (settings : Settings) (image : List ℕ) (pla
       let bottom = bottom_is settings in
       let less = few in
       let own = own_space in
-      agrees_by core mir (1024 * settings.stack) (placed_in core mir settings image) image class sound nesting lowers manages refl entry_space built.means.loads
+      agrees_by core mir (1024 * settings.stack) (program_low core mir settings) refl w image class sound nesting lowers manages built.optimizes entry_space built.means.loads
       (λ input bytes good. built.means.runs has_room input bytes good) (omega arith)
-      (placed core mir settings image built.means sound few)
-      (loaded core mir settings image built.means sound few lowers class.globals (omega arith))
+      (placed core mir settings better built.optimizes image built.means sound few)
+      (loaded core mir settings better built.optimizes image built.means sound few lowers class.globals (omega arith))
 
 -- ---- low code may be built
 
@@ -110,3 +129,8 @@ pub buildable : (core : Core) (mir : Mir) (stack : ℕ) → is_plain_program cor
 buildable core mir stack plain sound nesting lowers few =
     let class = plain_by_test core plain in
     low_is_buildable core mir sound nesting (simple_core core class) (core_charges core class) lowers stack few
+
+-- so may what the optimizer makes of it
+pub better_buildable : (core : Core) (mir : Mir) (stack : ℕ) (better : Low) → is_plain_program core ≡ true → IsSound core → IsSoundNesting core → Lowers core mir → length core.globals ≤ 2446676 → Optimizes (low_of core mir stack) better → is_buildable better (layout_of (literals_of core mir)) ≡ true
+better_buildable core mir stack better plain sound nesting lowers few optimizes =
+    stays_buildable (low_of core mir stack) better (layout_of (literals_of core mir)) optimizes (buildable core mir stack plain sound nesting lowers few)

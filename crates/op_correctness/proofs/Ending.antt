@@ -1,5 +1,5 @@
 -- Where an image ends, the program that it agrees with ends, with the same status.
-use Rattle.std.proofs.Common.{◌≡◌, ◌≤◌, ◌<◌, ℕ, zero, suc, List, sym, ap, ◌∙◌, subst, arith}
+use Rattle.std.proofs.Common.{◌≡◌, ℕ, List, sym, ap, ◌∙◌, subst}
 use Rattle.op_image.specs.Means.{image_run}
 use Rattle.op_link.specs.Image.{start}
 use Rattle.op_meaning.specs.Frames.{Program}
@@ -11,11 +11,6 @@ use Rattle.op_simulation.proofs.Runs.{run_past_end}
 use Rattle.op_simulation.specs.System.{Halted}
 use Rattle.op_correctness.specs.Agrees.{EndsAlike, EndsAsMeant, GoesAlong, LooksAlike, source_run}
 
--- the points are not behind the steps that they stand for
-point_far : (point : ℕ → ℕ) → ((n : ℕ) → point n < point (suc n)) → (n : ℕ) → n ≤ point n
-point_far point rises zero = omega arith
-point_far point rises (suc n) = let before = point_far point rises n in let next = rises n in omega arith
-
 -- an image that has ended stays
 ended_halts : (b : ImageState) (status : ℕ) → b.ending ≡ HasEnded status → Halted riscv_machine b
 unfolding step step_by_ending riscv_shows
@@ -25,11 +20,15 @@ ended_halts b status is = record {
 }
 
 module _ (p : Program) (image input : List ℕ) (along : GoesAlong p image input) (m status : ℕ) (is : (image_run image input m).ending ≡ HasEnded status) where
-  stands_so : image_run image input (along.point m) ≡ image_run image input m
-  stands_so = run_past_end riscv_machine m (along.point m) (start image input) (ended_halts (image_run image input m) status is) (point_far along.point along.rises m)
+  -- so many steps of the program, whose point lies behind the end of the image
+  abbrev steps : ℕ
+  steps = (along.passes m).steps
 
-  alike : LooksAlike (source_run p input m) (image_run image input m)
-  alike = subst (LooksAlike (source_run p input m)) stands_so (along.alike m)
+  stands_so : image_run image input (along.point steps) ≡ image_run image input m
+  stands_so = run_past_end riscv_machine m (along.point steps) (start image input) (ended_halts (image_run image input m) status is) (along.passes m).passed
+
+  alike : LooksAlike (source_run p input steps) (image_run image input m)
+  alike = subst (LooksAlike (source_run p input steps)) stands_so (along.alike steps)
 
   ending_is : (e : Ending) → EndsAlike e (image_run image input m).ending → e ≡ Ended status
   ending_is Running goes_on = let clash : GoesOn ≡ HasEnded status = sym goes_on ∙ is in absurd cc
@@ -37,8 +36,8 @@ module _ (p : Program) (image input : List ℕ) (along : GoesAlong p image input
 
   pub ends_as_meant : EndsAsMeant p input status (image_run image input m).output (image_run image input m).errors (image_run image input m).input
   ends_as_meant = record {
-    steps = m;
-    ended = ending_is (source_run p input m).world.ending alike.ending;
+    steps = steps;
+    ended = ending_is (source_run p input steps).world.ending alike.ending;
     writes = sym alike.output;
     reports = sym alike.errors;
     leaves = sym alike.input;

@@ -1,4 +1,5 @@
 pub mod Actions
+pub mod Better
 pub mod Calls
 pub mod Composing
 pub mod Correct
@@ -19,8 +20,10 @@ pub mod PlainItems
 pub mod ProgramCode
 pub mod RoutineCode
 pub mod Settling
+pub mod Shortened
 pub mod Sized
 pub mod Space
 pub mod Spending
 pub mod Targeting
+pub mod Thinner
 pub mod Variables

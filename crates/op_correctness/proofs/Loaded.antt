@@ -22,13 +22,16 @@ use Rattle.op_image.proofs.Started.{bytes_small}
 use Rattle.op_image.specs.Means.{Means}
 use Rattle.op_link.specs.Memory.{stack_address}
 use Rattle.op_link.specs.declared.memory_map.Settings.{Settings}
-use Rattle.op_low.specs.State.{routine_or, space}
+use Rattle.op_low.specs.State.{routine_of, routine_or, space}
+use Rattle.op_low.specs.declared.code.Low.{Low}
 use Rattle.op_low.specs.declared.code.Routine.{Routine as LowRoutine}
 use Rattle.op_lower.specs.Lowers.{Lowers}
 use Rattle.op_meaning.specs.Frames.{program_of}
 use Rattle.op_meaning.specs.Shapes.{type_of_row, type_of_variable}
 use Rattle.op_meaning.specs.Start.{first_pending}
 use Rattle.op_mir.specs.declared.code.Mir.{Mir}
+use Rattle.op_optimize.proofs.Optimized.{thins}
+use Rattle.op_optimize.specs.Optimizing.{Optimizes}
 use Rattle.op_rt_text.specs.Runtime.{runtime_routines}
 use Rattle.op_select.specs.Frames.{frame_of}
 use Rattle.op_agreement.proofs.Expanding.{entry, has_runtime}
@@ -38,6 +41,7 @@ use Rattle.op_agreement.specs.Settings.{Setting}
 use Rattle.op_agreement.specs.Starting.{IsLoaded}
 use Rattle.op_agreement.specs.Typed.{IsGlobal}
 use Rattle.op_correctness.proofs.Placing.{global_stands, globals_apart, literal_stands, stack_word, values_loaded, zeros_loaded, due_stands}
+use Rattle.op_correctness.proofs.Thinner.{frames_less}
 use Rattle.op_correctness.specs.Placed.{setting_in}
 
 -- ---- the stack
@@ -65,9 +69,9 @@ small_frames (suc (suc (suc (suc (suc (suc zero)))))) less = omega arith
 small_frames (suc (suc (suc (suc (suc (suc (suc zero))))))) less = omega arith
 small_frames (suc (suc (suc (suc (suc (suc (suc (suc k)))))))) less = absurd (omega arith)
 
-module _ (core : Core) (mir : Mir) (settings : Settings) (image : List ℕ) (means : Means (program_low core mir settings) (program_layout core mir) settings image) (sound : IsSound core) (few : settings.stack ≤ 65536) where
+module _ (core : Core) (mir : Mir) (settings : Settings) (better : Low) (optimizes : Optimizes (program_low core mir settings) better) (image : List ℕ) (means : Means better (program_layout core mir) settings image) (sound : IsSound core) (few : settings.stack ≤ 65536) where
   abbrev g : Setting
-  g = setting_in core mir settings image
+  g = setting_in core mir settings better image
 
   low_is : g.low ≡ low_of g.core g.mir g.stack
   low_is = refl
@@ -87,37 +91,40 @@ module _ (core : Core) (mir : Mir) (settings : Settings) (image : List ℕ) (mea
   made : (v : ℕ) (row : Variable) → IsGlobal core v → slice_get core.variables v ≡ Some row → slice_get (program_low core mir settings).globals v ≡ Some (global_of core (Some row))
   made v row global is = global_made g low_is v global ∙ ap (λ o. Some (global_of core o)) is
 
-  pub placed : IsPlacedProgram (setting_in core mir settings image)
+  pub placed : IsPlacedProgram (setting_in core mir settings better image)
   placed =
       let bottom = bottom_is settings in
       record {
         runtime = has_runtime g low_is (λ r less. frames r less);
         words = means.placement.words;
-        literals = λ id bytes is. literal_stands core mir settings image means id bytes is;
-        globals = λ v global. let (row, is) = row_at v global in global_stands core mir settings image means v row is (made v row global is) (small_row v row global is);
-        apart = λ v u differ one other. let (a, is_a) = row_at v one in let (b, is_b) = row_at u other in globals_apart core mir settings image means v u a b differ is_a is_b (made v a one is_a) (made u b other is_b);
-        due = due_stands core mir settings image means (stack_made g low_is) (λ v global. let (row, is) = row_at v global in (row, is, made v row global is)) few;
+        literals = λ id bytes is. literal_stands core mir settings better optimizes image means id bytes is;
+        globals = λ v global. let (row, is) = row_at v global in global_stands core mir settings better optimizes image means v row is (made v row global is) (small_row v row global is);
+        apart = λ v u differ one other. let (a, is_a) = row_at v one in let (b, is_b) = row_at u other in globals_apart core mir settings better optimizes image means v u a b differ is_a is_b (made v a one is_a) (made u b other is_b);
+        due = due_stands core mir settings better optimizes image means (stack_made g low_is) (λ v global. let (row, is) = row_at v global in (row, is, made v row global is)) few;
         whole = omega arith;
         top = omega arith;
         readable = means.setting.readable;
         writable = means.setting.writable;
       }
     where
-      frames : (r : ℕ) → r < length runtime_routines → frame_of (routine_or (slice_get (program_low core mir settings).routines r)) ≤ 64
-      frames r less = subst (λ o. frame_of (routine_or o) ≤ 64) (sym (in_front runtime_routines _ r less)) (small_frames r less)
+      frames : (r : ℕ) → r < length runtime_routines → frame_of (routine_of better r) ≤ 64
+      frames r less =
+          let as_expanded : frame_of (routine_of (program_low core mir settings) r) ≤ 64 = subst (λ o. frame_of (routine_or o) ≤ 64) (sym (in_front runtime_routines _ r less)) (small_frames r less) in
+          let thinner = frames_less (program_low core mir settings) better (thins (program_low core mir settings) better optimizes) r in
+          omega (arith, as_expanded, thinner)
 
   -- ---- what is loaded
 
   first_is : (v : ℕ) (row : Variable) → slice_get core.variables v ≡ Some row → (program_of core (1024 * settings.stack)).first v ≡ option_map (λ i. first_value_of i.value) row.first_value
   first_is v row is = rw is refl
 
-  pub loaded : Lowers core mir → first_pending core ≡ [] → g.bottom + space g.low g.placement (runtime + length core.routines) + g.stack + 1024 ≤ g.top → IsLoaded (setting_in core mir settings image)
+  pub loaded : Lowers core mir → first_pending core ≡ [] → g.bottom + space g.low g.placement (runtime + length core.routines) + g.stack + 1024 ≤ g.top → IsLoaded (setting_in core mir settings better image)
   loaded lowers pending room =
-      let (stack, told) = stack_word core mir settings image means (stack_made g low_is) few in
+      let (stack, told) = stack_word core mir settings better optimizes image means (stack_made g low_is) few in
       record {
         entry = entry g low_is lowers.number;
-        zeros = λ v global none x low. let (row, is) = row_at v global in zeros_loaded core mir settings image means v row is (sym (first_is v row is) ∙ none) (made v row global is) x low;
-        values = λ v value global some. let (row, is) = row_at v global in (fits v row value global is (sym (first_is v row is) ∙ some), λ x low. values_loaded core mir settings image means v row value is (sym (first_is v row is) ∙ some) (made v row global is) x low);
+        zeros = λ v global none x low. let (row, is) = row_at v global in zeros_loaded core mir settings better optimizes image means v row is (sym (first_is v row is) ∙ none) (made v row global is) x low;
+        values = λ v value global some. let (row, is) = row_at v global in (fits v row value global is (sym (first_is v row is) ∙ some), λ x low. values_loaded core mir settings better optimizes image means v row value is (sym (first_is v row is) ∙ some) (made v row global is) x low);
         bytes = λ x low. bytes_small image x means.bytes;
         stack_whole = stack.aligned;
         stack_readable = stack.readable;

@@ -21,13 +21,16 @@ use Rattle.op_expand.specs.Programs.{global_of, stack_global}
 use Rattle.op_image.specs.Means.{Means, StandsGlobal, StandsText}
 use Rattle.op_layout.specs.Places.{places_from}
 use Rattle.op_layout.specs.declared.layout.LiteralPlace.{LiteralPlace}
-use Rattle.op_link.specs.Memory.{variable_size}
+use Rattle.op_link.specs.Memory.{LieApart, variable_size}
 use Rattle.op_link.specs.declared.memory_map.Settings.{Settings}
+use Rattle.op_low.specs.declared.code.Low.{Low}
 use Rattle.op_meaning.specs.Shapes.{type_of_row, type_of_variable}
 use Rattle.op_mir.specs.declared.code.Mir.{Mir}
+use Rattle.op_optimize.specs.Optimizing.{Optimizes}
 use Rattle.op_rt_text.specs.Names.{literal}
 use Rattle.op_rv.proofs.Memory.{with_bytes-within, word_at-stored}
 use Rattle.op_rv.specs.State.{bytes_from, with_bytes, word_at}
+use Rattle.op_rv.specs.declared.objects.GlobalVariable.{GlobalVariable}
 use Rattle.op_rv.specs.declared.symbol.Symbol.TheVariants.{Global}
 use Rattle.op_agreement.specs.Settings.{Apart}
 use Rattle.op_agreement.specs.Fitting.{GlobalStands, LiteralStands, DueStands}
@@ -74,18 +77,28 @@ word_told memory a w low stands =
     word_same : (old new : ℕ → ℕ) (a : ℕ) → ((x : ℕ) → a ≤ x → x < a + 4 → old x ≡ new x) → word_at old a ≡ word_at new a
     word_same old new a same = number-same Signed32 new old a a (λ x low. same (a + x) (omega arith) (omega arith))
 
-module _ (core : Core) (mir : Mir) (settings : Settings) (image : List ℕ) (means : Means (program_low core mir settings) (program_layout core mir) settings image) where
-  pub literal_stands : (id : ℕ) (bytes : List ℕ) → slice_get (literals_of core mir) id ≡ Some bytes → LiteralStands (setting_in core mir settings image) ((setting_in core mir settings image).placement.address (literal id)) bytes
+module _ (core : Core) (mir : Mir) (settings : Settings) (better : Low) (optimizes : Optimizes (program_low core mir settings) better) (image : List ℕ) (means : Means better (program_layout core mir) settings image) where
+  pub literal_stands : (id : ℕ) (bytes : List ℕ) → slice_get (literals_of core mir) id ≡ Some bytes → LiteralStands (setting_in core mir settings better image) ((setting_in core mir settings better image).placement.address (literal id)) bytes
   literal_stands id bytes is =
       let (place, found, there) = literal_placed [] (literals_of core mir) id bytes is in
       let stands = means.literals (record { 0 = id }) place found in
-      let text : StandsText (placed_in core mir settings image) image ((placed_in core mir settings image).placing.address (literal id)) bytes = subst (StandsText (placed_in core mir settings image) image ((placed_in core mir settings image).placing.address (literal id))) there stands in
+      let text : StandsText (placed_in core mir settings better image) image ((placed_in core mir settings better image).placing.address (literal id)) bytes = subst (StandsText (placed_in core mir settings better image) image ((placed_in core mir settings better image).placing.address (literal id))) there stands in
       record { readable = text.readable; fixed = text.fixed; below = text.below; stands = text.stands }
 
   -- ---- global variables
 
   abbrev at_of : ℕ → ℕ
-  at_of v = (setting_in core mir settings image).placement.address (Global (record { 0 = v }))
+  at_of v = (setting_in core mir settings better image).placement.address (Global (record { 0 = v }))
+
+  -- the global variables are those of the better code
+  global_in : (v : ℕ) (global : GlobalVariable) → slice_get (program_low core mir settings).globals v ≡ Some global → slice_get better.globals v ≡ Some global
+  global_in v global there = ap (λ gs. slice_get gs v) optimizes.globals ∙ there
+
+  each_stands : (v : ℕ) (global : GlobalVariable) → slice_get (program_low core mir settings).globals v ≡ Some global → StandsGlobal (placed_in core mir settings better image) image (at_of v) global
+  each_stands v global there = means.globals.each (record { 0 = v }) global (global_in v global there)
+
+  two_apart : (v u : ℕ) (a b : GlobalVariable) → v ≢ u → slice_get (program_low core mir settings).globals v ≡ Some a → slice_get (program_low core mir settings).globals u ≡ Some b → LieApart (at_of v) (variable_size a) (at_of u) (variable_size b)
+  two_apart v u a b differ one other = means.globals.apart (record { 0 = v }) (record { 0 = u }) a b differ (global_in v a one) (global_in u b other)
 
   size_of_global : (row : Variable) → variable_size (global_of core (Some row)) ≡ size_in core row.of
   size_of_global row = by (option_map (λ i. first_value_of i.value) row.first_value) refl
@@ -94,9 +107,9 @@ module _ (core : Core) (mir : Mir) (settings : Settings) (image : List ℕ) (mea
       by None is = let none : 0 + size_in core row.of ≡ size_in core row.of = omega arith in rw is none
       by (Some value) is = let more : length (first_bytes core row.of value) + 0 ≡ length (first_bytes core row.of value) = omega arith in rw is (more ∙ first-length core row.of value)
 
-  pub global_stands : (v : ℕ) (row : Variable) → slice_get core.variables v ≡ Some row → slice_get (program_low core mir settings).globals v ≡ Some (global_of core (Some row)) → IsSmall core row.of → GlobalStands (setting_in core mir settings image) v (at_of v) (size_in core (type_of_variable core v))
+  pub global_stands : (v : ℕ) (row : Variable) → slice_get core.variables v ≡ Some row → slice_get (program_low core mir settings).globals v ≡ Some (global_of core (Some row)) → IsSmall core row.of → GlobalStands (setting_in core mir settings better image) v (at_of v) (size_in core (type_of_variable core v))
   global_stands v row is there small =
-      let stands = means.globals.each (record { 0 = v }) (global_of core (Some row)) there in
+      let stands = each_stands v (global_of core (Some row)) there in
       let size = size_of_global row in
       let type : type_of_variable core v ≡ row.of = ap type_of_row is in
       let same : size_in core (type_of_variable core v) ≡ variable_size (global_of core (Some row)) = ap (size_in core) type ∙ sym size in
@@ -111,40 +124,40 @@ module _ (core : Core) (mir : Mir) (settings : Settings) (image : List ℕ) (mea
 
   pub globals_apart : (v u : ℕ) (one other : Variable) → v ≢ u → slice_get core.variables v ≡ Some one → slice_get core.variables u ≡ Some other → slice_get (program_low core mir settings).globals v ≡ Some (global_of core (Some one)) → slice_get (program_low core mir settings).globals u ≡ Some (global_of core (Some other)) → Apart (at_of v) (size_in core (type_of_variable core v)) (at_of u) (size_in core (type_of_variable core u))
   globals_apart v u one other differ is_one is_other there_one there_other =
-      let apart = means.globals.apart (record { 0 = v }) (record { 0 = u }) (global_of core (Some one)) (global_of core (Some other)) differ there_one there_other in
+      let apart = two_apart v u (global_of core (Some one)) (global_of core (Some other)) differ there_one there_other in
       let first : size_in core (type_of_variable core v) ≡ variable_size (global_of core (Some one)) = ap (λ o. size_in core (type_of_row o)) is_one ∙ sym (size_of_global one) in
       let second : size_in core (type_of_variable core u) ≡ variable_size (global_of core (Some other)) = ap (λ o. size_in core (type_of_row o)) is_other ∙ sym (size_of_global other) in
       subst (λ n. Apart (at_of v) n (at_of u) (size_in core (type_of_variable core u))) (sym first) (subst (λ n. Apart (at_of v) (variable_size (global_of core (Some one))) (at_of u) n) (sym second) apart)
 
   -- ---- what they begin with
 
-  pub zeros_loaded : (v : ℕ) (row : Variable) → slice_get core.variables v ≡ Some row → option_map (λ i. first_value_of i.value) row.first_value ≡ None → slice_get (program_low core mir settings).globals v ≡ Some (global_of core (Some row)) → (x : ℕ) → x < size_in core (type_of_variable core v) → (setting_in core mir settings image).loaded (at_of v + x) ≡ 0
+  pub zeros_loaded : (v : ℕ) (row : Variable) → slice_get core.variables v ≡ Some row → option_map (λ i. first_value_of i.value) row.first_value ≡ None → slice_get (program_low core mir settings).globals v ≡ Some (global_of core (Some row)) → (x : ℕ) → x < size_in core (type_of_variable core v) → (setting_in core mir settings better image).loaded (at_of v + x) ≡ 0
   zeros_loaded v row is none there x low =
       let begins : global_of core (Some row) ≡ record { initial = []; zeros = size_in core row.of } = rw none refl in
-      let stands : StandsGlobal (placed_in core mir settings image) image (at_of v) (record { initial = []; zeros = size_in core row.of }) = means.globals.each (record { 0 = v }) (record { initial = []; zeros = size_in core row.of }) (there ∙ ap (λ y. Some y) begins) in
+      let stands : StandsGlobal (placed_in core mir settings better image) image (at_of v) (record { initial = []; zeros = size_in core row.of }) = each_stands v (record { initial = []; zeros = size_in core row.of }) (there ∙ ap (λ y. Some y) begins) in
       let type : size_in core (type_of_variable core v) ≡ size_in core row.of = ap (λ o. size_in core (type_of_row o)) is in
       stands.zeros (at_of v + x) (omega arith) (omega arith)
 
-  pub values_loaded : (v : ℕ) (row : Variable) (value : FirstValue) → slice_get core.variables v ≡ Some row → option_map (λ i. first_value_of i.value) row.first_value ≡ Some value → slice_get (program_low core mir settings).globals v ≡ Some (global_of core (Some row)) → (x : ℕ) → x < size_in core (type_of_variable core v) → (setting_in core mir settings image).loaded (at_of v + x) ≡ get_or (first_bytes core (type_of_variable core v) value) x 0
+  pub values_loaded : (v : ℕ) (row : Variable) (value : FirstValue) → slice_get core.variables v ≡ Some row → option_map (λ i. first_value_of i.value) row.first_value ≡ Some value → slice_get (program_low core mir settings).globals v ≡ Some (global_of core (Some row)) → (x : ℕ) → x < size_in core (type_of_variable core v) → (setting_in core mir settings better image).loaded (at_of v + x) ≡ get_or (first_bytes core (type_of_variable core v) value) x 0
   values_loaded v row value is some there x low =
       let begins : global_of core (Some row) ≡ record { initial = first_bytes core row.of value; zeros = 0 } = rw some refl in
-      let stands : StandsGlobal (placed_in core mir settings image) image (at_of v) (record { initial = first_bytes core row.of value; zeros = 0 }) = means.globals.each (record { 0 = v }) (record { initial = first_bytes core row.of value; zeros = 0 }) (there ∙ ap (λ y. Some y) begins) in
+      let stands : StandsGlobal (placed_in core mir settings better image) image (at_of v) (record { initial = first_bytes core row.of value; zeros = 0 }) = each_stands v (record { initial = first_bytes core row.of value; zeros = 0 }) (there ∙ ap (λ y. Some y) begins) in
       let type : type_of_variable core v ≡ row.of = ap type_of_row is in
       let size : size_in core (type_of_variable core v) ≡ size_in core row.of = ap (size_in core) type in
       let many = first-length core row.of value in
-      byte_of (setting_in core mir settings image).loaded (at_of v) (first_bytes core row.of value) x stands.stands (omega arith) ∙ ap (λ of. get_or (first_bytes core of value) x 0) (sym type)
+      byte_of (setting_in core mir settings better image).loaded (at_of v) (first_bytes core row.of value) x stands.stands (omega arith) ∙ ap (λ of. get_or (first_bytes core of value) x 0) (sym type)
 
   -- ---- the stack, and the word that tells its bytes
 
-  pub stack_word : slice_get (program_low core mir settings).globals (length core.variables) ≡ Some (stack_global (1024 * settings.stack)) → settings.stack ≤ 65536 → StandsGlobal (placed_in core mir settings image) image (at_of (length core.variables)) (stack_global (1024 * settings.stack)) × (word_at (setting_in core mir settings image).loaded (at_of (length core.variables)) ≡ 1024 * settings.stack)
+  pub stack_word : slice_get (program_low core mir settings).globals (length core.variables) ≡ Some (stack_global (1024 * settings.stack)) → settings.stack ≤ 65536 → StandsGlobal (placed_in core mir settings better image) image (at_of (length core.variables)) (stack_global (1024 * settings.stack)) × (word_at (setting_in core mir settings better image).loaded (at_of (length core.variables)) ≡ 1024 * settings.stack)
   stack_word there less =
-      let stands = means.globals.each (record { 0 = length core.variables }) (stack_global (1024 * settings.stack)) there in
-      (stands, word_told (setting_in core mir settings image).loaded (at_of (length core.variables)) (1024 * settings.stack) (omega arith) stands.stands)
+      let stands = each_stands (length core.variables) (stack_global (1024 * settings.stack)) there in
+      (stands, word_told (setting_in core mir settings better image).loaded (at_of (length core.variables)) (1024 * settings.stack) (omega arith) stands.stands)
 
   -- the word stands apart from the global variables
-  pub due_stands : slice_get (program_low core mir settings).globals (length core.variables) ≡ Some (stack_global (1024 * settings.stack)) → ((v : ℕ) → IsGlobal core v → (row : Variable) × (slice_get core.variables v ≡ Some row) × (slice_get (program_low core mir settings).globals v ≡ Some (global_of core (Some row)))) → settings.stack ≤ 65536 → DueStands (setting_in core mir settings image) (at_of (length core.variables))
+  pub due_stands : slice_get (program_low core mir settings).globals (length core.variables) ≡ Some (stack_global (1024 * settings.stack)) → ((v : ℕ) → IsGlobal core v → (row : Variable) × (slice_get core.variables v ≡ Some row) × (slice_get (program_low core mir settings).globals v ≡ Some (global_of core (Some row)))) → settings.stack ≤ 65536 → DueStands (setting_in core mir settings better image) (at_of (length core.variables))
   due_stands there made less =
-      let stands = means.globals.each (record { 0 = length core.variables }) (stack_global (1024 * settings.stack)) there in
+      let stands = each_stands (length core.variables) (stack_global (1024 * settings.stack)) there in
       let below = stands.below in
       record {
         words = stands.aligned;
@@ -156,5 +169,5 @@ module _ (core : Core) (mir : Mir) (settings : Settings) (image : List ℕ) (mea
             let size : size_in core (type_of_variable core v) ≡ variable_size (global_of core (Some row)) = ap (λ o. size_in core (type_of_row o)) is ∙ sym (size_of_global row) in
             let less_row : v < length core.variables = global.0 in
             subst (λ n. Apart (at_of v) n (at_of (length core.variables)) 4) (sym size)
-            (means.globals.apart (record { 0 = v }) (record { 0 = length core.variables }) (global_of core (Some row)) (stack_global (1024 * settings.stack)) (λ same. omega (arith, same, less_row)) found there);
+            (two_apart v (length core.variables) (global_of core (Some row)) (stack_global (1024 * settings.stack)) (λ same. omega (arith, same, less_row)) found there);
       }

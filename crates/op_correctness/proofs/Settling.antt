@@ -1,9 +1,9 @@
 -- The steps of an image are counted until it has ended.
-use Rattle.std.proofs.Common.{◌≡◌, ◌≤◌, ◌<◌, ℕ, zero, suc, ◌+◌, ◌*◌, refl, sym, ap, ◌∙◌, subst, arith}
+use Rattle.std.proofs.Common.{◌≡◌, ◌≤◌, ℕ, zero, suc, ◌+◌, refl, sym, ap, ◌∙◌, arith}
 use Rattle.op_rv.specs.State.{State, Ending, Running, Ended, Faulted}
 use Rattle.op_rv.specs.Step.{step, step_by_ending}
 use Rattle.op_select.specs.RiscvMachine.{riscv_machine, riscv_shows}
-use Rattle.op_simulation.proofs.Runs.{run_halted, run_last, spent_last}
+use Rattle.op_simulation.proofs.Runs.{run_last, spent_last}
 use Rattle.op_simulation.specs.System.{Halted, System, run, spent}
 use Rattle.op_low.specs.Machine.{Event}
 use Rattle.op_correctness.proofs.Spending.{same_run, spent_none, with_cost}
@@ -88,9 +88,3 @@ counts_less (suc n) b =
     let first = one_or_none b.ending in
     let rest = counts_less n (riscv_machine.step b) in
     omega arith
-
--- the first step counts
-pub counts_first : (n : ℕ) (b : State) → going b ≡ 1 → 1 ≤ n → 1 ≤ spent settling n b
-unfolding spent
-counts_first zero b goes some = absurd (omega arith)
-counts_first (suc n) b goes some = omega arith

@@ -9,8 +9,10 @@ use Rattle.op_core.specs.declared.routine.Owner.TheVariants.{Unit as OfUnit}
 use Rattle.op_link.specs.Linking.{linked_size}
 use Rattle.op_link.specs.Memory.{most_linked}
 use Rattle.op_link.specs.declared.memory_map.Settings.{Settings}
+use Rattle.op_low.specs.declared.code.Low.{Low}
 use Rattle.op_lower.specs.Lowers.{Lowers}
 use Rattle.op_mir.specs.declared.code.Mir.{Mir}
+use Rattle.op_optimize.specs.Optimizing.{Optimizes}
 use Rattle.op_plain.proofs.PlainLemmas.{plain_by_test}
 use Rattle.op_plain.specs.Claims.{IsPlainCore}
 use Rattle.op_plain.specs.Plain.{is_plain_program}
@@ -26,8 +28,8 @@ module _ (core : Core) (mir : Mir) (settings : Settings) (plain : is_plain_progr
   owners : All (λ x. x.owner ≡ OfUnit) core.routines
   owners = λ k d low. (class.simple.routines k d low).owner
 
-  pub sized : linked_size (select_of (program_low core mir settings)) (program_layout core mir) settings ≤ program_size core
-  sized = image_less core mir lowers sound owners (class.counted 0) (class.written 0) (1024 * settings.stack) settings
+  pub sized : (better : Low) → Optimizes (program_low core mir settings) better → linked_size (select_of better) (program_layout core mir) settings ≤ program_size core
+  sized better optimizes = image_less core mir lowers sound owners (class.counted 0) (class.written 0) (1024 * settings.stack) settings better optimizes
 
   pub limited : IsNotBuilt core mir settings Limit → most_linked < program_size core
-  limited more = let less = sized in omega (arith, less, more)
+  limited fails = let less = sized fails.better fails.optimizes in let more = fails.large in omega (arith, less, more)

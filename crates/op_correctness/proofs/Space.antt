@@ -25,13 +25,16 @@ use Rattle.op_lower.specs.Lowers.{Lowers}
 use Rattle.op_mir.specs.View.{routine_at}
 use Rattle.op_mir.specs.declared.code.Mir.{Mir}
 use Rattle.op_mir.specs.declared.code.Routine.{Routine}
+use Rattle.op_optimize.proofs.Optimized.{thins}
+use Rattle.op_optimize.specs.Optimizing.{Optimizes}
 use Rattle.op_rt_text.specs.Runtime.{runtime_routines}
 use Rattle.op_select.specs.Frames.{frame_of as frame_bytes}
-use Rattle.op_select.specs.Going.{Setting as Placed, placement_of}
+use Rattle.op_select.specs.Going.{Setting as Placed}
 use Rattle.op_agreement.proofs.Expanding.{low_found, closing_made}
 use Rattle.op_agreement.specs.Settings.{Setting}
 use Rattle.op_correctness.proofs.Fitting.{each_fits, frame_charged, row_of, are_fitting}
 use Rattle.op_correctness.proofs.ProgramCode.{program_fits, program_locals, program_registers}
+use Rattle.op_correctness.proofs.Thinner.{frames_less}
 use Rattle.op_correctness.specs.Charges.{HaveCharges}
 use Rattle.op_correctness.specs.Placed.{setting_by}
 use Rattle.op_correctness.specs.SimpleCore.{IsSimpleCore}
@@ -74,9 +77,9 @@ at_other mir r x low found =
     let other : nat_eq r (length mir.routines) ≡ false = ne_eqb r (length mir.routines) (λ e. omega (arith, low, e)) in
     sym (ap (λ b. if b then Some mir.program else slice_get mir.routines r) other) ∙ found
 
-module _ (core : Core) (mir : Mir) (stack : ℕ) (sound : IsSound core) (nesting : IsSoundNesting core) (is : IsSimpleCore core) (charges : HaveCharges core) (lowers : Lowers core mir) (w : Placed) (low : w.low ≡ low_of core mir stack) where
+module _ (core : Core) (mir : Mir) (stack : ℕ) (sound : IsSound core) (nesting : IsSoundNesting core) (is : IsSimpleCore core) (charges : HaveCharges core) (lowers : Lowers core mir) (low : Low) (is_low : low ≡ low_of core mir stack) (w : Placed) (optimizes : Optimizes low w.low) where
   abbrev g : Setting
-  g = setting_by core mir stack w []
+  g = setting_by core mir stack low w []
 
   -- ---- the frame of a routine, beside code that has as many literals as the routine names
 
@@ -87,28 +90,28 @@ module _ (core : Core) (mir : Mir) (stack : ℕ) (sound : IsSound core) (nesting
   -- the same routines with as many literals and global variables as are asked for: registers and locals of a routine do not depend on them
   enough_for : (literals : ℕ) → Low
   enough_for literals = record {
-    routines = w.low.routines;
-    entry = w.low.entry;
+    routines = g.low.routines;
+    entry = g.low.entry;
     counts = record { literals = 7 + literals; tables = 0; descriptors = 0 };
     globals = replicate (suc (length core.variables)) no_bytes;
   }
 
-  routines_are : w.low.routines ≡ runtime_routines ++ others
+  routines_are : g.low.routines ≡ runtime_routines ++ others
   unfolding others
-  routines_are = ap (λ l. l.routines) low ∙ append_assoc runtime_routines (routines_from core mir 0 first_literal mir.routines) (low_routine core mir (length mir.routines) (program_literal core mir) mir.program ∷ closing_routines core mir stack)
+  routines_are = ap (λ l. l.routines) is_low ∙ append_assoc runtime_routines (routines_from core mir 0 first_literal mir.routines) (low_routine core mir (length mir.routines) (program_literal core mir) mir.program ∷ closing_routines core mir stack)
 
   -- each routine of the program is called with its parameters
-  calls : (f k : ℕ) → f < length core.routines → k ≡ parameters_of core f → takes (slice_get w.low.routines (runtime + f)) (suc (suc k)) ≡ true
+  calls : (f k : ℕ) → f < length core.routines → k ≡ parameters_of core f → takes (slice_get g.low.routines (runtime + f)) (suc (suc k)) ≡ true
   calls f k less e =
       let number = lowers.number in
       let (x, at) = some_at mir.routines f (omega (arith, less, number)) in
-      let found = low_found g low f x (at_row mir f x at) in
+      let found = low_found g is_low f x (at_row mir f x at) in
       let parameters : (low_routine core mir f found.id x).parameters ≡ suc (suc k) = parameters_by (nat_lt most_charge x.charge) core mir f found.id x refl ∙ own_parameters core f k less e in
       subst (λ o. takes o (suc (suc k)) ≡ true) (sym found.at) (takes_parameters (low_routine core mir f found.id x) (suc (suc k)) parameters)
 
   -- and so is the closing
-  ends : has_closing core ≡ true → takes (slice_get w.low.routines (closing_number core)) 2 ≡ true
-  ends closes = subst (λ o. takes o 2 ≡ true) (sym (closing_made g low closes lowers.number)) refl
+  ends : has_closing core ≡ true → takes (slice_get g.low.routines (closing_number core)) 2 ≡ true
+  ends closes = subst (λ o. takes o 2 ≡ true) (sym (closing_made g is_low closes lowers.number)) refl
 
   -- a routine of low code that fits has no more registers than are counted, and the locals of its frame
   routine_small : (r id : ℕ) (x : Routine) → IsFitting core r x → x.charge ≤ most_charge → ((low_routine core mir r id x).registers ≤ registers_of_routine core r x) × ((low_routine core mir r id x).locals ≡ (frame_of core r x).locals)
@@ -118,20 +121,24 @@ module _ (core : Core) (mir : Mir) (stack : ℕ) (sound : IsSound core) (nesting
       let many : length (replicate (suc (length core.variables)) no_bytes) ≡ suc (length core.variables) = length-replicate (suc (length core.variables)) no_bytes in
       low_frame (enough_for literals) core mir (sizes_small core sound) others routines_are (omega (arith, many)) (omega arith) calls ends r id x fits (omega arith) charge
 
-  -- what an activation of it takes
-  space_of : (r : ℕ) (x : Routine) → routine_at mir r ≡ Some x → IsFitting core r x → x.charge ≤ most_charge → space w.low (placement_of w) (runtime + r) ≤ (frame_of core r x).locals + 4 * (registers_of_routine core r x + 1)
+  -- what is placed has no larger frames than the low code as it was expanded
+  as_expanded : (r : ℕ) → space g.low g.placement r ≤ (routine_of g.low r).locals + 4 * ((routine_of g.low r).registers + 1)
   unfolding frame_bytes
+  as_expanded r = let less = frames_less g.low w.low (thins g.low w.low optimizes) r in omega (arith, less)
+
+  -- what an activation of it takes
+  space_of : (r : ℕ) (x : Routine) → routine_at mir r ≡ Some x → IsFitting core r x → x.charge ≤ most_charge → space g.low g.placement (runtime + r) ≤ (frame_of core r x).locals + 4 * (registers_of_routine core r x + 1)
   space_of r x found fits charge =
-      let stands = low_found g low r x found in
-      let same : routine_of w.low (runtime + r) ≡ low_routine core mir r stands.id x = ap routine_or stands.at in
+      let stands = low_found g is_low r x found in
+      let same : routine_of g.low (runtime + r) ≡ low_routine core mir r stands.id x = ap routine_or stands.at in
       let (registers, locals) = routine_small r stands.id x fits charge in
-      let taken : space w.low (placement_of w) (runtime + r) ≡ (low_routine core mir r stands.id x).locals + 4 * ((low_routine core mir r stands.id x).registers + 1) = ap (λ (y : LowRoutine). y.locals + 4 * (y.registers + 1)) same in
+      let taken : space g.low g.placement (runtime + r) ≤ (low_routine core mir r stands.id x).locals + 4 * ((low_routine core mir r stands.id x).registers + 1) = subst (λ (y : LowRoutine). space g.low g.placement (runtime + r) ≤ y.locals + 4 * (y.registers + 1)) same (as_expanded (runtime + r)) in
       omega (arith, taken, registers, locals)
 
   -- ---- what is proved
 
   -- An activation of a routine takes no more than it is charged.
-  pub space_charged : (r : ℕ) (x : Routine) → slice_get mir.routines r ≡ Some x → x.charge ≤ most_charge → space w.low (placement_of w) (runtime + r) ≤ x.charge
+  pub space_charged : (r : ℕ) (x : Routine) → slice_get mir.routines r ≡ Some x → x.charge ≤ most_charge → space g.low g.placement (runtime + r) ≤ x.charge
   space_charged r x at charge =
       let (row, there) = row_of core mir sound nesting is charges lowers r x at in
       let fits = each_fits core mir sound nesting is charges lowers r x at in
@@ -140,7 +147,7 @@ module _ (core : Core) (mir : Mir) (stack : ℕ) (sound : IsSound core) (nesting
       omega (arith, taken, within)
 
   -- One without parameters takes less.
-  space_left : (r : ℕ) (x : Routine) → slice_get mir.routines r ≡ Some x → x.charge ≤ most_charge → parameters_of core r ≡ 0 → space w.low (placement_of w) (runtime + r) + 20 ≤ x.charge
+  space_left : (r : ℕ) (x : Routine) → slice_get mir.routines r ≡ Some x → x.charge ≤ most_charge → parameters_of core r ≡ 0 → space g.low g.placement (runtime + r) + 20 ≤ x.charge
   space_left r x at charge none =
       let (row, there) = row_of core mir sound nesting is charges lowers r x at in
       let fits = each_fits core mir sound nesting is charges lowers r x at in
@@ -149,16 +156,15 @@ module _ (core : Core) (mir : Mir) (stack : ℕ) (sound : IsSound core) (nesting
       omega (arith, taken, within, none)
 
   -- The closing takes a few words.
-  closing_space : has_closing core ≡ true → space w.low (placement_of w) (closing_number core) ≤ 20
-  unfolding frame_bytes
+  closing_space : has_closing core ≡ true → space g.low g.placement (closing_number core) ≤ 20
   closing_space closes =
-      let same : routine_of w.low (closing_number core) ≡ closing_routine core mir stack = ap routine_or (closing_made g low closes lowers.number) in
+      let same : routine_of g.low (closing_number core) ≡ closing_routine core mir stack = ap routine_or (closing_made g is_low closes lowers.number) in
       let registers = closing_small core mir stack (are_fitting core mir sound nesting is charges lowers) in
-      let taken : space w.low (placement_of w) (closing_number core) ≡ 0 + 4 * ((closing_routine core mir stack).registers + 1) = ap (λ (y : LowRoutine). y.locals + 4 * (y.registers + 1)) same in
+      let taken : space g.low g.placement (closing_number core) ≤ 0 + 4 * ((closing_routine core mir stack).registers + 1) = subst (λ (y : LowRoutine). space g.low g.placement (closing_number core) ≤ y.locals + 4 * (y.registers + 1)) same (as_expanded (closing_number core)) in
       omega (arith, taken, registers)
 
   -- So it is wherever the image is.
-  pub is_spacious : (image : List ℕ) → IsSpacious (setting_by core mir stack w image)
+  pub is_spacious : (image : List ℕ) → IsSpacious (setting_by core mir stack low w image)
   is_spacious image = record {
     charged = λ r x found charge low_number. space_charged r x (at_other mir r x low_number found) charge;
     parts = λ r x found charge low_number none. space_left r x (at_other mir r x low_number found) charge none;
@@ -166,7 +172,7 @@ module _ (core : Core) (mir : Mir) (stack : ℕ) (sound : IsSound core) (nesting
   }
 
   -- The program itself takes a few words.
-  pub program_space : space w.low (placement_of w) (runtime + length core.routines) ≤ 1024
+  pub program_space : space g.low g.placement (runtime + length core.routines) ≤ 1024
   program_space =
       let program = lowers.program in
       let number = lowers.number in

@@ -1,6 +1,6 @@
 -- What the steps between two points of an agreement cost, where each stretch costs no more than so much for what the step above costs. The costs may
 -- be others than those of the two machines.
-use Rattle.std.proofs.Common.{◌≡◌, ◌≤◌, ℕ, zero, suc, ◌+◌, ◌*◌, refl, sym, ap, ◌∙◌, subst, arith}
+use Rattle.std.proofs.Common.{◌≡◌, ◌≤◌, ℕ, zero, suc, ◌+◌, ◌*◌, refl, sym, ap, ◌∙◌, arith}
 use Rattle.op_simulation.proofs.Runs.{run_add, spent_add, spent_last}
 use Rattle.op_simulation.specs.Matching.{Agreement, Matching}
 use Rattle.op_simulation.specs.System.{System, run, spent}

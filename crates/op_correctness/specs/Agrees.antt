@@ -1,5 +1,5 @@
 -- In what sense an image agrees with a program: over every input it writes and ends as the program does, step by step and for ever.
-use Rattle.std.specs.Prelude.{◌≡◌, ◌<◌, ◌≤◌, ℕ, suc, ◌+◌, ◌*◌, List, None}
+use Rattle.std.specs.Prelude.{◌≡◌, ◌≤◌, ℕ, suc, ◌+◌, ◌*◌, List, None}
 use Rattle.op_image.specs.Means.{AreBytes, image_run}
 use Rattle.op_link.specs.Image.{first_failing}
 use Rattle.op_meaning.specs.Costs.{cost}
@@ -7,6 +7,7 @@ use Rattle.op_meaning.specs.Frames.{Program, State}
 use Rattle.op_meaning.specs.Source.{source}
 use Rattle.op_meaning.specs.Start.{start}
 use Rattle.op_meaning.specs.World.{Ending, Running, Ended}
+use Rattle.op_optimize.specs.Shortening.{Passed}
 use Rattle.op_rv.specs.State.{State as ImageState, Ending as ImageEnding, Running as GoesOn, Ended as HasEnded}
 use Rattle.op_select.specs.Going.{IsSafe}
 use Rattle.op_simulation.specs.System.{run}
@@ -31,12 +32,13 @@ pub record LooksAlike (s : State) (b : ImageState) : Type 0 where
 abbrev pub most_for_work : ℕ
 most_for_work = 4096
 
--- After each step of the source machine there is a point in the run of the image at which both look alike. The points rise, so they pass
--- every step of the image: an image that goes on for ever does so where the program does. The image never faults. It comes to the first point
--- soon, and from each point to the next one in no more than 4,096 steps for each unit of the work of the program's step.
+-- After each step of the source machine there is a point in the run of the image at which both look alike. No point lies before an earlier
+-- one, and they pass every step of the image: an image that goes on for ever does so where the program does. The image never faults. It comes
+-- to the first point soon, and from each point to the next one in no more than 4,096 steps for each unit of the work of the program's step.
 pub record GoesAlong (p : Program) (image input : List ℕ) : Type 0 where
   pub point : ℕ → ℕ
-  pub rises : (n : ℕ) → point n < point (suc n)
+  pub rises : (n : ℕ) → point n ≤ point (suc n)
+  pub passes : (m : ℕ) → Passed point m
   pub alike : (n : ℕ) → LooksAlike (source_run p input n) (image_run image input (point n))
   pub safe : (m : ℕ) → IsSafe (image_run image input m).ending
   pub first : point 0 ≤ most_for_work

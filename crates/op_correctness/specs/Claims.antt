@@ -12,10 +12,12 @@ use Rattle.op_layout.specs.Places.{layout_of}
 use Rattle.op_link.specs.Linking.{linked_size}
 use Rattle.op_link.specs.Memory.{are_in_range, most_linked}
 use Rattle.op_link.specs.declared.memory_map.Settings.{Settings}
+use Rattle.op_low.specs.declared.code.Low.{Low}
 use Rattle.op_lower.specs.Lowers.{Lowers}
 use Rattle.op_managed.specs.Managed.{Manages}
 use Rattle.op_meaning.specs.Frames.{Program, program_of}
 use Rattle.op_mir.specs.declared.code.Mir.{Mir}
+use Rattle.op_optimize.specs.Optimizing.{Optimizes}
 use Rattle.op_plain.specs.Plain.{is_plain_program}
 use Rattle.op_rv.specs.State.{Ended}
 use Rattle.op_select.specs.Selection.{select_of}
@@ -40,11 +42,17 @@ LowCodeIsBuildable =
     (core : Core) (mir : Mir) (stack : ℕ) → is_plain_program core ≡ true → IsSound core → IsSoundNesting core → Lowers core mir → length core.globals ≤ 2446676
     → is_buildable (low_of core mir stack) (layout_of (literals_of core mir)) ≡ true
 
+-- so may what the optimizer makes of it
+abbrev pub BetterCodeIsBuildable : Type 0
+BetterCodeIsBuildable =
+    (core : Core) (mir : Mir) (stack : ℕ) (better : Low) → is_plain_program core ≡ true → IsSound core → IsSoundNesting core → Lowers core mir → length core.globals ≤ 2446676
+    → Optimizes (low_of core mir stack) better → is_buildable better (layout_of (literals_of core mir)) ≡ true
+
 -- the code, the constants and the initial globals of the image of such a program take together no more bytes than the program's size
 abbrev pub ImageIsSmall : Type 0
 ImageIsSmall =
-    (core : Core) (mir : Mir) (settings : Settings) → is_plain_program core ≡ true → IsSound core → Lowers core mir
-    → linked_size (select_of (program_low core mir settings)) (program_layout core mir) settings ≤ program_size core
+    (core : Core) (mir : Mir) (settings : Settings) (better : Low) → is_plain_program core ≡ true → IsSound core → Lowers core mir → Optimizes (program_low core mir settings) better
+    → linked_size (select_of better) (program_layout core mir) settings ≤ program_size core
 
 -- so there is no image for its size only where the program's size is more than an image may take
 abbrev pub LimitIsPassed : Type 0

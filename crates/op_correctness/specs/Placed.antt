@@ -1,4 +1,4 @@
--- Where the low code of a program stands in its image.
+-- Where the low code of a program stands in its image: there is what the optimizer makes of it, and each routine has the frame that it has there.
 use Rattle.std.specs.Prelude.{ℕ, ◌*◌, List}
 use Rattle.op_build.specs.Built.{program_layout, program_low}
 use Rattle.op_core.specs.declared.program.Core.{Core}
@@ -6,26 +6,27 @@ use Rattle.op_image.specs.Meaning.{setting_of}
 use Rattle.op_link.specs.Image.{regions_in}
 use Rattle.op_link.specs.Region.{byte_in}
 use Rattle.op_link.specs.declared.memory_map.Settings.{Settings}
+use Rattle.op_low.specs.declared.code.Low.{Low}
 use Rattle.op_mir.specs.declared.code.Mir.{Mir}
 use Rattle.op_select.specs.Going.{Setting as Placed, placement_of}
 use Rattle.op_agreement.specs.Settings.{Setting}
 
--- the setting of low code over the image
-abbrev pub placed_in : Core → Mir → Settings → (image : List ℕ) → Placed
-placed_in core mir settings image = setting_of (program_low core mir settings) (program_layout core mir) settings image
+-- the setting of better low code over the image
+abbrev pub placed_in : Core → Mir → Settings → (better : Low) → (image : List ℕ) → Placed
+placed_in core mir settings better image = setting_of better (program_layout core mir) settings image
 
--- the same beside managed code, with so many bytes of stack
-abbrev pub setting_by : Core → Mir → (stack : ℕ) → Placed → (image : List ℕ) → Setting
-setting_by core mir stack w image = record {
+-- that of the low code for which it stands, beside managed code, with so many bytes of stack
+abbrev pub setting_by : Core → Mir → (stack : ℕ) → Low → Placed → (image : List ℕ) → Setting
+setting_by core mir stack low w image = record {
   core = core;
   mir = mir;
   stack = stack;
-  low = w.low;
+  low = low;
   placement = placement_of w;
   bottom = w.bottom;
   top = w.top;
   loaded = byte_in (regions_in image);
 }
 
-abbrev pub setting_in : Core → Mir → Settings → (image : List ℕ) → Setting
-setting_in core mir settings image = setting_by core mir (1024 * settings.stack) (placed_in core mir settings image) image
+abbrev pub setting_in : Core → Mir → Settings → (better : Low) → (image : List ℕ) → Setting
+setting_in core mir settings better image = setting_by core mir (1024 * settings.stack) (program_low core mir settings) (placed_in core mir settings better image) image

@@ -24,8 +24,12 @@ use Rattle.op_expand.specs.Routines.{behind_blocks, low_routine}
 use Rattle.op_frames.specs.Counted.{AreCountedStatements}
 use Rattle.op_layout.specs.Places.{layout_of}
 use Rattle.op_link.specs.Linking.{linked_size}
+use Rattle.op_link.specs.Memory.{initial_size}
 use Rattle.op_link.specs.declared.memory_map.Settings.{Settings}
+use Rattle.op_low.specs.declared.code.Block.{Block as LowBlock}
+use Rattle.op_low.specs.declared.code.Low.{Low}
 use Rattle.op_low.specs.declared.code.Routine.{Routine as LowRoutine}
+use Rattle.op_low.specs.declared.instruction.Instruction.{Instruction as LowInstruction}
 use Rattle.op_lower.specs.Lowers.{IsProgram, IsRoutine, Lowers}
 use Rattle.op_meaning.specs.Calls.{env_of}
 use Rattle.op_meaning.specs.Charge.{nodes_of, statements_in, statements_weight}
@@ -36,9 +40,12 @@ use Rattle.op_meaning.specs.Statements.{first_items, work_of_all}
 use Rattle.op_mir.specs.Code.{Instr, becoming_due, entering, items_of, ret, unit_code}
 use Rattle.op_mir.specs.declared.code.Mir.{Mir}
 use Rattle.op_mir.specs.declared.code.Routine.{Routine}
+use Rattle.op_optimize.proofs.Optimized.{thins}
+use Rattle.op_optimize.specs.Optimizing.{Optimizes}
+use Rattle.op_optimize.specs.Thinning.{Kept, LeftOut, NoBlocks, NoRoutines, Nothing, OneMore, OneRoutineMore, Thins, ThinsBlocks, ThinsRoutines}
 use Rattle.op_rt_text.specs.Runtime.{runtime_routines}
 use Rattle.op_select.specs.Selection.{object_routine_of, select_of}
-use Rattle.op_sizes.proofs.BytesSmall.{object_bytes, routine_bytes}
+use Rattle.op_sizes.proofs.BytesSmall.{object_bytes}
 use Rattle.op_sizes.proofs.ClosingSmall.{closing_weight, finalizations_few}
 use Rattle.op_sizes.proofs.ExpressionTexts.{both_text}
 use Rattle.op_sizes.proofs.FirstValues.{firsts_kept, initial_kept}
@@ -49,28 +56,49 @@ use Rattle.op_sizes.proofs.StatementTexts.{all_keeps}
 use Rattle.op_sizes.proofs.TextsKept.{all_bytes, blocks_kept, blocks_text, code_text, routine_kept, total, total_join}
 use Rattle.op_sizes.specs.Literals.{body_literals, statements_literals}
 use Rattle.op_sizes.specs.ProgramSize.{body_nodes, own_names, parts_of, program_size, variables_size}
-use Rattle.op_sizes.specs.Weights.{blocks_weight}
+use Rattle.op_sizes.specs.Weights.{blocks_weight, code_weight}
 use Rattle.op_sizes.specs.Written.{AreWrittenStatements}
 
--- ---- run-time routines
+-- ---- the most bytes that routines take: no more where instructions are left out
 
-objects_join : (a b : List LowRoutine) → routines_bytes (map object_routine_of (a ++ b)) ≡ routines_bytes (map object_routine_of a) + routines_bytes (map object_routine_of b)
-objects_join [] b = omega arith
-objects_join (x ∷ a) b = let e = objects_join a b in omega (arith, e)
+abbrev most_bytes : List LowRoutine → ℕ
+most_bytes [] = 0
+most_bytes (x ∷ xs) = 332 + 40 * blocks_weight x.blocks + most_bytes xs
 
-abbrev weights : List LowRoutine → ℕ
-weights [] = 0
-weights (x ∷ xs) = blocks_weight x.blocks + weights xs
-
-objects_less : (xs : List LowRoutine) → routines_bytes (map object_routine_of xs) ≤ 332 * length xs + 40 * weights xs
+objects_less : (xs : List LowRoutine) → routines_bytes (map object_routine_of xs) ≤ most_bytes xs
 objects_less [] = omega arith
 objects_less (x ∷ xs) = let first = object_bytes x in let rest = objects_less xs in omega (arith, first, rest)
 
-runtime_less : routines_bytes (map object_routine_of runtime_routines) ≤ 100000
-runtime_less =
-    let less = objects_less runtime_routines in
-    let few : weights runtime_routines ≤ 2000 = omega arith in
-    omega (arith, less, few)
+bytes_join : (a b : List LowRoutine) → most_bytes (a ++ b) ≡ most_bytes a + most_bytes b
+bytes_join [] b = omega arith
+bytes_join (x ∷ a) b = let e = bytes_join a b in omega (arith, e)
+
+thinner_code : (code thinner : List LowInstruction) → Thins code thinner → code_weight thinner ≤ code_weight code
+thinner_code [] [] Nothing = omega arith
+thinner_code [] (j ∷ js) thinner = elim thinner [ ]
+thinner_code (i ∷ is) js (LeftOut rest) = let less = thinner_code is js rest in omega (arith, less)
+thinner_code (i ∷ is) (j ∷ js) (Kept first rest) = let less = thinner_code is js rest in omega (arith, first, less)
+
+thinner_blocks : (blocks thinner : List LowBlock) → ThinsBlocks blocks thinner → blocks_weight thinner ≤ blocks_weight blocks
+thinner_blocks [] [] NoBlocks = omega arith
+thinner_blocks [] (c ∷ cs) thinner = elim thinner [ ]
+thinner_blocks (b ∷ bs) [] thinner = elim thinner [ ]
+thinner_blocks (b ∷ bs) (c ∷ cs) (OneMore first rest) =
+    let one = thinner_code b.code c.code first in
+    let less = thinner_blocks bs cs rest in
+    omega (arith, one, less)
+
+thinner_routines : (routines thinner : List LowRoutine) → ThinsRoutines routines thinner → most_bytes thinner ≤ most_bytes routines
+thinner_routines [] [] NoRoutines = omega arith
+thinner_routines [] (t ∷ ts) thinner = elim thinner [ ]
+thinner_routines (x ∷ xs) [] thinner = elim thinner [ ]
+thinner_routines (x ∷ xs) (t ∷ ts) (OneRoutineMore first rest) =
+    let one = thinner_blocks x.blocks t.blocks first.blocks in
+    let less = thinner_routines xs ts rest in
+    omega (arith, one, less)
+
+runtime_less : most_bytes runtime_routines ≤ 100000
+runtime_less = omega arith
 
 -- ---- a routine of the program
 
@@ -137,9 +165,8 @@ module _ (core : Core) (mir : Mir) (counted : (r : ℕ) → AreCountedStatements
       omega (arith, kept, seen, blocks, both, a, b)
 
   -- a routine takes 484 bytes more than what is written in it counts for, if it has a result
-  one_less : (r id : ℕ) (x : Row) (y : Routine) → slice_get core.routines r ≡ Some x → IsRoutine core r y → IsOwn core x → routine_bytes (object_routine_of (low_routine core mir r id y)) + total (routine_literals core r y) ≤ row_bytes x + 484
+  one_less : (r id : ℕ) (x : Row) (y : Routine) → slice_get core.routines r ≡ Some x → IsRoutine core r y → IsOwn core x → most_bytes (low_routine core mir r id y ∷ []) + total (routine_literals core r y) ≤ row_bytes x + 484
   one_less r id x y there is own =
-      let bytes = object_bytes (low_routine core mir r id y) in
       let light = routine_light core 0 r (counted r) (written r) mir id y is in
       let texts = texts_less r y is in
       let nodes = body_there r x there own.body own.has in
@@ -150,7 +177,7 @@ module _ (core : Core) (mir : Mir) (counted : (r : ℕ) → AreCountedStatements
       let given = own.given in
       let parameters = parameters_there r x there own.owner in
       let received = length-take (parameters_of core r) (rows core.variables (variables_of core r)) in
-      omega (arith, bytes, light, texts, nodes, literals, count, firsts, few, given, parameters, received)
+      omega (arith, light, texts, nodes, literals, count, firsts, few, given, parameters, received)
 
   -- ---- all routines, from number r on
 
@@ -158,7 +185,7 @@ module _ (core : Core) (mir : Mir) (counted : (r : ℕ) → AreCountedStatements
   rows_bytes [] = 0
   rows_bytes (x ∷ xs) = row_bytes x + rows_bytes xs
 
-  routines_less : (r id : ℕ) (xs : List Row) (ys : List Routine) → length ys ≡ length xs → AreRows core r xs → AreOwn core r ys → All (IsOwn core) xs → routines_bytes (map object_routine_of (routines_from core mir r id ys)) + total (routines_literals core r ys) ≤ rows_bytes xs + 484 * length xs
+  routines_less : (r id : ℕ) (xs : List Row) (ys : List Routine) → length ys ≡ length xs → AreRows core r xs → AreOwn core r ys → All (IsOwn core) xs → most_bytes (routines_from core mir r id ys) + total (routines_literals core r ys) ≤ rows_bytes xs + 484 * length xs
   routines_less r id [] [] same rows_are are own = omega arith
   routines_less r id (x ∷ xs) [] same rows_are are own = omega (arith, same)
   routines_less r id [] (y ∷ ys) same rows_are are own = omega (arith, same)
@@ -273,31 +300,32 @@ module _ (core : Core) (mir : Mir) (lowers : Lowers core mir) (sound : IsSound c
       ap (λ o. (variables_in o).count) (slice_get_past core.routines (length mir.routines) past)
 
   -- the closing, where there is one
-  closing_less : (stack : ℕ) → routines_bytes (map object_routine_of (closing_routines core mir stack)) ≤ 652 + 480 * length core.units
+  closing_less : (stack : ℕ) → most_bytes (closing_routines core mir stack) ≤ 652 + 480 * length core.units
   closing_less stack = by (has_closing core)
     where
-      by : (b : Bool) → routines_bytes (map object_routine_of (if b then closing_routine core mir stack ∷ [] else [])) ≤ 652 + 480 * length core.units
+      by : (b : Bool) → most_bytes (if b then closing_routine core mir stack ∷ [] else []) ≤ 652 + 480 * length core.units
       by false = omega arith
       by true =
-          let bytes = object_bytes (closing_routine core mir stack) in
           let weight = closing_weight core mir stack in
           let few = finalizations_few core.units in
-          omega (arith, bytes, weight, few)
+          omega (arith, weight, few)
 
-  pub image_less : (stack : ℕ) (settings : Settings) → linked_size (select_of (low_of core mir stack)) (layout_of (literals_of core mir)) settings ≤ program_size core
+  pub image_less : (stack : ℕ) (settings : Settings) (better : Low) → Optimizes (low_of core mir stack) better → linked_size (select_of better) (layout_of (literals_of core mir)) settings ≤ program_size core
   unfolding select_of
-  image_less stack settings =
+  image_less stack settings better optimizes =
       let program = length mir.routines in
       let own = low_routine core mir program (program_literal core mir) mir.program in
       let others = routines_from core mir 0 first_literal mir.routines in
-      let linked = linked_less (select_of (low_of core mir stack)) (layout_of (literals_of core mir)) settings in
-      let one = objects_join (runtime_routines ++ others) (own ∷ closing_routines core mir stack) in
+      let linked = linked_less (select_of better) (layout_of (literals_of core mir)) settings in
+      let objects = objects_less better.routines in
+      let thinner = thinner_routines (low_of core mir stack).routines better.routines (thins (low_of core mir stack) better optimizes) in
+      let initial = ap initial_size optimizes.globals in
+      let one = bytes_join (runtime_routines ++ others) (own ∷ closing_routines core mir stack) in
       let closing = closing_less stack in
-      let two = objects_join runtime_routines others in
+      let two = bytes_join runtime_routines others in
       let runtime = runtime_less in
       let routines = routines_less core mir counted written 0 first_literal core.routines mir.routines lowers.number rows_here own_here (all_own core core.routines sound.routines owners) in
       let summed = rows_summed core mir counted written core.routines in
-      let bytes = object_bytes own in
       let light = (program_light core mir program (program_literal core mir) mir.program lowers.program).1 in
       let none = none_here in
       let constants = all_bytes (literals_of core mir) in
@@ -306,4 +334,4 @@ module _ (core : Core) (mir : Mir) (lowers : Lowers core mir) (sound : IsSound c
       let text = program_text core program mir.program lowers.program in
       let globals = initial_kept core stack in
       let parts = few_parts core.units in
-      omega (arith, linked, one, closing, two, runtime, routines, summed, bytes, light, none, constants, three, four, text, globals, parts)
+      omega (arith, linked, objects, thinner, initial, one, closing, two, runtime, routines, summed, light, none, constants, three, four, text, globals, parts)

@@ -16,6 +16,7 @@ use Rattle.op_frames.specs.Made.{Every}
 use Rattle.op_layout.specs.Places.{layout_of}
 use Rattle.op_link.specs.Linking.{linked_size}
 use Rattle.op_link.specs.declared.memory_map.Settings.{Settings}
+use Rattle.op_low.specs.declared.code.Low.{Low}
 use Rattle.op_low.specs.declared.instruction.Instruction.{Instruction as LowInstruction}
 use Rattle.op_lower.specs.Lowers.{IsProgram, IsRoutine, Lowers}
 use Rattle.op_meaning.specs.Charge.{charge_of, nodes_of, statements_weight}
@@ -24,6 +25,7 @@ use Rattle.op_meaning.specs.Shapes.{variables_of}
 use Rattle.op_mir.specs.declared.code.Mir.{Mir}
 use Rattle.op_mir.specs.declared.code.Routine.{Routine}
 use Rattle.op_mir.specs.declared.instruction.Instruction.{Instruction}
+use Rattle.op_optimize.specs.Optimizing.{Optimizes}
 use Rattle.op_select.specs.Selection.{select_of}
 use Rattle.op_sizes.specs.ProgramSize.{program_size}
 use Rattle.op_sizes.specs.Weights.{blocks_weight, code_weight}
@@ -66,9 +68,9 @@ ProgramIsSmall =
     (core : Core) (mir : Mir) (r id : ℕ) (routine : Routine) → IsProgram core.units routine
     → AreSmall core mir 22 routine × (blocks_weight (low_routine core mir r id routine).blocks ≤ 10 * length core.units + 17 * (variables_of core r).count + 68)
 
--- what is linked of a program without methods takes no more bytes than the size of the program
+-- what is linked of what the optimizer makes of a program without methods takes no more bytes than the size of the program
 abbrev pub ImagesAreSmall : Type 0
 ImagesAreSmall =
-    (core : Core) (mir : Mir) (stack : ℕ) (settings : Settings) → Lowers core mir → IsSound core → All (λ x. x.owner ≡ OfUnit) core.routines
+    (core : Core) (mir : Mir) (stack : ℕ) (settings : Settings) (better : Low) → Lowers core mir → IsSound core → All (λ x. x.owner ≡ OfUnit) core.routines
     → ((r : ℕ) → AreCountedStatements ((program_of core stack).body r)) → ((r : ℕ) → AreWrittenStatements ((program_of core stack).body r))
-    → linked_size (select_of (low_of core mir stack)) (layout_of (literals_of core mir)) settings ≤ program_size core
+    → Optimizes (low_of core mir stack) better → linked_size (select_of better) (layout_of (literals_of core mir)) settings ≤ program_size core

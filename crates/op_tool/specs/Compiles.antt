@@ -5,7 +5,7 @@ use Rattle.op_base.specs.declared.files.NamedFile.{NamedFile}
 use Rattle.op_base.specs.declared.place.Place.{Place}
 use Rattle.op_base.specs.declared.rule.Refusal.{Refusal}
 use Rattle.op_base.specs.declared.rule.Rule.{Rule}
-use Rattle.op_build.specs.Built.{IsBuilt, IsNotBuilt, program_layout, program_low}
+use Rattle.op_build.specs.Built.{IsBuilt, IsNotBuilt, program_layout}
 use Rattle.op_build.specs.declared.building.BuildError.{BuildError}
 use Rattle.op_build.specs.declared.building.BuildError.TheVariants as build
 use Rattle.op_check_unit.specs.Checking.{CheckIs}
@@ -31,7 +31,7 @@ use Rattle.op_tree.specs.File.{file_of}
 use Rattle.op_units.specs.declared.error.LoadError.{LoadError}
 use Rattle.op_units.specs.declared.error.LoadError.TheVariants as load
 use Rattle.op_units.specs.declared.forest.Forest.{Forest}
-use Rattle.op_units.specs.Walk.{GivesForest, Stops, Walks, refused}
+use Rattle.op_units.specs.Walk.{GivesForest, Walks, refused}
 
 -- ---- programs
 
@@ -68,7 +68,7 @@ pub record IsImage (core : Core) (settings : Settings) (image : List ℕ) : Type
   pub lowers : Lowers core mir
   pub built : IsBuilt core mir settings image
   pub agrees : Agrees (meant core settings) image
-  pub small : linked_size (select_of (program_low core mir settings)) (program_layout core mir) settings ≤ program_size core
+  pub small : linked_size (select_of built.better) (program_layout core mir) settings ≤ program_size core
 
 -- an image of the program in the file, with what it gets to run
 pub record Made (stored : Option (List NamedFile)) (name : List ℕ) (settings : Settings) (image : List ℕ) : Type 0 where

@@ -9,5 +9,5 @@ returns c = record {
   instructions = instructions_light;
   routines = λ core mir stack r id routine is counted written. routine_light core stack r counted written mir id routine is;
   program = program_light;
-  images = λ core mir stack settings lowers sound owners counted written. image_less core mir lowers sound owners counted written stack settings;
+  images = λ core mir stack settings better lowers sound owners counted written optimizes. image_less core mir lowers sound owners counted written stack settings better optimizes;
 }

@@ -15,7 +15,7 @@ returns-in-Ok-clause-made c = record {
   lowers = c.in_ok-mir.ensures.lowers;
   built = c.in-Ok.ensures.made;
   agrees = correct c.args.core c.in_ok-mir.mir c.args.settings.now c.in-Ok.image.items (sym c.if-not-is_plain.ensures) c.requires.sound.0 c.requires.sound.1 c.requires.settings c.in_ok-mir.ensures.lowers c.in_ok-mir.ensures.manages c.in-Ok.ensures.made;
-  small = sized c.args.core c.in_ok-mir.mir c.args.settings.now (sym c.if-not-is_plain.ensures) c.requires.sound.0 c.in_ok-mir.ensures.lowers;
+  small = sized c.args.core c.in_ok-mir.mir c.args.settings.now (sym c.if-not-is_plain.ensures) c.requires.sound.0 c.in_ok-mir.ensures.lowers c.in-Ok.ensures.made.better c.in-Ok.ensures.made.optimizes;
 }
 
 pub returns-in-Err-Limit-clause-failed : goal.returns-in-Err-Limit-clause-failed
