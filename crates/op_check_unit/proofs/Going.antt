@@ -61,6 +61,14 @@ all_more f xs k x whole old mid new h e c d =
     one_more whole (f x (here_of mid)) (λ t h. each f (drop (k + 1) xs) h) old mid new (f x (here_of mid)).typed
     (subst (λ ys. Completes whole (each f ys (here_of mid)) old mid) (next_of xs k x h e) c) (refl, d)
 
+-- of numbers
+pub numbers_more : {A : Type 0} (f : A → Here → Given (Unit {0})) (xs : List A) (k : ℕ) (d : A) (whole : Given (Unit {0})) (old mid new : Declarer) → k < length xs → Completes whole (each f (drop k xs) (here_of mid)) old mid → Declares (f (get_or xs k d) (here_of mid)) mid new → Completes whole (each f (drop (k + 1) xs) (here_of new)) old new
+numbers_more f xs k d whole old mid new h c own =
+    let x = get_or xs k d in
+    let next : drop k xs ≡ x ∷ drop (k + 1) xs = rw add-one (drop-cons xs k d h) in
+    one_more whole (f x (here_of mid)) (λ t h. each f (drop (k + 1) xs) h) old mid new (f x (here_of mid)).typed
+    (subst (λ ys. Completes whole (each f ys (here_of mid)) old mid) next c) (refl, own)
+
 pub all_done : {A : Type 0} (f : A → Here → Given (Unit {0})) (xs : List A) (k : ℕ) (whole : Given (Unit {0})) (old mid : Declarer) → length xs ≤ k → Completes whole (each f (drop k xs) (here_of mid)) old mid → Declares whole old mid
 all_done f xs k whole old mid h c =
     (ends whole (each f (drop k xs) (here_of mid)) old mid (Some tt) c (ap (λ ys. each f ys (here_of mid)) (drop_all k xs h))).1

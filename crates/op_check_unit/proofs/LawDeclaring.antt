@@ -46,7 +46,7 @@ beginning_law : (of : TypeId) (i : Option Initial) (h : Here) → AgreesFrom (fi
 beginning_law of None h = from_silent
 beginning_law of (Some i) h = first_law h.core h.names of i
 
-row_by : (role : Role) (of : TypeId) (i : Option Initial) (n : Name) (h : Here) (v : Option FirstValue) {faults : Faults} → Holds v (BeginsWith of i h) × Lists faults (BeginningBreaks of i h) → Lists (both faults (globals_fit n (with_row role of n (with_first v h))).faults) (RowBreaks role of i n h)
+row_by : (role : Role) (of : TypeId) (i : Option Initial) (n : Name) (h : Here) (v : Option FirstValue) {faults : Faults} → Holds v (BeginsWith of i h) × Lists faults (BeginningBreaks of i h) → Lists (both faults (globals_fit n.position.place (with_row role of n (with_first v h))).faults) (RowBreaks role of i n h)
 row_by role of i n h v a =
     let g = with_row role of n (with_first v h) in
     lists_also a.1 (lists_whether _ a.0 (from_where_fine (globals_have_room g) 72 n.position.place g g tt).1)

@@ -13,7 +13,8 @@ pub mod LawDeclaring
 pub mod LawHeadings
 pub mod LawRoutines
 pub mod Clear
-pub mod Units
+pub mod Visiting
+pub mod UnitSteps
 pub mod Law
 pub mod Tables
 pub mod Filled
@@ -25,4 +26,6 @@ pub mod WholeDeclaring
 pub mod WholeHeadings
 pub mod WholeRoutines
 pub mod Whole
+pub mod WholeUnits
+pub mod Outlines
 pub mod WholeSound

@@ -54,7 +54,7 @@ type_stands core sees (filled of q) = q
 type_settled : {s : Stage} (d : TypeDeclaration) (h : Here) → Settled s h → From (Moves s h) (type_declared d h)
 type_settled {s} d h x =
     lead_followed {h = with_ahead d.name h} {P = IsType} {f = λ t h. declared d.name (type_meaning t) (ended h)} (defined_settled d.name d.definition (with_ahead d.name h) (settled_ahead _ x))
-    (λ t i y l f. leads_on l (declared_settled d.name (type_meaning t) (ended i) (settled_ahead [] y) (type_stands i.core (scope s.inside i.core) f)))
+    (λ t i y l f. leads_on l (declared_settled d.name (type_meaning t) (ended i) (settled_ahead [] y) (type_stands i.core (scope s.around.apart s.inside i.core) f)))
 
 pub types_settled : {s : Stage} (ds : List TypeDeclaration) (h : Here) → Settled s h → From (Moves s h) (types_declared ds h)
 types_settled ds h x = moves_each type_declared type_settled ds h x
@@ -82,7 +82,7 @@ pub settled_local : {s : Stage} {h : Here} (ws : List VariableRow) (b : ℕ) →
 settled_local {s} {h} ws b x a c =
     settled_in (beside h.core ws) b x w (tabled_beside _ _ _ _ _ x.tables)
     (people_on w x.tables x.people [] ws [] (sym (append-nil h.core.parameters)) refl (sym (append-nil h.core.globals)) refl (All-nil (λ p. Row h.core.types p.of.0)) a (All-nil (λ v. Row (h.core.variables ++ ws) v.0)) (subst (λ n. n ≤ most_global_bytes) (sym same) x.people.room))
-    refl refl c (if_counts h.core (beside h.core ws) s.inside h.names (λ b. counts_on h.core (beside h.core ws) None b same) x.inside)
+    refl refl c (if_counts s.around.apart h.core (beside h.core ws) s.inside h.names (λ b. counts_on h.core (beside h.core ws) None b same) x.inside)
   where
     w : Wider h.core (beside h.core ws)
     w = wider x (front_itself h.core.types) (front_itself h.core.extents) (front_itself h.core.fields) (front_itself h.core.parameters) (behind_front h.core.variables ws) (front_itself h.core.globals) (front_itself h.core.routines) (refl, refl, refl, refl, refl) (omega arith)
@@ -91,7 +91,7 @@ settled_local {s} {h} ws b x a c =
     same = ap (bytes_of h.core) (globals_still h.core.variables ws h.core.globals x.people.globals)
 
 -- a sum of few bytes is no sum that was cut off
-capped : (b size old total : ℕ) → total ≡ old + size → (b ≤ most_global_bytes → old ≤ b) → min (b + size) (2 ^ 64 - 1) ≤ most_global_bytes → total ≤ min (b + size) (2 ^ 64 - 1)
+pub capped : (b size old total : ℕ) → total ≡ old + size → (b ≤ most_global_bytes → old ≤ b) → min (b + size) (2 ^ 64 - 1) ≤ most_global_bytes → total ≤ min (b + size) (2 ^ 64 - 1)
 capped b size old total e k le = let small : b ≤ most_global_bytes = omega (arith, le) in let o = k small in omega (arith, e, o, le)
 
 -- what is counted is of the block
@@ -108,7 +108,7 @@ one_of_block vs v e = record { more = v ∷ []; is = refl; of_block = All-cons (
 
 -- the next variable is in scope
 abbrev IsNext : Stage → Here → Unit {0} → Core → Type 0
-IsNext s h u core = (length core.variables ≡ length h.core.variables + 1) × (scope s.inside core).variable (next_variable h)
+IsNext s h u core = (length core.variables ≡ length h.core.variables + 1) × (scope s.around.apart s.inside core).variable (next_variable h)
 
 abbrev IsRoom : Here → Type 0
 IsRoom h = (is_some h.routine || nat_le h.bytes most_global_bytes) ≡ true
@@ -139,7 +139,7 @@ row_by s None None role of n h e x t f = leads
     (people_on w x.tables x.people [] (v ∷ []) (id ∷ []) (sym (append-nil h.core.parameters)) refl refl refl (All-nil (λ p. Row h.core.types p.of.0)) (All-cons (IsBareVariable h.core) v [] (t, refl) (All-nil (IsBareVariable h.core))) (All-cons (λ v. Row new.variables v.0) id [] below (All-nil (λ v. Row new.variables v.0))) room)
     refl refl counts tt)
     (record { types = front_itself h.core.types; parameters = front_itself h.core.parameters; variables = one_of_block h.core.variables v e; globals = behind_front h.core.globals (id ∷ []); routines = refl })
-    (length-append h.core.variables (v ∷ []), inl (Contains-push h.core.globals id))
+    (length-append h.core.variables (v ∷ []), inl (inl (Contains-push h.core.globals id)))
   where
     v : VariableRow
     v = record { name = n; of = of; role = role; first_value = None }
@@ -186,7 +186,7 @@ row_at (x ∷ xs) (suc n) lt = row_at xs n (omega (arith, lt))
 abbrev Begins : Core → TypeId → FirstValue → Type 0
 Begins core of v = IsSomeAnd (type_at core of) (λ t. IsFirst core t of v)
 
-fit_settled : {s : Stage} (role : Role) (of : TypeId) (n : Name) (v : Option FirstValue) (h : Here) → is_counted role ≡ true → Settled s h → IsType of h.core → IfSome v (Begins h.core of) → From (Leads s h (IsNext s h)) (globals_fit n (with_row role of n (with_first v h)))
+fit_settled : {s : Stage} (role : Role) (of : TypeId) (n : Name) (v : Option FirstValue) (h : Here) → is_counted role ≡ true → Settled s h → IsType of h.core → IfSome v (Begins h.core of) → From (Leads s h (IsNext s h)) (globals_fit n.position.place (with_row role of n (with_first v h)))
 fit_settled role of n None h e x t b = from_where (is_some h.routine || nat_le (with_row role of n h).bytes most_global_bytes) 72 n.position.place (with_row role of n h) (λ f. from_gives (with_row_settled role of n h e x t f))
 fit_settled role of n (Some v) h e x t b =
     from_where (is_some h.routine || nat_le (with_row role of n h).bytes most_global_bytes) 72 n.position.place (with_row role of n (with_first (Some v) h))
@@ -199,19 +199,19 @@ fit_settled role of n (Some v) h e x t b =
     begins = let q = some_is (type_at h.core of) b in some_and (λ u. IsFirst (with_row role of n h).core u of v) q.1 (first_grows grows (founded x) q.0 of v of.0 q.1 q.2)
 
 row_settled : {s : Stage} (role : Role) (of : TypeId) (i : Option Initial) (n : Name) (h : Here) → is_counted role ≡ true → Settled s h → IsType of h.core → From (Leads s h (IsNext s h)) (row_entered role of i n h)
-row_settled role of None n h e x t = from_after none (globals_fit n (with_row role of n (with_first None h))) (fit_settled role of n None h e x t tt)
+row_settled role of None n h e x t = from_after none (globals_fit n.position.place (with_row role of n (with_first None h))) (fit_settled role of n None h e x t tt)
 row_settled {s} role of (Some i) n h e x t =
     let r = row_at h.core.types of.0 t in
-    from_followed {f = λ v h. globals_fit n (with_row role of n (with_first v h))} (from_checked {R = λ v g. (g ≡ h) × IsFirst h.core r.0 of v} (first_whole h.core (scope _ h.core) h.names (founded x) x.names of i r.0 r.1) (λ v b. (refl, b)))
+    from_followed {f = λ v h. globals_fit n.position.place (with_row role of n (with_first v h))} (from_checked {R = λ v g. (g ≡ h) × IsFirst h.core r.0 of v} (first_whole h.core (scope _ _ h.core) h.names (founded x) x.names of i r.0 r.1) (λ v b. (refl, b)))
     (λ v g f. one r g f)
   where
-    one : (r : (a : CoreType) × (slice_get h.core.types of.0 ≡ Some a)) {v : Option FirstValue} (g : Here) → Filled (λ v. (g ≡ h) × IsFirst h.core r.0 of v) v → From (Leads s h (IsNext s h)) (globals_fit n (with_row role of n (with_first v g)))
-    one r g (filled v q) = subst (λ g. From (Leads s h (IsNext s h)) (globals_fit n (with_row role of n (with_first (Some v) g)))) (sym q.0) (fit_settled role of n (Some v) h e x t (some_and (λ u. IsFirst h.core u of v) r.1 q.1))
+    one : (r : (a : CoreType) × (slice_get h.core.types of.0 ≡ Some a)) {v : Option FirstValue} (g : Here) → Filled (λ v. (g ≡ h) × IsFirst h.core r.0 of v) v → From (Leads s h (IsNext s h)) (globals_fit n.position.place (with_row role of n (with_first v g)))
+    one r g (filled v q) = subst (λ g. From (Leads s h (IsNext s h)) (globals_fit n.position.place (with_row role of n (with_first (Some v) g)))) (sym q.0) (fit_settled role of n (Some v) h e x t (some_and (λ u. IsFirst h.core u of v) r.1 q.1))
 
 -- ---- constants
 
 value_settled : {s : Stage} (i : Initial) (h : Here) → Settled s h → From (λ c g. (g ≡ h) × IsSoundConstant h.core c) (value_means i h)
-value_settled (value e) h x = from_checked (constant_whole h.core (scope _ h.core) h.names (founded x) x.names e) (λ c q. (refl, q))
+value_settled (value e) h x = from_checked (constant_whole h.core (scope _ _ h.core) h.names (founded x) x.names e) (λ c q. (refl, q))
 value_settled (list p items) h x = from_breaks
 value_settled (record_ p fields) h x = from_breaks
 
@@ -238,10 +238,10 @@ constants_settled ds h x = moves_each constant_declared constant_settled ds h x
 
 -- all variables from the old ones on are in scope
 abbrev AreNext : Stage → Here → ℕ → Unit {0} → Core → Type 0
-AreNext s h count u core = (length core.variables ≡ length h.core.variables + count) × ((k : ℕ) → length h.core.variables ≤ k → k < length core.variables → (scope s.inside core).variable (record { 0 = k }))
+AreNext s h count u core = (length core.variables ≡ length h.core.variables + count) × ((k : ℕ) → length h.core.variables ≤ k → k < length core.variables → (scope s.around.apart s.inside core).variable (record { 0 = k }))
 
-scope_later : {old new : Core} (i : Option Inside) → Later old new → (v : VariableId) → (scope i old).variable v → (scope i new).variable v
-scope_later i l v x = or_on (contains_on v l.globals) x
+scope_later : {old new : Core} (apart : List VariableId) (i : Option Inside) → Later old new → (v : VariableId) → (scope apart i old).variable v → (scope apart i new).variable v
+scope_later apart i l v x = or_on (λ g. or_on (contains_on v l.globals) g) x
 
 each_row_settled : {s : Stage} (of : TypeId) (i : Option Initial) (ns : List Name) (h : Here) → Settled s h → IsType of h.core → From (Leads s h (AreNext s h (length ns))) (each (row_entered Plain of i) ns h)
 each_row_settled of i [] h x t = from_gives (leads x later_itself (omega arith, λ k a b. absurd (omega (arith, a, b))))
@@ -251,16 +251,16 @@ each_row_settled {s} of i (n ∷ ns) h x t =
     more : (g j : Here) → IsNext s h tt g.core → Later g.core j.core → AreNext s g (length ns) tt j.core → AreNext s h (suc (length ns)) tt j.core
     more g j a l b = (let c = a.0 in let d = b.0 in omega (arith, c, d), λ k le lt. one k lt (eq-or-lt_of_le le))
       where
-        one : (k : ℕ) → k < length j.core.variables → (length h.core.variables ≡ k) ⊎ (length h.core.variables < k) → (scope s.inside j.core).variable (record { 0 = k })
-        one k lt (inl e) = subst (λ k. (scope s.inside j.core).variable (record { 0 = k })) e (scope_later s.inside l (next_variable h) a.1)
+        one : (k : ℕ) → k < length j.core.variables → (length h.core.variables ≡ k) ⊎ (length h.core.variables < k) → (scope s.around.apart s.inside j.core).variable (record { 0 = k })
+        one k lt (inl e) = subst (λ k. (scope s.around.apart s.inside j.core).variable (record { 0 = k })) e (scope_later s.around.apart s.inside l (next_variable h) a.1)
         one k lt (inr c) = let d = a.0 in b.1 k (omega (arith, c, d)) lt
 
-named_settled : {s : Stage} {t : Option TypeId} (core : Core) (k : ℕ) (ns : List Name) (h : Here) → h.core ≡ core → Filled (λ of. Unit {0}) t → k + length ns ≤ length core.variables → ((j : ℕ) → k ≤ j → j < length core.variables → (scope s.inside core).variable (record { 0 = j })) → Settled s h → From (λ u i. Settled s i × (i.core ≡ core)) (variables_named t k ns h)
+named_settled : {s : Stage} {t : Option TypeId} (core : Core) (k : ℕ) (ns : List Name) (h : Here) → h.core ≡ core → Filled (λ of. Unit {0}) t → k + length ns ≤ length core.variables → ((j : ℕ) → k ≤ j → j < length core.variables → (scope s.around.apart s.inside core).variable (record { 0 = j })) → Settled s h → From (λ u i. Settled s i × (i.core ≡ core)) (variables_named t k ns h)
 named_settled core k [] h e f le sees x = from_gives (x, e)
 named_settled {s} core k (n ∷ ns) h e (filled of q) le sees x =
-    let stands : StandsFor core (scope s.inside core) (Variable (record { 0 = k }) true) = (sees k (omega arith) (omega (arith, le)), omega (arith, le)) in
+    let stands : StandsFor core (scope s.around.apart s.inside core) (Variable (record { 0 = k }) true) = (sees k (omega arith) (omega (arith, le)), omega (arith, le)) in
     from_then (variables_named (Some of) (k + 1) ns)
-    (entered_from {R = λ u i. Settled s i × (i.core ≡ core)} (is_declared h n) 0 n (variable_meaning (Some of) k) h (with_declared_settled n (variable_meaning (Some of) k) h x (subst (λ c. StandsFor c (scope s.inside c) (Variable (record { 0 = k }) true)) (sym e) stands), with_declared_core n (variable_meaning (Some of) k) h ∙ e))
+    (entered_from {R = λ u i. Settled s i × (i.core ≡ core)} (is_declared h n) 0 n (variable_meaning (Some of) k) h (with_declared_settled n (variable_meaning (Some of) k) h x (subst (λ c. StandsFor c (scope s.around.apart s.inside c) (Variable (record { 0 = k }) true)) (sym e) stands), with_declared_core n (variable_meaning (Some of) k) h ∙ e))
     (λ u i r. named_settled core (k + 1) ns i r.1 (filled of q) (omega (arith, le)) (λ j a b. sees j (omega (arith, a)) b) r.0)
 
 names_settled : {s : Stage} {t : Option TypeId} (i : Option Initial) (ns : List Name) (h : Here) → Filled (λ of. IsType of h.core) t → Settled s h → From (Moves s h) (names_declared t i ns h)

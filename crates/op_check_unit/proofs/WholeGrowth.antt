@@ -4,7 +4,7 @@ use Rattle.std.proofs.lemmas.List.Elements.{All-append, All-cons, All-drop, All-
 use Rattle.std.proofs.lemmas.List.Sums.{sum_by-cons}
 use Rattle.std.proofs.lemmas.Option.{slice_get_within}
 use Rattle.op_base.specs.declared.place.Place.{Place}
-use Rattle.op_check_unit.specs.Complete.{Counts, Inside, IsBareRoutine, IsBareVariable, IsDone, IsDonePart, IsExported, IsOpen, IsPeopled, IsTypedBody, IsTypedFirst, declared_in, scope, scope_of}
+use Rattle.op_check_unit.specs.Complete.{Counts, Inside, IsBareRoutine, IsBareVariable, IsDone, IsDonePart, IsGlobalOf, IsOpen, IsPeopled, IsShown, IsTypedBody, IsTypedFirst, declared_in, scope, scope_of}
 use Rattle.op_check_unit.specs.Declaring.{most_global_bytes}
 use Rattle.op_check_unit.specs.Routines.{most_bytes}
 use Rattle.op_check_unit.specs.Tables.{IsTabled}
@@ -46,6 +46,14 @@ pub record Wider (old new : Core) : Type 0 where
   pub routines : length old.routines ≤ length new.routines
   pub units : length old.units ≤ length new.units
 
+-- Globals stand in the table, or are among those that come into it: each is still in one of the two.
+pub record Broader (apart next : List VariableId) (old new : Core) : Type 0 where
+  pub grows : Grows old new
+  pub variables : IsFrontOf old.variables new.variables
+  pub knows : (v : VariableId) → IsGlobalOf apart old v → IsGlobalOf next new v
+  pub routines : length old.routines ≤ length new.routines
+  pub units : length old.units ≤ length new.units
+
 pub some_is : {A : Type 0} {P : A → Type 0} (o : Option A) → IsSomeAnd o P → (a : A) × (o ≡ Some a) × P a
 some_is (Some a) p = (a, refl, p)
 some_is None p = absurd p
@@ -60,9 +68,16 @@ pub or_on : {A B C : Type 0} → (A → B) → A ⊎ C → B ⊎ C
 or_on f (inl a) = inl (f a)
 or_on f (inr c) = inr c
 
+pub broader : {old new : Core} (apart : List VariableId) → Wider old new → Broader apart apart old new
+broader {old} {new} apart w = record { grows = w.grows; variables = w.variables; knows = λ v x. one v x; routines = w.routines; units = w.units }
+  where
+    one : (v : VariableId) → IsGlobalOf apart old v → IsGlobalOf apart new v
+    one v (inl c) = inl (contains_on v w.globals c)
+    one v (inr d) = inr d
+
 -- ---- names
 
-pub stands_on : {old new : Core} {less more : Sees} → Wider old new → SeesMore less more → (m : Meaning) → StandsFor old less m → StandsFor new more m
+pub stands_on : {apart next : List VariableId} {old new : Core} {less more : Sees} → Broader apart next old new → SeesMore less more → (m : Meaning) → StandsFor old less m → StandsFor new more m
 stands_on w m meaning.Spoiled s = s
 stands_on w m (meaning.Constant c) s = fits_grows w.grows c.value c.of s
 stands_on w m (meaning.Variable id writable) s = (m.variable id s.0, front_row w.variables s.1)
@@ -70,14 +85,28 @@ stands_on w m (meaning.TypeName of) s = front_row w.grows.types s
 stands_on w m (meaning.Routine id) s = let lt = s.1 in let more = w.routines in (m.routine id s.0, omega (arith, lt, more))
 stands_on w m other s = tt
 
-pub scope_on : {old new : Core} (i : Option Inside) → Wider old new → SeesMore (scope i old) (scope i new)
-scope_on i w = record { variable = λ v x. or_on (contains_on v w.globals) x; routine = λ r x. let more = w.routines in omega (arith, x, more) }
+pub scope_on : {apart next : List VariableId} {old new : Core} (i : Option Inside) → Broader apart next old new → SeesMore (scope apart i old) (scope next i new)
+scope_on i w = record { variable = λ v x. or_on (λ g. w.knows v g) x; routine = λ r x. let more = w.routines in omega (arith, x, more) }
 
-pub names_on : {old new : Core} (i : Option Inside) → Wider old new → (ns : List Named) → AllStand old (scope i old) ns → AllStand new (scope i new) ns
-names_on {old} {new} i w ns s = All-weaker (λ n. StandsFor old (scope i old) n.meaning) (λ n. StandsFor new (scope i new) n.meaning) (λ n x. stands_on w (scope_on i w) n.meaning x) ns s
+pub names_known : (apart next : List VariableId) {old new : Core} (i : Option Inside) → Broader apart next old new → (ns : List Named) → AllStand old (scope apart i old) ns → AllStand new (scope next i new) ns
+names_known apart next {old} {new} i w ns s = All-weaker (λ n. StandsFor old (scope apart i old) n.meaning) (λ n. StandsFor new (scope next i new) n.meaning) (λ n x. stands_on w (scope_on i w) n.meaning x) ns s
 
-pub exports_on : {old new : Core} → Wider old new → (es : List Export) → All (IsExported old) es → All (IsExported new) es
-exports_on {old} {new} w es a = All-weaker (IsExported old) (IsExported new) (λ e x. names_on None w e.names x) es a
+pub names_on : (apart : List VariableId) {old new : Core} (i : Option Inside) → Wider old new → (ns : List Named) → AllStand old (scope apart i old) ns → AllStand new (scope apart i new) ns
+names_on apart i w ns s = names_known apart apart i (broader apart w) ns s
+
+pub shown_known : (apart next : List VariableId) {old new : Core} → Broader apart next old new → (e : Option Export) → IsShown apart old e → IsShown next new e
+shown_known apart next w None x = tt
+shown_known apart next {old} {new} w (Some e) x = record {
+  unit = (let lt = x.unit in let more = w.units in omega (arith, lt, more));
+  names = names_known apart next None w e.names x.names;
+  globals = All-weaker (λ v. Row old.variables v.0) (λ v. Row new.variables v.0) (λ v lt. front_row w.variables lt) e.globals x.globals;
+}
+
+pub exports_known : (apart next : List VariableId) {old new : Core} → Broader apart next old new → (es : List (Option Export)) → All (IsShown apart old) es → All (IsShown next new) es
+exports_known apart next {old} {new} w es a = All-weaker (IsShown apart old) (IsShown next new) (λ e x. shown_known apart next w e x) es a
+
+pub exports_on : (apart : List VariableId) {old new : Core} → Wider old new → (es : List (Option Export)) → All (IsShown apart old) es → All (IsShown apart new) es
+exports_on apart w es a = exports_known apart apart (broader apart w) es a
 
 -- ---- units
 
@@ -93,18 +122,18 @@ part_on old new current next places later k (Some p) x =
     let s = k p.0 (slice_get_within old.routines p.0 q.0 q.1) x.1 in
     (some_and (λ r. r.parameters.count ≡ 0) (s.0 ∙ q.1) q.2, s.1)
 
-pub units_on : (old new : Core) (current next : Option ℕ) (places later : List (Option Place)) → IsFrontOf old.globals new.globals → KeepsParts old new current next places later → (us : List RustUnit) → All (IsDone old current places) us → All (IsDone new next later) us
-units_on old new current next places later g k us a = All-weaker (IsDone old current places) (IsDone new next later)
-    (λ u x. record { globals = front_fit u.globals g x.globals; initialization = part_on old new current next places later k u.initialization x.initialization; finalization = part_on old new current next places later k u.finalization x.finalization }) us a
+pub units_on : (old new : Core) (start : ℕ) (current next : Option ℕ) (places later : List (Option Place)) → KeepsParts old new current next places later → (us : List RustUnit) → All (IsDone old start current places) us → All (IsDone new start next later) us
+units_on old new start current next places later k us a = All-weaker (IsDone old start current places) (IsDone new start next later)
+    (λ u x. record { globals = x.globals; initialization = part_on old new current next places later k u.initialization x.initialization; finalization = part_on old new current next places later k u.finalization x.finalization }) us a
 
 -- ---- bodies and first values
 
-body_scope : {old new : Core} (r : Routine) → Wider old new → SeesMore (scope_of old r) (scope_of new r)
-body_scope r w = record { variable = λ v x. or_on (contains_on v w.globals) x; routine = λ q x. let more = w.routines in omega (arith, x, more) }
+body_scope : {apart next : List VariableId} {old new : Core} (r : Routine) → Broader apart next old new → SeesMore (scope_of apart old r) (scope_of next new r)
+body_scope r w = record { variable = λ v x. or_on (λ g. w.knows v g) x; routine = λ q x. let more = w.routines in omega (arith, x, more) }
 
 -- the rows of a routine's variables
-rows_on : {old new : Core} → Wider old new → (r : Routine) → IsBareRoutine old r → HasRows old r → HasRows new r
-rows_on {old} {new} w r b h = record {
+rows_on : {apart next : List VariableId} {old new : Core} → Broader apart next old new → (r : Routine) → IsBareRoutine old r → HasRows old r → HasRows new r
+rows_on {old = old} {new = new} w r b h = record {
   others = h.others;
   are = ap (map role_and_type) (front_rows r.variables w.variables b.runs.1) ∙ h.are ∙ ap (λ ss. ss ++ h.others) (sym first);
   of_block = h.of_block;
@@ -113,18 +142,24 @@ rows_on {old} {new} w r b h = record {
     first : first_rows new r ≡ first_rows old r
     first = ap₂ (λ os ps. os ++ map (λ p. (ParameterRole p.mode, p.of)) ps ++ map (λ of. (Result, of)) (option_to_list r.result)) (ap (object_in new) b.owner ∙ sym (ap (object_in old) b.owner)) (front_rows r.parameters w.grows.parameters b.runs.0)
 
-pub body_on : {old new : Core} → Wider old new → IsPeopled old → (b : RoutineId × Statements) → slice_get new.routines b.0.0 ≡ slice_get old.routines b.0.0 → IsTypedBody old b → IsTypedBody new b
-body_on {old} {new} w p b e t =
+pub body_known : (apart next : List VariableId) {old new : Core} → Broader apart next old new → IsPeopled old → (b : RoutineId × Statements) → slice_get new.routines b.0.0 ≡ slice_get old.routines b.0.0 → IsTypedBody apart old b → IsTypedBody next new b
+body_known apart next {old} {new} w p b e t =
     let x = some_is (slice_get old.routines b.0.0) t in
-    some_and (λ r. HasRows new r × AreStatements new (scope_of new r) (at_start r) b.1) (e ∙ x.1)
+    some_and (λ r. HasRows new r × AreStatements new (scope_of next new r) (at_start r) b.1) (e ∙ x.1)
     (rows_on w x.0 (all_at (IsBareRoutine old) old.routines b.0.0 x.0 p.routines x.1) x.2.0, statements_grow w.grows (body_scope x.0 w) (at_start x.0) b.1 x.2.1)
 
-pub value_on : {old new : Core} → Wider old new → IsFounded old → (b : VariableId × FirstValue) → IsTypedFirst old b → IsTypedFirst new b
-value_on {old} {new} w f b t =
+pub body_on : (apart : List VariableId) {old new : Core} → Wider old new → IsPeopled old → (b : RoutineId × Statements) → slice_get new.routines b.0.0 ≡ slice_get old.routines b.0.0 → IsTypedBody apart old b → IsTypedBody apart new b
+body_on apart w p b e t = body_known apart apart (broader apart w) p b e t
+
+pub value_known : {apart next : List VariableId} {old new : Core} → Broader apart next old new → IsFounded old → (b : VariableId × FirstValue) → IsTypedFirst old b → IsTypedFirst new b
+value_known {old = old} {new = new} w f b t =
     let x = some_is (slice_get old.variables b.0.0) t in
     let y = some_is (type_at old x.0.of) x.2 in
     subst (λ o. IsSomeAnd o (λ v. IsSomeAnd (type_at new v.of) (λ u. IsFirst new u v.of b.1))) (sym (front_stays w.variables b.0.0 x.0 x.1))
     (subst (λ o. IsSomeAnd o (λ u. IsFirst new u x.0.of b.1)) (sym (front_stays w.grows.types x.0.of.0 y.0 y.1)) (first_grows w.grows f y.0 x.0.of b.1 x.0.of.0 y.1 y.2))
+
+pub value_on : {old new : Core} → Wider old new → IsFounded old → (b : VariableId × FirstValue) → IsTypedFirst old b → IsTypedFirst new b
+value_on w f b t = value_known (broader [] w) f b t
 
 -- ---- bytes
 

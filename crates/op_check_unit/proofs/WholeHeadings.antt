@@ -55,7 +55,7 @@ parameter_settled own mode h f n r a =
 type_by_settled : {s : Stage} (array : Bool) (t : ParameterType) (p : Parameter) (h : Here) → Settled s h → From (Stays IsType h) (parameter_type (record p { open_array = array; of = t }) h)
 type_by_settled true t p h x = from_checked {P = λ of. IsType of h.core} whole_rule (λ of q. (refl, q))
 type_by_settled false (String q) p h x = from_checked {P = λ of. IsType of h.core} whole_rule (λ of q. (refl, q))
-type_by_settled {s} false (Named q) p h x = from_checked (type_named_whole h.core (scope s.inside h.core) h.names x.names None false q) (λ of q. (refl, q))
+type_by_settled {s} false (Named q) p h x = from_checked (type_named_whole h.core (scope s.around.apart s.inside h.core) h.names x.names None false q) (λ of q. (refl, q))
 
 group_settled : {s : Stage} (own : Option Name) (h : Here) → Settled s h → (p : Parameter) (r : ParameterRows) → AreParameters r h.core → From (Stays AreParameters h) (parameter_group own p r h)
 group_settled own h x p r a = from_followed {f = λ t h. some_parameters own p.mode t p.names r h} (type_by_settled p.open_array p.of p h x) (λ t i f. one i f)

@@ -19,10 +19,10 @@ use Rattle.op_check_unit.proofs.WholeGrowth.{Wider, bare_routines_on, bare_varia
 use Rattle.op_check_unit.proofs.WholeHeadings.{IsHead, form_whole, head_settled}
 use Rattle.op_check_unit.proofs.WholeSteps.{Moves, founded, from_breaks, from_checked, from_followed, from_gives, from_so, from_then, later_itself, lead_followed, leads, leads_on, settled_ahead, settled_named, wider}
 use Rattle.op_check_unit.proofs.WholeTypes.{behind_front, declared_settled, entered_from, first_behind, found, with_declared_core, with_declared_settled, with_name_settled}
-use Rattle.op_check_unit.specs.Complete.{From, HasBody, Inside, IsAwaited, IsBareRoutine, IsBareVariable, IsOpen, IsTypedBody, IsTypedFirst, Later, Settled, Stage, declared_in, faulty, outside, scope, scope_of, settled}
+use Rattle.op_check_unit.specs.Complete.{Around, From, HasBody, Inside, IsAwaited, IsBareRoutine, IsBareVariable, IsOpen, IsTypedBody, IsTypedFirst, Later, Settled, Stage, declared_in, faulty, outside, scope, scope_of, settled}
 use Rattle.op_check_unit.specs.Headings.{head_means}
 use Rattle.op_check_unit.specs.Naming.{ended, is_declared, told_by, with_ahead}
-use Rattle.op_check_unit.specs.Routines.{ahead_declared, awaited_by, awaited_named, awaited_of, awaits, block_means, both_typed, by_standing, class_meant, completed, entered, first_declared, headed, if_same, inner, is_heading_of, left, local_declared, locals_declared, locals_fit, most_bytes, next_routine, no_rows, parameter_names, parameter_variable, plain_declared, result_name, routine_by, routine_declared, routine_row, same_means, statements_mean, with_body, with_local, with_parameters, with_result, with_routine, with_variables, unit_under}
+use Rattle.op_check_unit.specs.Routines.{ahead_declared, awaited_by, awaited_named, awaited_of, awaits, block_means, both_typed, by_standing, class_meant, completed, entered, first_declared, headed, if_same, inner, is_heading_of, left, local_declared, locals_declared, locals_fit, most_bytes, next_routine, no_rows, parameter_names, parameter_variable, plain_declared, result_name, routine_by, routine_declared, routine_row, same_means, statements_mean, with_body, with_local, with_parameters, with_result, with_routine, with_variables}
 use Rattle.op_check_unit.specs.Routines as spec
 use Rattle.op_check_unit.specs.Steps.{Here, followed, gives}
 use Rattle.op_check_unit.specs.Types.{in_core}
@@ -43,6 +43,7 @@ use Rattle.op_core.specs.Typing.{Sees}
 use Rattle.op_core.specs.declared.ids.Run.{Run}
 use Rattle.op_core.specs.declared.ids.RoutineId.{RoutineId}
 use Rattle.op_core.specs.declared.ids.TypeId.{TypeId}
+use Rattle.op_core.specs.declared.ids.UnitId.{UnitId}
 use Rattle.op_core.specs.declared.ids.VariableId.{VariableId}
 use Rattle.op_core.specs.declared.program.Core.{Core}
 use Rattle.op_core.specs.declared.routine.Parameter.{Parameter}
@@ -81,7 +82,7 @@ awaited_less [] qs n lt a = absurd (omega (arith, lt))
 awaited_less (p ∷ ps) qs zero lt a = a
 awaited_less (p ∷ ps) qs (suc n) lt a = awaited_less ps qs n (omega (arith, lt)) a
 
-awaited_last : (ps : List (Option Place)) (p : Option Place) → IsAwaited (ps ++ p ∷ []) (length ps) → Filled (λ place. Unit {0}) p
+pub awaited_last : (ps : List (Option Place)) (p : Option Place) → IsAwaited (ps ++ p ∷ []) (length ps) → Filled (λ place. Unit {0}) p
 awaited_last [] p a = a
 awaited_last (q ∷ ps) p a = awaited_last ps p a
 
@@ -126,7 +127,7 @@ last_or (suc k) (suc m) h = step (last_or k m (omega (arith, h)))
 pub some_eq : {A : Type 0} {a b : A} → Some a ≡ Some b → a ≡ b
 some_eq e = cc
 
-set_apart : {A : Type 0} (xs : List A) (k : ℕ) (y : A) (n : ℕ) → (n ≡ k → ⊥) → slice_get (slice_set xs k y) n ≡ slice_get xs n
+pub set_apart : {A : Type 0} (xs : List A) (k : ℕ) (y : A) (n : ℕ) → (n ≡ k → ⊥) → slice_get (slice_set xs k y) n ≡ slice_get xs n
 set_apart [] k y n d = refl
 set_apart (x ∷ xs) zero y zero d = absurd (d refl)
 set_apart (x ∷ xs) zero y (suc n) d = refl
@@ -139,7 +140,7 @@ set_there (x ∷ xs) zero y lt = refl
 set_there (x ∷ xs) (suc k) y lt = set_there xs k y (omega (arith, lt))
 
 -- the routines with bodies are there
-body_below : {s : Stage} {h : Here} → Settled s h → (b : RoutineId × Typed) → IsTypedBody h.core b → b.0.0 < length h.core.routines
+body_below : {s : Stage} {h : Here} → Settled s h → (b : RoutineId × Typed) → IsTypedBody s.around.apart h.core b → b.0.0 < length h.core.routines
 body_below {h = h} x b t = let r = some_is (slice_get h.core.routines b.0.0) t in slice_get_within h.core.routines b.0.0 r.0 r.1
 
 -- ---- rows of routines
@@ -147,24 +148,26 @@ body_below {h = h} x b t = let r = some_is (slice_get h.core.routines b.0.0) t i
 abbrev with_row : Core → Routine → Core
 with_row core r = record core { routines = core.routines ++ r ∷ [] }
 
-fresh_row : (core : Core) (n : Name) (x : Head) → IsHead x core → IsBareRoutine (with_row core (routine_row (unit_under core) n x no_rows)) (routine_row (unit_under core) n x no_rows)
-fresh_row core n x k = record { unit = omega arith; owner = refl; enclosing = refl; body = refl; runs = (k.0, omega arith); result = k.1; locals = omega arith }
+fresh_row : (core : Core) (unit : UnitId) (n : Name) (x : Head) → Row core.units unit.0 → IsHead x core → IsBareRoutine (with_row core (routine_row unit n x no_rows)) (routine_row unit n x no_rows)
+fresh_row core unit n x lt k = record { unit = lt; owner = refl; enclosing = refl; body = refl; runs = (k.0, omega arith); result = k.1; locals = omega arith }
 
 -- the new one is accounted for, and so are those before it
-pub with_routine_settled : (c : Option ℕ) (n : Name) (x : Head) (place : Option Place) (h : Here) → Settled (outside None) h → IsHead x h.core → (c ≡ None) ⊎ (c ≡ Some (length h.core.routines)) → IsOpen c (h.awaited ++ place ∷ []) (length h.core.routines) → (IfSome c (λ k. place ≡ None)) → Settled (outside c) (with_routine n x place h)
-with_routine_settled c n x place h s k cases opens none = record {
+pub with_routine_settled : {around : Around} (c : Option ℕ) (n : Name) (x : Head) (place : Option Place) (h : Here) → Settled (outside around None) h → IsHead x h.core → (c ≡ None) ⊎ (c ≡ Some (length h.core.routines)) → IsOpen c (h.awaited ++ place ∷ []) (length h.core.routines) → (IfSome c (λ k. place ≡ None)) → Settled (outside around c) (with_routine n x place h)
+with_routine_settled {around} c n x place h s k cases opens none = record {
   tables = tabled_beside _ _ _ _ _ s.tables;
   people = record {
     parameters = s.people.parameters;
     variables = bare_variable_on w h.core.variables s.people.variables;
-    routines = All-push (IsBareRoutine new) h.core.routines (routine_row (unit_under h.core) n x no_rows) (bare_routines_on w s.tables s.people) (fresh_row h.core n x k);
+    routines = All-push (IsBareRoutine new) h.core.routines (routine_row h.unit n x no_rows) (bare_routines_on w s.tables s.people) (fresh_row h.core h.unit n x s.unit k);
     globals = s.people.globals;
     room = s.people.room;
   };
-  units = units_on h.core new None c h.awaited (h.awaited ++ place ∷ []) w.globals (λ p lt d. (front h.core.routines (routine_row (unit_under h.core) n x no_rows ∷ []) p lt, closed p lt d cases)) h.core.units s.units;
-  exports = exports_on w h.exports s.exports;
+  unit = s.unit;
+  rows = s.rows;
+  units = units_on h.core new around.start None c h.awaited (h.awaited ++ place ∷ []) (λ p lt d. (front h.core.routines (routine_row h.unit n x no_rows ∷ []) p lt, closed p lt d cases)) h.core.units s.units;
+  exports = exports_on around.apart w around.exports s.exports;
   start = s.start;
-  names = names_on None w h.names s.names;
+  names = names_on around.apart None w h.names s.names;
   first = s.first;
   counts = s.counts;
   routine = s.routine;
@@ -172,18 +175,18 @@ with_routine_settled c n x place h s k cases opens none = record {
   current = under c cases none;
   awaits = length-append h.awaited (place ∷ []) ∙ ap (λ k. k + 1) s.awaits ∙ sym e;
   accounted = λ k lt. one k (last_or k (length h.core.routines) (subst (λ m. k < m) e lt));
-  bodies = All-weaker (λ b. IsTypedBody h.core b × (IsOpen None h.awaited b.0.0 → ⊥)) (λ b. IsTypedBody new b × (IsOpen c (h.awaited ++ place ∷ []) b.0.0 → ⊥)) (λ b y. (body_on w s.people b (still b y.0) y.0, closed b.0.0 (body_below s b y.0) y.1 cases)) h.bodies s.bodies;
+  bodies = All-weaker (λ b. IsTypedBody around.apart h.core b × (IsOpen None h.awaited b.0.0 → ⊥)) (λ b. IsTypedBody around.apart new b × (IsOpen c (h.awaited ++ place ∷ []) b.0.0 → ⊥)) (λ b y. (body_on around.apart w s.people b (still b y.0) y.0, closed b.0.0 (body_below s b y.0) y.1 cases)) h.bodies s.bodies;
   values = All-weaker (IsTypedFirst h.core) (IsTypedFirst new) (λ v y. value_on w (founded s) v y) h.first_values s.values;
 }
   where
     new : Core
-    new = with_row h.core (routine_row (unit_under h.core) n x no_rows)
+    new = with_row h.core (routine_row h.unit n x no_rows)
 
     w : Wider h.core new
-    w = wider s (front_itself h.core.types) (front_itself h.core.extents) (front_itself h.core.fields) (front_itself h.core.parameters) (front_itself h.core.variables) (front_itself h.core.globals) (behind_front h.core.routines (routine_row (unit_under h.core) n x no_rows ∷ [])) (refl, refl, refl, refl, refl) (omega arith)
+    w = wider s (front_itself h.core.types) (front_itself h.core.extents) (front_itself h.core.fields) (front_itself h.core.parameters) (front_itself h.core.variables) (front_itself h.core.globals) (behind_front h.core.routines (routine_row h.unit n x no_rows ∷ [])) (refl, refl, refl, refl, refl) (omega arith)
 
     e : length new.routines ≡ length h.core.routines + 1
-    e = length-append h.core.routines (routine_row (unit_under h.core) n x no_rows ∷ [])
+    e = length-append h.core.routines (routine_row h.unit n x no_rows ∷ [])
 
     under : (c : Option ℕ) → (c ≡ None) ⊎ (c ≡ Some (length h.core.routines)) → IfSome c (λ k. place ≡ None) → IfSome c (λ k. (k < length new.routines) × (IsAwaited (h.awaited ++ place ∷ []) k → ⊥))
     under None d z = tt
@@ -193,8 +196,8 @@ with_routine_settled c n x place h s k cases opens none = record {
         none_last : IsAwaited (h.awaited ++ place ∷ []) (length h.awaited) → place ≡ None → ⊥
         none_last a z = elim (subst (Filled (λ place. Unit {0})) z (awaited_last h.awaited place a)) [ ]
 
-    still : (b : RoutineId × Typed) → IsTypedBody h.core b → slice_get new.routines b.0.0 ≡ slice_get h.core.routines b.0.0
-    still b t = front h.core.routines (routine_row (unit_under h.core) n x no_rows ∷ []) b.0.0 (body_below s b t)
+    still : (b : RoutineId × Typed) → IsTypedBody around.apart h.core b → slice_get new.routines b.0.0 ≡ slice_get h.core.routines b.0.0
+    still b t = front h.core.routines (routine_row h.unit n x no_rows ∷ []) b.0.0 (body_below s b t)
 
     closed : (k : ℕ) → k < length h.core.routines → (IsOpen None h.awaited k → ⊥) → (c ≡ None) ⊎ (c ≡ Some (length h.core.routines)) → IsOpen c (h.awaited ++ place ∷ []) k → ⊥
     closed k lt d (inl f) (inl z) = absurd (cc)
@@ -211,11 +214,13 @@ with_routine_settled c n x place h s k cases opens none = record {
     one k (inr z) = inl (subst (IsOpen c (h.awaited ++ place ∷ [])) (sym z) opens)
 
 -- a state that has the same tables
-completed_settled : (id : RoutineId) (h : Here) → Settled (outside None) h → IsAwaited h.awaited id.0 → id.0 < length h.core.routines → Settled (outside (Some id.0)) (completed id h)
-completed_settled id h s a lt = record {
+completed_settled : {around : Around} (id : RoutineId) (h : Here) → Settled (outside around None) h → IsAwaited h.awaited id.0 → id.0 < length h.core.routines → Settled (outside around (Some id.0)) (completed id h)
+completed_settled {around} id h s a lt = record {
   tables = s.tables;
   people = s.people;
-  units = units_on h.core h.core None (Some id.0) h.awaited (slice_set h.awaited id.0 None) (front_itself h.core.globals) (λ p lt d. (refl, closed p d)) h.core.units s.units;
+  unit = s.unit;
+  rows = s.rows;
+  units = units_on h.core h.core around.start None (Some id.0) h.awaited (slice_set h.awaited id.0 None) (λ p lt d. (refl, closed p d)) h.core.units s.units;
   exports = s.exports;
   start = s.start;
   names = s.names;
@@ -226,7 +231,7 @@ completed_settled id h s a lt = record {
   current = (lt, λ b. (awaited_unset h.awaited id.0 id.0 b).0 refl);
   awaits = length-set h.awaited id.0 None ∙ s.awaits;
   accounted = λ k lt. one k (s.accounted k lt);
-  bodies = All-weaker (λ b. IsTypedBody h.core b × (IsOpen None h.awaited b.0.0 → ⊥)) (λ b. IsTypedBody h.core b × (IsOpen (Some id.0) (slice_set h.awaited id.0 None) b.0.0 → ⊥)) (λ b y. (y.0, closed b.0.0 y.1)) h.bodies s.bodies;
+  bodies = All-weaker (λ b. IsTypedBody around.apart h.core b × (IsOpen None h.awaited b.0.0 → ⊥)) (λ b. IsTypedBody around.apart h.core b × (IsOpen (Some id.0) (slice_set h.awaited id.0 None) b.0.0 → ⊥)) (λ b y. (y.0, closed b.0.0 y.1)) h.bodies s.bodies;
   values = s.values;
 }
   where
@@ -258,12 +263,12 @@ all_as core less more f g ns a = All-weaker (λ n. StandsFor core less n.meaning
 
 -- what the scope has is what the row has, and the variables have their rows
 abbrev pub IsRowOf : Stage → Here → RoutineId → Routine → Type 0
-IsRowOf s h id r = (slice_get h.core.routines id.0 ≡ Some r) × ((v : VariableId) → Row h.core.variables v.0 → (scope s.inside h.core).variable v → (scope_of h.core r).variable v) × HasRows h.core r
+IsRowOf s h id r = (slice_get h.core.routines id.0 ≡ Some r) × ((v : VariableId) → Row h.core.variables v.0 → (scope s.around.apart s.inside h.core).variable v → (scope_of s.around.apart h.core r).variable v) × HasRows h.core r
 
-scope_settled : {s : Stage} (h : Here) (id : RoutineId) (r : Routine) → Settled s h → IsRowOf s h id r → IsSettled (scope_of h.core r) (spec.scope_of id h)
+scope_settled : {s : Stage} (h : Here) (id : RoutineId) (r : Routine) → Settled s h → IsRowOf s h id r → IsSettled (scope_of s.around.apart h.core r) (spec.scope_of id h)
 scope_settled {s} h id r x k = record {
   founded = founded x;
-  names = all_as h.core (scope s.inside h.core) (scope_of h.core r) k.1 (λ q z. z) h.names x.names;
+  names = all_as h.core (scope s.around.apart s.inside h.core) (scope_of s.around.apart h.core r) k.1 (λ q z. z) h.names x.names;
   own = λ i q e f n run. inr (subst (λ q. InRun q.variables n) (some_eq (sym f ∙ ap (λ i. slice_get h.core.routines i.0) (sym (some_eq e)) ∙ k.0)) run);
 }
 
@@ -274,11 +279,13 @@ surrounded h id r e = record { result = ap (λ o. option_and_then (λ r. r.resul
 abbrev pub closed_stage : Stage → Stage
 closed_stage s = record s { current = None }
 
-with_body_settled : {s : Stage} (id : RoutineId) (h : Here) {o : Option Typed} (r : Routine) → s.current ≡ Some id.0 → Settled s h → slice_get h.core.routines id.0 ≡ Some r → HasRows h.core r → Filled (AreStatements h.core (scope_of h.core r) (at_start r)) o → Settled (closed_stage s) (with_body id o h)
+with_body_settled : {s : Stage} (id : RoutineId) (h : Here) {o : Option Typed} (r : Routine) → s.current ≡ Some id.0 → Settled s h → slice_get h.core.routines id.0 ≡ Some r → HasRows h.core r → Filled (AreStatements h.core (scope_of s.around.apart h.core r) (at_start r)) o → Settled (closed_stage s) (with_body id o h)
 with_body_settled {s} id h r c x e q (filled ss t) = record {
   tables = x.tables;
   people = x.people;
-  units = units_on h.core h.core s.current None h.awaited h.awaited (front_itself h.core.globals) (λ p lt d. (refl, λ z. closed p d z)) h.core.units x.units;
+  unit = x.unit;
+  rows = x.rows;
+  units = units_on h.core h.core s.around.start s.current None h.awaited h.awaited (λ p lt d. (refl, λ z. closed p d z)) h.core.units x.units;
   exports = x.exports;
   start = x.start;
   names = x.names;
@@ -289,7 +296,7 @@ with_body_settled {s} id h r c x e q (filled ss t) = record {
   current = tt;
   awaits = x.awaits;
   accounted = λ k lt. one k (x.accounted k lt);
-  bodies = All-push (λ b. IsTypedBody h.core b × (IsOpen None h.awaited b.0.0 → ⊥)) h.bodies (id, ss) (All-weaker (λ b. IsTypedBody h.core b × (IsOpen s.current h.awaited b.0.0 → ⊥)) (λ b. IsTypedBody h.core b × (IsOpen None h.awaited b.0.0 → ⊥)) (λ b y. (y.0, λ z. closed b.0.0 y.1 z)) h.bodies x.bodies) (some_and (λ r. HasRows h.core r × AreStatements h.core (scope_of h.core r) (at_start r) ss) e (q, t), λ z. fresh z);
+  bodies = All-push (λ b. IsTypedBody s.around.apart h.core b × (IsOpen None h.awaited b.0.0 → ⊥)) h.bodies (id, ss) (All-weaker (λ b. IsTypedBody s.around.apart h.core b × (IsOpen s.current h.awaited b.0.0 → ⊥)) (λ b. IsTypedBody s.around.apart h.core b × (IsOpen None h.awaited b.0.0 → ⊥)) (λ b y. (y.0, λ z. closed b.0.0 y.1 z)) h.bodies x.bodies) (some_and (λ r. HasRows h.core r × AreStatements h.core (scope_of s.around.apart h.core r) (at_start r) ss) e (q, t), λ z. fresh z);
   values = x.values;
 }
   where
@@ -313,10 +320,10 @@ Closes s h t g = Settled (closed_stage s) g × (g.core ≡ h.core) × (g.awaited
 pub statements_settled : {s : Stage} (id : RoutineId) (ss : Statements) (h : Here) (r : Routine) → s.current ≡ Some id.0 → Settled s h → IsRowOf s h id r → From (Closes s h) (statements_mean id ss h)
 statements_settled {s} id ss h r c x k = from (statements (spec.scope_of id h) ss) (statements_whole (at_start r) (scope_settled h id r x k) (surrounded h id r k.0) ss)
   where
-    one : {o : Option Typed} → Filled (AreStatements h.core (scope_of h.core r) (at_start r)) o → Closes s h tt (with_body id o h)
+    one : {o : Option Typed} → Filled (AreStatements h.core (scope_of s.around.apart h.core r) (at_start r)) o → Closes s h tt (with_body id o h)
     one (filled ts t) = (with_body_settled id h r c x k.0 k.2 (filled ts t), refl, refl)
 
-    from : (c : Checked Typed) → Whole (AreStatements h.core (scope_of h.core r) (at_start r)) c → From {A = Unit {0}} (Closes s h) (record { typed = Some tt; here = with_body id c.typed h; faults = c.faults })
+    from : (c : Checked Typed) → Whole (AreStatements h.core (scope_of s.around.apart h.core r) (at_start r)) c → From {A = Unit {0}} (Closes s h) (record { typed = Some tt; here = with_body id c.typed h; faults = c.faults })
     from c (typed f) = settled (filled tt (one f))
     from c (rule_broken r i) = faulty r i
 
@@ -325,24 +332,26 @@ statements_settled {s} id ss h r c x k = from (statements (spec.scope_of id h) s
 abbrev inside_of : Here → Inside
 inside_of h = record { first = length h.core.variables; names = length h.names; bytes = h.bytes }
 
-abbrev body_stage : RoutineId → Inside → Stage
-body_stage id i = record { current = Some id.0; inside = Some i }
+abbrev body_stage : Around → RoutineId → Inside → Stage
+body_stage around id i = record { around = around; current = Some id.0; inside = Some i }
 
 abbrev body_begun : RoutineId → Here → Here
 body_begun id h = record h { first = length h.names; count = 0; own = None; bytes = 0; routine = Some id }
 
-begun_settled : (id : RoutineId) (h : Here) → Settled (outside (Some id.0)) h → Settled (body_stage id (inside_of h)) (body_begun id h)
-begun_settled id h x = record {
+begun_settled : {around : Around} (id : RoutineId) (h : Here) → Settled (outside around (Some id.0)) h → Settled (body_stage around id (inside_of h)) (body_begun id h)
+begun_settled {around} id h x = record {
   tables = x.tables;
   people = x.people;
+  unit = x.unit;
+  rows = x.rows;
   units = x.units;
   exports = x.exports;
   start = x.start;
-  names = all_as h.core (scope None h.core) (scope (Some (inside_of h)) h.core) (λ v r z. wider_scope v z) (λ r z. z) h.names x.names;
+  names = all_as h.core (scope around.apart None h.core) (scope around.apart (Some (inside_of h)) h.core) (λ v r z. wider_scope v z) (λ r z. z) h.names x.names;
   first = omega arith;
   counts = λ le. subst (λ vs. bytes_of h.core (filter (λ v. is_counted v.role) vs) ≤ 0) (sym (drop_all (length h.core.variables) h.core.variables (omega arith))) (omega arith);
   routine = refl;
-  inside = record { first = omega arith; names = omega arith; stand = subst (AllStand h.core (scope None h.core)) (sym (take_all (length h.names) h.names (omega arith))) x.names; counts = x.counts };
+  inside = record { first = omega arith; names = omega arith; stand = subst (AllStand h.core (scope around.apart None h.core)) (sym (take_all (length h.names) h.names (omega arith))) x.names; counts = x.counts };
   current = x.current;
   awaits = x.awaits;
   accounted = x.accounted;
@@ -350,13 +359,13 @@ begun_settled id h x = record {
   values = x.values;
 }
   where
-    wider_scope : (v : VariableId) → (scope None h.core).variable v → (scope (Some (inside_of h)) h.core).variable v
+    wider_scope : (v : VariableId) → (scope around.apart None h.core).variable v → (scope around.apart (Some (inside_of h)) h.core).variable v
     wider_scope v (inl c) = inl c
     wider_scope v (inr b) = absurd b
 
 -- variables that are no locals
-more_settled : {id : RoutineId} {i : Inside} {h : Here} (ws : List VariableRow) → Settled (body_stage id i) h → All (IsBareVariable h.core) ws → filter (λ v. is_counted v.role) ws ≡ [] → Settled (body_stage id i) (in_core (beside h.core ws) h)
-more_settled {id} {i} {h} ws x a e = settled_local ws h.bytes x a (λ le. subst (λ vs. bytes_of h.core vs ≤ h.bytes) (sym (locals_more h.core i ws x.inside.first ∙ ap (λ vs. declared_in (Some i) h.core ++ vs) e ∙ append-nil (declared_in (Some i) h.core))) (x.counts le))
+more_settled : {around : Around} {id : RoutineId} {i : Inside} {h : Here} (ws : List VariableRow) → Settled (body_stage around id i) h → All (IsBareVariable h.core) ws → filter (λ v. is_counted v.role) ws ≡ [] → Settled (body_stage around id i) (in_core (beside h.core ws) h)
+more_settled {around} {id} {i} {h} ws x a e = settled_local ws h.bytes x a (λ le. subst (λ vs. bytes_of h.core vs ≤ h.bytes) (sym (locals_more h.core i ws x.inside.first ∙ ap (λ vs. declared_in (Some i) h.core ++ vs) e ∙ append-nil (declared_in (Some i) h.core))) (x.counts le))
 
 parameter_rows : (core : Core) (ps : List Parameter) → All (λ p. Row core.types p.of.0) ps → All (IsBareVariable core) (map parameter_variable ps)
 parameter_rows core [] a = All-nil (IsBareVariable core)
@@ -366,26 +375,26 @@ no_locals : (ps : List Parameter) → filter (λ v. is_counted v.role) (map para
 no_locals [] = refl
 no_locals (p ∷ ps) = no_locals ps
 
-parameters_stand : (core : Core) (i : Inside) (n : ℕ) (ps : List Parameter) → i.first ≤ n → n + length ps ≤ length core.variables → AllStand core (scope (Some i) core) (parameter_names n ps)
-parameters_stand core i n [] le lt = All-nil (λ n. StandsFor core (scope (Some i) core) n.meaning)
-parameters_stand core i n (p ∷ ps) le lt =
-    All-cons (λ n. StandsFor core (scope (Some i) core) n.meaning) (record { name = lower p.name.text; meaning = Variable (record { 0 = n }) true }) (parameter_names (n + 1) ps) (inr le, omega (arith, lt))
-    (parameters_stand core i (n + 1) ps (omega (arith, le)) (omega (arith, lt)))
+parameters_stand : (apart : List VariableId) (core : Core) (i : Inside) (n : ℕ) (ps : List Parameter) → i.first ≤ n → n + length ps ≤ length core.variables → AllStand core (scope apart (Some i) core) (parameter_names n ps)
+parameters_stand apart core i n [] le lt = All-nil (λ n. StandsFor core (scope apart (Some i) core) n.meaning)
+parameters_stand apart core i n (p ∷ ps) le lt =
+    All-cons (λ n. StandsFor core (scope apart (Some i) core) n.meaning) (record { name = lower p.name.text; meaning = Variable (record { 0 = n }) true }) (parameter_names (n + 1) ps) (inr le, omega (arith, lt))
+    (parameters_stand apart core i (n + 1) ps (omega (arith, le)) (omega (arith, lt)))
 
-with_parameters_settled : {id : RoutineId} {i : Inside} (ps : List Parameter) (h : Here) → Settled (body_stage id i) h → All (λ p. Row h.core.types p.of.0) ps → Settled (body_stage id i) (with_parameters ps h)
-with_parameters_settled {i = i} ps h x a =
+with_parameters_settled : {around : Around} {id : RoutineId} {i : Inside} (ps : List Parameter) (h : Here) → Settled (body_stage around id i) h → All (λ p. Row h.core.types p.of.0) ps → Settled (body_stage around id i) (with_parameters ps h)
+with_parameters_settled {around} {i = i} ps h x a =
     settled_named (parameter_names (length h.core.variables) ps) (more_settled (map parameter_variable ps) x (parameter_rows h.core ps a) (no_locals ps))
-    (parameters_stand (beside h.core (map parameter_variable ps)) i (length h.core.variables) ps x.inside.first (let l = length-append h.core.variables (map parameter_variable ps) in let m = length-map ps parameter_variable in omega (arith, l, m)))
+    (parameters_stand around.apart (beside h.core (map parameter_variable ps)) i (length h.core.variables) ps x.inside.first (let l = length-append h.core.variables (map parameter_variable ps) in let m = length-map ps parameter_variable in omega (arith, l, m)))
 
-with_result_settled : {i : Inside} (id : RoutineId) (n : Name) (of : Option TypeId) (h : Here) → IfSome of (λ of. Row h.core.types of.0) → Settled (body_stage id i) h → Settled (body_stage id i) (with_result id n of h)
-with_result_settled id n None h q x = x
-with_result_settled {i} id n (Some of) h q x =
+with_result_settled : {around : Around} {i : Inside} (id : RoutineId) (n : Name) (of : Option TypeId) (h : Here) → IfSome of (λ of. Row h.core.types of.0) → Settled (body_stage around id i) h → Settled (body_stage around id i) (with_result id n of h)
+with_result_settled {around} id n None h q x = x
+with_result_settled {around} {i} id n (Some of) h q x =
     with_name_settled n (RoutineName id) (with_local (result_name n) of Result h) local (x.current.0, x.current.0)
   where
     v : VariableRow
     v = record { name = result_name n; of = of; role = Result; first_value = None }
 
-    local : Settled (body_stage id i) (with_local (result_name n) of Result h)
+    local : Settled (body_stage around id i) (with_local (result_name n) of Result h)
     local =
         with_name_settled (result_name n) (Variable (record { 0 = length h.core.variables }) true) (in_core (beside h.core (v ∷ [])) h) (more_settled (v ∷ []) x (All-cons (IsBareVariable h.core) v [] (q, refl) (All-nil (IsBareVariable h.core))) refl)
         (inr x.inside.first, (let l = length-append h.core.variables (v ∷ []) in omega (arith, l)))
@@ -406,8 +415,8 @@ result_reads : (id : RoutineId) (n : Name) (of : Option TypeId) (ps : List Param
 result_reads id n None ps h = record { types = front_itself h.core.types; parameters = front_itself h.core.parameters; routines = refl }
 result_reads id n (Some of) ps h = record { types = front_itself h.core.types; parameters = front_itself h.core.parameters; routines = refl }
 
-entered_settled : (id : RoutineId) (n : Name) (x : Head) (h : Here) → IsHead x h.core → Settled (outside (Some id.0)) h → Settled (body_stage id (inside_of h)) (entered id n x h) × Reads h.core (entered id n x h).core
-entered_settled id n x h k y = (
+entered_settled : {around : Around} (id : RoutineId) (n : Name) (x : Head) (h : Here) → IsHead x h.core → Settled (outside around (Some id.0)) h → Settled (body_stage around id (inside_of h)) (entered id n x h) × Reads h.core (entered id n x h).core
+entered_settled {around} id n x h k y = (
   with_result_settled id n x.result (with_parameters (rows h.core.parameters x.parameters) (body_begun id h)) k.1 (with_parameters_settled (rows h.core.parameters x.parameters) (body_begun id h) (begun_settled id h y) (rows_typed h.core x.parameters y.people.parameters)),
   result_reads id n x.result (rows h.core.parameters x.parameters) (body_begun id h),
 )
@@ -439,9 +448,13 @@ result_begins id n ps (Some of) h = no_more_rows
     v : VariableRow
     v = record { name = result_name n; of = of; role = Result; first_value = None }
 
+-- the unit of a routine, where only its heading counts
+abbrev nowhere : UnitId
+nowhere = record { 0 = 0 }
+
 -- of a routine with this heading
 abbrev head_rows : Name → Head → Core → List RoleAndType
-head_rows n x core = first_rows core (routine_row (unit_under core) n x no_rows)
+head_rows n x core = first_rows core (routine_row nowhere n x no_rows)
 
 entered_begins : (id : RoutineId) (n : Name) (x : Head) (h : Here) → BeginWith (head_rows n x h.core) (drop (length h.core.variables) (entered id n x h).core.variables)
 entered_begins id n x h = result_begins id n (rows h.core.parameters x.parameters) x.result (body_begun id h)
@@ -468,16 +481,16 @@ begins_later {old} {new} n x k l f le b =
 
 -- ---- the row of a body
 
-abbrev body_row : Name → Head → Inside → Core → Routine
-body_row n x i core = routine_row (unit_under core) n x (record { first = i.first; count = length core.variables - i.first })
+abbrev body_row : UnitId → Name → Head → Inside → Core → Routine
+body_row unit n x i core = routine_row unit n x (record { first = i.first; count = length core.variables - i.first })
 
 -- its variables are all from the first one on
-all_rows : (n : Name) (x : Head) (i : Inside) (core : Core) → rows core.variables (body_row n x i core).variables ≡ drop i.first core.variables
+all_rows : (n : Name) (x : Head) (i : Inside) (core : Core) → rows core.variables (body_row nowhere n x i core).variables ≡ drop i.first core.variables
 all_rows n x i core = take_all (length core.variables - i.first) (drop i.first core.variables) (let l = length-drop i.first core.variables in omega (arith, l))
 
 -- the row that there is has the heading
 abbrev HasHead : RoutineId → Name → Head → Core → Type 0
-HasHead id n x core = IsSomeAnd (slice_get core.routines id.0) (λ r. IsTrue (is_same_heading core r (routine_row (unit_under core) n x no_rows)))
+HasHead id n x core = IsSomeAnd (slice_get core.routines id.0) (λ r. IsTrue (is_same_heading core r (routine_row nowhere n x no_rows)))
 
 head_later : {old new : Core} (x : Head) → Reads old new → IsHead x old → IsHead x new
 head_later {old} {new} x l k = (front_fit x.parameters l.parameters k.0, if_row x.result k.1)
@@ -497,11 +510,11 @@ heading_later {old} {new} a b l f g h =
 has_head_later : {s : Stage} {h : Here} {new : Core} (id : RoutineId) (n : Name) (x : Head) → Settled s h → Reads h.core new → IsHead x h.core → HasHead id n x h.core → HasHead id n x new
 has_head_later {h = h} {new} id n x y l k a =
     let r = some_is (slice_get h.core.routines id.0) a in
-    some_and (λ r. IsTrue (is_same_heading new r (routine_row (unit_under new) n x no_rows))) (ap (λ rs. slice_get rs id.0) l.routines ∙ r.1)
-    (heading_later r.0 (routine_row (unit_under new) n x no_rows) l (all_at (IsBareRoutine h.core) h.core.routines id.0 r.0 y.people.routines r.1).runs.0 k.0 r.2)
+    some_and (λ r. IsTrue (is_same_heading new r (routine_row nowhere n x no_rows))) (ap (λ rs. slice_get rs id.0) l.routines ∙ r.1)
+    (heading_later r.0 (routine_row nowhere n x no_rows) l (all_at (IsBareRoutine h.core) h.core.routines id.0 r.0 y.people.routines r.1).runs.0 k.0 r.2)
 
-with_variables_settled : {i : Inside} (id : RoutineId) (n : Name) (x : Head) (h : Here) → h.bytes ≤ most_bytes → IsHead x h.core → HasHead id n x h.core → Settled (body_stage id i) h → Settled (body_stage id i) (with_variables id n x i.first h)
-with_variables_settled {i} id n x h small k head y = record {
+with_variables_settled : {around : Around} {i : Inside} (id : RoutineId) (n : Name) (x : Head) (h : Here) → h.bytes ≤ most_bytes → IsHead x h.core → HasHead id n x h.core → Settled (body_stage around id i) h → Settled (body_stage around id i) (with_variables id n x i.first h)
+with_variables_settled {around} {i} id n x h small k head y = record {
   tables = tabled_beside _ _ _ _ _ y.tables;
   people = record {
     parameters = y.people.parameters;
@@ -510,23 +523,25 @@ with_variables_settled {i} id n x h small k head y = record {
     globals = y.people.globals;
     room = y.people.room;
   };
-  units = units_on h.core new (Some id.0) (Some id.0) h.awaited h.awaited w.globals (λ p lt d. (set_apart h.core.routines id.0 r p (λ same. d (inl (ap Some (sym same)))), d)) h.core.units y.units;
-  exports = exports_on w h.exports y.exports;
+  unit = y.unit;
+  rows = y.rows;
+  units = units_on h.core new around.start (Some id.0) (Some id.0) h.awaited h.awaited (λ p lt d. (set_apart h.core.routines id.0 r p (λ same. d (inl (ap Some (sym same)))), d)) h.core.units y.units;
+  exports = exports_on around.apart w around.exports y.exports;
   start = y.start;
-  names = names_on (Some i) w h.names y.names;
+  names = names_on around.apart (Some i) w h.names y.names;
   first = y.first;
   counts = y.counts;
   routine = y.routine;
-  inside = record { first = y.inside.first; names = y.inside.names; stand = names_on None w (take i.names h.names) y.inside.stand; counts = y.inside.counts };
+  inside = record { first = y.inside.first; names = y.inside.names; stand = names_on around.apart None w (take i.names h.names) y.inside.stand; counts = y.inside.counts };
   current = (let lt = y.current.0 in omega (arith, e, lt), y.current.1);
   awaits = y.awaits ∙ sym e;
   accounted = λ m lt. y.accounted m (omega (arith, e, lt));
-  bodies = All-weaker (λ b. IsTypedBody h.core b × (IsOpen (Some id.0) h.awaited b.0.0 → ⊥)) (λ b. IsTypedBody new b × (IsOpen (Some id.0) h.awaited b.0.0 → ⊥)) (λ b z. (body_on w y.people b (set_apart h.core.routines id.0 r b.0.0 (λ same. z.1 (inl (ap Some (sym same))))) z.0, z.1)) h.bodies y.bodies;
+  bodies = All-weaker (λ b. IsTypedBody around.apart h.core b × (IsOpen (Some id.0) h.awaited b.0.0 → ⊥)) (λ b. IsTypedBody around.apart new b × (IsOpen (Some id.0) h.awaited b.0.0 → ⊥)) (λ b z. (body_on around.apart w y.people b (set_apart h.core.routines id.0 r b.0.0 (λ same. z.1 (inl (ap Some (sym same))))) z.0, z.1)) h.bodies y.bodies;
   values = All-weaker (IsTypedFirst h.core) (IsTypedFirst new) (λ v z. value_on w (founded y) v z) h.first_values y.values;
 }
   where
     r : Routine
-    r = body_row n x i h.core
+    r = body_row h.unit n x i h.core
 
     new : Core
     new = record h.core { routines = slice_set h.core.routines id.0 r }
@@ -544,7 +559,7 @@ with_variables_settled {i} id n x h small k head y = record {
 
     own : IsBareRoutine new r
     own = record {
-      unit = omega arith;
+      unit = y.unit;
       owner = refl;
       enclosing = refl;
       body = refl;
@@ -554,10 +569,10 @@ with_variables_settled {i} id n x h small k head y = record {
     }
 
 -- the scope is that of the row
-row_scope : {i : Inside} (id : RoutineId) (n : Name) (x : Head) (h : Here) → Settled (body_stage id i) h → BeginWith (head_rows n x h.core) (drop i.first h.core.variables) → IsRowOf (body_stage id i) (with_variables id n x i.first h) id (body_row n x i h.core)
-row_scope {i} id n x h y b = (set_there h.core.routines id.0 (body_row n x i h.core) y.current.0, (λ v lt z. one v lt z), subst (BeginWith (head_rows n x h.core)) (sym (all_rows n x i h.core)) b)
+row_scope : {around : Around} {i : Inside} (id : RoutineId) (n : Name) (x : Head) (h : Here) → Settled (body_stage around id i) h → BeginWith (head_rows n x h.core) (drop i.first h.core.variables) → IsRowOf (body_stage around id i) (with_variables id n x i.first h) id (body_row h.unit n x i h.core)
+row_scope {around} {i} id n x h y b = (set_there h.core.routines id.0 (body_row h.unit n x i h.core) y.current.0, (λ v lt z. one v lt z), subst (BeginWith (head_rows n x h.core)) (sym (all_rows n x i h.core)) b)
   where
-    one : (v : VariableId) → v.0 < length h.core.variables → (scope (Some i) h.core).variable v → (scope_of h.core (body_row n x i h.core)).variable v
+    one : (v : VariableId) → v.0 < length h.core.variables → (scope around.apart (Some i) h.core).variable v → (scope_of around.apart h.core (body_row h.unit n x i h.core)).variable v
     one v lt (inl c) = inl c
     one v lt (inr le) = inr (le, (let f = y.inside.first in omega (arith, le, lt, f)))
 
@@ -575,21 +590,23 @@ locals_settled no_declarations h x = from_gives (leads x later_itself tt)
 locals_settled (declarations d ds) h x = from_then (locals_declared ds) (local_settled d h x) (λ t i r. leads_on r.later (locals_settled ds i r.state))
 
 -- what the body's end leaves
-abbrev Ended : Inside → Unit {0} → Here → Type 0
-Ended i t g = Settled (record { current = None; inside = Some i }) g
+abbrev Ended : Around → Inside → Unit {0} → Here → Type 0
+Ended around i t g = Settled (record { around = around; current = None; inside = Some i }) g
 
-inner_settled : {i : Inside} (id : RoutineId) (n : Name) (x : Head) (ds : Declarations) (ss : Statements) (h : Here) → IsHead x h.core → HasHead id n x h.core → Settled (body_stage id i) h → BeginWith (head_rows n x h.core) (drop i.first h.core.variables) → From (Ended i) (inner id n x i.first ds ss h)
-inner_settled {i} id n x ds ss h k head y b =
+inner_settled : {around : Around} {i : Inside} (id : RoutineId) (n : Name) (x : Head) (ds : Declarations) (ss : Statements) (h : Here) → IsHead x h.core → HasHead id n x h.core → Settled (body_stage around id i) h → BeginWith (head_rows n x h.core) (drop i.first h.core.variables) → From (Ended around i) (inner id n x i.first ds ss h)
+inner_settled {around} {i} id n x ds ss h k head y b =
     from_then (λ h. followed (locals_fit n h) (λ t h. statements_mean id ss (with_variables id n x i.first h))) (locals_settled ds h y)
     (λ t j r. from_then {R = λ t g. (g ≡ j) × (j.bytes ≤ most_bytes)} (λ h. statements_mean id ss (with_variables id n x i.first h))
     (from_checked {P = λ t. j.bytes ≤ most_bytes} (whole_tested 69 n.position.place (nat_le j.bytes most_bytes) (λ e. whole_gives (leb-true j.bytes most_bytes e))) (λ t le. (refl, le)))
-    (λ t g q. subst (λ g. From (Ended i) (statements_mean id ss (with_variables id n x i.first g))) (sym q.0)
-    (from_so (statements_settled id ss (with_variables id n x i.first j) (body_row n x i j.core) refl (with_variables_settled id n x j q.1 (head_later x (reads_later r.later) k) (has_head_later id n x y (reads_later r.later) k head) r.state) (row_scope id n x j r.state (begins_later n x i.first r.later k y.inside.first b))) (λ a g w. w.0))))
+    (λ t g q. subst (λ g. From (Ended around i) (statements_mean id ss (with_variables id n x i.first g))) (sym q.0)
+    (from_so (statements_settled id ss (with_variables id n x i.first j) (body_row j.unit n x i j.core) refl (with_variables_settled id n x j q.1 (head_later x (reads_later r.later) k) (has_head_later id n x y (reads_later r.later) k head) r.state) (row_scope id n x j r.state (begins_later n x i.first r.later k y.inside.first b))) (λ a g w. w.0))))
 
-left_settled : {c : Option ℕ} (h g : Here) → Settled (outside c) h → Settled (record { current = None; inside = Some (inside_of h) }) g → Settled (outside None) (left h g)
-left_settled h g y z = record {
+left_settled : {around : Around} {c : Option ℕ} (h g : Here) → Settled (outside around c) h → Settled (record { around = around; current = None; inside = Some (inside_of h) }) g → Settled (outside around None) (left h g)
+left_settled {around} h g y z = record {
   tables = z.tables;
   people = z.people;
+  unit = z.unit;
+  rows = z.rows;
   units = z.units;
   exports = z.exports;
   start = z.start;
@@ -606,26 +623,26 @@ left_settled h g y z = record {
 }
 
 -- a settled state outside of bodies
-abbrev pub Rests : {A : Type 0} → A → Here → Type 0
-Rests a h = Settled (outside None) h
+abbrev pub Rests : {A : Type 0} → Around → A → Here → Type 0
+Rests around a h = Settled (outside around None) h
 
-block_settled : (id : RoutineId) (n : Name) (x : Head) (ds : Declarations) (ss : Statements) (h : Here) → IsHead x h.core → HasHead id n x h.core → Settled (outside (Some id.0)) h → From Rests (block_means id n x ds ss h)
-block_settled id n x ds ss h k head y =
+block_settled : {around : Around} (id : RoutineId) (n : Name) (x : Head) (ds : Declarations) (ss : Statements) (h : Here) → IsHead x h.core → HasHead id n x h.core → Settled (outside around (Some id.0)) h → From (Rests around) (block_means id n x ds ss h)
+block_settled {around} id n x ds ss h k head y =
     let e = entered_settled id n x h k y in
     from_then (λ i. gives tt (left h i)) (inner_settled id n x ds ss (entered id n x h) (head_later x e.1 k) (has_head_later id n x y e.1 k head) e.0 (subst (λ ss. BeginWith ss (drop (length h.core.variables) (entered id n x h).core.variables)) (sym (head_rows_on h.core (entered id n x h).core n x e.1.parameters k.0)) (entered_begins id n x h))) (λ t i z. from_gives (left_settled h i y z))
 
 -- ---- declarations
 
-first_settled : (n : Name) (x : Head) (b : Body) (h : Here) → IsHead x h.core → Settled (outside None) h → From Rests (first_declared n x b h)
-first_settled n x forward h k y =
+first_settled : {around : Around} (n : Name) (x : Head) (b : Body) (h : Here) → IsHead x h.core → Settled (outside around None) h → From (Rests around) (first_declared n x b h)
+first_settled {around} n x forward h k y =
     from_then (λ h. gives tt h)
     (declared_settled n (RoutineName (next_routine h)) (with_routine n x (Some n.position.place) h) (with_routine_settled None n x (Some n.position.place) h y k (inl refl) (inr (subst (IsAwaited (h.awaited ++ Some n.position.place ∷ [])) y.awaits (last_awaited h.awaited n.position.place))) tt) (lt, lt))
     (λ t g r. from_gives r.state)
   where
     lt : length h.core.routines < length (with_routine n x (Some n.position.place) h).core.routines
-    lt = let e = length-append h.core.routines (routine_row (unit_under h.core) n x no_rows ∷ []) in omega (arith, e)
-first_settled n x (body ds ss) h k y =
-    from_then {R = λ t g. Settled (outside (Some (length h.core.routines))) g × (g.core ≡ new.core)} (block_means (next_routine h) n x ds ss)
+    lt = let e = length-append h.core.routines (routine_row h.unit n x no_rows ∷ []) in omega (arith, e)
+first_settled {around} n x (body ds ss) h k y =
+    from_then {R = λ t g. Settled (outside around (Some (length h.core.routines))) g × (g.core ≡ new.core)} (block_means (next_routine h) n x ds ss)
     (entered_from (is_declared new n) 0 n (RoutineName (next_routine h)) new (with_declared_settled n (RoutineName (next_routine h)) new (with_routine_settled (Some (length h.core.routines)) n x None h y k (inr refl) (inl refl) refl) (lt, lt), with_declared_core n (RoutineName (next_routine h)) new))
     (λ t g r. block_settled (next_routine h) n x ds ss g (subst (IsHead x) (sym r.1) k) (subst (HasHead (next_routine h) n x) (sym r.1) head) r.0)
   where
@@ -633,32 +650,32 @@ first_settled n x (body ds ss) h k y =
     new = with_routine n x None h
 
     lt : length h.core.routines < length new.core.routines
-    lt = let e = length-append h.core.routines (routine_row (unit_under h.core) n x no_rows ∷ []) in omega (arith, e)
+    lt = let e = length-append h.core.routines (routine_row h.unit n x no_rows ∷ []) in omega (arith, e)
 
     head : HasHead (next_routine h) n x new.core
-    head = some_and (λ r. IsTrue (is_same_heading new.core r (routine_row (unit_under h.core) n x no_rows))) (first_behind h.core.routines (routine_row (unit_under h.core) n x no_rows) []) (heading_itself new.core (routine_row (unit_under h.core) n x no_rows))
+    head = some_and (λ r. IsTrue (is_same_heading new.core r (routine_row h.unit n x no_rows))) (first_behind h.core.routines (routine_row h.unit n x no_rows) []) (heading_itself new.core (routine_row h.unit n x no_rows))
 
-if_same_settled : (id : RoutineId) (n : Name) (x : Head) (ds : Declarations) (ss : Statements) {t : Option (Unit {0})} (h : Here) → IsHead x h.core → Filled (λ t. HasHead id n x h.core) t → Settled (outside (Some id.0)) h → From Rests (if_same id n x ds ss t h)
-if_same_settled id n x ds ss h k (filled t a) y = block_settled id n x ds ss h k a y
+if_same_settled : {around : Around} (id : RoutineId) (n : Name) (x : Head) (ds : Declarations) (ss : Statements) {t : Option (Unit {0})} (h : Here) → IsHead x h.core → Filled (λ t. HasHead id n x h.core) t → Settled (outside around (Some id.0)) h → From (Rests around) (if_same id n x ds ss t h)
+if_same_settled {around} id n x ds ss h k (filled t a) y = block_settled id n x ds ss h k a y
 
-ahead_settled : (id : RoutineId) (n : Name) {x : Option Head} (b : Body) (h : Here) → Filled (λ x. IsHead x h.core) x → IsAwaited h.awaited id.0 → Settled (outside None) h → From Rests (ahead_declared id n x b h)
-ahead_settled id n forward h f a y = from_breaks
-ahead_settled id n (body ds ss) h (filled x k) a y =
+ahead_settled : {around : Around} (id : RoutineId) (n : Name) {x : Option Head} (b : Body) (h : Here) → Filled (λ x. IsHead x h.core) x → IsAwaited h.awaited id.0 → Settled (outside around None) h → From (Rests around) (ahead_declared id n x b h)
+ahead_settled {around} id n forward h f a y = from_breaks
+ahead_settled {around} id n (body ds ss) h (filled x k) a y =
     from_followed {R = λ t g. (g ≡ completed id h) × HasHead id n x h.core} {f = if_same id n x ds ss} (from_checked (same (slice_get h.core.routines id.0)) (λ t z. (refl, z)))
     (λ t g f. one g f)
   where
-    same : (o : Option Routine) → Whole {A = Unit {0}} (λ t. IsSomeAnd o (λ r. IsTrue (is_same_heading h.core r (routine_row (unit_under h.core) n x no_rows)))) (by_test 19 n.position.place (fine tt) (is_heading_of h.core (routine_row (unit_under h.core) n x no_rows) o))
+    same : (o : Option Routine) → Whole {A = Unit {0}} (λ t. IsSomeAnd o (λ r. IsTrue (is_same_heading h.core r (routine_row h.unit n x no_rows)))) (by_test 19 n.position.place (fine tt) (is_heading_of h.core (routine_row h.unit n x no_rows) o))
     same None = whole_refused
-    same (Some r) = whole_tested 19 n.position.place (is_heading_of h.core (routine_row (unit_under h.core) n x no_rows) (Some r)) (λ e. whole_gives e)
+    same (Some r) = whole_tested 19 n.position.place (is_heading_of h.core (routine_row h.unit n x no_rows) (Some r)) (λ e. whole_gives e)
 
-    one : {t : Option (Unit {0})} (g : Here) → Filled (λ t. (g ≡ completed id h) × HasHead id n x h.core) t → From Rests (if_same id n x ds ss t g)
+    one : {t : Option (Unit {0})} (g : Here) → Filled (λ t. (g ≡ completed id h) × HasHead id n x h.core) t → From (Rests around) (if_same id n x ds ss t g)
     one g (filled t q) =
         let r = some_is (slice_get h.core.routines id.0) q.1 in
-        subst (λ g. From Rests (if_same id n x ds ss (Some t) g)) (sym q.0) (block_settled id n x ds ss (completed id h) k q.1 (completed_settled id h y a (slice_get_within h.core.routines id.0 r.0 r.1)))
+        subst (λ g. From (Rests around) (if_same id n x ds ss (Some t) g)) (sym q.0) (block_settled id n x ds ss (completed id h) k q.1 (completed_settled id h y a (slice_get_within h.core.routines id.0 r.0 r.1)))
 
-standing_settled : (o : Option RoutineId) (n : Name) {x : Option Head} (b : Body) (h : Here) → Filled (λ x. IsHead x h.core) x → IfSome o (λ id. IsAwaited h.awaited id.0) → Settled (outside None) h → From Rests (by_standing o n x b h)
-standing_settled (Some id) n b h f a y = ahead_settled id n b h f a y
-standing_settled None n b h (filled x k) a y = first_settled n x b h k y
+standing_settled : {around : Around} (o : Option RoutineId) (n : Name) {x : Option Head} (b : Body) (h : Here) → Filled (λ x. IsHead x h.core) x → IfSome o (λ id. IsAwaited h.awaited id.0) → Settled (outside around None) h → From (Rests around) (by_standing o n x b h)
+standing_settled {around} (Some id) n b h f a y = ahead_settled id n b h f a y
+standing_settled {around} None n b h (filled x k) a y = first_settled n x b h k y
 
 -- what is found as awaited is awaited
 found_awaited : (h : Here) (n : Name) → IfSome (awaited_named h n) (λ id. IsAwaited h.awaited id.0)
@@ -680,13 +697,13 @@ found_awaited h n = one (is_declared h n)
 both_filled : {P : Head → Type 0} {t : Option (Unit {0})} {u : Option Head} → Filled (λ t. Unit {0}) t → Filled P u → Filled P (both_typed t u)
 both_filled (filled t _) f = f
 
-plain_settled : (x : Heading) (ds : List Directive) (b : Body) (h : Here) → Settled (outside None) h → From Rests (plain_declared x ds b h)
-plain_settled x ds b h y =
+plain_settled : {around : Around} (x : Heading) (ds : List Directive) (b : Body) (h : Here) → Settled (outside around None) h → From (Rests around) (plain_declared x ds b h)
+plain_settled {around} x ds b h y =
     from_followed {R = λ t g. g ≡ with_ahead x.name h} {f = λ t h. followed (head_means x h) (λ u h. headed x.name (both_typed t u) b (ended h))} (from_checked {P = λ t. Unit {0}} (form_whole x ds) (λ t z. refl))
     (λ t i f. one i f)
   where
-    one : {t : Option (Unit {0})} (i : Here) → Filled (λ t. i ≡ with_ahead x.name h) t → From Rests (followed (head_means x i) (λ u h. headed x.name (both_typed t u) b (ended h)))
-    one i (filled t e) = subst (λ i. From Rests (followed (head_means x i) (λ u h. headed x.name (both_typed (Some t) u) b (ended h)))) (sym e)
+    one : {t : Option (Unit {0})} (i : Here) → Filled (λ t. i ≡ with_ahead x.name h) t → From (Rests around) (followed (head_means x i) (λ u h. headed x.name (both_typed t u) b (ended h)))
+    one i (filled t e) = subst (λ i. From (Rests around) (followed (head_means x i) (λ u h. headed x.name (both_typed (Some t) u) b (ended h)))) (sym e)
         (lead_followed {h = with_ahead x.name h} {P = IsHead} {f = λ u h. headed x.name (both_typed (Some t) u) b (ended h)} (head_settled x (with_ahead x.name h) (settled_ahead _ y))
         (λ u j z l g. standing_settled (awaited_named (ended j) x.name) x.name b (ended j) g (found_awaited (ended j) x.name) (settled_ahead [] z)))
 
@@ -702,9 +719,9 @@ class_whole core sees place (Some (meaning.BuiltIn (LeftOut feature))) u = whole
 class_whole core sees place (Some (meaning.BuiltIn b)) u = whole_refused
 class_whole core sees place (Some m) u = whole_refused
 
-routine_by_settled : (c : Option Name) (x : Heading) (ds : List Directive) (b : Body) (h : Here) → Settled (outside None) h → From Rests (routine_by c x ds b h)
-routine_by_settled None x ds b h y = plain_settled x ds b h y
-routine_by_settled (Some c) x ds b h y = from_checked (class_whole h.core (scope None h.core) c.position.place (meaning_of h.names (lower c.text)) (found h.core (scope None h.core) h.names y.names (lower c.text))) (λ t z. y)
+routine_by_settled : {around : Around} (c : Option Name) (x : Heading) (ds : List Directive) (b : Body) (h : Here) → Settled (outside around None) h → From (Rests around) (routine_by c x ds b h)
+routine_by_settled {around} None x ds b h y = plain_settled x ds b h y
+routine_by_settled {around} (Some c) x ds b h y = from_checked (class_whole h.core (scope around.apart None h.core) c.position.place (meaning_of h.names (lower c.text)) (found h.core (scope around.apart None h.core) h.names y.names (lower c.text))) (λ t z. y)
 
-pub routine_settled : (x : Heading) (ds : List Directive) (b : Body) (h : Here) → Settled (outside None) h → From Rests (routine_declared x ds b h)
-routine_settled x ds b h y = routine_by_settled x.class x ds b h y
+pub routine_settled : {around : Around} (x : Heading) (ds : List Directive) (b : Body) (h : Here) → Settled (outside around None) h → From (Rests around) (routine_declared x ds b h)
+routine_settled {around} x ds b h y = routine_by_settled x.class x ds b h y

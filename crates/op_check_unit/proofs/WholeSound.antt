@@ -9,7 +9,7 @@ use Rattle.std.proofs.lemmas.Option.{slice_get_within}
 use Rattle.op_base.specs.declared.place.Place.{Place}
 use Rattle.op_check_unit.proofs.Filled.{filled_grows}
 use Rattle.op_check_unit.proofs.Tables.{if_none, tabled_beside, tabled_sound}
-use Rattle.op_check_unit.proofs.Whole.{Finished, all_have_bodies, files_settled}
+use Rattle.op_check_unit.proofs.WholeUnits.{Finished, all_have_bodies, files_settled}
 use Rattle.op_check_unit.proofs.WholeDeclaring.{row_at}
 use Rattle.op_check_unit.proofs.WholeGrowth.{some_is}
 use Rattle.op_check_unit.proofs.WholeRoutines.{rows_typed, set_there, some_eq}
@@ -158,7 +158,7 @@ record Known (h : Here) (core : Core) : Type 0 where
   routines : All (λ r. r.unit.0 < length core.units) (map bare core.routines)
   tables : IsTabled (bared core)
   people : IsPeopled (bared core)
-  bodies : All (IsTypedBody (bared core)) h.bodies
+  bodies : All (IsTypedBody [] (bared core)) h.bodies
   values : All (IsTypedFirst (bared core)) h.first_values
   have : (n : ℕ) → n < length core.routines → HasBody h.bodies n
   placed_so : map body_in core.routines ≡ placed h.bodies (map body_in h.core.routines)
@@ -171,9 +171,9 @@ option_at f None b e = absurd (cc)
 option_at f (Some a) b e = (a, refl, some_eq e)
 
 -- the row of a unit has its globals, and procedures for its parts
-unit_done : (core : Core) (places : List (Option Place)) → IsPeopled core → (u : RustUnit) → IsDone core None places u → IsUnit core u
-unit_done core places p u d =
-    (d.globals, All-take (λ v. Row core.variables v.0) u.globals.count (drop u.globals.first core.globals) (All-drop (λ v. Row core.variables v.0) u.globals.first core.globals p.globals), part u.initialization d.initialization, part u.finalization d.finalization)
+unit_done : (core : Core) (start : ℕ) (places : List (Option Place)) → start ≤ length core.globals → IsPeopled core → (u : RustUnit) → IsDone core start None places u → IsUnit core u
+unit_done core start places le p u d =
+    ((let f = d.globals in omega (arith, f, le)), All-take (λ v. Row core.variables v.0) u.globals.count (drop u.globals.first core.globals) (All-drop (λ v. Row core.variables v.0) u.globals.first core.globals p.globals), part u.initialization d.initialization, part u.finalization d.finalization)
   where
     part : (o : Option RoutineId) → IfSome o (IsDonePart core None places) → IsPart core o
     part None x = tt
@@ -183,12 +183,12 @@ unit_done core places p u d =
 
 known : (h : Here) (core : Core) → Finished h → Fills h.bodies h.first_values h.core core → Known h core
 known h core f g = record {
-  unit = subst (λ us. Row us 0) (sym units) f.some;
-  units = subst (λ c. All (IsUnit c) core.units) (sym same) (subst (All (IsUnit h.core)) (sym units) (All-weaker (IsDone h.core None h.awaited) (IsUnit h.core) (unit_done h.core h.awaited f.state.people) h.core.units f.state.units));
-  routines = subst (λ c. All (λ r. r.unit.0 < length c.units) c.routines) (sym same) f.units;
+  unit = (let lt = f.state.unit in let e = ap length units in omega (arith, lt, e));
+  units = subst (λ c. All (IsUnit c) core.units) (sym same) (subst (All (IsUnit h.core)) (sym units) (All-weaker (IsDone h.core f.start None h.awaited) (IsUnit h.core) (unit_done h.core f.start h.awaited f.state.start f.state.people) h.core.units f.state.units));
+  routines = subst (λ c. All (λ r. r.unit.0 < length c.units) c.routines) (sym same) (All-weaker (IsBareRoutine h.core) (λ r. r.unit.0 < length h.core.units) (λ r x. x.unit) h.core.routines f.state.people.routines);
   tables = subst IsTabled (sym same) f.state.tables;
   people = subst IsPeopled (sym same) f.state.people;
-  bodies = subst (λ c. All (IsTypedBody c) h.bodies) (sym same) (All-weaker (λ b. IsTypedBody h.core b × (IsOpen None h.awaited b.0.0 → ⊥)) (IsTypedBody h.core) (λ b z. z.0) h.bodies f.state.bodies);
+  bodies = subst (λ c. All (IsTypedBody [] c) h.bodies) (sym same) (All-weaker (λ b. IsTypedBody [] h.core b × (IsOpen None h.awaited b.0.0 → ⊥)) (IsTypedBody [] h.core) (λ b z. z.0) h.bodies f.state.bodies);
   values = subst (λ c. All (IsTypedFirst c) h.first_values) (sym same) f.state.values;
   have = λ n lt. all_have_bodies h f n (let l = ap (λ c. length c.routines) same in let m = length-map core.routines bare in omega (arith, l, m, lt));
   placed_so = g.bodies;
@@ -214,13 +214,13 @@ bare_at {core = core} k n r e = all_at (IsBareRoutine (bared core)) (map bare co
 
 -- the routine's variables have their rows, and so it is with its statements
 abbrev IsTypedRow : Core → Statements → Routine → Type 0
-IsTypedRow core ss r = HasRows core r × AreStatements core (scope_of core r) (at_start r) ss
+IsTypedRow core ss r = HasRows core r × AreStatements core (scope_of [] core r) (at_start r) ss
 
 -- the statements that stand in a row
 typed_at : {h : Here} {core : Core} → Known h core → (n : ℕ) (r : Routine) (ss : Statements) → slice_get core.routines n ≡ Some r → body_in r ≡ Some ss → IsTypedRow (bared core) ss (bare r)
 typed_at {h} {core} k n r ss e f = one (from_placed h.bodies (map body_in h.core.routines) n ss k.bodies (ap (λ xs. slice_get xs n) (sym k.placed_so) ∙ map_at body_in core.routines n ∙ ap (option_map body_in) e ∙ ap Some f))
   where
-    one : (slice_get (map body_in h.core.routines) n ≡ Some (Some ss)) ⊎ ((b : RoutineId × Statements) × IsTypedBody (bared core) b × (b.0.0 ≡ n) × (b.1 ≡ ss)) → IsTypedRow (bared core) ss (bare r)
+    one : (slice_get (map body_in h.core.routines) n ≡ Some (Some ss)) ⊎ ((b : RoutineId × Statements) × IsTypedBody [] (bared core) b × (b.0.0 ≡ n) × (b.1 ≡ ss)) → IsTypedRow (bared core) ss (bare r)
     one (inl g) = absurd (k.no_bodies n ss g)
     one (inr x) =
         let q = some_is (slice_get (map bare core.routines) x.0.0.0) x.1 in
@@ -307,27 +307,32 @@ row_of f xs n lt = let l = length-map xs f in omega (arith, l, lt)
 contained : {A : Type 0} (P : A → Type 0) (xs : List A) (x : A) → All P xs → Contains xs x → P x
 contained P xs x a c = subst P c.2 (a c.0 x c.1)
 
+none_contained : {A : Type 0} (x : A) → Contains [] x → ⊥
+none_contained x c = let lt = c.1 in omega (arith, lt)
+
 global_row : {h : Here} {core : Core} → Known h core → (v : VariableId) → Contains core.globals v → Row core.variables v.0
 global_row {core = core} k v c = row_of bare_variable core.variables v.0 (contained (λ v. Row (map bare_variable core.variables) v.0) core.globals v k.people.globals c)
 
-sees_all : {h : Here} {core : Core} → Known h core → (n : ℕ) (r : Routine) → slice_get core.routines n ≡ Some r → SeesMore (scope_of (bared core) (bare r)) (everything core)
+sees_all : {h : Here} {core : Core} → Known h core → (n : ℕ) (r : Routine) → slice_get core.routines n ≡ Some r → SeesMore (scope_of [] (bared core) (bare r)) (everything core)
 sees_all {core = core} k n r e = record { variable = λ v x. one v x; routine = λ q lt. row_of bare core.routines q.0 lt }
   where
-    one : (v : VariableId) → (scope_of (bared core) (bare r)).variable v → Row core.variables v.0
-    one v (inl c) = global_row k v c
+    one : (v : VariableId) → (scope_of [] (bared core) (bare r)).variable v → Row core.variables v.0
+    one v (inl (inl c)) = global_row k v c
+    one v (inl (inr d)) = absurd (none_contained v d)
     one v (inr i) = let f = (bare_at k n r e).runs.1 in let lt = i.1 in row_of bare_variable core.variables v.0 (omega (arith, f, lt))
 
-sees_within : {h : Here} {core : Core} → Known h core → (n : ℕ) (r : Routine) → slice_get core.routines n ≡ Some r → SeesMore (scope_of (bared core) (bare r)) (within core n)
+sees_within : {h : Here} {core : Core} → Known h core → (n : ℕ) (r : Routine) → slice_get core.routines n ≡ Some r → SeesMore (scope_of [] (bared core) (bare r)) (within core n)
 sees_within {core = core} k n r e = record { variable = λ v x. one v x; routine = λ q lt. alone q lt }
   where
-    one : (v : VariableId) → (scope_of (bared core) (bare r)).variable v → (within core n).variable v
-    one v (inl c) = inl c
+    one : (v : VariableId) → (scope_of [] (bared core) (bare r)).variable v → (within core n).variable v
+    one v (inl (inl c)) = inl c
+    one v (inl (inr d)) = absurd (none_contained v d)
     one v (inr i) = inr (n, itself, some_and (λ r. InRun r.variables v.0) e i)
 
     alone : (q : RoutineId) → q.0 < length (map bare core.routines) → (within core n).routine q
     alone q lt = let a = row_at core.routines q.0 (row_of bare core.routines q.0 lt) in some_and _ a.1 (inl (bare_at k q.0 a.0 a.1).enclosing)
 
-body_sound : {h : Here} {core : Core} {sees : Sees} → Known h core → (n : ℕ) (r : Routine) → slice_get core.routines n ≡ Some r → SeesMore (scope_of (bared core) (bare r)) sees → IsBody core sees r
+body_sound : {h : Here} {core : Core} {sees : Sees} → Known h core → (n : ℕ) (r : Routine) → slice_get core.routines n ≡ Some r → SeesMore (scope_of [] (bared core) (bare r)) sees → IsBody core sees r
 body_sound {core = core} k n r e m = if_first r.body (λ b f. statements_grow (filled_grows core) m (at_start r) (stmts_of b.statements.items) (typed_at k n r (stmts_of b.statements.items) e (ap (option_map (λ b. stmts_of b.statements.items)) f)).1)
 
 there_of : {A B : Type 0} (P : B → Type 0) (Q : A → Type 0) (f : A → B) (xs : List A) (n : ℕ) → ((a : A) → P (f a) → Q a) → IsSomeAnd (slice_get (map f xs) n) P → IsSomeAnd (slice_get xs n) Q

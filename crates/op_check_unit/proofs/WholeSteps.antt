@@ -135,11 +135,11 @@ founded x = founded_in x.tables x.people
 
 -- ---- tables that grow
 
-pub inside_on : {old new : Core} (i : Option Inside) → Wider old new → (ns : List Named) → IfSome i (λ j. Counts new None j.bytes) → IfSome i (IsInside old ns) → IfSome i (IsInside new ns)
-inside_on None w ns c x = tt
-inside_on (Some i) w ns c x =
+pub inside_on : (apart : List VariableId) {old new : Core} (i : Option Inside) → Wider old new → (ns : List Named) → IfSome i (λ j. Counts new None j.bytes) → IfSome i (IsInside apart old ns) → IfSome i (IsInside apart new ns)
+inside_on apart None w ns c x = tt
+inside_on apart (Some i) w ns c x =
     let l = front_length w.variables in let f = x.first in
-    record { first = omega (arith, l, f); names = x.names; stand = names_on None w (take i.names ns) x.stand; counts = c }
+    record { first = omega (arith, l, f); names = x.names; stand = names_on apart None w (take i.names ns) x.stand; counts = c }
 
 pub current_on : {P Q : ℕ → Type 0} (o : Option ℕ) → ((n : ℕ) → P n → Q n) → IfSome o P → IfSome o Q
 current_on None k c = tt
@@ -150,18 +150,20 @@ pub settled_in : {s : Stage} {h : Here} (new : Core) (b : ℕ) → Settled s h �
 settled_in {s} {h} new b x w t p u r c d = record {
   tables = t;
   people = p;
-  units = subst (All (IsDone new s.current h.awaited)) (sym u) (units_on h.core new s.current s.current h.awaited h.awaited w.globals (λ p lt d. (ap (λ rs. slice_get rs p) r, d)) h.core.units x.units);
-  exports = exports_on w h.exports x.exports;
+  unit = (let lt = x.unit in let e = ap length u in omega (arith, lt, e));
+  rows = (let lt = x.rows in let e = ap length u in omega (arith, lt, e));
+  units = subst (All (IsDone new s.around.start s.current h.awaited)) (sym u) (units_on h.core new s.around.start s.current s.current h.awaited h.awaited (λ p lt d. (ap (λ rs. slice_get rs p) r, d)) h.core.units x.units);
+  exports = exports_on s.around.apart w s.around.exports x.exports;
   start = (let le = x.start in let more = front_length w.globals in omega (arith, le, more));
-  names = names_on s.inside w h.names x.names;
+  names = names_on s.around.apart s.inside w h.names x.names;
   first = x.first;
   counts = c;
   routine = x.routine;
-  inside = inside_on s.inside w h.names d x.inside;
+  inside = inside_on s.around.apart s.inside w h.names d x.inside;
   current = current_on s.current (λ n c. (let e = ap length r in let lt = c.0 in omega (arith, e, lt), c.1)) x.current;
   awaits = x.awaits ∙ sym (ap length r);
   accounted = λ n lt. let e = ap length r in x.accounted n (omega (arith, e, lt));
-  bodies = All-weaker (λ b. IsTypedBody h.core b × (IsOpen s.current h.awaited b.0.0 → ⊥)) (λ b. IsTypedBody new b × (IsOpen s.current h.awaited b.0.0 → ⊥)) (λ b y. (body_on w x.people b (ap (λ rs. slice_get rs b.0.0) r) y.0, y.1)) h.bodies x.bodies;
+  bodies = All-weaker (λ b. IsTypedBody s.around.apart h.core b × (IsOpen s.current h.awaited b.0.0 → ⊥)) (λ b. IsTypedBody s.around.apart new b × (IsOpen s.current h.awaited b.0.0 → ⊥)) (λ b y. (body_on s.around.apart w x.people b (ap (λ rs. slice_get rs b.0.0) r) y.0, y.1)) h.bodies x.bodies;
   values = All-weaker (IsTypedFirst h.core) (IsTypedFirst new) (λ v y. value_on w (founded x) v y) h.first_values x.values;
 }
 
@@ -174,15 +176,15 @@ wider {h} x t e f p v g r k u = record {
   units = u;
 }
 
-pub if_counts : (old new : Core) (i : Option Inside) (ns : List Named) → ((b : ℕ) → Counts old None b → Counts new None b) → IfSome i (IsInside old ns) → IfSome i (λ j. Counts new None j.bytes)
-if_counts old new None ns c x = tt
-if_counts old new (Some i) ns c x = c i.bytes x.counts
+pub if_counts : (apart : List VariableId) (old new : Core) (i : Option Inside) (ns : List Named) → ((b : ℕ) → Counts old None b → Counts new None b) → IfSome i (IsInside apart old ns) → IfSome i (λ j. Counts new None j.bytes)
+if_counts apart old new None ns c x = tt
+if_counts apart old new (Some i) ns c x = c i.bytes x.counts
 
 -- rows are put behind those of types, fields and parameters
 pub settled_typed : {s : Stage} {h : Here} (new : Core) (ps : List Parameter) → Settled s h → Wider h.core new → IsTabled new → new.parameters ≡ h.core.parameters ++ ps → All (λ p. Row new.types p.of.0) ps → new.variables ≡ h.core.variables → new.globals ≡ h.core.globals → new.routines ≡ h.core.routines → new.units ≡ h.core.units → Settled s (in_core new h)
 settled_typed {s} {h} new ps x w t e a v g r u =
     settled_in new h.bytes x w t (people_on w x.tables x.people ps [] [] e (v ∙ sym (append-nil h.core.variables)) (g ∙ sym (append-nil h.core.globals)) r a (All-nil (IsBareVariable new)) (All-nil (λ v. Row new.variables v.0)) room)
-    u r (counts_on h.core new s.inside h.bytes (same s.inside) x.counts) (if_counts h.core new s.inside h.names (λ b c. counts_on h.core new None b (same None) c) x.inside)
+    u r (counts_on h.core new s.inside h.bytes (same s.inside) x.counts) (if_counts s.around.apart h.core new s.inside h.names (λ b c. counts_on h.core new None b (same None) c) x.inside)
   where
     same : (i : Option Inside) → bytes_of new (declared_in i new) ≡ bytes_of h.core (declared_in i h.core)
     same i = declared_bytes new i x.tables x.people w.grows.extents v g
@@ -193,7 +195,7 @@ settled_typed {s} {h} new ps x w t e a v g r u =
 -- ---- states that differ in little
 
 pub settled_ahead : {s : Stage} {h : Here} (ns : List Named) → Settled s h → Settled s (record h { ahead = ns })
-settled_ahead ns x = record { tables = x.tables; people = x.people; units = x.units; exports = x.exports; start = x.start; names = x.names; first = x.first; counts = x.counts; routine = x.routine; inside = x.inside; current = x.current; awaits = x.awaits; accounted = x.accounted; bodies = x.bodies; values = x.values }
+settled_ahead ns x = record { tables = x.tables; people = x.people; unit = x.unit; rows = x.rows; units = x.units; exports = x.exports; start = x.start; names = x.names; first = x.first; counts = x.counts; routine = x.routine; inside = x.inside; current = x.current; awaits = x.awaits; accounted = x.accounted; bodies = x.bodies; values = x.values }
 
 pub settled_all_ahead : {s : Stage} (ns : List Name) (h : Here) → Settled s h → Settled s (all_ahead ns h)
 settled_all_ahead [] h x = x
@@ -207,24 +209,26 @@ all_ahead_core (n ∷ ns) h = all_ahead_core ns (with_ahead n h)
 pub later_ahead : (ns : List Name) (h : Here) → Later h.core (all_ahead ns h).core
 later_ahead ns h = subst (Later h.core) (sym (all_ahead_core ns h)) later_itself
 
-inside_named : (core : Core) (i : Option Inside) (ns ms : List Named) → IfSome i (IsInside core ns) → IfSome i (IsInside core (ns ++ ms))
-inside_named core None ns ms x = tt
-inside_named core (Some i) ns ms x =
+inside_named : (apart : List VariableId) (core : Core) (i : Option Inside) (ns ms : List Named) → IfSome i (IsInside apart core ns) → IfSome i (IsInside apart core (ns ++ ms))
+inside_named apart core None ns ms x = tt
+inside_named apart core (Some i) ns ms x =
     let l = length-append ns ms in let le = x.names in
-    record { first = x.first; names = omega (arith, l, le); stand = subst (AllStand core (scope None core)) (sym (take-append-le i.names ns ms x.names)) x.stand; counts = x.counts }
+    record { first = x.first; names = omega (arith, l, le); stand = subst (AllStand core (scope apart None core)) (sym (take-append-le i.names ns ms x.names)) x.stand; counts = x.counts }
 
-pub settled_named : {s : Stage} {h : Here} {count : ℕ} (ns : List Named) → Settled s h → AllStand h.core (scope s.inside h.core) ns → Settled s (record h { names = h.names ++ ns; count = count })
+pub settled_named : {s : Stage} {h : Here} {count : ℕ} (ns : List Named) → Settled s h → AllStand h.core (scope s.around.apart s.inside h.core) ns → Settled s (record h { names = h.names ++ ns; count = count })
 settled_named {s} {h} ns x a = record {
   tables = x.tables;
   people = x.people;
+  unit = x.unit;
+  rows = x.rows;
   units = x.units;
   exports = x.exports;
   start = x.start;
-  names = All-append (λ n. StandsFor h.core (scope s.inside h.core) n.meaning) h.names ns x.names a;
+  names = All-append (λ n. StandsFor h.core (scope s.around.apart s.inside h.core) n.meaning) h.names ns x.names a;
   first = (let l = length-append h.names ns in let le = x.first in omega (arith, l, le));
   counts = x.counts;
   routine = x.routine;
-  inside = inside_named h.core s.inside h.names ns x.inside;
+  inside = inside_named s.around.apart h.core s.inside h.names ns x.inside;
   current = x.current;
   awaits = x.awaits;
   accounted = x.accounted;
@@ -236,6 +240,8 @@ pub settled_valued : {s : Stage} {h : Here} (v : VariableId × FirstValue) → S
 settled_valued {s} {h} v x a = record {
   tables = x.tables;
   people = x.people;
+  unit = x.unit;
+  rows = x.rows;
   units = x.units;
   exports = x.exports;
   start = x.start;

@@ -104,14 +104,14 @@ type_named_whole core sees names u own inside q = named_by_whole q.name q.unit
 pub entered_from : {R : Unit {0} → Here → Type 0} (taken : Bool) (more : ℕ) (n : Name) (m : Meaning) (h : Here) → R tt (with_declared n m h) → From R (entered_name taken more n m h)
 entered_from taken more n m h r = from_where (not taken) 14 n.position.place h (λ e. from_where (has_room more h) 64 n.position.place h (λ f. from_gives r))
 
-pub with_name_settled : {s : Stage} (n : Name) (m : Meaning) (h : Here) → Settled s h → StandsFor h.core (scope s.inside h.core) m → Settled s (with_name n m h)
-with_name_settled {s} n m h x t = settled_named (record { name = lower n.text; meaning = m } ∷ []) x (All-cons (λ n. StandsFor h.core (scope s.inside h.core) n.meaning) (record { name = lower n.text; meaning = m }) [] t (All-nil (λ n. StandsFor h.core (scope s.inside h.core) n.meaning)))
+pub with_name_settled : {s : Stage} (n : Name) (m : Meaning) (h : Here) → Settled s h → StandsFor h.core (scope s.around.apart s.inside h.core) m → Settled s (with_name n m h)
+with_name_settled {s} n m h x t = settled_named (record { name = lower n.text; meaning = m } ∷ []) x (All-cons (λ n. StandsFor h.core (scope s.around.apart s.inside h.core) n.meaning) (record { name = lower n.text; meaning = m }) [] t (All-nil (λ n. StandsFor h.core (scope s.around.apart s.inside h.core) n.meaning)))
 
-qualified_settled : {s : Stage} (own : Option (List ℕ)) (n : Name) (m : Meaning) (h : Here) → Settled s h → StandsFor h.core (scope s.inside h.core) m → Settled s (qualified own n m h)
+qualified_settled : {s : Stage} (own : Option (List ℕ)) (n : Name) (m : Meaning) (h : Here) → Settled s h → StandsFor h.core (scope s.around.apart s.inside h.core) m → Settled s (qualified own n m h)
 qualified_settled None n m h x t = x
-qualified_settled {s} (Some unit) n m h x t = settled_named (record { name = joined_name unit n.text; meaning = m } ∷ []) x (All-cons (λ n. StandsFor h.core (scope s.inside h.core) n.meaning) (record { name = joined_name unit n.text; meaning = m }) [] t (All-nil (λ n. StandsFor h.core (scope s.inside h.core) n.meaning)))
+qualified_settled {s} (Some unit) n m h x t = settled_named (record { name = joined_name unit n.text; meaning = m } ∷ []) x (All-cons (λ n. StandsFor h.core (scope s.around.apart s.inside h.core) n.meaning) (record { name = joined_name unit n.text; meaning = m }) [] t (All-nil (λ n. StandsFor h.core (scope s.around.apart s.inside h.core) n.meaning)))
 
-pub with_declared_settled : {s : Stage} (n : Name) (m : Meaning) (h : Here) → Settled s h → StandsFor h.core (scope s.inside h.core) m → Settled s (with_declared n m h)
+pub with_declared_settled : {s : Stage} (n : Name) (m : Meaning) (h : Here) → Settled s h → StandsFor h.core (scope s.around.apart s.inside h.core) m → Settled s (with_declared n m h)
 with_declared_settled n m h x t = qualified_settled h.own n m (with_name n m h) (with_name_settled n m h x t) t
 
 -- tables stay as they are, and the scope has one name more
@@ -129,7 +129,7 @@ with_declared_count n m h = one h.own
     one None = refl
     one (Some unit) = refl
 
-pub declared_settled : {s : Stage} (n : Name) (m : Meaning) (h : Here) → Settled s h → StandsFor h.core (scope s.inside h.core) m → From (Moves s h) (declared n m h)
+pub declared_settled : {s : Stage} (n : Name) (m : Meaning) (h : Here) → Settled s h → StandsFor h.core (scope s.around.apart s.inside h.core) m → From (Moves s h) (declared n m h)
 declared_settled n m h x t = entered_from (is_declared h n) 0 n m h (leads (with_declared_settled n m h x t) (subst (Later h.core) (sym (with_declared_core n m h)) later_itself) tt)
 
 -- ---- rows
@@ -203,11 +203,11 @@ bounds_whole h first last low c x b d =
     })))
 
 lower_whole : {s : Stage} (h : Here) → Settled s h → (e : Expression) → Whole (IsBound h.core) (lower_of h.core h.names e)
-lower_whole h x e = whole_behind (constant_whole h.core (scope _ h.core) h.names (founded x) x.names e) (λ c d. whole_entered 23 (start_of e) (kind_of h.core c.of) (λ kind k. whole_gives {a = (kind, number_of c.value)} (c.of, k, number_within h.core c.of c.value kind k d)))
+lower_whole h x e = whole_behind (constant_whole h.core (scope _ _ h.core) h.names (founded x) x.names e) (λ c d. whole_entered 23 (start_of e) (kind_of h.core c.of) (λ kind k. whole_gives {a = (kind, number_of c.value)} (c.of, k, number_within h.core c.of c.value kind k d)))
 
 subrange_whole : {s : Stage} (h : Here) → Settled s h → (first last : Expression) → Whole (NewRow h.core) (subrange_of h.core h.names first last)
 subrange_whole h x first last =
-    whole_both {f = λ low high. with_part (λ l. with_part (bounds h.core (start_of first) (start_of last) l) high) low} (lower_whole h x first) (constant_whole h.core (scope _ h.core) h.names (founded x) x.names last)
+    whole_both {f = λ low high. with_part (λ l. with_part (bounds h.core (start_of first) (start_of last) l) high) low} (lower_whole h x first) (constant_whole h.core (scope _ _ h.core) h.names (founded x) x.names last)
     (λ o q f g. whole_with f (λ l b. whole_with g (λ c d. bounds_whole h (start_of first) (start_of last) l c x b d)))
 
 -- ---- enumerations
@@ -374,7 +374,7 @@ record_settled {s} place r h a x = from_if r.whole (λ e. leads_on later (sized_
 
 mutual
   pub denoted_settled : {s : Stage} (own : Option Name) (inside : Bool) (d : Denoter) (h : Here) → Settled s h → From (Denotes s h) (denoted own inside d h)
-  denoted_settled {s} own inside (named q) h x = from_checked (type_named_whole h.core (scope s.inside h.core) h.names x.names own inside q) (λ of t. leads x later_itself t)
+  denoted_settled {s} own inside (named q) h x = from_checked (type_named_whole h.core (scope s.around.apart s.inside h.core) h.names x.names own inside q) (λ of t. leads x later_itself t)
   denoted_settled own inside (string p) h x = from_gives (leads x later_itself (slice_get_within h.core.types 7 _ (string_kind (founded x))))
   denoted_settled {s} own inside (subrange first last) h x = from_behind row (from_checked {R = λ t i. (i ≡ h) × NewRow h.core t} (subrange_whole h x first last) (λ t r. (refl, r))) (λ t i r. subst (λ i. From (Denotes s h) (row t i)) (sym r.0) (row_settled t h x r.1))
   denoted_settled own inside (enumeration p ns) h x = enumerated_settled ns h x

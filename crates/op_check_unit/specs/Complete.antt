@@ -1,5 +1,5 @@
 -- What is declared where no rule is broken: every name stands for what is there, every row is sound, and every routine has its body.
-use Rattle.std.specs.Prelude.{◌≡◌, ◌⊎◌, ◌<◌, ◌≤◌, ℕ, zero, suc, List, [], ◌∷◌, ◌++◌, drop, length, take, is_some, IfSome, IsSomeAnd, IsTrue, Option, Some, None}
+use Rattle.std.specs.Prelude.{◌≡◌, ◌⊎◌, ◌+◌, ◌<◌, ◌≤◌, ℕ, zero, suc, List, [], ◌∷◌, ◌++◌, drop, length, take, is_some, IfSome, IsSomeAnd, IsTrue, Option, Some, None}
 use Rattle.std.specs.List.{All, Contains, filter}
 use Rattle.op_base.specs.declared.place.Place.{Place}
 use Rattle.op_base.specs.declared.rule.Refusal.{Refusal}
@@ -37,22 +37,34 @@ pub record Inside : Type 0 where
   pub names : ℕ
   pub bytes : ℕ
 
--- what is under way: the routine whose body comes, and the scope of a body
+-- What stands round a unit: what units export; the globals of interface parts that are not in the table yet, since their units come later; and
+-- how many globals there are of the units before it.
+pub record Around : Type 0 where
+  pub exports : List (Option Export)
+  pub apart : List VariableId
+  pub start : ℕ
+
+-- what is under way: in what it stands, the routine whose body comes, and the scope of a body
 pub record Stage : Type 0 where
+  pub around : Around
   pub current : Option ℕ
   pub inside : Option Inside
 
 -- outside of bodies
-abbrev pub outside : Option ℕ → Stage
-outside current = record { current = current; inside = None }
+abbrev pub outside : Around → Option ℕ → Stage
+outside around current = record { around = around; current = current; inside = None }
+
+-- in the table, or not yet
+abbrev pub IsGlobalOf : List VariableId → Core → VariableId → Type 0
+IsGlobalOf apart core v = Contains core.globals v ⊎ Contains apart v
 
 -- globals and, in a body, the variables from its first one on; and routines
-abbrev pub scope : Option Inside → Core → Sees
-scope inside core = record { variable = λ v. Contains core.globals v ⊎ IsSomeAnd inside (λ i. i.first ≤ v.0); routine = λ r. Row core.routines r.0 }
+abbrev pub scope : List VariableId → Option Inside → Core → Sees
+scope apart inside core = record { variable = λ v. IsGlobalOf apart core v ⊎ IsSomeAnd inside (λ i. i.first ≤ v.0); routine = λ r. Row core.routines r.0 }
 
 -- globals and the routine's variables
-abbrev pub scope_of : Core → Routine → Sees
-scope_of core r = record { variable = λ v. Contains core.globals v ⊎ InRun r.variables v.0; routine = λ x. Row core.routines x.0 }
+abbrev pub scope_of : List VariableId → Core → Routine → Sees
+scope_of apart core r = record { variable = λ v. IsGlobalOf apart core v ⊎ InRun r.variables v.0; routine = λ x. Row core.routines x.0 }
 
 -- the variables that are declared in a scope
 abbrev pub declared_in : Option Inside → Core → List Variable
@@ -64,10 +76,10 @@ abbrev pub Counts : Core → Option Inside → ℕ → Type 0
 Counts core inside bytes = bytes ≤ most_global_bytes → bytes_of core (declared_in inside core) ≤ bytes
 
 -- the scope round a body is left as it was
-pub record IsInside (core : Core) (ns : List Named) (i : Inside) : Type 0 where
+pub record IsInside (apart : List VariableId) (core : Core) (ns : List Named) (i : Inside) : Type 0 where
   pub first : i.first ≤ length core.variables
   pub names : i.names ≤ length ns
-  pub stand : AllStand core (scope None core) (take i.names ns)
+  pub stand : AllStand core (scope apart None core) (take i.names ns)
   pub counts : Counts core None i.bytes
 
 -- ---- rows
@@ -75,9 +87,9 @@ pub record IsInside (core : Core) (ns : List Named) (i : Inside) : Type 0 where
 abbrev pub IsBareVariable : Core → Variable → Type 0
 IsBareVariable core v = Row core.types v.of.0 × (v.first_value ≡ None)
 
--- a routine without its body, of a unit whose row is there or comes next
+-- a routine without its body
 pub record IsBareRoutine (core : Core) (r : Routine) : Type 0 where
-  pub unit : r.unit.0 ≤ length core.units
+  pub unit : Row core.units r.unit.0
   pub owner : r.owner ≡ OfUnit
   pub enclosing : r.enclosing ≡ None
   pub body : r.body ≡ None
@@ -95,8 +107,8 @@ pub record IsPeopled (core : Core) : Type 0 where
 -- ---- bodies and first values
 
 -- the statements of a routine, whose variables have their rows
-abbrev pub IsTypedBody : Core → RoutineId × Statements → Type 0
-IsTypedBody core b = There core.routines b.0.0 (λ r. HasRows core r × AreStatements core (scope_of core r) (at_start r) b.1)
+abbrev pub IsTypedBody : List VariableId → Core → RoutineId × Statements → Type 0
+IsTypedBody apart core b = There core.routines b.0.0 (λ r. HasRows core r × AreStatements core (scope_of apart core r) (at_start r) b.1)
 
 abbrev pub IsTypedFirst : Core → VariableId × FirstValue → Type 0
 IsTypedFirst core b = There core.variables b.0.0 (λ v. IsSomeAnd (type_at core v.of) (λ t. IsFirst core t v.of b.1))
@@ -120,32 +132,41 @@ IsOpen current places n = (current ≡ Some n) ⊎ IsAwaited places n
 abbrev pub IsDonePart : Core → Option ℕ → List (Option Place) → RoutineId → Type 0
 IsDonePart core current places p = There core.routines p.0 (λ r. r.parameters.count ≡ 0) × (IsOpen current places p.0 → ⊥)
 
-pub record IsDone (core : Core) (current : Option ℕ) (places : List (Option Place)) (u : RustUnit) : Type 0 where
-  pub globals : Fit core.globals u.globals
+-- its globals stand in front of those of the units behind it
+pub record IsDone (core : Core) (start : ℕ) (current : Option ℕ) (places : List (Option Place)) (u : RustUnit) : Type 0 where
+  pub globals : u.globals.first + u.globals.count ≤ start
   pub initialization : IfSome u.initialization (IsDonePart core current places)
   pub finalization : IfSome u.finalization (IsDonePart core current places)
 
--- what a unit exports is seen outside of bodies
-abbrev pub IsExported : Core → Export → Type 0
-IsExported core e = AllStand core (scope None core) e.names
+-- what a unit exports is seen outside of bodies, and its global variables are there
+pub record IsExported (apart : List VariableId) (core : Core) (e : Export) : Type 0 where
+  pub unit : Row core.units e.id.0
+  pub names : AllStand core (scope apart None core) e.names
+  pub globals : All (λ v. Row core.variables v.0) e.globals
+
+-- if the unit's interface part is declared
+abbrev pub IsShown : List VariableId → Core → Option Export → Type 0
+IsShown apart core e = IfSome e (IsExported apart core)
 
 -- ---- states
 
 pub record Settled (s : Stage) (h : Here) : Type 0 where
   pub tables : IsTabled h.core
   pub people : IsPeopled h.core
-  pub units : All (IsDone h.core s.current h.awaited) h.core.units
-  pub exports : All (IsExported h.core) h.exports
-  pub start : h.global_start ≤ length h.core.globals
-  pub names : AllStand h.core (scope s.inside h.core) h.names
+  pub unit : Row h.core.units h.unit.0
+  pub rows : length s.around.exports < length h.core.units
+  pub units : All (IsDone h.core s.around.start s.current h.awaited) h.core.units
+  pub exports : All (IsShown s.around.apart h.core) s.around.exports
+  pub start : s.around.start ≤ length h.core.globals
+  pub names : AllStand h.core (scope s.around.apart s.inside h.core) h.names
   pub first : h.first ≤ length h.names
   pub counts : Counts h.core s.inside h.bytes
   pub routine : is_some h.routine ≡ is_some s.inside
-  pub inside : IfSome s.inside (IsInside h.core h.names)
+  pub inside : IfSome s.inside (IsInside s.around.apart h.core h.names)
   pub current : IfSome s.current (λ n. (n < length h.core.routines) × (IsAwaited h.awaited n → ⊥))
   pub awaits : length h.awaited ≡ length h.core.routines
   pub accounted : (n : ℕ) → n < length h.core.routines → IsOpen s.current h.awaited n ⊎ HasBody h.bodies n
-  pub bodies : All (λ b. IsTypedBody h.core b × (IsOpen s.current h.awaited b.0.0 → ⊥)) h.bodies
+  pub bodies : All (λ b. IsTypedBody s.around.apart h.core b × (IsOpen s.current h.awaited b.0.0 → ⊥)) h.bodies
   pub values : All (IsTypedFirst h.core) h.first_values
 
 -- rows that a block declares stand behind the others

@@ -1,5 +1,6 @@
 -- What declarations of types, constants and variables mean (Free Pascal Reference Guide, "Types", "Constants" and "Variables").
 use Rattle.std.specs.Prelude.{ℕ, ◌+◌, ◌-◌, ◌^◌, min, nat_le, false, true, ◌||◌, List, [], ◌∷◌, ◌++◌, length, is_some, Option, Some, None}
+use Rattle.op_base.specs.declared.place.Place.{Place}
 use Rattle.op_check_expr.specs.Words.{left_out}
 use Rattle.op_check_unit.specs.Denoting.{denoted}
 use Rattle.op_check_unit.specs.Initials.{first}
@@ -62,7 +63,7 @@ with_global None id globals = globals ++ id ∷ []
 with_global (Some r) id globals = globals
 
 -- a sum above the greatest number of 64 bits counts as that number
-abbrev with_bytes : ℕ → ℕ → ℕ
+abbrev pub with_bytes : ℕ → ℕ → ℕ
 with_bytes bytes more = min (bytes + more) (2 ^ 64 - 1)
 
 abbrev pub with_row : Role → TypeId → Name → Here → Here
@@ -78,12 +79,12 @@ with_row role of n h = record h {
 abbrev pub most_global_bytes : ℕ
 most_global_bytes = 8388608
 
-abbrev pub globals_fit : Name → Here → Given (Unit {0})
-globals_fit n h = where_true (is_some h.routine || nat_le h.bytes most_global_bytes) 72 n.position.place h (gives tt h)
+abbrev pub globals_fit : Place → Here → Given (Unit {0})
+globals_fit place h = where_true (is_some h.routine || nat_le h.bytes most_global_bytes) 72 place h (gives tt h)
 
 -- a variable or typed constant, up to its name
 abbrev pub row_entered : Role → TypeId → Option Initial → Name → Here → Given (Unit {0})
-row_entered role of i n h = followed (first_means of i h) (λ v h. globals_fit n (with_row role of n (with_first v h)))
+row_entered role of i n h = followed (first_means of i h) (λ v h. globals_fit n.position.place (with_row role of n (with_first v h)))
 
 -- ---- constants
 

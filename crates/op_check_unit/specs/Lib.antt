@@ -12,7 +12,9 @@ pub mod Routines
 pub mod Uses
 pub mod System
 pub mod Tables
+pub mod Interfaces
 pub mod Programs
+pub mod Outlines
 pub mod Checking
 pub mod RulesSteps
 pub mod RulesNames

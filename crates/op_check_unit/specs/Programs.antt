@@ -1,18 +1,27 @@
--- Whole programs and their units (Free Pascal Reference Guide, "Programs, units, blocks").
-use Rattle.std.specs.Prelude.{ℕ, ◌-◌, List, [], ◌∷◌, ◌++◌, length, take, Option, Some, None, if◌then◌else◌}
-use Rattle.std.specs.Str.{str_eq_ignore_ascii_case}
+-- Whole programs and their units (Free Pascal Reference Guide, "Programs, units, blocks"). First the interface parts of all units are declared,
+-- each behind those that it uses, and then the implementation parts in the order of units. So units may use each other, and each sees of the
+-- others what their interface parts declare.
+use Rattle.std.specs.Prelude.{ℕ, ◌+◌, ◌-◌, nat_eq, Bool, false, List, [], ◌∷◌, ◌++◌, length, map, replicate, slice_get, slice_set, take, Option, Some, None, if◌then◌else◌}
 use Rattle.op_base.specs.declared.place.Place.{Place}
-use Rattle.op_check_unit.specs.Declaring.{constants_declared, types_declared, variables_declared}
+use Rattle.op_check_unit.specs.Declaring.{constants_declared, globals_fit, types_declared, variables_declared, with_bytes}
+use Rattle.op_check_unit.specs.Interfaces.{interface_order, unit_at, unit_named}
 use Rattle.op_check_unit.specs.Routines.{next_routine, no_rows, routine_declared, statements_mean, with_routine}
-use Rattle.op_check_unit.specs.Steps.{Here, Given, breaks, by, checked, each_declaration, followed, gives, unless_faulty}
+use Rattle.op_check_unit.specs.Steps.{Here, Given, breaks, by, checked, each, each_declaration, followed, gives, unless_faulty}
 use Rattle.op_check_unit.specs.System.{beginning}
-use Rattle.op_check_unit.specs.Uses.{exported, opened, put_back, set_aside, uses_mean, with_own}
+use Rattle.op_check_unit.specs.Uses.{exported, opened, put_back, put_apart, uses_mean, with_own}
 use Rattle.op_check_unit.specs.declared.heading.Head.{Head}
+use Rattle.op_check_unit.specs.declared.uses.Export.{Export}
 use Rattle.op_core.specs.Faults.{Faults, both, broken, none, one}
+use Rattle.op_core.specs.Sizes.{extent_of}
 use Rattle.op_core.specs.declared.ids.RoutineId.{RoutineId}
 use Rattle.op_core.specs.declared.ids.Run.{Run}
+use Rattle.op_core.specs.declared.ids.UnitId.{UnitId}
+use Rattle.op_core.specs.declared.ids.VariableId.{VariableId}
+use Rattle.op_core.specs.declared.program.Unit.{Unit as Unit'}
+use Rattle.op_core.specs.declared.routine.Routine.{Routine}
+use Rattle.op_core.specs.declared.routine.Variable.{Variable}
 use Rattle.op_tree.specs.Declaration.{Declaration, constants, types, variables, heading, routine, Declarations, forward}
-use Rattle.op_tree.specs.File.{File, Program, Tail, UnitFile, program, unit}
+use Rattle.op_tree.specs.File.{File, Program, Tail, UnitFile, program}
 use Rattle.op_tree.specs.Statement.{Statements}
 use Rattle.op_tree.specs.declared.file.ProgramHeading.{ProgramHeading}
 use Rattle.op_tree.specs.declared.heading.RoutineKind.TheVariants.{Procedure}
@@ -34,13 +43,26 @@ abbrev pub all_declared : Declarations → Here → Given (Unit {0})
 all_declared ds h = each_declaration declaration_means ds h
 
 -- where a body is still awaited from
-abbrev missing_one : Option Place → Faults
+abbrev pub missing_one : Option Place → Faults
 missing_one None = none
 missing_one (Some place) = one (broken 18 place)
 
 abbrev pub missing : List (Option Place) → Faults
 missing [] = none
 missing (p ∷ ps) = both (missing_one p) (missing ps)
+
+abbrev pub is_of : UnitId → Option Routine → Bool
+is_of unit None = false
+is_of unit (Some r) = nat_eq r.unit.0 unit.0
+
+-- the same for the routines of one unit, where they are numbered from k on
+abbrev pub missing_in : UnitId → List Routine → ℕ → List (Option Place) → Faults
+missing_in unit rs k [] = none
+missing_in unit rs k (p ∷ ps) = both (if is_of unit (slice_get rs k) then missing_one p else none) (missing_in unit rs (k + 1) ps)
+
+-- each routine of the unit has its body
+abbrev pub unit_completed : Here → Given (Unit {0})
+unit_completed h = checked h (record { typed = Some tt; faults = missing_in h.unit h.core.routines 0 h.awaited })
 
 -- each routine has its body
 abbrev pub all_completed : Here → Given (Unit {0})
@@ -57,38 +79,24 @@ abbrev pub part_means : Name → Option Statements → Here → Given (Option Ro
 part_means n None h = gives None h
 part_means n (Some ss) h = followed (statements_mean (next_routine h) ss (with_routine n main_head None h)) (λ t g. gives (Some (next_routine h)) g)
 
--- the globals behind those of the units before it
-abbrev pub own_globals : Here → Run
-own_globals h = record { first = h.global_start; count = length h.core.globals - h.global_start }
+-- the globals from this one on
+abbrev pub own_globals : ℕ → Here → Run
+own_globals start h = record { first = start; count = length h.core.globals - start }
 
--- the row of a unit
-abbrev pub with_unit : Name → Option RoutineId → Option RoutineId → Here → Here
-with_unit n initialization finalization h = record h {
-  core = record h.core { units = h.core.units ++ record { name = n.text; globals = own_globals h; initialization = initialization; finalization = finalization } ∷ [] };
-  global_start = length h.core.globals;
+-- the row of a unit, whose globals begin there
+abbrev pub with_unit : ℕ → Name → Option RoutineId → Option RoutineId → Here → Here
+with_unit start n initialization finalization h = record h {
+  core = record h.core { units = slice_set h.core.units h.unit.0 (record { name = n.text; globals = own_globals start h; initialization = initialization; finalization = finalization }) };
 }
 
-abbrev pub parts_mean : Name → Tail → Here → Given (Unit {0})
-parts_mean n t h = followed (part_means n t.initialization h) (by (λ a g. followed (part_means n t.finalization g) (by (λ b i. gives tt (with_unit n a b i)))))
+abbrev pub parts_mean : ℕ → Name → Tail → Here → Given (Unit {0})
+parts_mean start n t h = followed (part_means n t.initialization h) (by (λ a g. followed (part_means n t.finalization g) (by (λ b i. gives tt (with_unit start n a b i)))))
 
--- the bodies that are still awaited behind the declarations, and the parts
-abbrev pub ends_mean : Name → Tail → Here → Given (Unit {0})
-ends_mean n t h = followed (all_completed h) (λ u g. parts_mean n t g)
+-- ---- interface parts
 
--- ---- units
-
--- what the interface part declares is exported
-abbrev pub interface_means : UnitFile → Here → Given (Unit {0})
-interface_means u h =
-    followed (uses_mean u.interface.uses h) (λ t g. followed (all_declared u.interface.declarations (with_own u.name g)) (λ t i. gives tt (exported u.name i)))
-
--- What the implementation part uses stands in front of the unit's own scope, which goes on.
-abbrev pub reopened : UnitFile → Here → Given (Unit {0})
-reopened u h = followed (uses_mean u.implementation.uses (set_aside h)) (λ t g. gives tt (put_back h (with_own u.name g)))
-
-abbrev pub implementation_means : UnitFile → Here → Given (Unit {0})
-implementation_means u h =
-    followed (reopened u h) (λ t g. followed (all_declared u.implementation.declarations g) (λ t i. ends_mean u.name u.tail i))
+-- what an interface part uses and declares
+abbrev pub interface_means : List (Option Export) → UnitFile → Here → Given (Unit {0})
+interface_means es u h = followed (uses_mean es u.interface.uses h) (λ t g. all_declared u.interface.declarations (with_own u.name g))
 
 -- the first names alone, in no scope of a unit
 abbrev pub outer : ℕ → Here → Here
@@ -98,9 +106,93 @@ outer names h = opened (record h { names = take names h.names; own = None })
 abbrev pub unit_left : Here → Here → Here
 unit_left old h = outer (length old.names) h
 
-abbrev pub unit_declared : UnitFile → Here → Given (Unit {0})
-unit_declared u h =
-    followed (interface_means u h) (λ t g. followed (implementation_means u g) (λ t i. gives tt (unit_left h i)))
+-- what the interface parts declare so far, each at the number of its unit
+pub record Outline : Type 0 where
+  pub exports : List (Option Export)
+  pub here : Here
+
+-- in the unit of this number
+abbrev pub in_unit : ℕ → Here → Here
+in_unit k h = record h { unit = record { 0 = k } }
+
+abbrev pub with_interface : ℕ → UnitFile → Outline → Outline
+with_interface k u o =
+    let g = interface_means o.exports u (in_unit k o.here) in
+    record { exports = slice_set o.exports k (Some (exported u.name g)); here = unit_left o.here (put_apart g.here) }
+
+-- unless it is declared
+abbrev pub outlined_by : ℕ → Option (Option Export) → Option UnitFile → Outline → Outline
+outlined_by k (Some None) (Some u) o = with_interface k u o
+outlined_by k e u o = o
+
+abbrev pub outlined : List (List ℕ) → List File → ℕ → Outline → Outline
+outlined order fs k o = outlined_by k (slice_get o.exports k) (unit_at order fs k) o
+
+-- one behind the other
+abbrev pub all_outlined : List (List ℕ) → List File → List ℕ → Outline → Outline
+all_outlined order fs [] o = o
+all_outlined order fs (k ∷ ks) o = all_outlined order fs ks (outlined order fs k o)
+
+-- the rules that an interface part breaks
+abbrev pub interface_faults_by : ℕ → Option (Option Export) → Option UnitFile → Outline → Faults
+interface_faults_by k (Some None) (Some u) o = (interface_means o.exports u (in_unit k o.here)).faults
+interface_faults_by k e u o = none
+
+abbrev pub interface_faults : List (List ℕ) → List File → ℕ → Outline → Faults
+interface_faults order fs k o = interface_faults_by k (slice_get o.exports k) (unit_at order fs k) o
+
+-- those of one unit, where these are declared one behind the other
+abbrev pub faults_among : List (List ℕ) → List File → List ℕ → Outline → ℕ → Faults
+faults_among order fs [] o k = none
+faults_among order fs (j ∷ js) o k = both (if nat_eq j k then interface_faults order fs j o else none) (faults_among order fs js (outlined order fs j o) k)
+
+-- ---- units
+
+-- a global of an interface part, which is counted behind those of the units before it
+abbrev pub counted_global : VariableId → Option Variable → Here → Given (Unit {0})
+counted_global v None h = gives tt h
+counted_global v (Some x) h =
+    globals_fit x.name.position.place (record h { core = record h.core { globals = h.core.globals ++ v ∷ [] }; bytes = with_bytes h.bytes (extent_of h.core x.of).size })
+
+abbrev pub global_counted : VariableId → Here → Given (Unit {0})
+global_counted v h = counted_global v (slice_get h.core.variables v.0) h
+
+abbrev pub globals_counted : List VariableId → Here → Given (Unit {0})
+globals_counted vs h = each global_counted vs h
+
+-- What the implementation part uses stands in front of the unit's own scope, and behind what the interface part uses.
+abbrev pub reopened : List (Option Export) → Export → UnitFile → Here → Given (Unit {0})
+reopened es e u h =
+    followed (uses_mean es u.interface.uses h) (λ t f. followed (uses_mean es u.implementation.uses f) (λ t g. gives tt (put_back e (with_own u.name g))))
+
+-- the bodies that are still awaited behind the declarations, and the parts
+abbrev pub unit_ends : ℕ → Name → Tail → Here → Given (Unit {0})
+unit_ends start n t h = followed (unit_completed h) (λ u g. parts_mean start n t g)
+
+abbrev pub implementation_means : List (Option Export) → ℕ → Export → UnitFile → Here → Given (Unit {0})
+implementation_means es start e u h =
+    followed (reopened es e u h) (λ t g. followed (all_declared u.implementation.declarations g) (λ t i. unit_ends start u.name u.tail i))
+
+abbrev pub unit_declared : List (Option Export) → ℕ → Export → UnitFile → Here → Given (Unit {0})
+unit_declared es start e u h = followed (implementation_means es start e u h) (λ t i. gives tt (unit_left h i))
+
+abbrev pub unit_means : List (Option Export) → ℕ → Export → Option UnitFile → Here → Given (Unit {0})
+unit_means es start e None h = gives tt h
+unit_means es start e (Some u) h = unit_declared es start e u h
+
+-- what stands behind the interface part of a unit, if that is declared
+abbrev pub unit_completes : List File → List (Option Export) → Option Export → Here → Given (Unit {0})
+unit_completes fs es None h = gives tt h
+unit_completes fs es (Some e) h = followed (globals_counted e.globals (record h { unit = e.id })) (λ t g. unit_means es (length h.core.globals) e (unit_named fs e.unit) g)
+
+-- behind these faults
+abbrev pub faulted : {A : Type 0} → Faults → Given A → Given A
+faulted f g = record { typed = g.typed; here = g.here; faults = both f g.faults }
+
+-- The units in their order, numbered from k on, each with the rules that its interface part breaks: up to the first one that breaks any.
+abbrev pub units_mean : List File → List (Option Export) → (ℕ → Faults) → ℕ → List (Option Export) → Here → Given (Unit {0})
+units_mean fs es faults k [] h = gives tt h
+units_mean fs es faults k (e ∷ rest) h = unless_faulty (faulted (faults k) (unit_completes fs es e h)) (units_mean fs es faults (k + 1) rest)
 
 -- ---- the program
 
@@ -113,34 +205,45 @@ name_of p (Some x) = x.name
 abbrev pub main_tail : Statements → Tail
 main_tail ss = record { initialization = Some ss; finalization = None }
 
-abbrev pub program_declared : Program → Here → Given (Unit {0})
-program_declared p h =
-    followed (uses_mean p.uses h) (λ t f. followed (all_declared p.declarations (with_heading p.heading f)) (λ t g. ends_mean (name_of p.position p.heading) (main_tail p.statements) g))
+abbrev pub program_ends : ℕ → Name → Tail → Here → Given (Unit {0})
+program_ends start n t h = followed (all_completed h) (λ u g. parts_mean start n t g)
+
+abbrev pub program_declared : List (Option Export) → Program → Here → Given (Unit {0})
+program_declared es p h =
+    followed (uses_mean es p.uses h) (λ t f. followed (all_declared p.declarations (with_heading p.heading f)) (λ t g. program_ends (length h.core.globals) (name_of p.position p.heading) (main_tail p.statements) g))
 
 -- ---- all files
 
--- the first unit of this name
-abbrev pub unit_named : List File → List ℕ → Option UnitFile
-unit_named [] name = None
-unit_named (program p ∷ fs) name = unit_named fs name
-unit_named (unit u ∷ fs) name = if str_eq_ignore_ascii_case u.name.text name then Some u else unit_named fs name
+-- a row for each unit and for the program, before their parts are declared
+abbrev pub blank_unit : List ℕ → Unit'
+blank_unit n = record { name = n; globals = no_rows; initialization = None; finalization = None }
 
-abbrev pub unit_means : Option UnitFile → Here → Given (Unit {0})
-unit_means None h = gives tt h
-unit_means (Some u) h = unit_declared u h
+abbrev pub with_units : List (List ℕ) → Here → Here
+with_units order h = record h { core = record h.core { units = h.core.units ++ (map blank_unit order ++ blank_unit [] ∷ []) } }
 
--- in their order, up to the first one that breaks a rule
-abbrev pub units_mean : List (List ℕ) → List File → Here → Given (Unit {0})
-units_mean [] fs h = gives tt h
-units_mean (n ∷ ns) fs h = unless_faulty (unit_means (unit_named fs n) h) (units_mean ns fs)
+-- no interface part is declared
+abbrev pub blank_outline : List (List ℕ) → Here → Outline
+blank_outline order h = record { exports = replicate (length order) None; here = with_units order h }
+
+-- the interface parts of all units
+abbrev pub outline : List (List ℕ) → List File → Here → Outline
+outline order fs h = all_outlined order fs (interface_order order fs) (blank_outline order h)
+
+abbrev pub outline_faults : List (List ℕ) → List File → Here → ℕ → Faults
+outline_faults order fs h = faults_among order fs (interface_order order fs) (blank_outline order h)
+
+-- the units and the program behind them
+abbrev pub parts_of_program : Program → List (List ℕ) → List File → (ℕ → Faults) → Outline → Given (Unit {0})
+parts_of_program p order fs faults o =
+    unless_faulty (units_mean fs o.exports faults 0 o.exports o.here) (λ h. program_declared o.exports p (in_unit (length order) h))
 
 -- where the main file begins
 abbrev pub start : Place
 start = record { file = 0; line = 1; col = 1 }
 
--- the program behind its units
+-- interface parts, units and the program
 abbrev pub files_mean : List File → List (List ℕ) → Here → Given (Unit {0})
-files_mean (program p ∷ fs) order h = unless_faulty (units_mean order fs h) (program_declared p)
+files_mean (program p ∷ fs) order h = parts_of_program p order fs (outline_faults order fs h) (outline order fs h)
 files_mean _ order h = breaks 12 start h
 
 -- the files of a program, the main one first, and the names of its units in their order

@@ -38,10 +38,6 @@ use Rattle.op_types.specs.declared.visible.Meaning.TheVariants.{Variable, Routin
 
 -- ---- rows
 
--- the number of the unit whose parts are declared: its row comes behind those of the units before it
-abbrev pub unit_under : Core → UnitId
-unit_under core = record { 0 = length core.units }
-
 -- a routine of a unit, with its variables and without its body
 abbrev pub routine_row : UnitId → Name → Head → Run → Routine
 routine_row unit n x run = record {
@@ -65,7 +61,7 @@ next_routine h = record { 0 = length h.core.routines }
 
 -- a routine more, with the place where its body is awaited from
 abbrev pub with_routine : Name → Head → Option Place → Here → Here
-with_routine n x place h = record h { core = record h.core { routines = h.core.routines ++ routine_row (unit_under h.core) n x no_rows ∷ [] }; awaited = h.awaited ++ place ∷ [] }
+with_routine n x place h = record h { core = record h.core { routines = h.core.routines ++ routine_row h.unit n x no_rows ∷ [] }; awaited = h.awaited ++ place ∷ [] }
 
 -- ---- variables that a body has by itself
 
@@ -127,7 +123,7 @@ locals_fit n h = checked h (by_test 69 n.position.place (fine tt) (nat_le h.byte
 -- the row, with all variables from the first one on
 abbrev pub with_variables : RoutineId → Name → Head → ℕ → Here → Here
 with_variables id n x first h =
-    in_core (record h.core { routines = slice_set h.core.routines id.0 (routine_row (unit_under h.core) n x (record { first = first; count = length h.core.variables - first })) }) h
+    in_core (record h.core { routines = slice_set h.core.routines id.0 (routine_row h.unit n x (record { first = first; count = length h.core.variables - first })) }) h
 
 abbrev pub scope_of : RoutineId → Here → Scope
 scope_of id h = record { core = h.core; visible = h.names; routine = Some id; around = [] }
@@ -182,7 +178,7 @@ is_heading_of core a (Some b) = is_same_heading core b a
 
 -- the body of a routine that is declared ahead has the same heading
 abbrev pub same_means : RoutineId → Name → Head → Here → Checked (Unit {0})
-same_means id n x h = by_test 19 n.position.place (fine tt) (is_heading_of h.core (routine_row (unit_under h.core) n x no_rows) (slice_get h.core.routines id.0))
+same_means id n x h = by_test 19 n.position.place (fine tt) (is_heading_of h.core (routine_row h.unit n x no_rows) (slice_get h.core.routines id.0))
 
 abbrev pub if_same : RoutineId → Name → Head → Declarations → Statements → Option (Unit {0}) → Here → Given (Unit {0})
 if_same id n x ds ss None h = silent h

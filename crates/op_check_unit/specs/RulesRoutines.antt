@@ -5,7 +5,7 @@ use Rattle.op_base.specs.declared.rule.Refusal.{Refusal}
 use Rattle.op_check_stmt.specs.Rules.{StatementsBreak}
 use Rattle.op_check_unit.specs.Headings.{head_means}
 use Rattle.op_check_unit.specs.Naming.{declared, ended, told_in, with_ahead}
-use Rattle.op_check_unit.specs.Routines.{awaited_named, awaits, completed, entered, is_heading_of, local_declared, locals_declared, most_bytes, next_routine, no_rows, routine_row, scope_of, unit_under, with_routine, with_variables}
+use Rattle.op_check_unit.specs.Routines.{awaited_named, awaits, completed, entered, is_heading_of, local_declared, locals_declared, most_bytes, next_routine, no_rows, routine_row, scope_of, with_routine, with_variables}
 use Rattle.op_check_unit.specs.RulesDeclaring.{ConstantsBreak, TypesBreak, VariablesBreak}
 use Rattle.op_check_unit.specs.RulesHeadings.{FormBreaks, FormIs, HeadBreaks, HeadIs}
 use Rattle.op_check_unit.specs.RulesNames.{NameBreaks, feature_at}
@@ -65,7 +65,7 @@ FirstBreaks n x b h =
     Either (NameBreaks n g) (BodyBreaks id n x b (behind (declared n (RoutineName id) g)))
 
 abbrev pub has_same_heading : RoutineId → Name → Head → Here → Bool
-has_same_heading id n x h = is_heading_of h.core (routine_row (unit_under h.core) n x no_rows) (slice_get h.core.routines id.0)
+has_same_heading id n x h = is_heading_of h.core (routine_row h.unit n x no_rows) (slice_get h.core.routines id.0)
 
 -- The body of a routine that is declared ahead has the same heading. A second declaration ahead breaks rule 14.
 abbrev pub AheadBreaks : RoutineId → Name → Option Head → Body → Here → Refusal → Type 0

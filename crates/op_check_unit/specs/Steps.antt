@@ -4,23 +4,23 @@ use Rattle.op_base.specs.declared.place.Place.{Place}
 use Rattle.op_check_unit.specs.Bodies.{said}
 use Rattle.op_check_unit.specs.FirstValues.{begins_so}
 use Rattle.op_check_unit.specs.declared.declarer.Declarer.{Declarer}
-use Rattle.op_check_unit.specs.declared.uses.Export.{Export}
 use Rattle.op_core.specs.Faults.{Checked, Faults, none, one, both, broken, kept}
 use Rattle.op_core.specs.Initial.{FirstValue}
 use Rattle.op_core.specs.Statement.{Statements}
 use Rattle.op_core.specs.declared.ids.RoutineId.{RoutineId}
+use Rattle.op_core.specs.declared.ids.UnitId.{UnitId}
 use Rattle.op_core.specs.declared.ids.VariableId.{VariableId}
 use Rattle.op_core.specs.declared.program.Core.{Core}
 use Rattle.op_tree.specs.Declaration.{Declaration, Declarations, no_declarations, declarations}
 use Rattle.op_types.specs.Names.{Named}
 
--- The typed program so far; the visible names, how many of these were declared before this scope, and how many names the scope has;
--- the name of the unit whose own scope it is, if that has a name; the names of the declaration that is under way, which stand in front
--- and are declared at its end; the bytes of the variables of this scope, and the routine whose locals they are; how many globals the
--- units before this one have. Rows have no bodies and first values, which stand beside them, as do the places of those declared ahead,
--- and what units export so far.
+-- The typed program so far; the unit whose parts are declared; the visible names, how many of these were declared before this scope, and
+-- how many names the scope has; the name of the unit whose own scope it is, if that has a name; the names of the declaration that is under
+-- way, which stand in front and are declared at its end; the bytes of the variables of this scope, and the routine whose locals they are.
+-- Rows have no bodies and first values, which stand beside them, as do the places of those declared ahead.
 pub record Here : Type 0 where
   pub core : Core
+  pub unit : UnitId
   pub names : List Named
   pub first : ℕ
   pub count : ℕ
@@ -28,11 +28,9 @@ pub record Here : Type 0 where
   pub ahead : List Named
   pub bytes : ℕ
   pub routine : Option RoutineId
-  pub global_start : ℕ
   pub awaited : List (Option Place)
   pub bodies : List (RoutineId × Statements)
   pub first_values : List (VariableId × FirstValue)
-  pub exports : List Export
 
 -- no rule is broken
 abbrev pub is_clear : Faults → Bool
@@ -100,7 +98,7 @@ each_declaration f (declarations d ds) h = followed (f d h) (λ t h. each_declar
 -- ---- answers
 
 abbrev pub here_of : Declarer → Here
-here_of d = record { core = d.core; names = d.visible; first = d.first; count = d.count; own = d.own; ahead = d.ahead; bytes = d.bytes; routine = d.routine; global_start = d.global_start; awaited = d.awaited; bodies = map said d.bodies.items; first_values = map begins_so d.first_values.items; exports = d.exports }
+here_of d = record { core = d.core; unit = d.unit; names = d.visible; first = d.first; count = d.count; own = d.own; ahead = d.ahead; bytes = d.bytes; routine = d.routine; awaited = d.awaited; bodies = map said d.bodies.items; first_values = map begins_so d.first_values.items }
 
 -- what is declared, and the first fault
 abbrev pub Declares : {A : Type 0} → Given A → Declarer → Declarer → Type 0

@@ -263,4 +263,4 @@ system_names =
 -- ---- where a program begins
 
 abbrev pub beginning : Here
-beginning = record { core = system_core; names = system_names; first = length system_names; count = 0; own = None; ahead = []; bytes = 0; routine = None; global_start = 0; awaited = []; bodies = []; first_values = []; exports = [] }
+beginning = record { core = system_core; unit = record { 0 = 0 }; names = system_names; first = length system_names; count = 0; own = None; ahead = []; bytes = 0; routine = None; awaited = []; bodies = []; first_values = [] }

@@ -1,11 +1,10 @@
 -- What a unit exports, and what those see that use it (Free Pascal Reference Guide, "Units" and "Scope").
-use Rattle.std.specs.Prelude.{Bool, List, [], ◌∷◌, ◌++◌, codes, drop, length, take, Option, Some, None, if◌then◌else◌}
+use Rattle.std.specs.Prelude.{Bool, List, [], ◌∷◌, ◌++◌, codes, drop, length, Option, Some, None, if◌then◌else◌}
 use Rattle.std.specs.Str.{str_eq_ignore_ascii_case}
-use Rattle.op_check_expr.specs.Words.{left_out}
 use Rattle.op_check_unit.specs.Naming.{with_name}
-use Rattle.op_check_unit.specs.Routines.{unit_under}
-use Rattle.op_check_unit.specs.Steps.{Here, Given, checked, each, gives}
+use Rattle.op_check_unit.specs.Steps.{Here, Given, breaks, each, gives}
 use Rattle.op_check_unit.specs.declared.uses.Export.{Export}
+use Rattle.op_core.specs.Faults.{kept}
 use Rattle.op_tree.specs.declared.position.Name.{Name}
 use Rattle.op_types.specs.Names.{lower}
 use Rattle.op_types.specs.declared.visible.Meaning.TheVariants.{Unit as UnitName}
@@ -18,45 +17,48 @@ opened h = record h { first = length h.names; count = 0 }
 
 -- the name stands for the unit or the program, around the scope of its declarations, which stand behind it too
 abbrev pub with_own : Name → Here → Here
-with_own n h = opened (record (with_name n (UnitName (unit_under h.core)) h) { own = Some n.text })
+with_own n h = opened (record (with_name n (UnitName h.unit) h) { own = Some n.text })
 
--- what the scope has so far is exported
-abbrev pub exported : Name → Here → Here
-exported n h = record h { exports = h.exports ++ record { unit = n.text; id = unit_under h.core; names = drop h.first h.names } ∷ [] }
+-- ---- exports
+
+-- what the scope has behind the interface part, its global variables, and the first rule that the part breaks
+abbrev pub exported : Name → Given (Unit {0}) → Export
+exported n g = record { unit = n.text; id = g.here.unit; names = drop g.here.first g.here.names; count = g.here.count; globals = g.here.core.globals; broken = kept None g.faults }
+
+-- Its global variables come into the table with those of the implementation part: till then none is there.
+abbrev pub put_apart : Here → Here
+put_apart h = record h { core = record h.core { globals = [] }; bytes = 0 }
 
 -- ---- uses
 
 abbrev pub is_system : Name → Bool
 is_system n = str_eq_ignore_ascii_case n.text (codes "System")
 
--- what the unit of this name exports, where it stands before this one
-abbrev pub exports_of : List Export → Name → Option Export
+-- what the unit of this name exports, where its interface part is declared
+abbrev pub exports_of : List (Option Export) → Name → Option Export
 exports_of [] n = None
-exports_of (e ∷ es) n = if str_eq_ignore_ascii_case e.unit n.text then Some e else exports_of es n
+exports_of (None ∷ es) n = exports_of es n
+exports_of (Some e ∷ es) n = if str_eq_ignore_ascii_case e.unit n.text then Some e else exports_of es n
 
 -- the name of a unit, and behind it what it exports
 abbrev pub with_used : Export → Here → Here
 with_used e h = record h { names = (h.names ++ record { name = lower e.unit; meaning = UnitName e.id } ∷ []) ++ e.names }
 
--- units that use each other by their implementation parts are left out
+-- there is such a unit; it is so where the program was loaded
 abbrev pub used_by : Name → Option Export → Here → Given (Unit {0})
-used_by n None h = checked h (left_out 39 n.position.place)
+used_by n None h = breaks 10 n.position.place h
 used_by n (Some e) h = gives tt (with_used e h)
 
 -- the names of System are there without its use
-abbrev pub used : Name → Here → Given (Unit {0})
-used n h = if is_system n then gives tt h else used_by n (exports_of h.exports n) h
+abbrev pub used : List (Option Export) → Name → Here → Given (Unit {0})
+used es n h = if is_system n then gives tt h else used_by n (exports_of es n) h
 
 -- what is used later hides what is used earlier
-abbrev pub uses_mean : List Name → Here → Given (Unit {0})
-uses_mean ns h = each used ns h
+abbrev pub uses_mean : List (Option Export) → List Name → Here → Given (Unit {0})
+uses_mean es ns h = each (used es) ns h
 
 -- ---- the implementation part
 
--- without the names of the innermost scope
-abbrev pub set_aside : Here → Here
-set_aside h = record h { names = take h.first h.names }
-
--- with those that it had before
-abbrev pub put_back : Here → Here → Here
-put_back old h = record h { names = h.names ++ drop old.first old.names; count = old.count }
+-- its scope goes on with what the interface part declares
+abbrev pub put_back : Export → Here → Here
+put_back e h = record h { names = h.names ++ e.names; count = e.count }

@@ -8,9 +8,8 @@ ghost use Rattle.op_core.specs.Faults.{broken, earlier, kept};
 
 use crate::body::Owned;
 use crate::first_value::Begun;
-use crate::uses::Export;
 use op_base::{NoMemory, Place, Refusal, Rule};
-use op_core::{Core, FirstRefusal, RoutineId, Table};
+use op_core::{Core, FirstRefusal, RoutineId, Table, UnitId};
 use op_scan::CompactText;
 use op_tree::Name;
 use op_types::{Meaning, Visible};
@@ -25,6 +24,8 @@ pub struct Declarer {
     pub alloc: Global,
     /// The typed program so far.
     pub core: Core,
+    /// The unit whose parts are declared: its number is its place in the order of units, and that of the program comes behind these.
+    pub unit: UnitId,
     pub visible: Visible,
     /// How many of the visible names were declared before the innermost scope.
     pub first: usize,
@@ -38,16 +39,12 @@ pub struct Declarer {
     pub bytes: u64,
     /// The routine whose locals are declared; None where globals are.
     pub routine: Option<RoutineId>,
-    /// How many globals the units before this one have.
-    pub global_start: usize,
     /// Where a routine was declared ahead whose body has not come yet, for each routine.
     pub awaited: Table<Option<Place>>,
     /// The bodies so far, which are put into the rows of their routines at the end.
     pub bodies: Vec<Owned>,
     /// The first values so far, which are put into the rows of their variables at the end.
     pub first_values: Vec<Begun>,
-    /// What the units before this one export.
-    pub exports: Table<Export>,
     /// The first rule that was broken.
     pub sink: FirstRefusal,
 }

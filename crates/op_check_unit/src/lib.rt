@@ -14,6 +14,7 @@ mod enumeration;
 mod first_value;
 mod heading;
 mod initial;
+mod interfaces;
 mod naming;
 mod program;
 mod record;
@@ -21,6 +22,7 @@ mod routine;
 mod shared;
 mod system;
 mod table;
+mod units;
 mod uses;
 mod variable;
 

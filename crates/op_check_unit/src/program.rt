@@ -1,29 +1,32 @@
 //! Whole programs.
-ghost use Rattle.std.specs.Prelude.{◌≡◌, IfOk, None, Some, map};
-ghost use Rattle.std.specs.Option.{option_copied, option_map};
+ghost use Rattle.std.specs.Prelude.{◌≡◌, ◌∷◌, ℕ, IfOk, None, Some, if◌then◌else◌, map, slice_get};
+ghost use Rattle.std.specs.Option.{option_map};
 ghost use Rattle.op_check_unit.specs.Bodies.{said};
 ghost use Rattle.op_check_unit.specs.Checking.{CheckIs, Fills, Finishes};
 ghost use Rattle.op_check_unit.specs.FirstValues.{begins_so};
-ghost use Rattle.op_check_unit.specs.Programs.{all_completed, all_declared, declaration_means, files_mean, implementation_means, interface_means, missing, name_of, outer, part_means, program_declared, program_means, reopened, unit_declared, unit_means, unit_named, units_mean, with_heading, with_unit};
+ghost use Rattle.op_check_unit.specs.Outlines.{AllTell, outline_of};
+ghost use Rattle.op_check_unit.specs.Programs.{all_completed, all_declared, declaration_means, files_mean, is_of, missing, missing_in, missing_one, name_of, part_means, parts_of_program, program_declared, program_means, unit_completed, with_heading, with_unit};
 ghost use Rattle.op_check_unit.specs.Rules.{Obeys, ProgramBreaks};
-ghost use Rattle.op_check_unit.specs.Steps.{Declares, Leaves, here_of, unless_faulty};
-ghost use Rattle.op_core.specs.Faults.{kept};
+ghost use Rattle.op_check_unit.specs.Steps.{Declares, Leaves, here_of};
+ghost use Rattle.op_core.specs.Faults.{Faults, kept, none};
 ghost use Rattle.op_core.specs.Sound.{IsSound, IsSoundNesting};
 ghost use Rattle.op_tree.specs.Declaration.{declaration_of, declarations_of};
-ghost use Rattle.op_tree.specs.File.{file_of, program_of, unit_of};
+ghost use Rattle.op_tree.specs.File.{file_of, program as program_tree, program_of};
 ghost use Rattle.op_tree.specs.Statement.{stmts_of};
 
 use crate::Declarer;
 use crate::body::{Owned, place_all};
 use crate::first_value::{Begun, begin_all};
 use crate::heading::Head;
-use crate::uses::is_same_name;
+use crate::interfaces::interface_order;
+use crate::units::no_exports;
+use crate::uses::Export;
 use crate::variable::copy_of;
 use op_base::{NoMemory, Place, Refusal, Rule, Text};
-use op_core::{CheckError, Core, FirstRefusal, RoutineId, Run, Unit as UnitRow};
+use op_core::{CheckError, Core, FirstRefusal, Routine, RoutineId, Run, Unit as UnitRow, UnitId};
 use op_scan::CompactText;
 use op_tree::{
-    Body, Declaration, Name, Position, Program, ProgramHeading, RoutineKind, Stmt, Tree, Unit,
+    Body, Declaration, Name, Position, Program, ProgramHeading, RoutineKind, Stmt, Tree,
 };
 use std::alloc::Global;
 
@@ -65,105 +68,46 @@ impl Declarer {
         order: &[Text],
     ) -> Result<(), NoMemory>
         requires { self.old.sink.kept ≡ None }
-        ensures { IfOk result (λ _. Declares (unless_faulty (units_mean order.now (map file_of files.now) (here_of self.old)) (program_declared (program_of program.now))) self.old self.new) }
+        ensures { IfOk result (λ _. Declares (files_mean (program_tree (program_of program.now) ∷ map file_of files.now) order.now (here_of self.old)) self.old self.new) }
     {
-        self.units(order, files)?;
+        self.blank_units(order)?;
+        let mut exports = no_exports(self.alloc, order.len())?;
+        let numbers = interface_order(self.alloc, order, files)?;
+        self.interfaces(order, files, numbers.as_slice(), &mut exports)?;
+        self.parts_of_program(program, files, order, exports.as_slice())
+    }
+
+    /// What stands behind the interface parts.
+    fn parts_of_program(
+        &mut self,
+        program: &Program,
+        files: &[Tree],
+        order: &[Text],
+        exports: &[Option<Export>],
+    ) -> Result<(), NoMemory>
+        requires { self.old.sink.kept ≡ None }
+        ensures { (faults : ℕ → Faults) → AllTell exports.now faults → IfOk result (λ _. Declares (parts_of_program (program_of program.now) order.now (map file_of files.now) faults (outline_of exports.now self.old)) self.old self.new) }
+    {
+        self.units(files, exports)?;
         if self.sink.kept.is_some() {
             return Ok(());
         }
-        self.program(program)
-    }
-
-    /// The units in their order, up to the first one that breaks a rule.
-    fn units(&mut self, order: &[Text], files: &[Tree]) -> Result<(), NoMemory>
-        requires { self.old.sink.kept ≡ None }
-        ensures { IfOk result (λ _. Declares (units_mean order.now (map file_of files.now) (here_of self.old)) self.old self.new) }
-    {
-        for name in order {
-            self.unit_if_any(unit_named(files, name))?;
-            if self.sink.kept.is_some() {
-                return Ok(());
-            }
-        }
-        Ok(())
-    }
-
-    fn unit_if_any(&mut self, unit: Option<&Unit>) -> Result<(), NoMemory>
-        ensures { IfOk result (λ _. Declares (unit_means (option_map unit_of (option_copied unit.entry)) (here_of self.old)) self.old self.new) }
-    {
-        match unit {
-            None => Ok(()),
-            Some(unit) => self.unit(unit),
-        }
-    }
-
-    /// A unit, whose names are gone behind it but for what it exports.
-    fn unit(&mut self, unit: &Unit) -> Result<(), NoMemory>
-        ensures { IfOk result (λ _. Declares (unit_declared (unit_of unit.now) (here_of self.old)) self.old self.new) }
-    {
-        let names = self.visible.len();
-        self.interface(unit)?;
-        self.implementation(unit)?;
-        self.leave_unit(names);
-        Ok(())
-    }
-
-    /// Goes back to what stands round all units: the first names.
-    fn leave_unit(&mut self, names: usize)
-        ensures here { here_of self.new ≡ outer names (here_of self.old) }
-        ensures kept { self.new.sink ≡ self.old.sink }
-    {
-        self.visible.leave(names);
-        self.own = None;
-        self.open();
-    }
-
-    /// The interface part of a unit, which is exported.
-    fn interface(&mut self, unit: &Unit) -> Result<(), NoMemory>
-        ensures { IfOk result (λ _. Declares (interface_means (unit_of unit.now) (here_of self.old)) self.old self.new) }
-    {
-        self.uses(unit.interface_uses.as_slice())?;
-        self.enter_own(&unit.name)?;
-        self.all_declared_in(&unit.interface_declarations)?;
-        self.export(&unit.name)
-    }
-
-    /// The implementation part of a unit, and the parts behind it.
-    fn implementation(&mut self, unit: &Unit) -> Result<(), NoMemory>
-        ensures { IfOk result (λ _. Declares (implementation_means (unit_of unit.now) (here_of self.old)) self.old self.new) }
-    {
-        self.reopen(unit)?;
-        self.all_declared_in(&unit.declarations)?;
-        self.all_completed();
-        let initialization = self.part(&unit.name, &unit.initialization)?;
-        let finalization = self.part(&unit.name, &unit.finalization)?;
-        self.end_unit(&unit.name, initialization, finalization)
-    }
-
-    /// Goes on in the scope of a unit, with what its implementation part uses in front of it.
-    fn reopen(&mut self, unit: &Unit) -> Result<(), NoMemory>
-        ensures { IfOk result (λ _. Declares (reopened (unit_of unit.now) (here_of self.old)) self.old self.new) }
-    {
-        let count = self.count;
-        let scope = self.set_aside()?;
-        self.uses(unit.uses.as_slice())?;
-        self.enter_own(&unit.name)?;
-        self.visible.enter_all(&scope)?;
-        self.count = count;
-        Ok(())
+        self.enter_unit(order.len())?;
+        self.program(exports, program)
     }
 
     /// The program itself, the last of the units.
-    fn program(&mut self, program: &Program) -> Result<(), NoMemory>
-        ensures { IfOk result (λ _. Declares (program_declared (program_of program.now) (here_of self.old)) self.old self.new) }
+    fn program(&mut self, exports: &[Option<Export>], program: &Program) -> Result<(), NoMemory>
+        ensures { IfOk result (λ _. Declares (program_declared exports.now (program_of program.now) (here_of self.old)) self.old self.new) }
     {
-        self.uses(program.uses.as_slice())?;
+        let start = self.core.globals.as_slice().len();
+        self.uses(exports, program.uses.as_slice())?;
         self.enter_heading(&program.heading)?;
         self.all_declared_in(&program.declarations)?;
         self.all_completed();
         let name = name_of(self.alloc, program.position, &program.heading)?;
         let main = self.statement_part(&name, &program.statements)?;
-        self.end_unit(&name, Some(main), None)
+        self.end_unit(start, &name, Some(main), None)
     }
 
     fn enter_heading(&mut self, heading: &Option<ProgramHeading>) -> Result<(), NoMemory>
@@ -179,7 +123,7 @@ impl Declarer {
         }
     }
 
-    fn all_declared_in(&mut self, declarations: &[Declaration]) -> Result<(), NoMemory>
+    pub fn all_declared_in(&mut self, declarations: &[Declaration]) -> Result<(), NoMemory>
         ensures { IfOk result (λ _. Declares (all_declared (declarations_of declarations.now) (here_of self.old)) self.old self.new) }
     {
         for declaration in declarations {
@@ -206,6 +150,18 @@ impl Declarer {
         }
     }
 
+    /// Rule 18 for each routine of the unit whose body has not come.
+    pub fn unit_completed(&mut self)
+        ensures { Declares (unit_completed (here_of self.old)) self.old self.new }
+    {
+        report_missing_in(
+            &mut self.sink,
+            self.unit,
+            self.core.routines.as_slice(),
+            self.awaited.as_slice(),
+        );
+    }
+
     /// Rule 18 for each routine whose body has not come.
     fn all_completed(&mut self)
         ensures { Declares (all_completed (here_of self.old)) self.old self.new }
@@ -214,7 +170,7 @@ impl Declarer {
     }
 
     /// A part of a unit, if it is there.
-    fn part(
+    pub fn part(
         &mut self,
         name: &Name,
         statements: &Option<Vec<Stmt>>,
@@ -236,29 +192,33 @@ impl Declarer {
         Ok(id)
     }
 
-    /// The row of a unit, behind its parts.
-    fn end_unit(
+    /// The row of a unit, behind its parts. Its globals begin at `start`.
+    pub fn end_unit(
         &mut self,
+        start: usize,
         name: &Name,
         initialization: Option<RoutineId>,
         finalization: Option<RoutineId>,
     ) -> Result<(), NoMemory>
-        ensures here { IfOk result (λ _. here_of self.new ≡ with_unit name.now initialization finalization (here_of self.old)) }
+        ensures here { IfOk result (λ _. here_of self.new ≡ with_unit start name.now initialization finalization (here_of self.old)) }
         ensures kept { self.new.sink ≡ self.old.sink }
     {
-        let globals = self.core.globals.as_slice().len();
-        let count = globals.saturating_sub(self.global_start);
-        let (Ok(first), Ok(count)) = (u32::try_from(self.global_start), u32::try_from(count)) else {
+        let count = self.core.globals.as_slice().len().saturating_sub(start);
+        let (Ok(first), Ok(count)) = (u32::try_from(start), u32::try_from(count)) else {
             return Err(NoMemory);
         };
-        self.global_start = globals;
         let name = Text::copy_of(self.alloc, name.text.as_slice())?;
-        self.core.units.push(UnitRow {
-            name,
-            globals: Run { first, count },
-            initialization,
-            finalization,
-        })
+        let number = self.unit.0 as usize;
+        if number < self.core.units.as_slice().len() {
+            let row = UnitRow {
+                name,
+                globals: Run { first, count },
+                initialization,
+                finalization,
+            };
+            self.core.units.replace(number, row);
+        }
+        Ok(())
     }
 
     /// The typed program, unless a rule was broken.
@@ -317,31 +277,56 @@ fn name_of(
     }
 }
 
-/// The first unit of this name.
-fn unit_named<'a>(files: &'a [Tree], name: &Text) -> Option<&'a Unit>
-    ensures { option_map unit_of (option_copied result) ≡ unit_named (map file_of files.now) name.now }
-{
-    for file in files {
-        if let Tree::Unit(unit) = file {
-            if is_same_name(unit.name.text.as_slice(), name.as_slice()) {
-                return Some(unit);
-            }
-        }
-    }
-    None
-}
-
 /// Reports where bodies are still awaited from.
 fn report_missing(sink: &mut FirstRefusal, places: &[Option<Place>])
     ensures { sink.new.kept ≡ kept sink.old.kept (missing places.now) }
 {
     for place in places {
-        if let Some(place) = *place {
-            let rule = Rule {
-                number: 18,
-                feature: 0,
-            };
-            sink.report(Refusal { rule, place });
-        }
+        report_missing_one(sink, *place);
+    }
+}
+
+/// The same for the routines of one unit.
+fn report_missing_in(
+    sink: &mut FirstRefusal,
+    unit: UnitId,
+    routines: &[Routine],
+    places: &[Option<Place>],
+)
+    ensures { sink.new.kept ≡ kept sink.old.kept (missing_in unit routines.now 0 places.now) }
+{
+    for (number, place) in places.iter().enumerate() {
+        report_missing_if(sink, is_of(unit, routines, number), *place);
+    }
+}
+
+fn report_missing_if(sink: &mut FirstRefusal, asked: bool, place: Option<Place>)
+    ensures { sink.new.kept ≡ kept sink.old.kept (if asked then missing_one place else none) }
+{
+    if asked {
+        report_missing_one(sink, place);
+    }
+}
+
+/// Whether the routine of this number is one of the unit.
+fn is_of(unit: UnitId, routines: &[Routine], number: usize) -> bool
+    ensures { result ≡ is_of unit (slice_get routines.now number) }
+{
+    match routines.get(number) {
+        None => false,
+        Some(routine) => routine.unit.0 == unit.0,
+    }
+}
+
+/// Reports where a body is still awaited from.
+fn report_missing_one(sink: &mut FirstRefusal, place: Option<Place>)
+    ensures { sink.new.kept ≡ kept sink.old.kept (missing_one place) }
+{
+    if let Some(place) = place {
+        let rule = Rule {
+            number: 18,
+            feature: 0,
+        };
+        sink.report(Refusal { rule, place });
     }
 }

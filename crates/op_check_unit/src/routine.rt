@@ -124,8 +124,7 @@ impl Declarer {
         let Ok(number) = u32::try_from(self.core.routines.as_slice().len()) else {
             return Err(NoMemory);
         };
-        let unit = self.unit_under()?;
-        let row = routine_row(self.alloc, unit, name, head, NO_ROWS)?;
+        let row = routine_row(self.alloc, self.unit, name, head, NO_ROWS)?;
         self.core.routines.push(row)?;
         self.awaited.push(awaited)?;
         Ok(RoutineId(number))
@@ -168,8 +167,7 @@ impl Declarer {
     fn same(&mut self, id: RoutineId, name: &Name, head: Head) -> Result<Option<()>, NoMemory>
         ensures { IfOk result (Leaves (checked (here_of self.old) (same_means id name.now head (here_of self.old))) self.old self.new) }
     {
-        let unit = self.unit_under()?;
-        let row = routine_row(self.alloc, unit, name, head, NO_ROWS)?;
+        let row = routine_row(self.alloc, self.unit, name, head, NO_ROWS)?;
         if has_heading(&self.core, id, &row) {
             return Ok(Some(()));
         }
@@ -331,8 +329,7 @@ impl Declarer {
         let (Ok(first), Ok(count)) = (u32::try_from(first), u32::try_from(count)) else {
             return Err(NoMemory);
         };
-        let unit = self.unit_under()?;
-        let row = routine_row(self.alloc, unit, name, head, Run { first, count })?;
+        let row = routine_row(self.alloc, self.unit, name, head, Run { first, count })?;
         if (id.0 as usize) < self.core.routines.as_slice().len() {
             self.core.routines.replace(id.0 as usize, row);
         }

@@ -48,6 +48,7 @@ impl Declarer {
         Ok(Declarer {
             alloc,
             core: system_core(alloc)?,
+            unit: UnitId(0),
             visible,
             first,
             count: 0,
@@ -55,11 +56,9 @@ impl Declarer {
             ahead: Visible::new(alloc),
             bytes: 0,
             routine: None,
-            global_start: 0,
             awaited: Table::new(alloc),
             bodies: Vec::new(alloc),
             first_values: Vec::new(alloc),
-            exports: Table::new(alloc),
             sink: FirstRefusal::new(),
         })
     }

@@ -1,28 +1,34 @@
 //! What units export and use.
-ghost use Rattle.std.specs.Prelude.{◌≡◌, [], ◌∷◌, ◌++◌, IfOk, drop};
+ghost use Rattle.std.specs.Prelude.{◌≡◌, [], ◌∷◌, ◌++◌, IfOk, None, drop};
 ghost use Rattle.std.specs.Option.{option_copied};
 ghost use Rattle.std.specs.Str.{str_eq_ignore_ascii_case};
-ghost use Rattle.op_check_unit.specs.Routines.{unit_under};
 ghost use Rattle.op_check_unit.specs.Steps.{Declares, here_of};
-ghost use Rattle.op_check_unit.specs.Uses.{exported, exports_of, is_system, opened, set_aside, used, uses_mean, with_own};
+ghost use Rattle.op_check_unit.specs.Uses.{exports_of, is_system, opened, put_back, put_apart, used, uses_mean, with_own};
 ghost use Rattle.op_types.specs.Names.{lower};
 ghost use Rattle.op_types.specs.declared.visible.Meaning.TheVariants.{Unit as UnitName};
 
 use crate::Declarer;
-use op_base::NoMemory;
-use op_core::UnitId;
+use op_base::{NoMemory, Refusal};
+use op_core::{Table, UnitId, VariableId};
 use op_scan::CompactText;
 use op_tree::Name;
 use op_types::{Meaning, Visible};
+use std::mem;
 
-/// What the interface part of a unit declares, as those see it that use the unit.
+/// What the interface part of a unit declares.
 #[derive(Drop)]
 pub struct Export {
     /// The name of the unit.
     pub unit: CompactText,
     pub id: UnitId,
-    /// Each name alone, and behind the name of the unit.
+    /// The names of its scope, as those see it that use the unit: each alone, and behind the name of the unit.
     pub names: Visible,
+    /// How many names its scope has.
+    pub count: usize,
+    /// Its global variables, which come into the table with those of the implementation part.
+    pub globals: Table<VariableId>,
+    /// The first rule that it breaks.
+    pub broken: Option<Refusal>,
 }
 
 impl Declarer {
@@ -40,70 +46,66 @@ impl Declarer {
         ensures here { IfOk result (λ _. here_of self.new ≡ with_own name.now (here_of self.old)) }
         ensures kept { self.new.sink ≡ self.old.sink }
     {
-        let id = self.unit_under()?;
         let text = name.text.as_slice();
-        self.visible.enter(text, Meaning::Unit(id))?;
+        self.visible.enter(text, Meaning::Unit(self.unit))?;
         self.own = Some(CompactText::copy_of(self.alloc, text)?);
         self.open();
         Ok(())
     }
 
-    /// The number of the unit whose parts are declared.
-    pub fn unit_under(&self) -> Result<UnitId, NoMemory>
-        ensures { IfOk result (λ id. id ≡ unit_under self.now.core) }
-    {
-        match u32::try_from(self.core.units.as_slice().len()) {
-            Ok(number) => Ok(UnitId(number)),
-            Err(_) => Err(NoMemory),
-        }
-    }
-
-    /// Exports what the scope has so far.
-    pub fn export(&mut self, name: &Name) -> Result<(), NoMemory>
-        ensures here { IfOk result (λ _. here_of self.new ≡ exported name.now (here_of self.old)) }
-        ensures kept { self.new.sink ≡ self.old.sink }
+    /// What the scope has behind the interface part. Its global variables are taken out of the table, and no rule is broken then.
+    pub fn export(&mut self, name: &Name) -> Result<Export, NoMemory>
+        ensures export { IfOk result (λ e. e ≡ record { unit = name.now.text; id = self.old.unit; names = drop self.old.first self.old.visible; count = self.old.count; globals = self.old.core.globals; broken = self.old.sink.kept }) }
+        ensures here { IfOk result (λ _. here_of self.new ≡ put_apart (here_of self.old)) }
+        ensures clear { IfOk result (λ _. self.new.sink.kept ≡ None) }
     {
         let unit = CompactText::copy_of(self.alloc, name.text.as_slice())?;
-        let id = self.unit_under()?;
         let names = self.visible.since(self.first)?;
-        self.exports.push(Export { unit, id, names })
+        self.bytes = 0;
+        Ok(Export {
+            unit,
+            id: self.unit,
+            names,
+            count: self.count,
+            globals: mem::replace(&mut self.core.globals, Table::new(self.alloc)),
+            broken: self.sink.kept.take(),
+        })
     }
 
     /// Enters what units export, the names of these first.
-    pub fn uses(&mut self, names: &[Name]) -> Result<(), NoMemory>
-        ensures { IfOk result (λ _. Declares (uses_mean names.now (here_of self.old)) self.old self.new) }
+    pub fn uses(&mut self, exports: &[Option<Export>], names: &[Name]) -> Result<(), NoMemory>
+        ensures { IfOk result (λ _. Declares (uses_mean exports.now names.now (here_of self.old)) self.old self.new) }
     {
         for name in names {
-            self.used(name)?;
+            self.used(exports, name)?;
         }
         Ok(())
     }
 
     /// Enters what a unit exports. The names of System are there already.
-    fn used(&mut self, name: &Name) -> Result<(), NoMemory>
-        ensures { IfOk result (λ _. Declares (used name.now (here_of self.old)) self.old self.new) }
+    fn used(&mut self, exports: &[Option<Export>], name: &Name) -> Result<(), NoMemory>
+        ensures { IfOk result (λ _. Declares (used exports.now name.now (here_of self.old)) self.old self.new) }
     {
         if is_system(name) {
             return Ok(());
         }
-        match exports_of(self.exports.as_slice(), name) {
+        match exports_of(exports, name) {
             None => {
-                self.leave_out(39, name.position.place);
+                self.refuse(10, name.position.place);
                 Ok(())
             }
             Some(export) => enter_used(&mut self.visible, export),
         }
     }
 
-    /// Takes the names of the innermost scope off.
-    pub fn set_aside(&mut self) -> Result<Visible, NoMemory>
-        ensures here { IfOk result (λ _. here_of self.new ≡ set_aside (here_of self.old)) }
-        ensures scope { IfOk result (λ v. v ≡ drop self.old.first self.old.visible) }
+    /// Goes on in the scope of an interface part.
+    pub fn put_back(&mut self, export: &Export) -> Result<(), NoMemory>
+        ensures here { IfOk result (λ _. here_of self.new ≡ put_back export.now (here_of self.old)) }
         ensures kept { self.new.sink ≡ self.old.sink }
     {
-        let scope = self.visible.since(self.first)?;
-        self.visible.leave(self.first);
-        Ok(scope)
+        self.visible.enter_all(&export.names)?;
+        self.count = export.count;
+        Ok(())
     }
 }
 
@@ -129,13 +131,15 @@ pub fn is_same_name(a: &[u8], b: &[u8]) -> bool
     a.eq_ignore_ascii_case(b)
 }
 
-/// What the unit of this name exports.
-fn exports_of<'a>(exports: &'a [Export], name: &Name) -> Option<&'a Export>
+/// What the unit of this name exports, where its interface part is declared.
+fn exports_of<'a>(exports: &'a [Option<Export>], name: &Name) -> Option<&'a Export>
     ensures { option_copied result ≡ exports_of exports.now name.now }
 {
-    for export in exports {
-        if is_same_name(export.unit.as_slice(), name.text.as_slice()) {
-            return Some(export);
+    for slot in exports {
+        if let Some(export) = slot {
+            if is_same_name(export.unit.as_slice(), name.text.as_slice()) {
+                return Some(export);
+            }
         }
     }
     None

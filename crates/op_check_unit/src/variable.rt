@@ -9,7 +9,7 @@ ghost use Rattle.op_tree.specs.Initial.{initial_of};
 
 use crate::Declarer;
 use crate::first_value::Begun;
-use op_base::NoMemory;
+use op_base::{NoMemory, Place};
 use op_core::{Initial, Role, TypeId, Variable, VariableId};
 use op_scan::CompactText;
 use op_tree::{Initializer, Name, Variables};
@@ -123,7 +123,7 @@ impl Declarer {
         let id = self.next_variable()?;
         self.begin_with(id, first)?;
         self.push_row(id, role, of, name)?;
-        self.fit_globals(name);
+        self.fit_globals(name.position.place);
         Ok(())
     }
 
@@ -179,11 +179,12 @@ impl Declarer {
         })
     }
 
-    fn fit_globals(&mut self, name: &Name)
-        ensures { Declares (globals_fit name.now (here_of self.old)) self.old self.new }
+    /// Rule 72 at a place where the globals have too many bytes.
+    pub fn fit_globals(&mut self, place: Place)
+        ensures { Declares (globals_fit place (here_of self.old)) self.old self.new }
     {
         if self.routine.is_none() && self.bytes > MOST_GLOBAL_BYTES {
-            self.refuse(72, name.position.place);
+            self.refuse(72, place);
         }
     }
 }

@@ -1,7 +1,7 @@
 use Rattle.std.proofs.Common.{map}
-use Rattle.op_check_unit.proofs.Units.{Reaches}
+use Rattle.op_check_unit.proofs.UnitSteps.{Reaches}
 use Rattle.op_tree.specs.File.{file_of}
 use Rattle.op_check_unit.proofs.declarer.Declarer.units.Given as goal
 
-abbrev pub invariant-loop-name : goal.invariant-loop-name
-invariant-loop-name l = Reaches l.order (map file_of l.files) l.name-index l.fn.self l.self
+abbrev pub invariant-loop-export : goal.invariant-loop-export
+invariant-loop-export l = Reaches (map file_of l.files) l.exports l.export-index l.fn.self l.self

@@ -5,4 +5,4 @@ use Rattle.op_check_unit.specs.Uses.{uses_mean}
 use Rattle.op_check_unit.proofs.declarer.Declarer.uses.Given as goal
 
 abbrev pub invariant-loop-name : goal.invariant-loop-name
-invariant-loop-name l = Completes (uses_mean l.names (here_of l.fn.self)) (uses_mean (drop l.name-index l.names) (here_of l.self)) l.fn.self l.self
+invariant-loop-name l = Completes (uses_mean l.exports l.names (here_of l.fn.self)) (uses_mean l.exports (drop l.name-index l.names) (here_of l.self)) l.fn.self l.self

@@ -1,7 +1,7 @@
 use Rattle.std.proofs.Common.{◌≡◌, drop, map}
-use Rattle.op_check_unit.specs.Programs.{unit_named}
+use Rattle.op_check_unit.specs.Interfaces.{unit_named}
 use Rattle.op_tree.specs.File.{file_of}
-use Rattle.op_check_unit.proofs.program.unit_named.Given as goal
+use Rattle.op_check_unit.proofs.interfaces.unit_named.Given as goal
 
 -- what is left decides
 abbrev pub invariant-loop-file : goal.invariant-loop-file
