@@ -2,7 +2,7 @@
 use Rattle.std.proofs.Common.{◌≡◌, ℕ, pos, neg_ℤ, Bool, true, false, List, [], ◌∷◌, ◌++◌, Option, Some, None, Result, Ok, Err, refl}
 use Rattle.op_base.specs.declared.place.Place.{Place}
 use Rattle.op_base.specs.declared.rule.Refusal.{Refusal}
-use Rattle.op_core.proofs.Agreeing.{agrees_behind, agrees_changed, agrees_entry_fine, agrees_fine, agrees_followed, agrees_refused, agrees_rule, agrees_standing, agrees_test, agrees_test_fine, agrees_untyped, agrees_with, first_broken, holds_map, holds_none, holds_some, none_broken}
+use Rattle.op_core.proofs.Agreeing.{agrees_behind, agrees_changed, agrees_entry_fine, agrees_followed, agrees_refused, agrees_rule, agrees_standing, agrees_test, agrees_test_fine, agrees_untyped, agrees_with, first_broken, holds_map, holds_none, holds_some, none_broken}
 use Rattle.op_core.specs.Expression.{Arguments as GivenArguments, no_arguments as none_given}
 use Rattle.op_core.specs.Faults.{Checked}
 use Rattle.op_core.specs.Relations.{Agrees, Either, Fails, Holds, Never, Where}
@@ -56,7 +56,7 @@ mutual
   value_raised here wanted (chain first rest) _ = agrees_followed (value_raised here None first tt) (λ a h. behind_law here (position_of first).place rest h)
   value_raised here wanted (prefixed o p e) _ = number_law (number_behind o e) (agrees_behind (value_raised here None e tt) (λ v _. prefixed_law here.core o p v))
   value_raised here wanted (number n p) _ = agrees_changed (numeral_law p.place 1 (pos n))
-  value_raised here wanted (nil p) _ = agrees_fine _
+  value_raised here wanted (nil p) _ = agrees_rule _
   value_raised here wanted (set p es) _ = agrees_behind (members_law here es (holds_some [])) (λ ms _. set_law here.core wanted ms)
   value_raised here wanted (literal text p no_selectors) _ = agrees_standing (holds_map (literal_law text))
   value_raised here wanted (literal text p (selectors x xs)) _ = agrees_behind (selected_law here (selectors x xs) (holds_some (text_denoted p text))) (λ d _. settles_law here d)

@@ -44,7 +44,7 @@ use Rattle.op_check_expr.specs.Settled.{IsKnown, IsSettled, IsSoundValue, IsTher
 use Rattle.op_check_expr.specs.Values.{Value, constant, computed, in_brackets, type_of}
 use Rattle.op_check_expr.specs.declared.call.Plan.TheVariants.{Wrong}
 use Rattle.op_types.proofs.ConstantWhole.{bound_whole, literal_sound, numeral_whole}
-use Rattle.op_types.proofs.TypeFacts.{nil_kind, nothing_kind, string_kind}
+use Rattle.op_types.proofs.TypeFacts.{nothing_kind, string_kind}
 use Rattle.op_types.specs.Assignable.{assignable}
 use Rattle.op_types.specs.Constants.{joined_name, number_behind, only_value, type_named}
 use Rattle.op_types.specs.Names.{lower, meaning_of}
@@ -213,7 +213,7 @@ mutual
   value_whole s wanted (chain first rest) = whole_followed (value_whole s None first) (λ a h. behind_whole s (position_of first).place rest h)
   value_whole {sees} {here} s wanted (prefixed o p e) = number_whole sees s.founded (number_behind o e) (whole_behind (value_whole s None e) (λ v h. prefix_whole here.core sees s.founded o p v h))
   value_whole s wanted (number n p) = whole_changed_so constant (numeral_whole s.founded p.place 1 (pos n)) (λ c q. q)
-  value_whole s wanted (nil p) = let k = nil_kind s.founded in whole_gives (rw k refl)
+  value_whole s wanted (nil p) = whole_rule
   value_whole {sees} {here} s wanted (set p es) = whole_behind (members_whole s es (filled [] tt)) (λ ms h. set_whole here.core sees s.founded wanted ms h _ refl)
   value_whole s wanted (literal text p no_selectors) = whole_gives (literal_sound s.founded text)
   value_whole s wanted (literal text p (selectors x xs)) = whole_behind (selected_whole s (selectors x xs) (filled (text_denoted p text) (string_kind s.founded))) (λ d k. settled_whole s d k)

@@ -5,7 +5,7 @@ use Rattle.op_base.specs.declared.place.Place.{Place}
 use Rattle.op_core.specs.Expression.{Expression as Tree, Arguments as GivenArguments, Argument as GivenArgument, no_arguments as none_given, index as index_step, then as with_step}
 use Rattle.op_core.specs.Faults.{Checked, by_entry, fine, refused, untyped, with_part}
 use Rattle.op_core.specs.Sizes.{type_at}
-use Rattle.op_core.specs.declared.constant.Const.TheVariants.{Text, Nil}
+use Rattle.op_core.specs.declared.constant.Const.TheVariants.{Text}
 use Rattle.op_core.specs.declared.ids.TypeId.{TypeId}
 use Rattle.op_core.specs.declared.program.Core.{Core}
 use Rattle.op_core.specs.declared.routine.Parameter.{Parameter}
@@ -170,7 +170,7 @@ abbrev mutual
   value_in s wanted (chain first rest) = followed (value_in s None first) (λ a. operations s (position_of first).place a rest)
   value_in s wanted (prefixed o p e) = or_number (number_behind o e) (followed (value_in s None e) (with_part (prefix_of s.core o p)))
   value_in s wanted (number n p) = changed constant (numeral p.place 1 (pos n))
-  value_in s wanted (nil p) = fine (constant (made Nil table.nil (nodes 1)))
+  value_in s wanted (nil p) = left_out 41 p.place
   value_in s wanted (set p es) = followed (members s (Some []) es) (with_part (set_of s.core wanted))
   value_in s wanted (literal text p no_selectors) = literal_value (literal_means text no_selectors)
   value_in s wanted (literal text p (selectors x xs)) = followed (selected s (Some (text_denoted p text)) (selectors x xs)) (as_value s)

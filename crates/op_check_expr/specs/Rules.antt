@@ -5,7 +5,6 @@ use Rattle.op_base.specs.declared.place.Place.{Place}
 use Rattle.op_base.specs.declared.rule.Refusal.{Refusal}
 use Rattle.op_core.specs.Expression.{Expression as Tree, Argument as GivenArgument, Arguments as GivenArguments, no_arguments as none_given, expr_of as tree_said}
 use Rattle.op_core.specs.Relations.{At, Either, Entry, Fails, IsFirstOf, Lacks, Never, NoneBroken, Only, Through, Where}
-use Rattle.op_core.specs.declared.constant.Const.TheVariants.{Nil}
 use Rattle.op_core.specs.declared.error.CheckError.{CheckError}
 use Rattle.op_core.specs.declared.error.CheckError.TheVariants.{Refused, NoMemory}
 use Rattle.op_core.specs.declared.expression.CoreExpr.{CoreExpr}
@@ -30,9 +29,8 @@ use Rattle.op_check_expr.specs.Values.{Value, constant, as_type, in_brackets, tr
 use Rattle.op_check_expr.specs.declared.call.Plan.{Plan}
 use Rattle.op_types.specs.Assignable.{assignable}
 use Rattle.op_types.specs.ConstantRules.{LiteralIs, NumeralBreaks, NumeralIs}
-use Rattle.op_types.specs.Constants.{made, nodes, number_behind}
+use Rattle.op_types.specs.Constants.{number_behind}
 use Rattle.op_types.specs.Names.{lower}
-use Rattle.op_types.specs.Operators as table
 use Rattle.op_types.specs.declared.constant.Applied.{Applied}
 
 -- ---- parts without parts of their own
@@ -58,7 +56,7 @@ abbrev mutual
   ValueIs here wanted (chain first rest) = Behind here (ValueIs here None first) rest
   ValueIs here wanted (prefixed o p e) = NumberOr (number_behind o e) (Through (ValueIs here None e) (Prefixes here.core o p))
   ValueIs here wanted (number n p) = Made (NumeralIs 1 (pos n)) constant
-  ValueIs here wanted (nil p) = Only (constant (made Nil table.nil (nodes 1)))
+  ValueIs here wanted (nil p) = Never
   ValueIs here wanted (set p es) = Through (Members here (Only []) es) (SetIs here.core wanted)
   ValueIs here wanted (literal text p no_selectors) = Made (LiteralIs text) constant
   ValueIs here wanted (literal text p (selectors x xs)) = Through (Selected here (Only (text_denoted p text)) (selectors x xs)) (Settles here)
@@ -122,7 +120,7 @@ abbrev mutual
   ValueBreaks here wanted (prefixed o p e) =
       NumberBreaksOr (number_behind o e) (Either (ValueBreaks here None e) (Through (ValueIs here None e) (PrefixBreaks here.core o p)))
   ValueBreaks here wanted (number n p) = NumeralBreaks p.place (pos n)
-  ValueBreaks here wanted (nil p) = Never
+  ValueBreaks here wanted (nil p) = LeftOut 41 p.place
   ValueBreaks here wanted (set p es) = Either (MembersBreak here es) (Through (Members here (Only []) es) (SetBreaks here.core))
   ValueBreaks here wanted (literal text p no_selectors) = Never
   ValueBreaks here wanted (literal text p (selectors x xs)) =

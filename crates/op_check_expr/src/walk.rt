@@ -28,11 +28,11 @@ use crate::set::{Member, set_of};
 use crate::sink::leave_out;
 use crate::value::{Value, constant_value};
 use op_base::{NoMemory, Place};
-use op_core::{Const, CoreArgument, FirstRefusal, Parameter, TypeId};
+use op_core::{CoreArgument, FirstRefusal, Parameter, TypeId};
 use op_tree::{
     Argument, Designator, Element, Expr, Operation, Position, PrefixOperator, Root, Selector,
 };
-use op_types::{Applied, made, nodes, number_behind};
+use op_types::{Applied, number_behind};
 
 impl<'a> Checker<'a> {
     /// What an expression means. `wanted` is the type that its use fixes: a set constructor takes its type from that.
@@ -56,9 +56,7 @@ impl<'a> Checker<'a> {
                     .numeral(sink, position.place, 1, *value as i64);
                 Ok(constant_value(c))
             }
-            Expr::Nil { .. } => {
-                Ok(Some(Value::Constant(made(Const::Nil, TypeId::NIL, nodes(1)))))
-            }
+            Expr::Nil { position } => Ok(leave_out(sink, 41, position.place)),
             Expr::Set { elements, .. } => self.set(sink, wanted, elements),
             Expr::Literal {
                 text,

@@ -22,8 +22,9 @@ use Rattle.op_types.specs.declared.sort.Sort.{Sort}
 use Rattle.op_types.specs.declared.sort.Sort.TheVariants.{Ordinal, String}
 use Rattle.op_check_stmt.proofs.Apart.{Shared, either, overlaps, shared}
 use Rattle.op_check_stmt.proofs.Combining.{agrees_entry_silent, agrees_known, agrees_two, holds_if, holds_itself, holds_through, holds_two, none_is, some_is}
-use Rattle.op_check_stmt.specs.CaseRules.{AllSpotsAre, BoundBreaks, BoundIs, Common, FirstMet, IsMet, LabelBreaks, LabelIs, LabelsAre, LabelsBreak, SelectorBreaks, SelectorIs, RepeatedAt, SortBreaks, SortSelects, SpotsAre}
-use Rattle.op_check_stmt.specs.Cases.{bound, bound_means, is_repeated, label, labels, once, overlap, repeated, repeated_after, selected_by, selector, spots}
+use Rattle.op_check_stmt.specs.CaseRules.{AllSpotsAre, BoundBreaks, BoundIs, BranchLabelsAre, BranchLabelsBreak, Common, FirstMet, IsMet, LabelBreaks, LabelIs, LabelsAre, LabelsBreak, SelectorBreaks, SelectorIs, RepeatedAt, SortBreaks, SortSelects, SpotsAre}
+use Rattle.op_check_stmt.specs.Unplaced.{place_of_body}
+use Rattle.op_check_stmt.specs.Cases.{bound, bound_means, branch_labels, is_repeated, label, labels, once, overlap, repeated, repeated_after, selected_by, selector, spots}
 use Rattle.op_check_stmt.specs.RuleWords.{OfTwo}
 use Rattle.op_check_stmt.specs.Statements.{all_spots, head_means, type_in}
 use Rattle.op_check_stmt.specs.declared.case.Spot.{Spot}
@@ -48,9 +49,13 @@ module _ (here : Here) {of : Option TypeId} {T : TypeId → Type 0} (holds : Hol
   label_law (one e) = agrees_changed (bound_law e)
   label_law (range e f) = agrees_followed (bound_law e) (λ low h. agrees_followed (bound_law f) (λ high k. agrees_with h (λ a t. agrees_with k (λ b u. agrees_test_fine))))
 
-  pub labels_law : (es : Elements) → Agrees (labels here of es) (LabelsAre here T es) (LabelsBreak here T es)
+  labels_law : (es : Elements) → Agrees (labels here of es) (LabelsAre here T es) (LabelsBreak here T es)
   labels_law no_elements = agrees_fine []
   labels_law (elements e es) = agrees_two (agrees_changed (label_law e)) (labels_law es)
+
+  pub branch_labels_law : (es : Elements) → Agrees (branch_labels here of es) (BranchLabelsAre here T es) (BranchLabelsBreak here T es)
+  branch_labels_law no_elements = agrees_refused 9 (place_of_body here)
+  branch_labels_law (elements e es) = labels_law (elements e es)
 
 -- ---- labels that are there twice
 

@@ -6,11 +6,11 @@ use Rattle.op_base.specs.declared.rule.Refusal.{Refusal}
 use Rattle.op_check_expr.proofs.Law.{given_law, target_law, value_of_law}
 use Rattle.op_check_expr.specs.Scopes.{Here}
 use Rattle.op_check_expr.specs.Values.{tree_of}
-use Rattle.op_check_expr.specs.declared.scope.Around.TheVariants.{Handler, Finally}
+use Rattle.op_check_expr.specs.declared.scope.Around.TheVariants.{Finally}
 use Rattle.op_core.proofs.Agreeing.{agrees_as, agrees_behind, agrees_changed, agrees_fine, agrees_followed, agrees_rule, agrees_test_fine, first_broken, holds_map, none_broken}
 use Rattle.op_core.specs.Expression.{Expression as Tree}
 use Rattle.op_core.specs.Faults.{Checked}
-use Rattle.op_core.specs.Relations.{Agrees, Either, Where}
+use Rattle.op_core.specs.Relations.{Agrees, Either, Never, Where}
 use Rattle.op_core.specs.Statement.{Statement, Statements, Branches, case_of, no_statements, stmt_of as typed_said}
 use Rattle.op_core.specs.Typing as typing
 use Rattle.op_core.specs.declared.error.CheckError.{CheckError}
@@ -18,7 +18,7 @@ use Rattle.op_core.specs.declared.error.CheckError.TheVariants.{Refused, NoMemor
 use Rattle.op_core.specs.declared.statement.CoreStmt.{CoreStmt}
 use Rattle.op_tree.specs.Expression.{Expression}
 use Rattle.op_tree.specs.Statement as tree
-use Rattle.op_check_stmt.proofs.CaseLaw.{head_law, labels_law, selector_law}
+use Rattle.op_check_stmt.proofs.CaseLaw.{branch_labels_law, head_law, selector_law}
 use Rattle.op_check_stmt.proofs.Combining.{agrees_never, agrees_three, agrees_two, agrees_upon, agrees_upon_two, itself}
 use Rattle.op_check_stmt.proofs.ProcedureLaw.{called_law, counter_law}
 use Rattle.op_check_stmt.specs.CaseRules.{SelectedType}
@@ -26,15 +26,19 @@ use Rattle.op_check_stmt.specs.Cases.{selector}
 use Rattle.op_check_stmt.specs.Parts.{of_two, paired}
 use Rattle.op_check_stmt.specs.Procedures.{called}
 use Rattle.op_check_stmt.specs.RuleWords.{OfThree, OfTwo}
-use Rattle.op_check_stmt.specs.Rules.{BranchesAre, BranchesBreak, ConditionBreaks, ConditionIs, StatementBreaks, StatementIs, StatementsAre, StatementsBreak, StmtMeans, TriedBreaks, TriedIs}
-use Rattle.op_check_stmt.specs.Statements.{StmtIs, bound_of, branches, case_statement, condition, counted, first_class, looped, statement, statements, stored, tried, type_in, within}
+use Rattle.op_check_stmt.specs.Rules.{BranchesAre, BranchesBreak, ConditionBreaks, ConditionIs, ExceptBreaks, StatementBreaks, StatementIs, StatementsAre, StatementsBreak, StmtMeans, TriedBreaks, TriedIs}
+use Rattle.op_check_stmt.specs.Statements.{StmtIs, bound_of, branches, case_statement, condition, counted, excepted, first_class, looped, place_of_handlers, statement, statements, stored, tried, type_in, within}
+use Rattle.op_check_stmt.specs.Unplaced.{place_of_body}
 
 condition_law : (here : Here) (e : Expression) → Agrees (condition here e) (ConditionIs here e) (ConditionBreaks here e)
 condition_law here e = agrees_behind (value_of_law here None e) (λ v t. agrees_test_fine)
 
+except_law : {body : Checked Statements} {T : Statements → Type 0} {P : Refusal → Type 0} (place : Place) → Agrees body T P → Agrees (excepted place body) Never (ExceptBreaks place P)
+except_law place h = agrees_followed h (λ o i. agrees_rule _)
+
 tried_law : {body : Checked Statements} {whole : Checked Statement} {T : Statements → Type 0} {U : Statement → Type 0} {P Q : Refusal → Type 0} (o : Option Place) → Agrees body T P → Agrees whole U Q → Agrees (tried o body whole) (TriedIs o U) (TriedBreaks o P Q)
 tried_law None h k = k
-tried_law (Some place) h k = agrees_followed h (λ o i. agrees_rule _)
+tried_law (Some place) h k = except_law place h
 
 -- a case, with what its `else` is
 by_head : (N : Type 0) (S : Tree → Type 0) (B : Branches → Type 0) (U : Statements → Type 0) (s : Statement) → OfTwo case_statement (Where N (OfTwo (λ a b. (a, b)) S B)) U s → Where N (OfThree case_of S B U) s
@@ -64,10 +68,9 @@ mutual
       (λ c t. statement_law (looped here (Some c.variable)) s) (statement_law (looped here None) s).1
   statement_law here (tree.for_in n e s) = agrees_rule _
   statement_law here (tree.try_finally ss ts) = agrees_two (statements_law here ss) (statements_law (within here Finally) ts)
-  statement_law here (tree.try_except ss ts) = agrees_two (statements_law here ss) (statements_law (within here Handler) ts)
+  statement_law here (tree.try_except ss ts) = except_law (place_of_body here) (statements_law here ss)
   statement_law here (tree.try_on ss hs) = tried_law (first_class hs) (statements_law here ss) (agrees_changed (statements_law here ss))
-  statement_law here (tree.try_on_else ss hs ts) =
-      tried_law (first_class hs) (statements_law here ss) (agrees_two (statements_law here ss) (statements_law (within here Handler) ts))
+  statement_law here (tree.try_on_else ss hs ts) = except_law (place_of_handlers here (first_class hs)) (statements_law here ss)
   statement_law here (tree.raise p e) = agrees_rule _
   statement_law here (tree.reraise p) = agrees_rule _
   statement_law here (tree.inherited p) = agrees_rule _
@@ -79,7 +82,7 @@ mutual
   -- the branches behind a selector
   branches_law : (here : Here) (e : Expression) (bs : tree.Branches) → Agrees (branches here (type_in (selector here e).typed) bs) (BranchesAre here (SelectedType here e) bs) (BranchesBreak here (SelectedType here e) bs)
   branches_law here e tree.no_branches = agrees_fine _
-  branches_law here e (tree.branches es s bs) = agrees_two (agrees_two (labels_law here (holds_map (selector_law here e).0) es) (statement_law here s)) (branches_law here e bs)
+  branches_law here e (tree.branches es s bs) = agrees_two (agrees_two (branch_labels_law here (holds_map (selector_law here e).0) es) (statement_law here s)) (branches_law here e bs)
 
   pub statements_law : (here : Here) (ss : tree.Statements) → Agrees (statements here ss) (StatementsAre here ss) (StatementsBreak here ss)
   statements_law here tree.no_statements = agrees_fine _

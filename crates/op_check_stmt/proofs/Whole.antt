@@ -17,14 +17,14 @@ use Rattle.op_check_expr.specs.Scopes.{Here}
 use Rattle.op_check_expr.specs.Settled.{IsSettled, IsSoundValue}
 use Rattle.op_check_expr.specs.Values.{Value, as_type, constant, computed, tree_of, type_of}
 use Rattle.op_check_expr.specs.declared.scope.Around.{Around}
-use Rattle.op_check_expr.specs.declared.scope.Around.TheVariants.{Loop, Handler, Finally}
+use Rattle.op_check_expr.specs.declared.scope.Around.TheVariants.{Loop, Finally}
 use Rattle.op_check_stmt.proofs.Hosts.{goes_to_host, hosted, kind_of_whole, number_within, one_ordinal, ordinal_sort, place_with_characters, text_of}
-use Rattle.op_check_stmt.specs.Cases.{both_bounds, bound, bound_means, label, labels, once, repeated, selected_by, selector, spot}
+use Rattle.op_check_stmt.specs.Cases.{both_bounds, bound, bound_means, branch_labels, label, labels, once, repeated, selected_by, selector, spot}
 use Rattle.op_check_stmt.specs.Leaving.{entered, in_finally, is_finally, jump_of, leaving_means, reach_of}
 use Rattle.op_check_stmt.specs.Parts.{both_typed, of_two, paired}
 use Rattle.op_check_stmt.specs.Procedures as procedures
 use Rattle.op_check_stmt.specs.Procedures.{Called, Values, base_by, base_in, called, called_means, change, change_means, count_means, exit_means, exits, halt_means, is_text, item, items, jump_means, member, plain_call, procedure, result_of, set, text, unwritten, values, written}
-use Rattle.op_check_stmt.specs.Statements.{all_spots, bound_of, branches, case_statement, condition, first_class, for_statement, head_means, looped, statement, statements, stored, tried, try_all, type_in, with_branch, within}
+use Rattle.op_check_stmt.specs.Statements.{all_spots, bound_of, branches, case_statement, condition, first_class, for_statement, head_means, looped, statement, statements, stored, tried, type_in, with_branch, within}
 use Rattle.op_check_stmt.specs.Surrounding.{Surrounds}
 use Rattle.op_check_stmt.specs.Variables.{counter, counter_named, counter_row, host_of, is_ordinal}
 use Rattle.op_check_stmt.specs.declared.case.Bound.{Bound}
@@ -107,9 +107,6 @@ finally_within around part e = let h = or_parts _ _ (sym (list_any-append is_fin
 looped_within : {here : Here} {at : place.Here} (counter : Option VariableId) → Surrounds here at → Surrounds (looped here counter) (place.in_loop at)
 looped_within {here} counter s = record { result = s.result; loop = λ e. refl; routine = λ e. s.routine (finally_within here.around (Loop counter) e).0 }
 
-handler_within : {here : Here} {at : place.Here} → Surrounds here at → Surrounds (within here Handler) (place.in_handler at)
-handler_within {here} s = record { result = s.result; loop = λ e. s.loop (sym (reach_within here.around Handler) ∙ e); routine = λ e. s.routine (finally_within here.around Handler e).0 }
-
 beyond : (r : Reach) → entered r Finally ≡ Inside → ⊥
 beyond Nowhere e = absurd (cc)
 beyond Inside e = absurd (cc)
@@ -188,6 +185,10 @@ labels_whole : {sees : Sees} {here : Here} → IsSettled sees here → (of : Typ
 labels_whole {sees} {here} s of w no_elements = whole_gives (All-nil (IsLabel here.core of))
 labels_whole {sees} {here} s of w (elements e es) =
     whole_two (λ l others. l ∷ others) (whole_changed_so (λ s. s.label) (label_whole s of w e) (λ x h. h)) (labels_whole s of w es) (λ l ls h k. All-cons (IsLabel here.core of) l ls h k)
+
+branch_labels_whole : {sees : Sees} {here : Here} → IsSettled sees here → (of : TypeId) → IsTrue (is_whole (type_at here.core of)) → (es : Elements) → Whole (All (IsLabel here.core of)) (branch_labels here (Some of) es)
+branch_labels_whole s of w no_elements = whole_refused
+branch_labels_whole s of w (elements e es) = labels_whole s of w (elements e es)
 
 once_whole : {A : Type 0} {P : A → Type 0} {o : Option A} → Filled P o → (at : Option Place) → Whole P (once o at)
 once_whole h None = whole_standing h
@@ -403,12 +404,9 @@ mutual
   statement_whole at s r (tree.for_in n e x) = whole_rule
   statement_whole at s r (tree.try_finally ss ts) =
       whole_two try_finally (statements_whole at s r ss) (statements_whole (place.in_finally at) (settled_within Finally s) (finally_part r) ts) (λ ss ts h k. (h, k))
-  statement_whole at s r (tree.try_except ss ts) =
-      whole_two try_all (statements_whole at s r ss) (statements_whole (place.in_handler at) (settled_within Handler s) (handler_within r) ts) (λ ss ts h k. (h, tt, k))
+  statement_whole at s r (tree.try_except ss ts) = whole_after whole_rule
   statement_whole {sees} {here} at s r (tree.try_on ss hs) = tried_whole (first_class hs) (statements here ss) (whole_changed_so block (statements_whole at s r ss) (λ x h. h))
-  statement_whole {sees} {here} at s r (tree.try_on_else ss hs ts) =
-      tried_whole (first_class hs) (statements here ss)
-      (whole_two try_all (statements_whole at s r ss) (statements_whole (place.in_handler at) (settled_within Handler s) (handler_within r) ts) (λ ss ts h k. (h, tt, k)))
+  statement_whole at s r (tree.try_on_else ss hs ts) = whole_after whole_rule
   statement_whole at s r (tree.raise p e) = whole_rule
   statement_whole at s r (tree.reraise p) = whole_rule
   statement_whole at s r (tree.inherited p) = whole_rule
@@ -421,7 +419,7 @@ mutual
   branches_whole at s r of w tree.no_branches = whole_gives tt
   branches_whole {sees} {here} at s r of w (tree.branches es x bs) =
       whole_two with_branch
-      (whole_two {R = λ (b : List Label × Statement). All (IsLabel here.core of) b.0 × Is sees here at b.1} (λ ls x. (ls, x)) (labels_whole s of w es) (statement_whole at s r x) (λ ls x h k. (h, k)))
+      (whole_two {R = λ (b : List Label × Statement). All (IsLabel here.core of) b.0 × Is sees here at b.1} (λ ls x. (ls, x)) (branch_labels_whole s of w es) (statement_whole at s r x) (λ ls x h k. (h, k)))
       (branches_whole at s r of w bs) (λ b bs h k. (h.0, h.1, k))
 
   pub statements_whole : {sees : Sees} {here : Here} (at : place.Here) → IsSettled sees here → Surrounds here at → (xs : tree.Statements) → Whole (AreStatements here.core sees at) (statements here xs)

@@ -22,6 +22,7 @@ use Rattle.op_types.specs.declared.sort.Sort.{Sort}
 use Rattle.op_types.specs.declared.sort.Sort.TheVariants.{Ordinal, String}
 use Rattle.op_check_stmt.specs.Cases.{constant_in, number, spot}
 use Rattle.op_check_stmt.specs.RuleWords.{ByMeaning, If, OfOne, OfTwo}
+use Rattle.op_check_stmt.specs.Unplaced.{place_of_body}
 use Rattle.op_check_stmt.specs.Variables.{host_of}
 use Rattle.op_check_stmt.specs.declared.case.Bound.{Bound}
 use Rattle.op_check_stmt.specs.declared.case.Spot.{Spot}
@@ -87,6 +88,15 @@ LabelsAre here T (elements e es) = OfTwo (λ l others. l ∷ others) (OfOne (λ 
 abbrev pub LabelsBreak : Here → (TypeId → Type 0) → Elements → Refusal → Type 0
 LabelsBreak here T no_elements = Never
 LabelsBreak here T (elements e es) = Either (LabelBreaks here T e) (LabelsBreak here T es)
+
+-- each branch has one
+abbrev pub BranchLabelsAre : Here → (TypeId → Type 0) → Elements → List Label → Type 0
+BranchLabelsAre here T no_elements = Never
+BranchLabelsAre here T (elements e es) = LabelsAre here T (elements e es)
+
+abbrev pub BranchLabelsBreak : Here → (TypeId → Type 0) → Elements → Refusal → Type 0
+BranchLabelsBreak here T no_elements = At 9 (place_of_body here)
+BranchLabelsBreak here T (elements e es) = LabelsBreak here T (elements e es)
 
 -- ---- labels that are there twice
 

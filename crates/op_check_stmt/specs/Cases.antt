@@ -22,6 +22,7 @@ use Rattle.op_types.specs.declared.constant.Weight.{Weight}
 use Rattle.op_types.specs.declared.sort.Sort.{Sort}
 use Rattle.op_types.specs.declared.sort.Sort.TheVariants.{Ordinal, String}
 use Rattle.op_check_stmt.specs.Parts.{of_two}
+use Rattle.op_check_stmt.specs.Unplaced.{place_of_body}
 use Rattle.op_check_stmt.specs.Variables.{host_of}
 use Rattle.op_check_stmt.specs.declared.case.Bound.{Bound}
 use Rattle.op_check_stmt.specs.declared.case.Spot.{Spot}
@@ -82,6 +83,11 @@ label here of (range e f) = followed (bound here of e) (λ low. followed (bound 
 abbrev pub labels : Here → Option TypeId → Elements → Checked (List Label)
 labels here of no_elements = fine []
 labels here of (elements e es) = of_two (λ l others. l ∷ others) (changed (λ s. s.label) (label here of e)) (labels here of es)
+
+-- those of a branch: the grammar has one at least
+abbrev pub branch_labels : Here → Option TypeId → Elements → Checked (List Label)
+branch_labels here of no_elements = refused 9 (place_of_body here)
+branch_labels here of (elements e es) = labels here of (elements e es)
 
 -- the labels that have values, with their places
 abbrev pub spots : Here → Option TypeId → Elements → List Spot

@@ -9,5 +9,6 @@ pub mod Rules
 pub mod Seen
 pub mod Statements
 pub mod Surrounding
+pub mod Unplaced
 pub mod VariableRules
 pub mod Variables

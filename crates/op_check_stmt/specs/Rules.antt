@@ -6,7 +6,7 @@ use Rattle.op_check_expr.specs.RuleWords.{LeftOut, Nothing}
 use Rattle.op_check_expr.specs.Rules.{GivenBreaks, GivenIs, TargetBreaks, TargetIs, ValueBreaks, ValueIs}
 use Rattle.op_check_expr.specs.Scopes.{Here}
 use Rattle.op_check_expr.specs.Values.{as_type, type_of}
-use Rattle.op_check_expr.specs.declared.scope.Around.TheVariants.{Handler, Finally}
+use Rattle.op_check_expr.specs.declared.scope.Around.TheVariants.{Finally}
 use Rattle.op_core.specs.Expression.{Expression as Tree}
 use Rattle.op_core.specs.Relations.{At, Either, Fails, IsFirstOf, Never, NoneBroken, Only, Through, Where}
 use Rattle.op_core.specs.Statement.{Statement, empty, block, if_then, if_else, case_of, while_do, repeat_until, try_finally, assign, Statements, no_statements, statements as core_statements, Branches, no_branches, stmt_of as typed_said}
@@ -20,11 +20,12 @@ use Rattle.op_tree.specs.Statement as tree
 use Rattle.op_types.specs.Assignable.{assignable}
 use Rattle.op_types.specs.Constants.{start_of}
 use Rattle.op_types.specs.Operators as table
-use Rattle.op_check_stmt.specs.CaseRules.{LabelsAre, LabelsBreak, RepeatedAt, SelectedType, SelectorBreaks, SelectorIs}
+use Rattle.op_check_stmt.specs.CaseRules.{BranchLabelsAre, BranchLabelsBreak, RepeatedAt, SelectedType, SelectorBreaks, SelectorIs}
 use Rattle.op_check_stmt.specs.ProcedureRules.{CalledBreaks, CalledIs}
 use Rattle.op_check_stmt.specs.Procedures.{called}
 use Rattle.op_check_stmt.specs.RuleWords.{ByMeaning, If, OfOne, OfThree, OfTwo, Pair}
-use Rattle.op_check_stmt.specs.Statements.{first_class, for_statement, looped, try_all, with_branch, within}
+use Rattle.op_check_stmt.specs.Statements.{first_class, for_statement, looped, place_of_handlers, with_branch, within}
+use Rattle.op_check_stmt.specs.Unplaced.{place_of_body}
 use Rattle.op_check_stmt.specs.VariableRules.{CounterBreaks, CounterIs}
 
 -- a Boolean: rule 22
@@ -38,14 +39,18 @@ ConditionBreaks here e =
     Either (ValueBreaks here None e)
     (Through (ValueIs here None e) (λ v. Fails (assignable here.core (type_of v) table.boolean) 22 (start_of e)))
 
--- handlers of exceptions are not in this profile
+-- what stands behind the word `except` is not in this profile
+abbrev pub ExceptBreaks : Place → (Refusal → Type 0) → Refusal → Type 0
+ExceptBreaks place P = Either P (LeftOut 44 place)
+
+-- nor are handlers
 abbrev pub TriedIs : Option Place → (Statement → Type 0) → Statement → Type 0
 TriedIs None T = T
 TriedIs (Some place) T = Never
 
 abbrev pub TriedBreaks : Option Place → (Refusal → Type 0) → (Refusal → Type 0) → Refusal → Type 0
 TriedBreaks None P Q = Q
-TriedBreaks (Some place) P Q = Either P (LeftOut 44 place)
+TriedBreaks (Some place) P Q = ExceptBreaks place P
 
 abbrev mutual
   pub StatementIs : Here → tree.Statement → Statement → Type 0
@@ -66,9 +71,7 @@ abbrev mutual
       OfTwo (for_statement direction c) (Pair (GivenIs here c.bounds false e) (GivenIs here c.bounds false f))
       (StatementIs (looped here (Some c.variable)) s))
   StatementIs here (tree.try_finally ss ts) = OfTwo try_finally (StatementsAre here ss) (StatementsAre (within here Finally) ts)
-  StatementIs here (tree.try_except ss ts) = OfTwo try_all (StatementsAre here ss) (StatementsAre (within here Handler) ts)
   StatementIs here (tree.try_on ss hs) = TriedIs (first_class hs) (OfOne block (StatementsAre here ss))
-  StatementIs here (tree.try_on_else ss hs ts) = TriedIs (first_class hs) (OfTwo try_all (StatementsAre here ss) (StatementsAre (within here Handler) ts))
   StatementIs here (tree.call d) = CalledIs here d (called here.visible d)
   StatementIs here (tree.assign d p e) = Through (TargetIs here d) (λ t. OfOne (assign t) (GivenIs here (typing.type_of t) p.switches.r e))
   StatementIs here _ = Never
@@ -76,7 +79,7 @@ abbrev mutual
   -- the branches of a case whose selector's type is T
   pub BranchesAre : Here → (TypeId → Type 0) → tree.Branches → Branches → Type 0
   BranchesAre here T tree.no_branches = Only no_branches
-  BranchesAre here T (tree.branches es s bs) = OfTwo with_branch (Pair (LabelsAre here T es) (StatementIs here s)) (BranchesAre here T bs)
+  BranchesAre here T (tree.branches es s bs) = OfTwo with_branch (Pair (BranchLabelsAre here T es) (StatementIs here s)) (BranchesAre here T bs)
 
   pub StatementsAre : Here → tree.Statements → Statements → Type 0
   StatementsAre here tree.no_statements = Only no_statements
@@ -104,10 +107,9 @@ abbrev mutual
       (ByMeaning (CounterIs here n) (λ c. StatementBreaks (looped here (Some c.variable)) s) (StatementBreaks (looped here None) s))
   StatementBreaks here (tree.for_in n e s) = LeftOut 41 n.position.place
   StatementBreaks here (tree.try_finally ss ts) = Either (StatementsBreak here ss) (StatementsBreak (within here Finally) ts)
-  StatementBreaks here (tree.try_except ss ts) = Either (StatementsBreak here ss) (StatementsBreak (within here Handler) ts)
+  StatementBreaks here (tree.try_except ss ts) = ExceptBreaks (place_of_body here) (StatementsBreak here ss)
   StatementBreaks here (tree.try_on ss hs) = TriedBreaks (first_class hs) (StatementsBreak here ss) (StatementsBreak here ss)
-  StatementBreaks here (tree.try_on_else ss hs ts) =
-      TriedBreaks (first_class hs) (StatementsBreak here ss) (Either (StatementsBreak here ss) (StatementsBreak (within here Handler) ts))
+  StatementBreaks here (tree.try_on_else ss hs ts) = ExceptBreaks (place_of_handlers here (first_class hs)) (StatementsBreak here ss)
   StatementBreaks here (tree.raise p e) = LeftOut 44 p.place
   StatementBreaks here (tree.reraise p) = LeftOut 44 p.place
   StatementBreaks here (tree.inherited p) = LeftOut 42 p.place
@@ -118,7 +120,7 @@ abbrev mutual
 
   pub BranchesBreak : Here → (TypeId → Type 0) → tree.Branches → Refusal → Type 0
   BranchesBreak here T tree.no_branches = Never
-  BranchesBreak here T (tree.branches es s bs) = Either (Either (LabelsBreak here T es) (StatementBreaks here s)) (BranchesBreak here T bs)
+  BranchesBreak here T (tree.branches es s bs) = Either (Either (BranchLabelsBreak here T es) (StatementBreaks here s)) (BranchesBreak here T bs)
 
   pub StatementsBreak : Here → tree.Statements → Refusal → Type 0
   StatementsBreak here tree.no_statements = Never

@@ -4,7 +4,7 @@ ghost use Rattle.std.specs.Option.{option_map, option_to_list};
 ghost use Rattle.op_check_expr.specs.Scopes.{here_of};
 ghost use Rattle.op_check_expr.specs.Values.{value_of};
 ghost use Rattle.op_check_expr.specs.Words.{Reports};
-ghost use Rattle.op_check_stmt.specs.Cases.{bound, bound_means, both_bounds, distinct, fits, label, labels, number, of_type, range_means, selected, selector, spot, spots};
+ghost use Rattle.op_check_stmt.specs.Cases.{bound, bound_means, both_bounds, branch_labels, distinct, fits, label, labels, number, of_type, range_means, selected, selector, spot, spots};
 ghost use Rattle.op_check_stmt.specs.Parts.{items_of};
 ghost use Rattle.op_core.specs.Expression.{expr_of as typed_of};
 ghost use Rattle.op_tree.specs.Expression.{element_of, expr_of, range};
@@ -12,6 +12,7 @@ ghost use Rattle.op_tree.specs.Statement.{elements_of};
 
 use crate::list::collect;
 use crate::repeated::repeated;
+use crate::unplaced::place_of_body;
 use crate::variable::host_of;
 use op_base::{NoMemory, Place};
 use op_check_expr::{Checker, Value, as_type, leave_out, refuse};
@@ -65,8 +66,26 @@ fn selected(
     }
 }
 
-/// The labels of a branch, where the selector has this type; those that have values go behind the others of the case.
-pub fn labels(
+/// The labels of a branch, where the selector has this type; those that have values go behind the others of the case. The grammar has one at
+/// least: a branch without any breaks rule 9.
+pub fn branch_labels(
+    here: Checker,
+    sink: &mut FirstRefusal,
+    others: &mut Vec<Spot>,
+    of: Option<TypeId>,
+    elements: &[Element],
+) -> Result<Option<Vec<Label>>, NoMemory>
+    ensures reports { IfOk result (λ l. Reports (branch_labels (here_of here.entry.scope) of (elements_of elements.now)) sink.old sink.new (items_of l)) }
+    ensures notes { IfOk result (λ l. others.new.items ≡ others.old.items ++ spots (here_of here.entry.scope) of (elements_of elements.now)) }
+{
+    match elements.split_first() {
+        None => Ok(refuse(sink, 9, place_of_body(here))),
+        Some(_) => labels(here, sink, others, of, elements),
+    }
+}
+
+/// So many labels, in the order of the text.
+fn labels(
     here: Checker,
     sink: &mut FirstRefusal,
     others: &mut Vec<Spot>,

@@ -10,6 +10,7 @@ mod list;
 mod node;
 mod procedure;
 mod repeated;
+mod unplaced;
 mod variable;
 mod walk;
 

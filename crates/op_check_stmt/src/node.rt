@@ -2,14 +2,14 @@
 ghost use Rattle.std.specs.Prelude.{◌≡◌, IfOk, Some};
 ghost use Rattle.std.specs.Option.{option_map};
 ghost use Rattle.op_check_stmt.specs.Parts.{both_typed, bounds_of, branch_of, head_of, joined, statements_in};
-ghost use Rattle.op_check_stmt.specs.Statements.{case_statement, for_statement, try_all};
+ghost use Rattle.op_check_stmt.specs.Statements.{case_statement, for_statement};
 ghost use Rattle.op_core.specs.Expression.{expr_of};
-ghost use Rattle.op_core.specs.Nodes.{branches_of, handlers_of};
-ghost use Rattle.op_core.specs.Statement.{assign, block, case_of, for_to, if_else, if_then, repeat_until, stmt_of, stmts_of, try_finally, try_on_else, while_do};
+ghost use Rattle.op_core.specs.Nodes.{branches_of};
+ghost use Rattle.op_core.specs.Statement.{assign, block, case_of, for_to, if_else, if_then, repeat_until, stmt_of, stmts_of, try_finally, while_do};
 
 use crate::variable::Counter;
 use op_base::{NoMemory, Sequence};
-use op_core::{CoreBranch, CoreExpr, CoreHandler, CoreStmt, Label, VariableId};
+use op_core::{CoreBranch, CoreExpr, CoreStmt, Label, VariableId};
 use op_tree::Direction;
 use std::alloc::Global;
 
@@ -168,16 +168,6 @@ pub fn try_finally(parts: Option<(Vec<CoreStmt>, Vec<CoreStmt>)>) -> Option<Core
     }
 }
 
-/// With statements that take every exception.
-pub fn try_except(alloc: Global, parts: Option<(Vec<CoreStmt>, Vec<CoreStmt>)>) -> Option<CoreStmt>
-    ensures { option_map stmt_of result ≡ option_map (λ p. try_all (stmts_of p.0.items) (stmts_of p.1.items)) parts }
-{
-    match parts {
-        None => None,
-        Some((body, otherwise)) => Some(except_of(body, Vec::new(alloc), otherwise)),
-    }
-}
-
 pub fn case_of(alloc: Global, parts: Option<((CoreExpr, Vec<CoreBranch>), Vec<CoreStmt>)>) -> Typed
     ensures { IfOk result (λ s. option_map stmt_of s ≡ option_map (λ p. case_statement (head_of p.0) (stmts_of p.1.items)) parts) }
 {
@@ -232,16 +222,6 @@ fn finally_of(body: Vec<CoreStmt>, finalization: Vec<CoreStmt>) -> CoreStmt
     ensures { stmt_of result ≡ try_finally (stmts_of body.items) (stmts_of finalization.items) }
 {
     CoreStmt::TryFinally { body, finalization }
-}
-
-fn except_of(body: Vec<CoreStmt>, handlers: Vec<CoreHandler>, otherwise: Vec<CoreStmt>) -> CoreStmt
-    ensures { stmt_of result ≡ try_on_else (stmts_of body.items) (handlers_of handlers.items) (stmts_of otherwise.items) }
-{
-    CoreStmt::TryOnElse {
-        body,
-        handlers,
-        otherwise,
-    }
 }
 
 fn case_with(

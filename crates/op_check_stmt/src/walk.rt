@@ -7,18 +7,19 @@ ghost use Rattle.op_check_expr.specs.Words.{Reports};
 ghost use Rattle.op_check_stmt.specs.Cases.{selector};
 ghost use Rattle.op_check_stmt.specs.Parts.{bounds_of, branches_in, head_of, paired, statements_in};
 ghost use Rattle.op_check_stmt.specs.Rules.{StatementBreaks, StatementIs, StmtMeans};
-ghost use Rattle.op_check_stmt.specs.Statements.{StmtIs, all_spots, assign_means, bound_of, branches, condition, condition_means, first_class, head_means, statement, statements, stored, type_in};
+ghost use Rattle.op_check_stmt.specs.Statements.{StmtIs, all_spots, assign_means, bound_of, branches, condition, condition_means, first_class, head_means, place_of_handlers, statement, statements, stored, type_in};
 ghost use Rattle.op_core.specs.Expression.{expr_of as typed_of};
 ghost use Rattle.op_core.specs.Statement.{stmt_of as typed_statement};
 ghost use Rattle.op_tree.specs.Expression.{expr_of};
 ghost use Rattle.op_tree.specs.Lists.{branches_of, handlers_of};
 ghost use Rattle.op_tree.specs.Statement.{designator_of, stmt_of, stmts_of};
 
-use crate::case::{Spot, distinct, labels, selector};
+use crate::case::{Spot, branch_labels, distinct, selector};
 use crate::leaving::within;
 use crate::list::{collect, fitted};
 use crate::node::{self, Typed, joined, pair};
 use crate::procedure::call;
+use crate::unplaced::place_of_body;
 use crate::variable::{Counter, check_counter};
 use op_base::{NoMemory, Place};
 use op_check_expr::{Around, Checker, Scope, Value, as_type, leave_out, refuse, type_of};
@@ -119,11 +120,9 @@ pub fn statement(here: Checker, sink: &mut FirstRefusal, s: &Stmt) -> Typed
             let last = statements(inside(here, around.as_slice()), sink, finalization);
             Ok(node::try_finally(joined(body, last)?))
         }
-        Stmt::TryExcept { body, handler } => {
-            let around = within(here.alloc, here.scope.around, Around::Handler)?;
-            let body = statements(here, sink, body)?;
-            let handler = statements(inside(here, around.as_slice()), sink, handler);
-            Ok(node::try_except(here.alloc, joined(body, handler)?))
+        Stmt::TryExcept { body, .. } => {
+            statements(here, sink, body)?;
+            Ok(leave_out(sink, 44, place_of_body(here)))
         }
         Stmt::TryOn { body, handlers } => {
             let body = statements(here, sink, body)?;
@@ -132,20 +131,9 @@ pub fn statement(here: Checker, sink: &mut FirstRefusal, s: &Stmt) -> Typed
                 Some(place) => Ok(leave_out(sink, 44, place)),
             }
         }
-        Stmt::TryOnElse {
-            body,
-            handlers,
-            otherwise,
-        } => {
-            let around = within(here.alloc, here.scope.around, Around::Handler)?;
-            let body = statements(here, sink, body)?;
-            match first_class(handlers) {
-                None => {
-                    let last = statements(inside(here, around.as_slice()), sink, otherwise);
-                    Ok(node::try_except(here.alloc, joined(body, last)?))
-                }
-                Some(place) => Ok(leave_out(sink, 44, place)),
-            }
+        Stmt::TryOnElse { body, handlers, .. } => {
+            statements(here, sink, body)?;
+            Ok(leave_out(sink, 44, place_of_handlers(here, handlers)))
         }
         Stmt::Raise { position, .. } | Stmt::Reraise { position } => {
             Ok(leave_out(sink, 44, position.place))
@@ -210,7 +198,7 @@ fn branches(
 {
     let mut typed = Some(Vec::new(here.alloc));
     for branch in list {
-        let labels = labels(here, sink, spots, of, &branch.labels)?;
+        let labels = branch_labels(here, sink, spots, of, &branch.labels)?;
         let parts = joined(labels, statement(here, sink, &branch.body))?;
         collect(&mut typed, node::branch(parts))?;
     }
@@ -247,6 +235,16 @@ fn type_in(e: &Option<CoreExpr>) -> Option<TypeId>
     match e {
         None => None,
         Some(e) => Some(type_of(e)),
+    }
+}
+
+/// Where handlers are left out: at the first one's class, if there is one.
+fn place_of_handlers(here: Checker, handlers: &[Handler]) -> Place
+    ensures { result ≡ place_of_handlers (here_of here.entry.scope) (first_class (handlers_of handlers.now)) }
+{
+    match first_class(handlers) {
+        None => place_of_body(here),
+        Some(place) => place,
     }
 }
 

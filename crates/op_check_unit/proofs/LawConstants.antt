@@ -4,7 +4,8 @@ use Rattle.op_base.specs.declared.rule.Refusal.{Refusal}
 use Rattle.op_check_expr.proofs.Law.{value_of_law}
 use Rattle.op_check_expr.specs.Rules.{ValueIs}
 use Rattle.op_check_expr.specs.Values.{Value}
-use Rattle.op_check_unit.specs.RulesTypes.{NeededBreaks, NeededIs, NoConstantBreaks}
+use Rattle.op_check_unit.proofs.LawSteps.{agrees_feature_fine}
+use Rattle.op_check_unit.specs.RulesTypes.{ConstantIs, NeededBreaks, NeededIs, NoConstantBreaks, ValueNeededBreaks}
 use Rattle.op_check_unit.specs.Types.{constant_part, needed, no_constant, scope_outside}
 use Rattle.op_core.proofs.Agreeing.{agrees_as, agrees_behind, agrees_refused}
 use Rattle.op_core.specs.Faults.{Checked}
@@ -42,7 +43,10 @@ no_constant_law : (core : Core) (names : List Named) (e : Expression) → Agrees
 no_constant_law core names e =
     agrees_as (agrees_behind (value_of_law (scope_outside core names) None e) (λ v _. agrees_refused 30 (start_of e))) (without_value (ValueIs (scope_outside core names) None e)) (λ r. (λ b. b, λ b. b))
 
+value_needed_law : (core : Core) (names : List Named) (e : Expression) → Agrees (needed (no_constant core names e) (constant core names e)) (ConstantIs core names e) (ValueNeededBreaks core names e)
+value_needed_law core names e =
+    needed_by (no_constant core names e) (constant core names e) (IsConstant core names e) (Evaluates core names e) (ConstantBreaks core names e) (NoConstantBreaks core names e) (no_constant_law core names e) (evaluates core names e).part
+
 pub needed_law : (core : Core) (names : List Named) (e : Expression) → Agrees (constant_part core names e) (NeededIs core names e) (NeededBreaks core names e)
 unfolding constant_part
-needed_law core names e =
-    needed_by (no_constant core names e) (constant core names e) (IsConstant core names e) (Evaluates core names e) (ConstantBreaks core names e) (NoConstantBreaks core names e) (no_constant_law core names e) (evaluates core names e).part
+needed_law core names e = agrees_behind (value_needed_law core names e) (λ c _. agrees_feature_fine)

@@ -2,7 +2,7 @@
 use Rattle.std.proofs.Common.{Bool, true, false, List, [], ◌∷◌, Option}
 use Rattle.op_check_unit.proofs.LawNames.{named_law}
 use Rattle.op_check_unit.proofs.LawRecords.{fields_law, record_law}
-use Rattle.op_check_unit.proofs.LawSteps.{from_behind, from_followed, from_gives, from_row, from_whether, from_always_whether, lists_first, lists_second}
+use Rattle.op_check_unit.proofs.LawSteps.{agrees_left_out, from_behind, from_followed, from_gives, from_row, from_whether, from_always_whether, lists_first, lists_second}
 use Rattle.op_check_unit.proofs.LawTypes.{array_over_law, index_law, set_law, subrange_law, values_law}
 use Rattle.op_check_unit.specs.Denoting.{denoted, field_lists, indices}
 use Rattle.op_check_unit.specs.Records.{no_rows, record_of, some_fields}
@@ -21,7 +21,7 @@ use Rattle.op_tree.specs.declared.position.Name.{Name}
 mutual
   pub denoted_law : (own : Option Name) (inside : Bool) (d : Denoter) (h : Here) → AgreesFrom (denoted own inside d h) (DenoterIs own inside d h) (DenoterBreaks own inside d h)
   denoted_law own inside (named q) h = named_law h.core h.names own inside q
-  denoted_law own inside (string p) h = from_gives
+  denoted_law own inside (string p) h = agrees_left_out
   denoted_law own inside (subrange first last) h = from_row _ _ h (subrange_law h.core h.names first last)
   denoted_law own inside (enumeration p ns) h = (holds_some (number_of_next h.core), lists_second (lists_first (values_law (number_of_next h.core) 0 ns (with_enumeration ns h))))
   denoted_law own inside (set p base) h =

@@ -4,12 +4,12 @@ use Rattle.op_base.specs.declared.place.Place.{Place}
 use Rattle.op_base.specs.declared.rule.Refusal.{Refusal}
 use Rattle.op_check_unit.proofs.LawConstants.{needed_law}
 use Rattle.op_check_unit.proofs.LawNames.{within_law}
-use Rattle.op_check_unit.proofs.LawSteps.{from_followed, from_none, from_one, from_where_fine, from_whether, holds_whether, lists_also, lists_whether}
+use Rattle.op_check_unit.proofs.LawSteps.{agrees_left_out, from_followed, from_none, from_one, from_where_fine, from_whether, holds_whether, lists_also, lists_whether}
 use Rattle.op_check_unit.specs.RulesSteps.{AgreesFrom, Whether}
 use Rattle.op_check_unit.specs.RulesTypes.{ArrayBreaks, ArrayIs, ArraysAre, ArraysBreak, IndexBreaks, IndexIs, LowerBoundBreaks, LowerBoundIs, OneArrayBreaks, OneArrayIs, SetBreaks, SetIs, SizedBreaks, SizedIs, SubrangeBreaks, SubrangeIs, ValuesBreak, has_size}
 use Rattle.op_check_unit.specs.Steps.{Here}
 use Rattle.op_check_unit.specs.Types.{array_of, arrays, in_core, index_over, lower_of, number_of_next, one_array, set_over, sized_row, subrange_of, value_of, values}
-use Rattle.op_core.proofs.Agreeing.{agrees_after, agrees_behind, agrees_entry, agrees_entry_fine, agrees_made, agrees_test, agrees_test_fine, agrees_with, holds_entry, lists_none}
+use Rattle.op_core.proofs.Agreeing.{agrees_after, agrees_behind, agrees_entry, agrees_entry_fine, agrees_test, agrees_test_fine, agrees_with, holds_entry, lists_none}
 use Rattle.op_core.specs.Faults.{Faults, both}
 use Rattle.op_core.specs.Relations.{Agrees, Either, Holds, Lists}
 use Rattle.op_core.specs.declared.ids.TypeId.{TypeId}
@@ -54,8 +54,7 @@ arrays_law place element [] h = (holds_entry element, lists_none)
 arrays_law place element (index ∷ is) h = from_followed (one_array_law place index element h) (λ holds. from_whether _ _ holds (arrays_law place (one_array place index element h).typed is (one_array place index element h).here))
 
 pub array_law : (place : Place) (is : List (Option TypeId)) (element : Option TypeId) (h : Here) → AgreesFrom (array_of place is element h) (ArrayIs place is element h) (ArrayBreaks place is element h)
-array_law place [] None h = agrees_made (holds_entry None)
-array_law place [] (Some e) h = agrees_made (holds_entry (Some e))
+array_law place [] element h = agrees_left_out
 array_law place (index ∷ is) element h = arrays_law place element (index ∷ is) h
 
 -- an array of an element that may have no type

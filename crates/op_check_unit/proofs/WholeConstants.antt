@@ -4,6 +4,7 @@ use Rattle.std.proofs.lemmas.Bool.{ltb-false, ltb-true}
 use Rattle.std.proofs.lemmas.Option.{slice_get-get_or, slice_get_within}
 use Rattle.std.specs.List.{All}
 use Rattle.op_base.specs.declared.place.Place.{Place}
+use Rattle.op_check_expr.proofs.LeafWhole.{whole_feature}
 use Rattle.op_check_expr.proofs.Trees.{retyped_fits}
 use Rattle.op_check_expr.proofs.Whole.{value_of_whole}
 use Rattle.op_check_expr.specs.Settled.{IsSettled}
@@ -11,7 +12,7 @@ use Rattle.op_check_expr.specs.Values.{retyped}
 use Rattle.op_check_stmt.specs.Parts.{both_typed, of_two}
 use Rattle.op_check_unit.specs.Initials.{by_brackets, by_elements, by_fields, counted, elements, fields, first, first_designated, first_expression, of_type, one_value, shape_by, shape_of, single, starts, unless_wrong, wrong_count}
 use Rattle.op_check_unit.specs.Naming.{is_name}
-use Rattle.op_check_unit.specs.Types.{constant_part, needed, no_constant, scope_outside}
+use Rattle.op_check_unit.specs.Types.{constant_part, feature_of_constant, needed, no_constant, scope_outside}
 use Rattle.op_check_unit.specs.declared.initial.Shape.{Shape}
 use Rattle.op_core.proofs.Completing.{whole_behind, whole_changed_so, whole_entered, whole_followed, whole_gives, whole_if, whole_refused, whole_tested}
 use Rattle.op_core.specs.Faults.{Checked, behind, front}
@@ -42,9 +43,8 @@ use Rattle.op_types.specs.declared.constant.Constant.{Constant}
 
 -- ---- constants
 
-pub constant_whole : (core : Core) (sees : Sees) (names : List Named) → IsFounded core → AllStand core sees names → (e : Expression) → Whole (IsSoundConstant core) (constant_part core names e)
-unfolding constant_part
-constant_whole core sees names f all e = go (constant core names e) refl
+needed_whole : (core : Core) (sees : Sees) (names : List Named) → IsFounded core → AllStand core sees names → (e : Expression) → Whole (IsSoundConstant core) (needed (no_constant core names e) (constant core names e))
+needed_whole core sees names f all e = go (constant core names e) refl
   where
     there : IsSettled sees (scope_outside core names)
     there = record { founded = f; names = all; own = λ id r e. absurd (cc) }
@@ -52,6 +52,10 @@ constant_whole core sees names f all e = go (constant core names e) refl
     go : (o : Option (Checked Constant)) → constant core names e ≡ o → Whole (IsSoundConstant core) (needed (no_constant core names e) o)
     go None h = whole_behind (value_of_whole there None e) (λ v k. whole_refused)
     go (Some c) h = constant_sound sees names f all e c h
+
+pub constant_whole : (core : Core) (sees : Sees) (names : List Named) → IsFounded core → AllStand core sees names → (e : Expression) → Whole (IsSoundConstant core) (constant_part core names e)
+unfolding constant_part
+constant_whole core sees names f all e = whole_behind (needed_whole core sees names f all e) (λ c h. whole_feature (start_of e) (feature_of_constant c.value) (whole_gives h))
 
 -- ---- single values
 

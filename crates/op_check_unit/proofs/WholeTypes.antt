@@ -1,5 +1,5 @@
 -- Types that are written denote one or break a rule, and leave a settled state.
-use Rattle.std.proofs.Common.{◌≡◌, inl, inr, ◌⊎◌, ℕ, suc, ◌+◌, ◌<◌, ◌≤◌, ℤ, ◌≤ℤ◌, pos, int_le, max, Bool, true, false, ◌||◌, not, List, [], ◌∷◌, ◌++◌, All, IfSome, IsSomeAnd, append-nil, append_assoc, is_some, length, length-append, take, Option, Some, None, refl, ap, ap₂, sym, subst, ◌∙◌, arith, leb-false, leb-true, ltb-true, nat_le, slice_get, nat_lt, if◌then◌else◌}
+use Rattle.std.proofs.Common.{◌≡◌, inl, inr, ◌⊎◌, ℕ, suc, ◌+◌, ◌<◌, ◌≤◌, ℤ, ◌≤ℤ◌, pos, int_le, max, Bool, true, false, ◌||◌, ◌&&◌, not, List, [], ◌∷◌, ◌++◌, All, IfSome, IsSomeAnd, append-nil, append_assoc, is_some, length, length-append, take, Option, Some, None, refl, ap, ap₂, sym, subst, ◌∙◌, arith, leb-false, leb-true, ltb-true, nat_le, slice_get, nat_lt, if◌then◌else◌}
 use Rattle.std.proofs.lemmas.List.{drop-append-le, drop_all, take_all}
 use Rattle.std.proofs.lemmas.Int.{ints}
 use Rattle.std.proofs.lemmas.List.Elements.{All-cons, All-nil, All-push, All-weaker}
@@ -11,7 +11,7 @@ use Rattle.op_check_expr.specs.Naming.{feature_of_type}
 use Rattle.op_check_unit.proofs.Tables.{plain_size, subrange_row, tabled_fields, tabled_row}
 use Rattle.op_check_unit.proofs.WholeConstants.{constant_whole}
 use Rattle.op_check_unit.proofs.WholeGrowth.{some_is}
-use Rattle.op_check_unit.proofs.WholeSteps.{Moves, filled_so, founded, from_after, from_behind, from_by, from_checked, from_gives, from_so, from_then, from_where, later_itself, lead_behind, lead_followed, leads, leads_on, same_variables, settled_named, settled_typed, wider}
+use Rattle.op_check_unit.proofs.WholeSteps.{Moves, filled_so, founded, from_after, from_behind, from_checked, from_gives, from_so, from_then, from_where, later_itself, lead_behind, lead_followed, leads, leads_on, same_variables, settled_named, settled_typed, wider}
 use Rattle.op_check_unit.specs.Complete.{From, Later, Leads, Settled, Stage, faulty, scope, settled}
 use Rattle.op_check_unit.specs.Denoting.{denoted, field_lists, indices}
 use Rattle.op_check_unit.specs.Naming.{declared, entered_name, has_room, is_ahead, is_declared, is_name, most_names, own_type, told_by, type_alone, type_meant, type_named, type_of_unit, qualified, with_declared, with_name}
@@ -36,7 +36,7 @@ use Rattle.op_core.specs.declared.ids.Run.{Run}
 use Rattle.op_core.specs.declared.ids.TypeId.{TypeId}
 use Rattle.op_core.specs.declared.program.Core.{Core}
 use Rattle.op_core.specs.declared.types.CoreType.{CoreType}
-use Rattle.op_core.specs.declared.types.CoreType.TheVariants.{Array, DynamicArray, Enumeration, Record}
+use Rattle.op_core.specs.declared.types.CoreType.TheVariants.{Array, Enumeration, Record}
 use Rattle.op_core.specs.declared.types.Extent.{Extent}
 use Rattle.op_core.specs.declared.types.Field.{Field}
 use Rattle.op_tree.specs.Denoter.{Denoter, named, string, subrange, enumeration, set, array, record_, Denoters, no_denoters, denoters, FieldLists, no_fields, fields}
@@ -44,7 +44,7 @@ use Rattle.op_tree.specs.Expression.{Expression}
 use Rattle.op_tree.specs.declared.position.Name.{Name}
 use Rattle.op_tree.specs.declared.position.QualifiedName.{QualifiedName}
 use Rattle.op_types.proofs.Fitting.{number_within}
-use Rattle.op_types.proofs.TypeFacts.{same_kinds, stands_for, string_kind}
+use Rattle.op_types.proofs.TypeFacts.{same_kinds, stands_for}
 use Rattle.op_types.specs.Constants.{joined_name, start_of}
 use Rattle.op_types.specs.Entering.{entered, rows_of, sets_of, with_type, with_types}
 use Rattle.op_types.specs.Names.{Named, lower, meaning_of}
@@ -175,10 +175,14 @@ record NewRow (core : Core) (t : CoreType) : Type 0 where
 row_settled : {s : Stage} (t : CoreType) (h : Here) → Settled s h → NewRow h.core t → From (Denotes s h) (row t h)
 row_settled t h x r = from_gives (row_denotes h t x (tabled_row t x.tables r.row r.below (plain_size h.core t r.plain x.tables.extents)))
 
+first_holds : (a b : Bool) → (a && b) ≡ true → a ≡ true
+first_holds true b e = refl
+first_holds false b e = absurd (cc)
+
 sized_settled : {s : Stage} (place : Place) (t : CoreType) (h : Here) → Settled s h → IsTypeRow h.core (length h.core.types) t → IsBelow (length h.core.types) t → From (Denotes s h) (sized_row place t h)
 sized_settled place t h x r b =
-    from_where (is_small (entered h.core t) (number_of_next h.core)) 67 place (in_core (entered h.core t) h)
-    (λ e. from_gives (row_denotes h t x (tabled_row t x.tables r b (leb-true (size_of (entered h.core t) (number_of_next h.core)) most_bytes e))))
+    from_where (is_small (entered h.core t) (number_of_next h.core) t) 67 place (in_core (entered h.core t) h)
+    (λ e. from_gives (row_denotes h t x (tabled_row t x.tables r b (leb-true (size_of (entered h.core t) (number_of_next h.core)) most_bytes (first_holds _ _ e)))))
 
 -- ---- subranges
 
@@ -323,7 +327,7 @@ arrays_settled place (i ∷ is) h f all x =
     lead_followed {f = λ t h. arrays place t is h} (one_array_settled place h all.0 f x) (λ t j y l g. leads_on l (arrays_settled place is j g (indices_on is l all.1) y))
 
 array_settled : {s : Stage} (place : Place) {e : Option TypeId} (is : List (Option TypeId)) (h : Here) → Filled (λ of. IsType of h.core) e → AreIndices is h.core → Settled s h → From (Denotes s h) (array_of place is e h)
-array_settled place [] h f all x = from_by (λ t h. row (DynamicArray t) h) f (λ t q. row_settled (DynamicArray t) h x (record { row = q; below = q; plain = tt }))
+array_settled {s} place [] h f all x = from_checked {R = Denotes s h} whole_rule (λ t q. leads x later_itself q)
 array_settled place (i ∷ is) h f all x = arrays_settled place (i ∷ is) h f all x
 
 -- ---- records
@@ -375,7 +379,7 @@ record_settled {s} place r h a x = from_if r.whole (λ e. leads_on later (sized_
 mutual
   pub denoted_settled : {s : Stage} (own : Option Name) (inside : Bool) (d : Denoter) (h : Here) → Settled s h → From (Denotes s h) (denoted own inside d h)
   denoted_settled {s} own inside (named q) h x = from_checked (type_named_whole h.core (scope s.around.apart s.inside h.core) h.names x.names own inside q) (λ of t. leads x later_itself t)
-  denoted_settled own inside (string p) h x = from_gives (leads x later_itself (slice_get_within h.core.types 7 _ (string_kind (founded x))))
+  denoted_settled {s} own inside (string p) h x = from_checked {R = Denotes s h} whole_rule (λ t q. leads x later_itself q)
   denoted_settled {s} own inside (subrange first last) h x = from_behind row (from_checked {R = λ t i. (i ≡ h) × NewRow h.core t} (subrange_whole h x first last) (λ t r. (refl, r))) (λ t i r. subst (λ i. From (Denotes s h) (row t i)) (sym r.0) (row_settled t h x r.1))
   denoted_settled own inside (enumeration p ns) h x = enumerated_settled ns h x
   denoted_settled {s} own inside (set p base) h x =

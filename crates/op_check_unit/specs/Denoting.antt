@@ -3,19 +3,18 @@ use Rattle.std.specs.Prelude.{Bool, true, false, List, [], ◌∷◌, Option}
 use Rattle.op_check_unit.specs.Naming.{type_named}
 use Rattle.op_check_unit.specs.Records.{no_rows, some_fields, record_of}
 use Rattle.op_check_unit.specs.Steps.{Here, Given, gives, checked, followed, by}
-use Rattle.op_check_unit.specs.Types.{row, start_of_denoter, subrange_of, enumerated, set_over, index_over, array_of}
+use Rattle.op_check_unit.specs.Types.{row, start_of_denoter, string_means, subrange_of, enumerated, set_over, index_over, array_of}
 use Rattle.op_check_unit.specs.declared.record.FieldRows.{FieldRows}
 use Rattle.op_core.specs.Faults.{with_part}
 use Rattle.op_core.specs.declared.ids.TypeId.{TypeId}
 use Rattle.op_tree.specs.Denoter.{Denoter, named, string, subrange, enumeration, set, array, record_, Denoters, no_denoters, denoters, FieldLists, no_fields, fields}
 use Rattle.op_tree.specs.declared.position.Name.{Name}
-use Rattle.op_types.specs.Operators as table
 
 -- The type may be written in the declaration of a type of a name, and there within a record or an array.
 abbrev mutual
   pub denoted : Option Name → Bool → Denoter → Here → Given TypeId
   denoted own inside (named q) h = checked h (type_named h.core h.names own inside q)
-  denoted own inside (string p) h = gives table.string h
+  denoted own inside (string p) h = checked h (string_means p)
   denoted own inside (subrange first last) h = followed (checked h (subrange_of h.core h.names first last)) (by row)
   denoted own inside (enumeration p ns) h = enumerated ns h
   denoted own inside (set p base) h = followed (denoted own false base h) (λ t h. followed (checked h (with_part (set_over h.core (start_of_denoter base)) t)) (by row))

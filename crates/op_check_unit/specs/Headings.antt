@@ -8,7 +8,7 @@ use Rattle.op_check_unit.specs.Denoting.{denoted}
 use Rattle.op_check_unit.specs.Naming.{is_name, type_named}
 use Rattle.op_check_unit.specs.Records.{seen_too, unchanged}
 use Rattle.op_check_unit.specs.Steps.{Here, Given, gives, silent, checked, followed, by, gather}
-use Rattle.op_check_unit.specs.Types.{in_core}
+use Rattle.op_check_unit.specs.Types.{in_core, string_means}
 use Rattle.op_check_unit.specs.declared.heading.Head.{Head}
 use Rattle.op_check_unit.specs.declared.heading.ParameterRows.{ParameterRows}
 use Rattle.op_core.specs.Faults.{Checked, by_test, fine}
@@ -90,7 +90,7 @@ start_of_type (String p) = p.place
 
 abbrev type_by : Bool → ParameterType → Here → Given TypeId
 type_by true t h = checked h (left_out 41 (start_of_type t))
-type_by false (String p) h = checked h (left_out 40 p.place)
+type_by false (String p) h = checked h (string_means p)
 type_by false (Named q) h = checked h (type_named h.core h.names None false q)
 
 -- open arrays and strings are left out

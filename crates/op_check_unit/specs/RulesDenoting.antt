@@ -5,24 +5,23 @@ use Rattle.op_check_unit.specs.Denoting.{denoted, field_lists, indices}
 use Rattle.op_check_unit.specs.Records.{no_rows}
 use Rattle.op_check_unit.specs.RulesNames.{TypeNamedBreaks, TypeNamedIs}
 use Rattle.op_check_unit.specs.RulesRecords.{FieldsBreak, RecordBreaks, RecordIs, fields_added}
-use Rattle.op_check_unit.specs.RulesSteps.{Whether, behind}
+use Rattle.op_check_unit.specs.RulesSteps.{LeftOut, Whether, behind}
 use Rattle.op_check_unit.specs.RulesTypes.{ArrayBreaks, ArrayIs, IndexBreaks, IndexIs, SetBreaks, SetIs, SubrangeBreaks, SubrangeIs, ValuesBreak}
 use Rattle.op_check_unit.specs.Steps.{Here}
-use Rattle.op_check_unit.specs.Types.{enumeration_of, in_core, number_of_next, start_of_denoter}
+use Rattle.op_check_unit.specs.Types.{enumeration_of, feature_of_string, in_core, number_of_next, start_of_denoter}
 use Rattle.op_check_unit.specs.declared.record.FieldRows.{FieldRows}
 use Rattle.op_core.specs.Relations.{Either, Never, Only, Through}
 use Rattle.op_core.specs.declared.ids.TypeId.{TypeId}
 use Rattle.op_tree.specs.Denoter.{Denoter, named, string, subrange, enumeration, set, array, record_, Denoters, no_denoters, denoters, FieldLists, no_fields, fields}
 use Rattle.op_tree.specs.declared.position.Name.{Name}
 use Rattle.op_types.specs.Entering.{entered}
-use Rattle.op_types.specs.Operators as table
 
 -- A type, which may be written in the declaration of a type of a name, and there within a record or an array. What is not named is a
 -- new row of the table of types.
 abbrev mutual
   pub DenoterIs : Option Name → Bool → Denoter → Here → TypeId → Type 0
   DenoterIs own inside (named q) h = TypeNamedIs h.core h.names own inside q
-  DenoterIs own inside (string p) h = Only table.string
+  DenoterIs own inside (string p) h = Never
   DenoterIs own inside (subrange first last) h = Through (SubrangeIs h.core h.names first last) (λ t. Only (number_of_next h.core))
   DenoterIs own inside (enumeration p ns) h = Only (number_of_next h.core)
   DenoterIs own inside (set p base) h =
@@ -53,7 +52,7 @@ with_enumeration ns h = in_core (entered h.core (enumeration_of ns)) h
 abbrev mutual
   pub DenoterBreaks : Option Name → Bool → Denoter → Here → Refusal → Type 0
   DenoterBreaks own inside (named q) h = TypeNamedBreaks h.core h.names own inside q
-  DenoterBreaks own inside (string p) h = Never
+  DenoterBreaks own inside (string p) h = LeftOut (feature_of_string p) p.place
   DenoterBreaks own inside (subrange first last) h = SubrangeBreaks h.core h.names first last
   DenoterBreaks own inside (enumeration p ns) h = ValuesBreak (number_of_next h.core) 0 ns (with_enumeration ns h)
   DenoterBreaks own inside (set p base) h =

@@ -7,6 +7,7 @@ use Rattle.op_check_unit.specs.RulesDenoting.{DenoterBreaks, DenoterIs}
 use Rattle.op_check_unit.specs.RulesNames.{TypeNamedBreaks, TypeNamedIs}
 use Rattle.op_check_unit.specs.RulesSteps.{LeftOut, When, Whether, behind}
 use Rattle.op_check_unit.specs.Steps.{Here}
+use Rattle.op_check_unit.specs.Types.{feature_of_string}
 use Rattle.op_check_unit.specs.declared.heading.Head.{Head}
 use Rattle.op_check_unit.specs.declared.heading.ParameterRows.{ParameterRows}
 use Rattle.op_core.specs.Relations.{At, Either, Fails, Never, Only, Through, Where}
@@ -64,7 +65,7 @@ TypeBy false (Named q) h = TypeNamedIs h.core h.names None false q
 
 abbrev pub TypeByBreaks : Bool → ParameterType → Here → Refusal → Type 0
 TypeByBreaks true t h = LeftOut 41 (start_of_type t)
-TypeByBreaks false (String p) h = LeftOut 40 p.place
+TypeByBreaks false (String p) h = LeftOut (feature_of_string p) p.place
 TypeByBreaks false (Named q) h = TypeNamedBreaks h.core h.names None false q
 
 -- open arrays and strings are left out

@@ -5,9 +5,9 @@ use Rattle.op_base.specs.declared.rule.Refusal.{Refusal}
 use Rattle.op_check_expr.specs.Rules.{ValueBreaks, ValueIs}
 use Rattle.op_check_unit.specs.Naming.{declared_within}
 use Rattle.op_check_unit.specs.RulesNames.{NameWithinBreaks}
-use Rattle.op_check_unit.specs.RulesSteps.{Whether, behind}
+use Rattle.op_check_unit.specs.RulesSteps.{LeftOut, Shows, Whether, behind}
 use Rattle.op_check_unit.specs.Steps.{Here}
-use Rattle.op_check_unit.specs.Types.{is_kind, is_small, is_within_set, number_of_next, one_array, scope_outside, value_of, whole_type}
+use Rattle.op_check_unit.specs.Types.{feature_of_constant, is_kind, is_small, is_within_set, number_of_next, one_array, scope_outside, value_of, whole_type}
 use Rattle.op_core.specs.Relations.{At, Either, Entry, Fails, Lacks, Never, Only, Through, Where}
 use Rattle.op_core.specs.Sizes.{range_of, type_at}
 use Rattle.op_core.specs.declared.ids.TypeId.{TypeId}
@@ -28,8 +28,12 @@ use Rattle.op_types.specs.declared.sort.OrdinalKind.{OrdinalKind}
 -- ---- constants
 
 -- the value of a constant expression
+abbrev pub ConstantIs : Core → List Named → Expression → Constant → Type 0
+ConstantIs core names e = Where (IsConstant core names e) (Evaluates core names e)
+
+-- which is not `nil`
 abbrev pub NeededIs : Core → List Named → Expression → Constant → Type 0
-NeededIs core names e = Where (IsConstant core names e) (Evaluates core names e)
+NeededIs core names e = Through (ConstantIs core names e) (λ c. Where (feature_of_constant c.value ≡ None) (Only c))
 
 -- it is no constant expression: it breaks a rule, or it has a value
 abbrev pub NoConstantBreaks : Core → List Named → Expression → Refusal → Type 0
@@ -37,10 +41,15 @@ NoConstantBreaks core names e =
     Either (ValueBreaks (scope_outside core names) None e) (Through (ValueIs (scope_outside core names) None e) (λ v. At 30 (start_of e)))
 
 -- what is needed is no constant expression, or it breaks a rule
-abbrev pub NeededBreaks : Core → List Named → Expression → Refusal → Type 0
-NeededBreaks core names e =
+abbrev pub ValueNeededBreaks : Core → List Named → Expression → Refusal → Type 0
+ValueNeededBreaks core names e =
     Either (Where (IsConstant core names e → ⊥) (NoConstantBreaks core names e))
     (Where (IsConstant core names e) (ConstantBreaks core names e))
+
+-- or it is `nil`, which is left out
+abbrev pub NeededBreaks : Core → List Named → Expression → Refusal → Type 0
+NeededBreaks core names e =
+    Either (ValueNeededBreaks core names e) (Through (ConstantIs core names e) (λ c. Shows (start_of e) (feature_of_constant c.value)))
 
 -- ---- subranges
 
@@ -105,9 +114,9 @@ IndexIs core of = Where (is_some (range_at core of) ≡ true) (Only of)
 abbrev pub IndexBreaks : Core → Place → TypeId → Refusal → Type 0
 IndexBreaks core place of = Fails (is_some (range_at core of)) 23 place
 
--- the type would stand in the next row, and its values would have no more bytes than any may have
+-- the type would stand in the next row, and its values would have no more bytes and elements than any may have
 abbrev pub has_size : CoreType → Here → Bool
-has_size t h = is_small (entered h.core t) (number_of_next h.core)
+has_size t h = is_small (entered h.core t) (number_of_next h.core) t
 
 abbrev pub SizedIs : CoreType → Here → TypeId → Type 0
 SizedIs t h = Where (has_size t h ≡ true) (Only (number_of_next h.core))
@@ -133,11 +142,11 @@ ArraysBreak place element (index ∷ is) h =
     Either (OneArrayBreaks place index element h)
     (Whether (OneArrayIs index element h) (λ t. ArraysBreak place t is (behind (one_array place index element h))))
 
--- without indices it is dynamic
+-- without indices it is dynamic, which is left out
 abbrev pub ArrayIs : Place → List (Option TypeId) → Option TypeId → Here → TypeId → Type 0
-ArrayIs place [] element h = Through (Entry element) (λ e. Only (number_of_next h.core))
+ArrayIs place [] element h = Never
 ArrayIs place (index ∷ is) element h = ArraysAre place element (index ∷ is) h
 
 abbrev pub ArrayBreaks : Place → List (Option TypeId) → Option TypeId → Here → Refusal → Type 0
-ArrayBreaks place [] element h = Never
+ArrayBreaks place [] element h = LeftOut 41 place
 ArrayBreaks place (index ∷ is) element h = ArraysBreak place element (index ∷ is) h

@@ -1,21 +1,23 @@
 -- What types denote: rows of the table of types (Free Pascal Reference Guide, "Types").
-use Rattle.std.specs.Prelude.{ℕ, ◌+◌, ℤ, pos, int_le, max, nat_le, Bool, false, ◌&&◌, List, [], ◌∷◌, length, is_some, Option, Some, None}
+use Rattle.std.specs.Prelude.{ℕ, ◌+◌, ◌^◌, ℤ, pos, int_le, max, nat_le, nat_lt, Bool, true, false, ◌&&◌, List, [], ◌∷◌, length, is_some, Option, Some, None, if◌then◌else◌}
 use Rattle.op_base.specs.declared.place.Place.{Place}
 use Rattle.op_check_expr.specs.Meanings.{value_of as value_meant}
 use Rattle.op_check_expr.specs.Scopes.{Here as Scope}
-use Rattle.op_check_expr.specs.Words.{followed as followed_by}
+use Rattle.op_check_expr.specs.Words.{by_feature, followed as followed_by, left_out}
 use Rattle.op_check_unit.specs.Naming.{declared_within}
-use Rattle.op_check_unit.specs.Steps.{Here, Given, gives, silent, where_true, followed, by}
+use Rattle.op_check_unit.specs.Steps.{Here, Given, checked, gives, silent, where_true, followed, by}
 use Rattle.op_core.specs.Faults.{Checked, after, both, by_entry, by_test, fine, none, refused, with_part}
-use Rattle.op_core.specs.Sizes.{extent_of, range_of, type_at}
-use Rattle.op_core.specs.declared.constant.Const.TheVariants.{Ordinal}
+use Rattle.op_core.specs.Sizes.{extent_of, range_of, type_at, values_of}
+use Rattle.op_core.specs.declared.constant.Const.{Const}
+use Rattle.op_core.specs.declared.constant.Const.TheVariants.{Ordinal, Nil}
 use Rattle.op_core.specs.declared.ids.TypeId.{TypeId}
 use Rattle.op_core.specs.declared.program.Core.{Core}
 use Rattle.op_core.specs.declared.types.CoreType.{CoreType}
-use Rattle.op_core.specs.declared.types.CoreType.TheVariants.{Enumeration, Subrange, Set, Array, DynamicArray}
+use Rattle.op_core.specs.declared.types.CoreType.TheVariants.{Enumeration, Subrange, Set, Array}
 use Rattle.op_tree.specs.Denoter.{Denoter, named, string, subrange, enumeration, set, array, record_}
 use Rattle.op_tree.specs.Expression.{Expression}
 use Rattle.op_tree.specs.declared.position.Name.{Name}
+use Rattle.op_tree.specs.declared.position.Position.{Position}
 use Rattle.op_types.specs.Constants.{constant, made, nodes, start_of}
 use Rattle.op_types.specs.Entering.{entered}
 use Rattle.op_types.specs.Names.{Named}
@@ -44,6 +46,16 @@ start_of_denoter (set p base) = p.place
 start_of_denoter (array p packed indices element) = p.place
 start_of_denoter (record_ p packed lists) = p.place
 
+-- ---- strings
+
+-- where long strings are off at the word `string`, it is the short string
+abbrev pub feature_of_string : Position → ℕ
+feature_of_string p = if p.switches.h then 40 else 3
+
+-- `string` as a type is left out
+abbrev pub string_means : Position → Checked TypeId
+string_means p = left_out (feature_of_string p) p.place
+
 -- ---- rows
 
 -- the number of the next row of the table of types
@@ -61,15 +73,20 @@ row t h = gives (number_of_next h.core) (in_core (entered h.core t) h)
 abbrev pub most_bytes : ℕ
 most_bytes = 1048576
 
-abbrev pub is_small : Core → TypeId → Bool
-is_small core of = nat_le (extent_of core of).size most_bytes
+-- the number of an array's elements is an Integer, also where these have no bytes
+abbrev pub has_few_elements : Core → CoreType → Bool
+has_few_elements core (Array index element) = nat_lt (values_of (range_of (type_at core index))) (2 ^ 31)
+has_few_elements core t = true
+
+abbrev pub is_small : Core → TypeId → CoreType → Bool
+is_small core of t = nat_le (extent_of core of).size most_bytes && has_few_elements core t
 
 -- the same of a type that may be too large
 abbrev pub sized_row : Place → CoreType → Here → Given TypeId
 sized_row place t h =
     let core = entered h.core t in
     let of = number_of_next h.core in
-    where_true (is_small core of) 67 place (in_core core h) (gives of (in_core core h))
+    where_true (is_small core of t) 67 place (in_core core h) (gives of (in_core core h))
 
 -- ---- constants
 
@@ -85,9 +102,18 @@ abbrev pub needed : Checked Constant → Option (Checked Constant) → Checked C
 needed others None = others
 needed others (Some c) = c
 
+-- the feature that a constant shows: `nil` is left out
+abbrev pub feature_of_constant : Const → Option ℕ
+feature_of_constant Nil = Some 41
+feature_of_constant v = None
+
+-- a constant that begins at a place, unless it shows a feature that is left out
+abbrev pub built : Place → Constant → Checked Constant
+built place c = by_feature place (feature_of_constant c.value) (fine c)
+
 -- the value of an expression that has to be constant
 unfoldable pub constant_part : Core → List Named → Expression → Checked Constant
-constant_part core names e = needed (no_constant core names e) (constant core names e)
+constant_part core names e = followed_by (needed (no_constant core names e) (constant core names e)) (with_part (built (start_of e)))
 
 -- ---- subranges
 
@@ -155,11 +181,12 @@ abbrev pub one_array : Place → Option TypeId → Option TypeId → Here → Gi
 one_array place (Some index) (Some element) h = sized_row place (Array index element) h
 one_array place _ _ h = silent h
 
--- an array without indices is dynamic, one with several is an array of arrays: of the last index first
+-- an array with several indices is an array of arrays: of the last index first
 abbrev pub arrays : Place → Option TypeId → List (Option TypeId) → Here → Given TypeId
 arrays place element [] h = record { typed = element; here = h; faults = none }
 arrays place element (index ∷ indices) h = followed (one_array place index element h) (λ t h. arrays place t indices h)
 
+-- one without indices is dynamic, which is left out
 abbrev pub array_of : Place → List (Option TypeId) → Option TypeId → Here → Given TypeId
-array_of place [] element h = by (λ t h. row (DynamicArray t) h) element h
+array_of place [] element h = checked h (left_out 41 place)
 array_of place (index ∷ indices) element h = arrays place element (index ∷ indices) h

@@ -2,18 +2,19 @@
 ghost use Rattle.std.specs.Prelude.{◌≡◌, IfOk};
 ghost use Rattle.op_check_expr.specs.Words.{Reports};
 ghost use Rattle.op_check_unit.specs.Steps.{Leaves, checked, here_of};
-ghost use Rattle.op_check_unit.specs.Types.{bounds, constant_part, is_kind, lower_of, no_constant, subrange_of, whole_type};
+ghost use Rattle.op_check_unit.specs.Types.{bounds, built, constant_part, is_kind, lower_of, needed, no_constant, subrange_of, whole_type};
 ghost use Rattle.op_core.specs.Faults.{with_part};
 ghost use Rattle.op_tree.specs.Expression.{expr_of};
+ghost use Rattle.op_types.specs.Constants.{constant};
 
 use crate::Declarer;
 use op_base::{NoMemory, Place};
-use op_check_expr::{Checker, Scope, refuse};
-use op_core::{CoreType, FirstRefusal, TypeId};
+use op_check_expr::{Checker, Scope, leave_out, refuse};
+use op_core::{Const, CoreType, FirstRefusal, TypeId};
 use op_tree::Expr;
 use op_types::{Constant, OrdinalKind, Setting, kind_of, number_of, start_of};
 
-/// The value of an expression that has to be constant, which is rule 30 where it is none and breaks no other rule.
+/// The value of an expression that has to be constant, which is rule 30 where it is none and breaks no other rule. `nil` is left out.
 #[tactic(auto, unfolding(crate::specs::Types::constant_part))]
 pub fn needed_constant(
     setting: Setting,
@@ -21,6 +22,26 @@ pub fn needed_constant(
     e: &Expr,
 ) -> Result<Option<Constant>, NoMemory>
     ensures { IfOk result (Reports (constant_part setting.entry.core.now setting.entry.visible.now (expr_of e.now)) sink.old sink.new) }
+{
+    match needed(setting, sink, e)? {
+        Some(constant) => Ok(built(sink, start_of(e), constant)),
+        None => Ok(None),
+    }
+}
+
+/// A constant that begins at a place, unless it is `nil`.
+fn built(sink: &mut FirstRefusal, place: Place, constant: Constant) -> Option<Constant>
+    ensures { Reports (built place constant) sink.old sink.new result }
+{
+    match constant.value {
+        Const::Nil => leave_out(sink, 41, place),
+        _ => Some(constant),
+    }
+}
+
+/// The value of an expression that has to be constant, `nil` among others.
+fn needed(setting: Setting, sink: &mut FirstRefusal, e: &Expr) -> Result<Option<Constant>, NoMemory>
+    ensures { IfOk result (Reports (needed (no_constant setting.entry.core.now setting.entry.visible.now (expr_of e.now)) (constant setting.entry.core.now setting.entry.visible.now (expr_of e.now))) sink.old sink.new) }
 {
     let before = *sink;
     match setting.constant(sink, e)? {

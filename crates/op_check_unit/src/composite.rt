@@ -50,7 +50,7 @@ impl Declarer {
         }
     }
 
-    /// An array that begins at the place, by the types of its indices.
+    /// An array that begins at the place, by the types of its indices. One without indices is left out.
     pub fn array_of(
         &mut self,
         place: Place,
@@ -61,7 +61,8 @@ impl Declarer {
     {
         let mut indices = indices;
         if indices.is_empty() {
-            return self.row_of(element.map(|element| CoreType::DynamicArray { element }));
+            self.leave_out(41, place);
+            return Ok(None);
         }
         let mut of = element;
         while let Some(index) = indices.pop() {

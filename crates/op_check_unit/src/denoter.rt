@@ -2,8 +2,8 @@
 ghost use Rattle.std.specs.Prelude.{◌≡◌, [], Some, IfOk, reverse};
 ghost use Rattle.std.specs.Option.{option_copied};
 ghost use Rattle.op_check_unit.specs.Denoting.{denoted, field_lists, indices};
-ghost use Rattle.op_check_unit.specs.Steps.{Leaves, here_of};
-ghost use Rattle.op_check_unit.specs.Types.{start_of_denoter};
+ghost use Rattle.op_check_unit.specs.Steps.{Leaves, checked, here_of};
+ghost use Rattle.op_check_unit.specs.Types.{feature_of_string, start_of_denoter, string_means};
 ghost use Rattle.op_tree.specs.Denoter.{denoter_of};
 ghost use Rattle.op_tree.specs.Lists.{denoters_of, field_lists_of};
 
@@ -11,7 +11,7 @@ use crate::Declarer;
 use crate::record::FieldRows;
 use op_base::{NoMemory, Place};
 use op_core::TypeId;
-use op_tree::{Fields, Name, TypeDenoter};
+use op_tree::{Fields, Name, Position, TypeDenoter};
 use op_types::start_of;
 
 impl Declarer {
@@ -28,7 +28,7 @@ impl Declarer {
     {
         match denoter {
             TypeDenoter::Named(name) => self.type_named(own, inside, name),
-            TypeDenoter::String { .. } => Ok(Some(TypeId::STRING)),
+            TypeDenoter::String { position } => Ok(self.string(*position)),
             TypeDenoter::Subrange { first, last } => {
                 let of = self.subrange(first, last)?;
                 self.row_of(of)
@@ -59,6 +59,14 @@ impl Declarer {
                 self.record_of(position.place, rows)
             }
         }
+    }
+
+    /// `string` as a type is left out.
+    pub fn string(&mut self, position: Position) -> Option<TypeId>
+        ensures { Leaves (checked (here_of self.old) (string_means position)) self.old self.new result }
+    {
+        self.leave_out(feature_of_string(position), position.place);
+        None
     }
 
     /// The types of the indices of an array: rule 23 where one is not ordinal.
@@ -95,6 +103,13 @@ impl Declarer {
         }
         Ok(())
     }
+}
+
+/// The feature that `string` shows: where long strings are off at the word, it is the short string.
+fn feature_of_string(position: Position) -> u8
+    ensures { result ≡ feature_of_string position }
+{
+    if position.switches.h { 40 } else { 3 }
 }
 
 /// The first token of a type.

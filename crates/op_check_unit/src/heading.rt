@@ -146,10 +146,7 @@ impl Declarer {
         }
         match &group.of {
             ParameterType::Named(name) => self.type_named(None, false, name),
-            ParameterType::String { position } => {
-                self.leave_out(40, position.place);
-                Ok(None)
-            }
+            ParameterType::String { position } => Ok(self.string(*position)),
         }
     }
 

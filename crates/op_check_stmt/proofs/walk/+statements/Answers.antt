@@ -3,7 +3,7 @@ use Rattle.std.specs.Option.{option_map}
 use Rattle.op_check_expr.specs.Scopes.{Here, here_of}
 use Rattle.op_check_expr.specs.Words.{Reports}
 use Rattle.op_check_expr.specs.declared.scope.Around.{Around}
-use Rattle.op_check_expr.specs.declared.scope.Around.TheVariants.{Loop, Handler, Finally}
+use Rattle.op_check_expr.specs.declared.scope.Around.TheVariants.{Loop, Finally}
 use Rattle.op_check_stmt.proofs.Parts.{Completes, begins, both_views, distinct_viewed, ends, fact, joins, next, node, node_ok, noted, one, pairs, same, seen, then}
 use Rattle.std.proofs.lemmas.List.{append-nil}
 use Rattle.op_check_stmt.specs.Parts.{branches_in}
@@ -13,9 +13,10 @@ use Rattle.op_core.specs.Statement.{Statements, Branches}
 use Rattle.op_core.specs.declared.first_refusal.FirstRefusal.{FirstRefusal}
 use Rattle.op_core.specs.declared.statement.CoreBranch.{CoreBranch}
 use Rattle.op_check_stmt.proofs.Rows.{all_branches, all_statements, next_branch, next_statement, none_left}
-use Rattle.op_check_stmt.specs.Cases.{distinct, labels, selector, spots}
-use Rattle.op_check_stmt.specs.Parts.{bounds_of, branch_of, head_of, items_of, of_two, paired, statements_in}
-use Rattle.op_check_stmt.specs.Statements.{all_spots, assign_means, bound_of, branches, case_statement, condition, first_class, for_statement, head_means, statement, statements, tried, try_all, type_in, with_branch, within}
+use Rattle.op_check_stmt.specs.Cases.{branch_labels, distinct, selector, spots}
+use Rattle.op_check_stmt.specs.Unplaced.{place_of_body}
+use Rattle.op_check_stmt.specs.Parts.{bounds_of, branch_of, head_of, items_of, paired, statements_in}
+use Rattle.op_check_stmt.specs.Statements.{all_spots, assign_means, bound_of, branches, case_statement, condition, first_class, for_statement, head_means, place_of_handlers, statement, statements, tried, type_in, with_branch}
 use Rattle.op_check_stmt.specs.Variables.{counter}
 use Rattle.op_check_stmt.specs.declared.variable.Counter.{Counter}
 use Rattle.op_core.specs.Expression.{Expression, expr_of as typed_of}
@@ -30,7 +31,7 @@ use Rattle.op_tree.specs.declared.expression.Expr.{Expr}
 use Rattle.op_tree.specs.Statement.{designator_of, elements_of, stmt_of, stmts_of}
 use Rattle.op_tree.specs.declared.statement.Handler.{Handler as OnHandler}
 use Rattle.op_tree.specs.declared.statement.Stmt.{Stmt}
-use Rattle.op_tree.specs.declared.statement.Stmt.TheVariants.{TryOn, TryOnElse}
+use Rattle.op_tree.specs.declared.statement.Stmt.TheVariants.{TryOn}
 use Rattle.std.specs.Prelude.{Vec}
 use Rattle.std.specs.declared.alloc.Global.{Global}
 use Rattle.op_check_stmt.proofs.walk.+statements.Goals as goal
@@ -52,50 +53,15 @@ moved here around = record here { around = around }
 head_of_selector : (here : Here) (bs : Rattle.op_tree.specs.Statement.Branches) (old new : FirstRefusal) (t : Option (Expression × Branches)) {a b : Expr} → a ≡ b → Reports (head_at here bs a) old new t → Reports (head_at here bs b) old new t
 head_of_selector here bs old new t is = subst (λ e. Reports (head_at here bs e) old new t) is
 
-pub statement-returns-in-Block : goal.statement-returns-in-Block
-statement-returns-in-Block t c =
+pub statement-returns-in_ok-statements-in-Block : goal.statement-returns-in_ok-statements-in-Block
+statement-returns-in_ok-statements-in-Block t c =
     let here = here_of c.args.here.scope in
     subst (λ s. Reports (statement here s) c.args.sink.now c.statements.new.sink (option_map typed_statement c.block.result)) (sym (ap stmt_of c.in-Block.is ∙ block_says c.in-Block.list))
     (one block (statements here (stmts_of c.in-Block.list.items)) c.args.sink.now c.statements.new.sink (statements_in c.in_ok-statements-in-Block.field-0) (option_map typed_statement c.block.result)
     (subst (λ ss. Reports (statements here (stmts_of ss)) c.args.sink.now c.statements.new.sink (statements_in c.in_ok-statements-in-Block.field-0)) c.deref.ensures.value c.in_ok-statements-in-Block.ensures) c.block.ensures)
 
-pub statement-returns-in-If : goal.statement-returns-in-If
-statement-returns-in-If t c =
-    let here = here_of c.args.here.scope in
-    let e = condition here (expr_of c.in-If.condition) in
-    let body = statement here (stmt_of c.in-If.then.value) in
-    let old = c.args.sink.now in
-    let mid = c.check_condition.new.sink in
-    let new = c.statement.new.sink in
-    subst (λ s. IfOk c.if_then.result (λ r. Reports (statement here s) old new (option_map typed_statement r))) (sym (ap stmt_of c.in-If.is))
-    (node_ok (both_views typed_of typed_statement) typed_statement if_then e body old new c.in_ok-parts-in-If.parts c.if_then.result
-    (joins typed_of typed_statement e body old mid new c.in_ok-condition-in-If.condition c.statement.result c.in_ok-parts-in-If.parts c.in_ok-condition-in-If.ensures
-    (subst (λ s. IfOk c.statement.result (λ y. Reports (statement here (stmt_of s)) mid new (option_map typed_statement y))) c.deref-in-If.ensures c.statement.ensures)
-    (sym c.joined.ensures ∙ c.in_ok-parts-in-If.was))
-    c.if_then.ensures)
-
-pub statement-returns-in-IfElse : goal.statement-returns-in-IfElse
-statement-returns-in-IfElse t c =
-    let here = here_of c.args.here.scope in
-    let e = condition here (expr_of c.in-IfElse.condition) in
-    let then = statement here (stmt_of c.in-IfElse.then.value) in
-    let otherwise = statement here (stmt_of c.in-IfElse.otherwise.value) in
-    let old = c.args.sink.now in
-    let mid = c.check_condition-in-IfElse.new.sink in
-    let far = c.statement-in-IfElse.new.sink in
-    let new = c.statement-in-IfElse-2.new.sink in
-    subst (λ s. IfOk c.if_else.result (λ r. Reports (statement here s) old new (option_map typed_statement r))) (sym (ap stmt_of c.in-IfElse.is))
-    (node_ok (both_views (both_views typed_of typed_statement) typed_statement) typed_statement (λ (p : Expression × Statement) (s : Statement). if_else p.0 p.1 s) (paired e then) otherwise old new c.in_ok-parts-in-IfElse.parts c.if_else.result
-    (joins (both_views typed_of typed_statement) typed_statement (paired e then) otherwise old far new c.in_ok-front-in-IfElse.front c.statement-in-IfElse-2.result c.in_ok-parts-in-IfElse.parts
-    (joins typed_of typed_statement e then old mid far c.in_ok-condition-in-IfElse.condition c.statement-in-IfElse.result c.in_ok-front-in-IfElse.front c.in_ok-condition-in-IfElse.ensures
-    (subst (λ s. IfOk c.statement-in-IfElse.result (λ y. Reports (statement here (stmt_of s)) mid far (option_map typed_statement y))) c.deref-in-IfElse.ensures c.statement-in-IfElse.ensures)
-    (sym c.joined-in-IfElse.ensures ∙ c.in_ok-front-in-IfElse.was))
-    (subst (λ s. IfOk c.statement-in-IfElse-2.result (λ y. Reports (statement here (stmt_of s)) far new (option_map typed_statement y))) c.deref-in-IfElse-2.ensures c.statement-in-IfElse-2.ensures)
-    (sym c.joined-in-IfElse-2.ensures ∙ c.in_ok-parts-in-IfElse.was))
-    c.if_else.ensures)
-
-pub statement-returns-in-Case : goal.statement-returns-in-Case
-statement-returns-in-Case t c =
+pub statement-returns-in_ok-head-in-Case : goal.statement-returns-in_ok-head-in-Case
+statement-returns-in_ok-head-in-Case t c =
     let here = here_of c.args.here.scope in
     let e = selector here (expr_of c.in-Case.selector.value) in
     let head = λ (bs : Rattle.op_tree.specs.Statement.Branches). head_means here bs e (branches here (type_in e.typed) bs) in
@@ -111,8 +77,8 @@ statement-returns-in-Case t c =
     c.pair.ensures)
     c.case_of.ensures)
 
-pub statement-returns-in-CaseElse : goal.statement-returns-in-CaseElse
-statement-returns-in-CaseElse t c =
+pub statement-returns-in_ok-parts-in-CaseElse : goal.statement-returns-in_ok-parts-in-CaseElse
+statement-returns-in_ok-parts-in-CaseElse t c =
     let here = here_of c.args.here.scope in
     let e = selector here (expr_of c.in-CaseElse.selector.value) in
     let head = λ (bs : Rattle.op_tree.specs.Statement.Branches). head_means here bs e (branches here (type_in e.typed) bs) in
@@ -130,26 +96,8 @@ statement-returns-in-CaseElse t c =
     (sym c.joined-in-CaseElse.ensures ∙ c.in_ok-parts-in-CaseElse.was))
     c.case_of-in-CaseElse.ensures)
 
-pub statement-returns-in-While : goal.statement-returns-in-While
-statement-returns-in-While t c =
-    let here = here_of c.args.here.scope in
-    let inner = moved here (here.around ++ Loop None ∷ []) in
-    let e = condition here (expr_of c.in-While.condition) in
-    let body = statement inner (stmt_of c.in-While.body.value) in
-    let old = c.args.sink.now in
-    let mid = c.check_condition-in-While.new.sink in
-    let new = c.statement-in-While.new.sink in
-    subst (λ s. IfOk c.while_do.result (λ r. Reports (statement here s) old new (option_map typed_statement r))) (sym (ap stmt_of c.in-While.is))
-    (node_ok (both_views typed_of typed_statement) typed_statement while_do e body old new c.in_ok-parts-in-While.parts c.while_do.result
-    (joins typed_of typed_statement e body old mid new c.in_ok-condition-in-While.condition c.statement-in-While.result c.in_ok-parts-in-While.parts c.in_ok-condition-in-While.ensures
-    (subst (λ h. IfOk c.statement-in-While.result (λ y. Reports (statement h (stmt_of c.in-While.body.value)) mid new (option_map typed_statement y)))
-    (c.inside.ensures ∙ ap (moved here) (c.as_slice.ensures.value ∙ c.in_ok-around-in-While.ensures))
-    (subst (λ s. IfOk c.statement-in-While.result (λ y. Reports (statement (here_of c.inside.result.scope) (stmt_of s)) mid new (option_map typed_statement y))) c.deref-in-While.ensures c.statement-in-While.ensures))
-    (sym c.joined-in-While.ensures ∙ c.in_ok-parts-in-While.was))
-    c.while_do.ensures)
-
-pub statement-returns-in-Repeat : goal.statement-returns-in-Repeat
-statement-returns-in-Repeat t c =
+pub statement-returns-in_ok-parts-in-Repeat : goal.statement-returns-in_ok-parts-in-Repeat
+statement-returns-in_ok-parts-in-Repeat t c =
     let here = here_of c.args.here.scope in
     let inner = moved here (here.around ++ Loop None ∷ []) in
     let body = statements inner (stmts_of c.in-Repeat.body.items) in
@@ -167,8 +115,8 @@ statement-returns-in-Repeat t c =
     (sym c.joined-in-Repeat.ensures ∙ c.in_ok-parts-in-Repeat.was))
     c.repeat_until.ensures)
 
-pub statement-returns-in-For : goal.statement-returns-in-For
-statement-returns-in-For t c =
+pub statement-returns-in_ok-parts-in-For : goal.statement-returns-in_ok-parts-in-For
+statement-returns-in_ok-parts-in-For t c =
     let here = here_of c.args.here.scope in
     let k = counter here c.in-For.variable in
     let inner = λ (k : Option Counter). moved here (here.around ++ Loop (option_map (λ c. c.variable) k) ∷ []) in
@@ -195,8 +143,8 @@ statement-returns-in-For t c =
     (sym c.joined-in-For-2.ensures ∙ c.in_ok-parts-in-For.was))
     c.for_to.ensures)
 
-pub statement-returns-in-TryFinally : goal.statement-returns-in-TryFinally
-statement-returns-in-TryFinally t c =
+pub statement-returns-in_ok-joined-in-TryFinally : goal.statement-returns-in_ok-joined-in-TryFinally
+statement-returns-in_ok-joined-in-TryFinally t c =
     let here = here_of c.args.here.scope in
     let inner = moved here (here.around ++ Finally ∷ []) in
     let body = statements here (stmts_of c.in-TryFinally.body.items) in
@@ -214,33 +162,9 @@ statement-returns-in-TryFinally t c =
     (sym c.joined-in-TryFinally.ensures ∙ c.in_ok-joined-in-TryFinally.was))
     c.try_finally.ensures)
 
-pub statement-returns-in-TryExcept : goal.statement-returns-in-TryExcept
-statement-returns-in-TryExcept t c =
-    let here = here_of c.args.here.scope in
-    let inner = moved here (here.around ++ Handler ∷ []) in
-    let body = statements here (stmts_of c.in-TryExcept.body.items) in
-    let rest = statements inner (stmts_of c.in-TryExcept.handler.items) in
-    let old = c.args.sink.now in
-    let mid = c.statements-in-TryExcept.new.sink in
-    let new = c.statements-handler.new.sink in
-    subst (λ s. Reports (statement here s) old new (option_map typed_statement c.try_except.result)) (sym (ap stmt_of c.in-TryExcept.is ∙ try_except_says c.in-TryExcept.body c.in-TryExcept.handler))
-    (node (both_views listed listed) try_all body rest old new c.in_ok-joined-in-TryExcept.field-0 (option_map typed_statement c.try_except.result)
-    (joins listed listed body rest old mid new c.in_ok-body-in-TryExcept.body c.statements-handler.result c.in_ok-joined-in-TryExcept.field-0
-    (subst (λ ss. Reports (statements here (stmts_of ss)) old mid (statements_in c.in_ok-body-in-TryExcept.body)) c.deref-in-TryExcept.ensures.value c.in_ok-body-in-TryExcept.ensures)
-    (subst (λ h. IfOk c.statements-handler.result (λ y. Reports (statements h (stmts_of c.in-TryExcept.handler.items)) mid new (statements_in y)))
-    (c.inside-in-TryExcept.ensures ∙ ap (moved here) (c.as_slice-in-TryExcept.ensures.value ∙ c.in_ok-around-in-TryExcept.ensures))
-    (subst (λ ss. IfOk c.statements-handler.result (λ y. Reports (statements (here_of c.inside-in-TryExcept.result.scope) (stmts_of ss)) mid new (statements_in y))) c.deref-in-TryExcept-2.ensures.value c.statements-handler.ensures))
-    (sym c.joined-in-TryExcept.ensures ∙ c.in_ok-joined-in-TryExcept.was))
-    c.try_except.ensures)
-
 pub statement-returns-in-Call : goal.statement-returns-in-Call
 statement-returns-in-Call t c =
     subst (λ s. IfOk c.call.result (λ r. Reports (statement (here_of c.args.here.scope) s) c.args.sink.now c.call.new.sink (option_map typed_statement r))) (sym (ap stmt_of c.in-Call.is)) c.call.ensures
-
-pub statement-returns : goal.statement-returns
-statement-returns t c =
-    subst (λ s. IfOk c.assignment.result (λ r. Reports (statement (here_of c.args.here.scope) s) c.args.sink.now c.assignment.new.sink (option_map typed_statement r))) (sym (ap stmt_of c.in-Assign.is))
-    (subst (λ e. IfOk c.assignment.result (λ r. Reports (assign_means (here_of c.args.here.scope) (designator_of c.in-Assign.target) c.in-Assign.position (expr_of e)) c.args.sink.now c.assignment.new.sink (option_map typed_statement r))) c.deref-in-Assign.ensures c.assignment.ensures)
 
 pub statements-loop-s-init : goal.statements-loop-s-init
 statements-loop-s-init t c =
@@ -282,20 +206,20 @@ branches-loop-branch-preserved t c =
     let k = c.loop-branch.branch-index in
     let x = c.branch-item.result in
     let old = c.loop-branch.sink in
-    let mid = c.labels.new.sink in
+    let mid = c.branch_labels.new.sink in
     let new = c.statement.new.sink in
     let own = elements_of x.labels.items in
     let rest = branches_of (drop (k + 1) list) in
     let e = next_branch list k x c.loop-branch-test.true c.branch-item.is in
-    let item = paired (labels here of own) (statement here (stmt_of x.body)) in
-    let part = joins (λ v. v.items) typed_statement (labels here of own) (statement here (stmt_of x.body)) old mid new c.in_ok-labels.labels c.statement.result c.in_ok-parts.parts
-    (subst (λ es. Reports (labels here of (elements_of es)) old mid (items_of c.in_ok-labels.labels)) c.deref.ensures.value c.in_ok-labels.ensures.reports)
+    let item = paired (branch_labels here of own) (statement here (stmt_of x.body)) in
+    let part = joins (λ v. v.items) typed_statement (branch_labels here of own) (statement here (stmt_of x.body)) old mid new c.in_ok-labels.labels c.statement.result c.in_ok-parts.parts
+    (subst (λ es. Reports (branch_labels here of (elements_of es)) old mid (items_of c.in_ok-labels.labels)) c.deref.ensures.value c.in_ok-labels.ensures.reports)
     c.statement.ensures (sym c.joined.ensures ∙ c.in_ok-parts.was) in
     record {
       typed = next branch_of with_branch (items_of c.loop-branch.typed) (items_of c.collect.new.list) c.branch-parts-in-loop-branch.result (option_map (both_views (λ v. v.items) typed_statement) c.in_ok-parts.parts) (branches here of (branches_of list)) item (branches here of rest) c.args.sink.now old new
           (subst (λ r. Completes branch_of with_branch (items_of c.loop-branch.typed) (branches here of (branches_of list)) (branches here of r) c.args.sink.now old) e c.loop-branch.invariant.typed)
           part (sym c.branch-parts-in-loop-branch.ensures) c.in_ok-collect.ensures;
-      noted = noted c.loop-branch.spots.items c.labels.new.others.items (c.args.spots.now.items ++ all_spots here of (branches_of list)) (spots here of own) (all_spots here of rest) (all_spots here of (branches_of (drop k list)))
+      noted = noted c.loop-branch.spots.items c.branch_labels.new.others.items (c.args.spots.now.items ++ all_spots here of (branches_of list)) (spots here of own) (all_spots here of rest) (all_spots here of (branches_of (drop k list)))
           (c.in_ok-labels.ensures.notes ∙ ap (λ es. c.loop-branch.spots.items ++ spots here of (elements_of es)) c.deref.ensures.value) (ap (all_spots here of) e) c.loop-branch.invariant.noted;
     }
 
@@ -342,11 +266,6 @@ tried_on : (here : Here) (s : Stmt) (body : Vec Stmt Global) (hs : Vec OnHandler
 tried_on here s body hs o e f =
     ap (λ s. statement here (stmt_of s)) e ∙ ap (statement here) (try_on_says body hs) ∙ ap (λ o. tried o (statements here (stmts_of body.items)) (changed block (statements here (stmts_of body.items)))) f
 
-tried_else : (here : Here) (s : Stmt) (body : Vec Stmt Global) (hs : Vec OnHandler Global) (others : Vec Stmt Global) (o : Option Place) → s ≡ TryOnElse body hs others → first_class (handlers_of hs.items) ≡ o → statement here (stmt_of s) ≡ tried o (statements here (stmts_of body.items)) (of_two try_all (statements here (stmts_of body.items)) (statements (within here Handler) (stmts_of others.items)))
-tried_else here s body hs others o e f =
-    ap (λ s. statement here (stmt_of s)) e ∙ ap (statement here) (try_on_else_says body hs others)
-    ∙ ap (λ o. tried o (statements here (stmts_of body.items)) (of_two try_all (statements here (stmts_of body.items)) (statements (within here Handler) (stmts_of others.items)))) f
-
 -- handlers that are left out, behind their body
 left_behind : (here : Here) (ss : List Stmt) (place : Place) (old mid new : FirstRefusal) (body : Option (Vec CoreStmt Global)) (t : Option CoreStmt) → Reports (statements here (stmts_of ss)) old mid (statements_in body) → Reports (left_out 44 place) mid new t → Reports (followed (statements here (stmts_of ss)) (λ ss. left_out 44 place)) old new (option_map typed_statement t)
 left_behind here ss place old mid new body t h k = then (statements here (stmts_of ss)) (λ ss. left_out 44 place) old mid new (statements_in body) (option_map typed_statement t) h (ap (option_map typed_statement) k.0, k.1)
@@ -362,8 +281,8 @@ statement-returns-in-None t c =
     (one block (statements here (stmts_of c.in-TryOn.body.items)) old mid (statements_in body) (option_map typed_statement c.block-in-None.result)
     (subst (λ ss. Reports (statements here (stmts_of ss)) old mid (statements_in body)) c.deref-in-TryOn.ensures.value c.in_ok-body-in-TryOn.ensures) c.block-in-None.ensures)
 
-pub statement-returns-in-TryOn : goal.statement-returns-in-TryOn
-statement-returns-in-TryOn t c =
+pub statement-returns-in-Some : goal.statement-returns-in-Some
+statement-returns-in-Some t c =
     let here = here_of c.args.here.scope in
     let old = c.args.sink.now in
     let mid = c.statements-in-TryOn.new.sink in
@@ -374,34 +293,28 @@ statement-returns-in-TryOn t c =
     (left_behind here c.in-TryOn.body.items c.in-Some.place old mid new body c.leave_out-in-Some.result
     (subst (λ ss. Reports (statements here (stmts_of ss)) old mid (statements_in body)) c.deref-in-TryOn.ensures.value c.in_ok-body-in-TryOn.ensures) c.leave_out-in-Some.ensures)
 
-pub statement-returns-in-None-first_class : goal.statement-returns-in-None-first_class
-statement-returns-in-None-first_class t c =
+pub statement-returns-in_ok-statements-in-TryExcept : goal.statement-returns-in_ok-statements-in-TryExcept
+statement-returns-in_ok-statements-in-TryExcept t c =
     let here = here_of c.args.here.scope in
-    let inner = moved here (here.around ++ Handler ∷ []) in
-    let body = statements here (stmts_of c.in-TryOnElse.body.items) in
-    let rest = statements inner (stmts_of c.in-TryOnElse.otherwise.items) in
     let old = c.args.sink.now in
-    let mid = c.statements-in-TryOnElse.new.sink in
-    let new = c.statements-last-in-None-first_class.new.sink in
-    let hs = ap (λ hs. first_class (handlers_of hs)) c.deref-in-TryOnElse-2.ensures.value in
-    subst (λ m. Reports m old new (option_map typed_statement c.try_except-in-None-first_class.result)) (sym (tried_else here c.args.s.now c.in-TryOnElse.body c.in-TryOnElse.handlers c.in-TryOnElse.otherwise None c.in-TryOnElse.is (sym hs ∙ sym c.first_class-in-TryOnElse.ensures ∙ c.in-None-first_class.is)))
-    (node (both_views listed listed) try_all body rest old new c.in_ok-joined-in-None-first_class.field-0 (option_map typed_statement c.try_except-in-None-first_class.result)
-    (joins listed listed body rest old mid new c.in_ok-body-in-TryOnElse.body c.statements-last-in-None-first_class.result c.in_ok-joined-in-None-first_class.field-0
-    (subst (λ ss. Reports (statements here (stmts_of ss)) old mid (statements_in c.in_ok-body-in-TryOnElse.body)) c.deref-in-TryOnElse.ensures.value c.in_ok-body-in-TryOnElse.ensures)
-    (subst (λ h. IfOk c.statements-last-in-None-first_class.result (λ y. Reports (statements h (stmts_of c.in-TryOnElse.otherwise.items)) mid new (statements_in y)))
-    (c.inside-in-None-first_class.ensures ∙ ap (moved here) (c.as_slice-in-None-first_class.ensures.value ∙ c.in_ok-around-in-TryOnElse.ensures))
-    (subst (λ ss. IfOk c.statements-last-in-None-first_class.result (λ y. Reports (statements (here_of c.inside-in-None-first_class.result.scope) (stmts_of ss)) mid new (statements_in y))) c.deref-in-None-first_class.ensures.value c.statements-last-in-None-first_class.ensures))
-    (sym c.joined-in-None-first_class.ensures ∙ c.in_ok-joined-in-None-first_class.was))
-    c.try_except-in-None-first_class.ensures)
+    let mid = c.statements-in-TryExcept.new.sink in
+    let new = c.leave_out-in-TryExcept.new.sink in
+    let body = c.in_ok-statements-in-TryExcept.field-0 in
+    subst (λ s. Reports (statement here s) old new (option_map typed_statement c.leave_out-in-TryExcept.result)) (sym (ap stmt_of c.in-TryExcept.is ∙ try_except_says c.in-TryExcept.body c.in-TryExcept.handler))
+    (left_behind here c.in-TryExcept.body.items (place_of_body here) old mid new body c.leave_out-in-TryExcept.result
+    (subst (λ ss. Reports (statements here (stmts_of ss)) old mid (statements_in body)) c.deref-in-TryExcept.ensures.value c.in_ok-statements-in-TryExcept.ensures)
+    (subst (λ p. Reports (left_out 44 p) mid new c.leave_out-in-TryExcept.result) c.place_of_body.ensures c.leave_out-in-TryExcept.ensures))
 
-pub statement-returns-in-TryOnElse : goal.statement-returns-in-TryOnElse
-statement-returns-in-TryOnElse t c =
+pub statement-returns-in_ok-statements-in-TryOnElse : goal.statement-returns-in_ok-statements-in-TryOnElse
+statement-returns-in_ok-statements-in-TryOnElse t c =
     let here = here_of c.args.here.scope in
     let old = c.args.sink.now in
     let mid = c.statements-in-TryOnElse.new.sink in
-    let new = c.leave_out-in-Some-first_class.new.sink in
-    let body = c.in_ok-body-in-TryOnElse.body in
-    let hs = ap (λ hs. first_class (handlers_of hs)) c.deref-in-TryOnElse-2.ensures.value in
-    subst (λ m. Reports m old new (option_map typed_statement c.leave_out-in-Some-first_class.result)) (sym (tried_else here c.args.s.now c.in-TryOnElse.body c.in-TryOnElse.handlers c.in-TryOnElse.otherwise (Some c.in-Some-first_class.place) c.in-TryOnElse.is (sym hs ∙ sym c.first_class-in-TryOnElse.ensures ∙ c.in-Some-first_class.is)))
-    (left_behind here c.in-TryOnElse.body.items c.in-Some-first_class.place old mid new body c.leave_out-in-Some-first_class.result
-    (subst (λ ss. Reports (statements here (stmts_of ss)) old mid (statements_in body)) c.deref-in-TryOnElse.ensures.value c.in_ok-body-in-TryOnElse.ensures) c.leave_out-in-Some-first_class.ensures)
+    let new = c.leave_out-in-TryOnElse.new.sink in
+    let body = c.in_ok-statements-in-TryOnElse.field-0 in
+    let place : List OnHandler → Place = λ hs. place_of_handlers here (first_class (handlers_of hs)) in
+    let hs = ap place c.deref-in-TryOnElse-2.ensures.value in
+    subst (λ s. Reports (statement here s) old new (option_map typed_statement c.leave_out-in-TryOnElse.result)) (sym (ap stmt_of c.in-TryOnElse.is ∙ try_on_else_says c.in-TryOnElse.body c.in-TryOnElse.handlers c.in-TryOnElse.otherwise))
+    (left_behind here c.in-TryOnElse.body.items (place c.in-TryOnElse.handlers.items) old mid new body c.leave_out-in-TryOnElse.result
+    (subst (λ ss. Reports (statements here (stmts_of ss)) old mid (statements_in body)) c.deref-in-TryOnElse.ensures.value c.in_ok-statements-in-TryOnElse.ensures)
+    (subst (λ p. Reports (left_out 44 p) mid new c.leave_out-in-TryOnElse.result) (c.place_of_handlers.ensures ∙ hs) c.leave_out-in-TryOnElse.ensures))

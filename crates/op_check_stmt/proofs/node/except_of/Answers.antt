@@ -1,5 +1,0 @@
-use Rattle.op_core.proofs.Nodes.{list_nodes}
-use Rattle.op_check_stmt.proofs.node.except_of.Goals as goal
-
-pub returns : goal.returns
-returns c = list_nodes.else_says c.args.body c.args.handlers c.args.otherwise
