@@ -52,7 +52,7 @@ simple_core : (core : Core) → IsPlainCore core → IsSimpleCore core
 simple_core core class = record { simple = class.simple; counted = class.counted; exceptions = class.exceptions; few = class.few }
 
 core_charges : (core : Core) → IsPlainCore core → HaveCharges core
-core_charges core class r low = record { variables = class.charged r; parameters = class.parameters r; statements = class.works 0 r }
+core_charges core class r low = record { variables = class.charged r; parameters = class.parameters r }
 
 -- a stack has at most 64 MiB
 stack_few : (settings : Settings) → are_in_range settings ≡ true → settings.stack ≤ 65536

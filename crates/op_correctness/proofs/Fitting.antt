@@ -130,7 +130,7 @@ module _ (core : Core) (sound : IsSound core) (nesting : IsSoundNesting core) (i
   pub frame_charged : x.charge ≤ most_charge → (frame_of core r x).locals + 4 * (registers_of_routine core r x + 1) + 4 * (63 - parameters_of core r) ≤ x.charge
   frame_charged less =
       let (b, body) = has_body in
-      let within = frame_fits core 0 r row b sound simple there body x lowered (is.counted 0 r) rows_kept charge.parameters charge.statements in
+      let within = frame_fits core 0 r row b sound simple there body x lowered (is.counted 0 r) rows_kept charge.parameters in
       let told = charge_told (charge_of core (record { 0 = r })) x.charge lowered.charge less in
       omega (arith, within, told)
 

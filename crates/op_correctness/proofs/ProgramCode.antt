@@ -14,6 +14,7 @@ use Rattle.op_core.specs.declared.routine.Variable.{Variable}
 use Rattle.op_expand.specs.Frames.{first_room, frame_of, parameters_of, variables_room}
 use Rattle.op_expand.specs.Homes.{end_of, room_behind, roots_of, with_block, with_given, with_instruction, with_receiver}
 use Rattle.op_expand.specs.declared.homes.Room.{Room}
+use Rattle.op_frames.proofs.Beginnings.{begins_two}
 use Rattle.op_frames.proofs.Lowered.{most_at}
 use Rattle.op_frames.proofs.MadeLemmas.{every_append}
 use Rattle.op_frames.specs.Fitting.{IsFitting, registers_of_routine, room_of_block, room_of_instruction}
@@ -235,7 +236,8 @@ module _ (core : Core) (sound : IsSound core) (nesting : IsSoundNesting core) (s
       let first : (variables_room core number x).register ≡ 2 = ap (λ (room : Room). room.register) room_is in
       let rooms = most_at (room_of_block core number) x.blocks 2 (blocks_room core number x.blocks each_little) in
       let none = is.temporaries in
-      omega (arith, first, rooms, none)
+      let begins = begins_two core number x in
+      omega (arith, first, rooms, none, begins)
 
   -- The program's own code names what is there, and its frame is small.
   pub program_fits : IsFitting core number x

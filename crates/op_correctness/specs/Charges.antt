@@ -1,12 +1,10 @@
 -- What is asked of a program beside its class, so that its activations take no more than they are charged. A test at run time finds it.
-use Rattle.std.specs.Prelude.{◌<◌, ◌≤◌, ◌⊎◌, ℕ, length}
+use Rattle.std.specs.Prelude.{◌<◌, ◌≤◌, ℕ, length}
 use Rattle.op_core.specs.Rows.{rows}
 use Rattle.op_core.specs.declared.program.Core.{Core}
 use Rattle.op_expand.specs.Frames.{parameters_of}
 use Rattle.op_frames.specs.Charged.{IsCharged}
 use Rattle.op_frames.specs.Made.{Every}
-use Rattle.op_meaning.specs.Charge.{nodes_of, statements_weight}
-use Rattle.op_meaning.specs.Frames.{program_of}
 use Rattle.op_meaning.specs.Shapes.{variables_of}
 
 -- of the routine with the number
@@ -15,8 +13,6 @@ pub record HasCharge (core : Core) (r : ℕ) : Type 0 where
   pub variables : Every (λ v. IsCharged v.role) (rows core.variables (variables_of core r))
   -- a call passes no more
   pub parameters : parameters_of core r ≤ 64
-  -- where there are as many, a statement is there too: without one the charge is less than what the frame may take
-  pub statements : (1 ≤ nodes_of (statements_weight core ((program_of core 0).body r))) ⊎ (parameters_of core r ≤ 63)
 
 abbrev pub HaveCharges : Core → Type 0
 HaveCharges core = (r : ℕ) → r < length core.routines → HasCharge core r

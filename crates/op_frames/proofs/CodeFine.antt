@@ -35,7 +35,7 @@ use Rattle.op_low.specs.declared.ids.VirtualRegister.{VirtualRegister}
 use Rattle.op_low.specs.declared.instruction.Instruction.{Instruction as LowInstruction}
 use Rattle.op_low.specs.declared.instruction.Instruction.TheVariants.{Jump as LowJump, Return as LowReturn, Const, Exit}
 use Rattle.op_lower.specs.Temporaries.{in_action, in_instruction, in_writing}
-use Rattle.op_meaning.specs.Shapes.{Shape, single, composite, of_chars, of_elements, of_instance, shape_of, type_of_local, variables_of}
+use Rattle.op_meaning.specs.Shapes.{Shape, single, composite, of_chars, of_elements, of_instance, shape_of, type_of_local, type_of_row, variables_of}
 use Rattle.op_meaning.specs.Statements.{kind_of}
 use Rattle.op_mir.specs.View.{first_at, view_action, view_arm, view_computation, view_instruction, view_writing}
 use Rattle.op_mir.specs.declared.action.Action.{Action}
@@ -123,9 +123,9 @@ code_ends core mir frame r id (i ∷ j ∷ is) l = ends_behind (instruction_code
 
 -- of a variable that begins with a value: there is a register for what is copied, and one more for a number that goes into memory
 pub record CanBegin (m : Bounds) (core : Core) (frame : Frame) (v : LocalId) : Type 0 where
-  pub spare : Below m frame.spare
   pub one : frame.bank.scratch + 1 ≤ m.registers
-  pub another : ((q : VirtualRegister) × (held core frame (Local v) [] ≡ Some q)) ⊎ (frame.bank.scratch + 2 ≤ m.registers)
+  pub spare : is_composite (shape_of core (type_of_row (row_of core frame v))) ≡ true → Below m frame.spare
+  pub another : is_composite (shape_of core (type_of_row (row_of core frame v))) ≡ false → ((q : VirtualRegister) × (held core frame (Local v) [] ≡ Some q)) ⊎ (frame.bank.scratch + 2 ≤ m.registers)
 
 -- what an instruction asks of the program and of the frame
 abbrev pub CanDo : Bounds → Core → Frame → Instruction → Type 0
@@ -148,12 +148,15 @@ module _ (m : Bounds) (core : Core) (r : ℕ) (routine : Routine) (n blocks : �
       by None e = rw e refl
       by (Some x) e = row_by x (option_map (λ i. first_value_of i.value) x.first_value) refl e
 
-  begun_by_shape : (whole : Bool) (id : ℕ) (v : LocalId) (of : TypeId) (row : Option Variable) → (whole ≡ false → FitsSigned w32 (first_number (first_of_row row))) → (whole ≡ true → id < m.low.counts.literals) → CanBegin m core (frame_of core r routine) v → AreFine m (if whole then parts_begun core (frame_of core r routine) (size_in core of) id v else number_begun core (frame_of core r routine) (kind_of core of) (first_number (first_of_row row)) v)
-  begun_by_shape true id v of row fits there can = parts_begun_fine m core (frame_of core r routine) n is temporaries runtime (size_in core of) id v (is.sizes of) (there refl) can.spare can.one
-  begun_by_shape false id v of row fits there can = by can.another
+  begun_by_shape : (whole : Bool) (id : ℕ) (v : LocalId) (of : TypeId) (row : Option Variable) → (whole ≡ false → FitsSigned w32 (first_number (first_of_row row))) → (whole ≡ true → id < m.low.counts.literals)
+      → (frame_of core r routine).bank.scratch + 1 ≤ m.registers → (whole ≡ true → Below m (frame_of core r routine).spare)
+      → (whole ≡ false → ((q : VirtualRegister) × (held core (frame_of core r routine) (Local v) [] ≡ Some q)) ⊎ ((frame_of core r routine).bank.scratch + 2 ≤ m.registers))
+      → AreFine m (if whole then parts_begun core (frame_of core r routine) (size_in core of) id v else number_begun core (frame_of core r routine) (kind_of core of) (first_number (first_of_row row)) v)
+  begun_by_shape true id v of row fits there one spare another = parts_begun_fine m core (frame_of core r routine) n is temporaries runtime (size_in core of) id v (is.sizes of) (there refl) (spare refl) one
+  begun_by_shape false id v of row fits there one spare another = by (another refl)
     where
       by : ((q : VirtualRegister) × (held core (frame_of core r routine) (Local v) [] ≡ Some q)) ⊎ ((frame_of core r routine).bank.scratch + 2 ≤ m.registers) → AreFine m (number_begun core (frame_of core r routine) (kind_of core of) (first_number (first_of_row row)) v)
-      by (inl (q, e)) = number_held_fine m core (frame_of core r routine) n is temporaries runtime (kind_of core of) (first_number (first_of_row row)) v q e (fits refl) can.one
+      by (inl (q, e)) = number_held_fine m core (frame_of core r routine) n is temporaries runtime (kind_of core of) (first_number (first_of_row row)) v q e (fits refl) one
       by (inr two) = number_begun_fine m core (frame_of core r routine) n is temporaries runtime (kind_of core of) (first_number (first_of_row row)) v (fits refl) two
 
   -- a variable of a type with parts takes a literal
@@ -170,7 +173,7 @@ module _ (m : Bounds) (core : Core) (r : ℕ) (routine : Routine) (n blocks : �
   begun_fine : (id : ℕ) (v : LocalId) → (is_composite (shape_of core (type_of_local core r v.0)) ≡ false → FitsSigned w32 (first_number (first_at core r v.0))) → id + length (action_literals core r (BeginWith v)) ≤ m.low.counts.literals → CanBegin m core (frame_of core r routine) v → AreFine m (begun_code core (frame_of core r routine) id v)
   unfolding begun_by
   begun_fine id v fits there can =
-      begun_by_shape (is_composite (shape_of core (type_of_local core r v.0))) id v (type_of_local core r v.0) (row_of core (frame_of core r routine) v) (λ e. subst (λ f. FitsSigned w32 (first_number f)) (first_is v) (fits e)) (λ e. omega (arith, there, counted v e)) can
+      begun_by_shape (is_composite (shape_of core (type_of_local core r v.0))) id v (type_of_local core r v.0) (row_of core (frame_of core r routine) v) (λ e. subst (λ f. FitsSigned w32 (first_number f)) (first_is v) (fits e)) (λ e. omega (arith, there, counted v e)) can.one can.spare can.another
 
   writing_fine : (w : Writing) → in_writing w ≤ n → (frame_of core r routine).bank.scratch + 1 ≤ m.registers → AreFine m (writing_code (frame_of core r routine) w)
   unfolding in_writing

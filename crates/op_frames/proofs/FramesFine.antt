@@ -27,6 +27,7 @@ use Rattle.op_frames.proofs.ComputingFine.{joined}
 use Rattle.op_frames.proofs.Fine.{Bounds, Below, IsFine, AreFine}
 use Rattle.op_frames.proofs.MovesFine.{HasRuntime, local_path, store_fine, taken_fine}
 use Rattle.op_frames.proofs.PlacesFine.{IsHome, IsFrame, Temporaries}
+use Rattle.op_frames.specs.Fitting.{is_stored}
 use Rattle.op_low.specs.Valid.{has_symbol}
 use Rattle.op_low.specs.declared.ids.VirtualRegister.{VirtualRegister}
 use Rattle.op_low.specs.declared.instruction.Instruction.{Instruction as LowInstruction}
@@ -107,6 +108,19 @@ spare_below m parameters other k (Held r ∷ homes) few less o =
 spare_below m parameters other k (Shared id ∷ homes) few less o =
     let less' : k + suc (length homes) ≤ parameters = less in
     spare_below m parameters other (k + 1) homes few (omega (arith, less')) o
+
+-- it is that of a parameter, where one is stored
+pub spare_given : (m : Bounds) (parameters : ℕ) (other : VirtualRegister) (k : ℕ) (homes : List Home) → 2 + parameters ≤ m.registers → k + length homes ≤ parameters → list_any is_stored homes ≡ true → Below m (spare_from other k homes)
+spare_given m parameters other k [] few less e = absurd (true≢false (sym e))
+spare_given m parameters other k (Stored offset ∷ homes) few less e =
+    let less' : k + suc (length homes) ≤ parameters = less in
+    let q : 2 + k < m.registers = omega (arith, few, less') in q
+spare_given m parameters other k (Held r ∷ homes) few less e =
+    let less' : k + suc (length homes) ≤ parameters = less in
+    spare_given m parameters other (k + 1) homes few (omega (arith, less')) e
+spare_given m parameters other k (Shared id ∷ homes) few less e =
+    let less' : k + suc (length homes) ≤ parameters = less in
+    spare_given m parameters other (k + 1) homes few (omega (arith, less')) e
 
 pub taken_few : {A : Type 0} (n : ℕ) (xs : List A) → 0 + length (take n xs) ≤ n
 taken_few n xs = let e = length-take n xs in omega (arith, e)

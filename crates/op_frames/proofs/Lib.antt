@@ -1,3 +1,4 @@
+pub mod Beginnings
 pub mod CallsFine
 pub mod ClosingFine
 pub mod CodeFine

@@ -1,8 +1,8 @@
 -- The low code of a program that fits is valid.
-use Rattle.std.proofs.Common.{◌≡◌, ◌<◌, ◌≤◌, ℕ, suc, ◌+◌, max, Bool, true, false, ◌&&◌, List, [], ◌∷◌, ◌++◌, length, map, take, nat_eq, nat_lt, slice_get, Option, Some, inr, refl, sym, ap, ◌∙◌, subst, arith, le_refl, length-append, if◌then◌else◌}
+use Rattle.std.proofs.Common.{◌≡◌, ◌<◌, ◌≤◌, ℕ, suc, ◌+◌, max, Bool, true, false, ◌&&◌, List, [], ◌∷◌, ◌++◌, length, map, take, nat_eq, nat_lt, slice_get, Option, Some, inl, inr, ◌⊎◌, true≢false, refl, sym, ap, ◌∙◌, subst, arith, le_refl, length-append, if◌then◌else◌}
 use Rattle.std.proofs.lemmas.Bool.Decides.{nat_tests}
 use Rattle.std.proofs.lemmas.List.{length-map}
-use Rattle.std.specs.List.{list_all}
+use Rattle.std.specs.List.{list_all, list_any}
 use Rattle.op_compute.specs.Bank.{scratch_of}
 use Rattle.op_constants.specs.Offsets.{size_in}
 use Rattle.op_core.specs.Rows.{rows}
@@ -10,26 +10,30 @@ use Rattle.op_core.specs.declared.ids.TypeId.{TypeId}
 use Rattle.op_core.specs.declared.program.Core.{Core}
 use Rattle.op_expand.specs.Calls.{has_closing, closing_number}
 use Rattle.op_expand.specs.Frames.{frame_of, first_room, parameters_of, variables_room}
-use Rattle.op_expand.specs.Homes.{homes_from, parameter, roots_of}
+use Rattle.op_expand.specs.Homes.{home_at, parameter, roots_of}
+use Rattle.op_expand.specs.Moves.{held, held_by}
 use Rattle.op_expand.specs.Programs.{behind_routines, routines_from}
 use Rattle.op_expand.specs.Registers.{registers_in}
 use Rattle.op_expand.specs.Routines.{all_blocks, beginning, behind_blocks, blocks_of, error_block, error_blocks, low_parameters, low_routine, most_charge, routine_with}
 use Rattle.op_expand.specs.declared.frame.Returning.{Returning}
 use Rattle.op_expand.specs.declared.frame.Returning.TheVariants.{Ending, Nothing, Result}
+use Rattle.op_expand.specs.declared.homes.Home.{Home}
+use Rattle.op_expand.specs.declared.homes.Home.TheVariants.{Held, Shared, Stored}
 use Rattle.op_frames.proofs.CallsFine.{CanReturn, TakesClosing}
-use Rattle.op_frames.proofs.CodeFine.{CanDo}
+use Rattle.op_frames.proofs.CodeFine.{CanBegin, CanDo}
 use Rattle.op_frames.proofs.Fine.{Bounds, Below}
-use Rattle.op_frames.proofs.FramesFine.{behind_grows, beginning_fine, homes_below, locals_whole, spare_below, taken_few}
+use Rattle.op_frames.proofs.FramesFine.{behind_grows, beginning_fine, homes_below, locals_whole, spare_below, spare_given, taken_few}
 use Rattle.op_frames.proofs.MadeLemmas.{every_append}
 use Rattle.op_frames.proofs.MovesFine.{HasRuntime}
 use Rattle.op_frames.proofs.PlacesFine.{IsFrame, Temporaries, most_each}
 use Rattle.op_frames.proofs.RoutineFine.{IsFineBlock, IsGood, IsGoodBlock, blocks_count, blocks_fine, blocks_grow, errors_fine, registers_under, stack_fine, valid_routine}
-use Rattle.op_frames.specs.Fitting.{IsFitting, registers_of_routine, room_of_block, room_of_instruction, scratch_of_routine}
+use Rattle.op_frames.specs.Fitting.{IsFitting, begin_of_block, begin_of_routine, begin_room, is_held, is_stored, registers_of_routine, room_of_block, room_of_instruction, scratch_of_routine}
 use Rattle.op_frames.specs.Made.{Every, IsCode}
 use Rattle.op_frames.specs.Named.{IsNamed}
 use Rattle.op_low.specs.Valid.{is_valid_routine, most_registers, takes}
 use Rattle.op_low.specs.declared.code.Low.{Low}
 use Rattle.op_low.specs.declared.code.Routine.{Routine as LowRoutine}
+use Rattle.op_low.specs.declared.ids.VirtualRegister.{VirtualRegister}
 use Rattle.op_lower.specs.Temporaries.{in_block, in_blocks, in_instruction, most_of}
 use Rattle.op_meaning.specs.Shapes.{variables_of}
 use Rattle.op_mir.specs.View.{view_block, view_given, view_instruction}
@@ -39,8 +43,10 @@ use Rattle.op_mir.specs.declared.code.Block.{Block}
 use Rattle.op_mir.specs.declared.code.Mir.{Mir}
 use Rattle.op_mir.specs.declared.code.Routine.{Routine}
 use Rattle.op_mir.specs.declared.ids.BlockId.{BlockId}
+use Rattle.op_mir.specs.declared.ids.LocalId.{LocalId}
 use Rattle.op_mir.specs.declared.instruction.Instruction.{Instruction}
 use Rattle.op_mir.specs.declared.instruction.Instruction.TheVariants.{Act, Call, Jump, When, Unless, Switch, Dispatch, MakeDue, Stop, Return}
+use Rattle.op_mir.specs.declared.path.Root.TheVariants.{Local}
 use Rattle.op_rt_text.specs.Runtime.{runtime_routines}
 
 and_true : (a b : Bool) → a ≡ true → b ≡ true → (a && b) ≡ true
@@ -55,55 +61,82 @@ under_over a b e less = grind (arith, nat_tests)
 -- ---- the instructions of a routine
 
 module _ (m : Bounds) (core : Core) (r : ℕ) (routine : Routine) (n blocks most : ℕ) (is : IsFrame m core (frame_of core r routine)) (temporaries : Temporaries (frame_of core r routine) n) (runtime : HasRuntime m) (fewer : blocks ≤ m.blocks) (mir : Mir)
-    (spare : Below m (frame_of core r routine).spare) (two : (frame_of core r routine).bank.scratch + 2 ≤ m.registers) (three : 3 ≤ m.registers) (room : (frame_of core r routine).bank.scratch + most ≤ m.registers)
+    (few : 2 + parameters_of core r ≤ m.registers) (one : (frame_of core r routine).bank.scratch + 1 ≤ m.registers) (three : 3 ≤ m.registers) (room : (frame_of core r routine).bank.scratch + most ≤ m.registers)
     (calls : (f k : ℕ) → f < length core.routines → k ≡ parameters_of core f → takes (slice_get m.low.routines (8 + f)) (suc (suc k)) ≡ true) (ends : TakesClosing m core) where
   can_return : (returning : Returning) → CanReturn m core (frame_of core r routine) returning
-  can_return Ending = (ends, omega (arith, two))
+  can_return Ending = (ends, one)
   can_return Nothing = tt
   can_return (Result of v) = λ e. three
 
-  can_act : (a : Action) (landing : Option BlockId) → CanDo m core (frame_of core r routine) (Act a landing)
-  can_act (BeginWith v) landing = record { spare = spare; one = omega (arith, two); another = inr two }
-  can_act (Constant to k) landing = tt
-  can_act (Load to kind from) landing = tt
-  can_act (Store to kind from) landing = tt
-  can_act (Copy of to from) landing = tt
-  can_act (Look at) landing = tt
-  can_act (Pick to text index) landing = tt
-  can_act (Compute c) landing = tt
-  can_act (Write w) landing = tt
-  can_act (WriteText text width) landing = tt
+  -- ---- what variables begin with
 
-  can_do : (i : Instruction) → IsNamed core blocks (view_instruction core r i) → CanDo m core (frame_of core r routine) i
-  can_do (Act a landing) named = can_act a landing
-  can_do (Call f operands) named = calls f.0 (length operands.given) named.0 (sym (length-map operands.given view_given) ∙ named.1)
-  can_do (Jump block) named = tt
-  can_do (When t block) named = tt
-  can_do (Unless t block) named = tt
-  can_do (Switch t arms) named = tt
-  can_do (Dispatch t block) named = tt
-  can_do (MakeDue f) named = tt
-  can_do (Stop t) named = ends
-  can_do Return named = can_return (frame_of core r routine).returning
+  spare_by : (stored : Bool) → list_any is_stored (take (parameters_of core r) (frame_of core r routine).homes) ≡ stored → (if stored then 1 else 2) ≤ most → Below m (frame_of core r routine).spare
+  spare_by true e less = spare_given m (parameters_of core r) (scratch_of (frame_of core r routine).bank 1) 0 (take (parameters_of core r) (frame_of core r routine).homes) few (taken_few (parameters_of core r) (frame_of core r routine).homes) e
+  spare_by false e less = spare_below m (parameters_of core r) (scratch_of (frame_of core r routine).bank 1) 0 (take (parameters_of core r) (frame_of core r routine).homes) few (taken_few (parameters_of core r) (frame_of core r routine).homes) (omega (arith, less, room))
 
-  good_code : (code : List Instruction) → Every (IsNamed core blocks) (map (view_instruction core r) code) → Every (λ i. in_instruction i ≤ n) code → Every (λ i. room_of_instruction core r i ≤ most) code → Every (IsGood m core r routine n blocks is temporaries runtime fewer mir) code
-  good_code [] named t w = tt
-  good_code (i ∷ code) named t w =
-      (record { named = named.0; temps = t.0; room = omega (arith, room, w.0); can = can_do i named.0 }, good_code code named.1 t.1 w.1)
+  held_home : (v : LocalId) (home : Home) → is_held home ≡ true → (q : VirtualRegister) × (held_by (Local v) [] home ≡ Some q)
+  held_home v (Held q) e = (q, refl)
+  held_home v (Stored offset) e = absurd (true≢false (sym e))
+  held_home v (Shared id) e = absurd (true≢false (sym e))
 
-  good_blocks : (bs : List Block) → Every (IsCode (IsNamed core blocks)) (map (view_block core r) bs) → Every (λ b. in_block b ≤ n) bs → Every (λ b. room_of_block core r b ≤ most) bs → Every (IsGoodBlock m core r routine n blocks is temporaries runtime fewer mir) bs
-  good_blocks [] c t w = tt
-  good_blocks (b ∷ bs) c t w =
+  another_by : (v : LocalId) (is_in : Bool) → is_held (home_at (frame_of core r routine).homes v) ≡ is_in → (if is_in then 1 else 2) ≤ most
+      → ((q : VirtualRegister) × (held core (frame_of core r routine) (Local v) [] ≡ Some q)) ⊎ ((frame_of core r routine).bank.scratch + 2 ≤ m.registers)
+  another_by v true e less = inl (held_home v (home_at (frame_of core r routine).homes v) e)
+  another_by v false e less = inr (omega (arith, less, room))
+
+  can_begin : (v : LocalId) (landing : Option BlockId) → begin_room core r (frame_of core r routine) (Act (BeginWith v) landing) ≤ most → CanBegin m core (frame_of core r routine) v
+  unfolding begin_room
+  can_begin v landing less = record {
+    one = one;
+    spare = λ e. spare_by (list_any is_stored (take (parameters_of core r) (frame_of core r routine).homes)) refl (rw e at less);
+    another = λ e. another_by v (is_held (home_at (frame_of core r routine).homes v)) refl (rw e at less);
+  }
+
+  can_act : (a : Action) (landing : Option BlockId) → begin_room core r (frame_of core r routine) (Act a landing) ≤ most → CanDo m core (frame_of core r routine) (Act a landing)
+  can_act (BeginWith v) landing less = can_begin v landing less
+  can_act (Constant to k) landing less = tt
+  can_act (Load to kind from) landing less = tt
+  can_act (Store to kind from) landing less = tt
+  can_act (Copy of to from) landing less = tt
+  can_act (Look at) landing less = tt
+  can_act (Pick to text index) landing less = tt
+  can_act (Compute c) landing less = tt
+  can_act (Write w) landing less = tt
+  can_act (WriteText text width) landing less = tt
+
+  can_do : (i : Instruction) → IsNamed core blocks (view_instruction core r i) → begin_room core r (frame_of core r routine) i ≤ most → CanDo m core (frame_of core r routine) i
+  can_do (Act a landing) named less = can_act a landing less
+  can_do (Call f operands) named less = calls f.0 (length operands.given) named.0 (sym (length-map operands.given view_given) ∙ named.1)
+  can_do (Jump block) named less = tt
+  can_do (When t block) named less = tt
+  can_do (Unless t block) named less = tt
+  can_do (Switch t arms) named less = tt
+  can_do (Dispatch t block) named less = tt
+  can_do (MakeDue f) named less = tt
+  can_do (Stop t) named less = ends
+  can_do Return named less = can_return (frame_of core r routine).returning
+
+  good_code : (code : List Instruction) → Every (IsNamed core blocks) (map (view_instruction core r) code) → Every (λ i. in_instruction i ≤ n) code → Every (λ i. room_of_instruction core r i ≤ most) code → Every (λ i. begin_room core r (frame_of core r routine) i ≤ most) code → Every (IsGood m core r routine n blocks is temporaries runtime fewer mir) code
+  good_code [] named t w begins = tt
+  good_code (i ∷ code) named t w begins =
+      (record { named = named.0; temps = t.0; room = omega (arith, room, w.0); can = can_do i named.0 begins.0 }, good_code code named.1 t.1 w.1 begins.1)
+
+  good_blocks : (bs : List Block) → Every (IsCode (IsNamed core blocks)) (map (view_block core r) bs) → Every (λ b. in_block b ≤ n) bs → Every (λ b. room_of_block core r b ≤ most) bs → Every (λ b. begin_of_block core r (frame_of core r routine) b ≤ most) bs → Every (IsGoodBlock m core r routine n blocks is temporaries runtime fewer mir) bs
+  good_blocks [] c t w begins = tt
+  good_blocks (b ∷ bs) c t w begins =
       let code = c.0 in
-      ((good_code b.code code.each (most_each in_instruction b.code n t.0) (most_each (room_of_instruction core r) b.code most w.0), code.leaves), good_blocks bs c.1 t.1 w.1)
+      ((good_code b.code code.each (most_each in_instruction b.code n t.0) (most_each (room_of_instruction core r) b.code most w.0) (most_each (begin_room core r (frame_of core r routine)) b.code most begins.0), code.leaves), good_blocks bs c.1 t.1 w.1 begins.1)
 
 -- ---- a routine
 
-two_more : (a k : ℕ) → a + 2 ≤ a + max 2 k
-two_more a k = omega arith
+one_more : (a b k : ℕ) → a + 1 ≤ a + max (max 1 b) k
+one_more a b k = omega arith
 
-least_max : (k : ℕ) → k ≤ max 2 k
-least_max k = omega arith
+least_max : (b k : ℕ) → k ≤ max (max 1 b) k
+least_max b k = omega arith
+
+begins_max : (b k : ℕ) → b ≤ max (max 1 b) k
+begins_max b k = omega arith
 
 module _ (low : Low) (core : Core) (mir : Mir) (sizes : (of : TypeId) → size_in core of ≤ 1048576) (others : List LowRoutine) (routines : low.routines ≡ runtime_routines ++ others) (globals : length core.variables < length low.globals) (enough : 7 ≤ low.counts.literals)
     (calls : (f k : ℕ) → f < length core.routines → k ≡ parameters_of core f → takes (slice_get low.routines (8 + f)) (suc (suc k)) ≡ true) (ends : has_closing core ≡ true → takes (slice_get low.routines (closing_number core)) 2 ≡ true) where
@@ -148,7 +181,7 @@ module _ (low : Low) (core : Core) (mir : Mir) (sizes : (of : TypeId) → size_i
     the_runtime = record { others = others; are = routines }
 
     three_there : 3 ≤ registers_of_routine core r routine
-    three_there = let two = two_more ((variables_room core r routine).register + routine.temporaries) (most_of (room_of_block core r) routine.blocks) in omega (arith, first_fits, two)
+    three_there = let one = one_more ((variables_room core r routine).register + routine.temporaries) (begin_of_routine core r routine) (most_of (room_of_block core r) routine.blocks) in omega (arith, first_fits, one)
 
     low_fits : low_parameters core r ≤ registers_of_routine core r routine
     low_fits = omega (arith, low_few r, few_parameters)
@@ -158,16 +191,13 @@ module _ (low : Low) (core : Core) (mir : Mir) (sizes : (of : TypeId) → size_i
         let m = bounds in
         let frame = frame_of core r routine in
         let most = scratch_of_routine core r routine in
-        let two : (variables_room core r routine).register + routine.temporaries + 2 ≤ (variables_room core r routine).register + routine.temporaries + max 2 (most_of (room_of_block core r) routine.blocks) = two_more ((variables_room core r routine).register + routine.temporaries) (most_of (room_of_block core r) routine.blocks) in
-        let three : 3 ≤ m.registers = omega (arith, first_fits, two) in
+        let one : frame.bank.scratch + 1 ≤ m.registers = one_more ((variables_room core r routine).register + routine.temporaries) (begin_of_routine core r routine) (most_of (room_of_block core r) routine.blocks) in
+        let three : 3 ≤ m.registers = three_there in
         let fewer : length routine.blocks ≤ m.blocks = omega arith in
-        let scratch : Below m (scratch_of frame.bank 1) = omega (arith, two) in
-        let homes = homes_from core (parameters_of core r) (roots_of routine) 0 (first_room (parameters_of core r)) (rows core.variables (variables_of core r)) in
-        let spare = spare_below m (parameters_of core r) (scratch_of frame.bank 1) 0 (take (parameters_of core r) homes) few_parameters (taken_few (parameters_of core r) homes) scratch in
         let t : in_blocks routine.blocks ≤ routine.temporaries = omega (arith, fits.temporaries) in
-        let rooms = most_each (room_of_block core r) routine.blocks most (least_max (most_of (room_of_block core r) routine.blocks)) in
-        let good = good_blocks m core r routine routine.temporaries (length routine.blocks) most the_frame the_temporaries the_runtime fewer mir spare two three (omega arith) calls ends routine.blocks fits.code (most_each in_block routine.blocks routine.temporaries t) rooms in
-        let one : frame.bank.scratch + 1 ≤ m.registers = omega (arith, two) in
+        let rooms = most_each (room_of_block core r) routine.blocks most (least_max (begin_of_routine core r routine) (most_of (room_of_block core r) routine.blocks)) in
+        let begins = most_each (begin_of_block core r frame) routine.blocks most (begins_max (begin_of_routine core r routine) (most_of (room_of_block core r) routine.blocks)) in
+        let good = good_blocks m core r routine routine.temporaries (length routine.blocks) most the_frame the_temporaries the_runtime fewer mir few_parameters one three (omega arith) calls ends routine.blocks fits.code (most_each in_block routine.blocks routine.temporaries t) rooms begins in
         let front = beginning_fine m core r routine routine.temporaries the_frame the_temporaries the_runtime few_parameters one in
         let fine = blocks_fine m core r routine routine.temporaries (length routine.blocks) the_frame the_temporaries the_runtime fewer mir id (beginning core frame r) routine.blocks front good literals in
         let two_registers : 2 ≤ m.registers = omega (arith, three) in

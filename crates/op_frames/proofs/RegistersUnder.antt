@@ -21,12 +21,13 @@ use Rattle.op_expand.specs.Routines.{most_charge}
 use Rattle.op_expand.specs.declared.homes.Keeping.{Keeping}
 use Rattle.op_expand.specs.declared.homes.Keeping.TheVariants.{AsGiven, InRegister, InMemory}
 use Rattle.op_expand.specs.declared.homes.Room.{Room}
+use Rattle.op_frames.proofs.Beginnings.{begins_two}
 use Rattle.op_frames.proofs.Lowered.{routine_under}
 use Rattle.op_frames.proofs.ExpressionsWithin.{made_both}
 use Rattle.op_frames.proofs.StatementsWithin.{all_well}
 use Rattle.op_frames.specs.Charged.{IsCharged}
 use Rattle.op_frames.specs.Counted.{AreCountedStatements}
-use Rattle.op_frames.specs.Fitting.{registers_of_routine, room_of_block, scratch_of_routine}
+use Rattle.op_frames.specs.Fitting.{begin_of_routine, registers_of_routine, room_of_block, scratch_of_routine}
 use Rattle.op_frames.specs.Made.{AreMade, Every}
 use Rattle.op_frames.specs.Within.{IsWithin}
 use Rattle.op_low.specs.Valid.{most_registers}
@@ -55,7 +56,7 @@ parameter_some true place n p = omega arith
 parameter_some false true n p = omega arith
 parameter_some false false n p = some_words n p
 
-charged_some : (core : Core) (v : Variable) (role : Role) → IsCharged role → 1 ≤ size_in core v.of → 1 ≤ variable_words core v role
+pub charged_some : (core : Core) (v : Variable) (role : Role) → IsCharged role → 1 ≤ size_in core v.of → 1 ≤ variable_words core v role
 charged_some core v Object c s = omega arith
 charged_some core v (Parameter mode) c s = parameter_some (is_open (type_at core v.of)) (takes_place mode) (size_in core v.of) s
 charged_some core v Result c s = some_words (size_in core v.of) s
@@ -142,7 +143,7 @@ module _ (core : Core) (stack r : ℕ) (row : Row) (b : Body) (there : slice_get
       let under = routine_under top room core stack r routine is made in
       let variables = registers_counted core (parameters_of core r) (roots_of routine) sizes 0 (first_room (parameters_of core r)) (rows core.variables (variables_of core r)) charged in
       let charge = under_charge routine is less in
-      total (variables_room core r routine).register routine.temporaries (most_of (room_of_block core r) routine.blocks) (parameters_of core r) words nodes variables under.0 under.1 few charge
+      total (variables_room core r routine).register routine.temporaries (begin_of_routine core r routine) (most_of (room_of_block core r) routine.blocks) (parameters_of core r) words nodes variables under.0 (begins_two core r routine) under.1 few charge
     where
-      total : (registers temporaries rooms parameters words nodes : ℕ) → registers ≤ 2 + parameters + words → temporaries ≤ 2 * nodes → rooms ≤ 2 * nodes + 1 → parameters ≤ 64 → 272 + 4 * words + 16 * nodes ≤ 2 ^ 26 → registers + temporaries + max 2 rooms ≤ 2 ^ 24
-      total registers temporaries rooms parameters words nodes a b c d e = omega (arith, a, b, c, d, e)
+      total : (registers temporaries begins rooms parameters words nodes : ℕ) → registers ≤ 2 + parameters + words → temporaries ≤ 2 * nodes → begins ≤ 2 → rooms ≤ 2 * nodes + 1 → parameters ≤ 64 → 272 + 4 * words + 16 * nodes ≤ 2 ^ 26 → registers + temporaries + max (max 1 begins) rooms ≤ 2 ^ 24
+      total registers temporaries begins rooms parameters words nodes a b c d e f = omega (arith, a, b, c, d, e, f)

@@ -1,6 +1,6 @@
 -- What is proved of the low code of programs.
 use Rattle.std.specs.List.{sum_by}
-use Rattle.std.specs.Prelude.{◌≡◌, ◌≤◌, ◌⊎◌, ◌+◌, ◌*◌, ℕ, true, false, List, length, Some, slice_get, ◌-◌}
+use Rattle.std.specs.Prelude.{◌≡◌, ◌≤◌, ◌+◌, ◌*◌, ℕ, true, false, List, length, Some, slice_get, ◌-◌}
 use Rattle.op_constants.specs.Literals.{literals_of}
 use Rattle.op_constants.specs.Offsets.{size_in}
 use Rattle.op_constants.specs.Shapes.{is_composite}
@@ -28,7 +28,7 @@ use Rattle.op_link.specs.Memory.{globals_size}
 use Rattle.op_low.specs.Valid.{is_valid, most_registers}
 use Rattle.op_lower.specs.Lowers.{IsRoutine}
 use Rattle.op_lower.specs.Seen.{seen_blocks}
-use Rattle.op_meaning.specs.Charge.{charge_of, is_open, nodes_of, statements_weight, words_of}
+use Rattle.op_meaning.specs.Charge.{charge_of, is_open, statements_weight, words_of}
 use Rattle.op_meaning.specs.Frames.{program_of}
 use Rattle.op_meaning.specs.Shapes.{shape_of, variables_of}
 use Rattle.op_mir.specs.Code.{items_of}
@@ -68,7 +68,7 @@ RegistersAreCharged =
     → registers_of_routine core r routine ≤ most_registers
 
 -- Its frame takes no more bytes than it is charged, if its temporaries of record and array types take no more than the words of its body, and less by
--- a word for each parameter that it could have besides. It has a statement, or less than 64 parameters.
+-- a word for each parameter that it could have besides, up to 63.
 abbrev pub FramesAreCharged : Type 0
 FramesAreCharged =
     (core : Core) (stack r : ℕ) (row : Row) (b : Body) → slice_get core.routines r ≡ Some row → row.body ≡ Some b → (routine : Routine) → IsRoutine core r routine
@@ -76,7 +76,7 @@ FramesAreCharged =
     → ((of : TypeId) → is_open (type_at core of) ≡ true → size_in core of ≤ 12) → ((of : TypeId) → is_composite (shape_of core of) ≡ false → 1 ≤ size_in core of)
     → Every (λ v. IsCharged v.role × (v.role ≡ Object → size_in core v.of ≤ 4)) (rows core.variables (variables_of core r))
     → sum_by (size_of_root core) (roots_of routine) ≤ 4 * words_of (statements_weight core ((program_of core stack).body r))
-    → parameters_of core r ≤ 64 → (1 ≤ nodes_of (statements_weight core ((program_of core stack).body r))) ⊎ (parameters_of core r ≤ 63)
+    → parameters_of core r ≤ 64
     → (frame_of core r routine).locals + 4 * (registers_of_routine core r routine + 1) + 4 * (63 - parameters_of core r) ≤ charge_of core (record { 0 = r })
 
 -- The temporaries of record and array types that the items of a routine name take no more room than a list that has all of them.

@@ -1,6 +1,8 @@
 -- What is asked of a program in managed code, so that its low code is valid.
-use Rattle.std.specs.Prelude.{◌≡◌, ◌<◌, ◌≤◌, ℕ, ◌+◌, max, true, length, Some, slice_get}
+use Rattle.std.specs.List.{list_any}
+use Rattle.std.specs.Prelude.{◌≡◌, ◌<◌, ◌≤◌, ℕ, ◌+◌, max, Bool, true, false, length, Some, slice_get, take, if◌then◌else◌}
 use Rattle.op_constants.specs.Offsets.{size_in}
+use Rattle.op_constants.specs.Shapes.{is_composite}
 use Rattle.op_core.specs.Rows.{rows}
 use Rattle.op_core.specs.declared.ids.RoutineId.{RoutineId}
 use Rattle.op_core.specs.declared.ids.TypeId.{TypeId}
@@ -8,29 +10,65 @@ use Rattle.op_core.specs.declared.program.Core.{Core}
 use Rattle.op_core.specs.declared.routine.Variable.{Variable}
 use Rattle.op_expand.specs.Calls.{finalizations}
 use Rattle.op_expand.specs.Frames.{frame_of, parameters_of, variables_room}
+use Rattle.op_expand.specs.Homes.{home_at}
 use Rattle.op_expand.specs.Routines.{most_charge}
+use Rattle.op_expand.specs.declared.frame.Frame.{Frame}
+use Rattle.op_expand.specs.declared.homes.Home.{Home}
+use Rattle.op_expand.specs.declared.homes.Home.TheVariants.{Held, Stored}
 use Rattle.op_frames.specs.Made.{Every, IsCode}
 use Rattle.op_frames.specs.Named.{IsNamed}
 use Rattle.op_frames.specs.Scratch.{room_in}
 use Rattle.op_low.specs.Valid.{most_locals, most_registers}
 use Rattle.op_lower.specs.Seen.{seen_blocks}
 use Rattle.op_lower.specs.Temporaries.{in_blocks, most_of}
-use Rattle.op_meaning.specs.Shapes.{is_reference, variables_of}
+use Rattle.op_meaning.specs.Shapes.{is_reference, shape_of, type_of_local, variables_of}
 use Rattle.op_mir.specs.View.{view_instruction}
+use Rattle.op_mir.specs.declared.action.Action.TheVariants.{BeginWith}
 use Rattle.op_mir.specs.declared.code.Block.{Block}
 use Rattle.op_mir.specs.declared.code.Mir.{Mir}
 use Rattle.op_mir.specs.declared.code.Routine.{Routine}
+use Rattle.op_mir.specs.declared.ids.LocalId.{LocalId}
 use Rattle.op_mir.specs.declared.instruction.Instruction.{Instruction}
+use Rattle.op_mir.specs.declared.instruction.Instruction.TheVariants.{Act}
 
--- as many scratch registers as an instruction of the routine takes, and two for what variables begin with
+-- ---- scratch registers
+
+abbrev pub is_held : Home → Bool
+is_held (Held r) = true
+is_held _ = false
+
+abbrev pub is_stored : Home → Bool
+is_stored (Stored offset) = true
+is_stored _ = false
+
+-- A number that a register has begins with one scratch register, one in memory with two. A value of a type with parts begins with two, or with one
+-- and the register of a parameter that is stored.
+abbrev pub begins_with_one : Core → (r : ℕ) → Frame → LocalId → Bool
+begins_with_one core r frame v =
+    if is_composite (shape_of core (type_of_local core r v.0)) then list_any is_stored (take (parameters_of core r) frame.homes)
+    else is_held (home_at frame.homes v)
+
+unfoldable pub begin_room : Core → ℕ → Frame → Instruction → ℕ
+begin_room core r frame (Act (BeginWith v) landing) = if begins_with_one core r frame v then 1 else 2
+begin_room core r frame _ = 0
+
+abbrev pub begin_of_block : Core → ℕ → Frame → Block → ℕ
+begin_of_block core r frame b = most_of (begin_room core r frame) b.code
+
+-- what the variables of a routine begin with
+abbrev pub begin_of_routine : Core → ℕ → Routine → ℕ
+begin_of_routine core r routine = most_of (begin_of_block core r (frame_of core r routine)) routine.blocks
+
+-- what an instruction takes
 abbrev pub room_of_instruction : Core → ℕ → Instruction → ℕ
 room_of_instruction core r i = room_in (view_instruction core r i)
 
 abbrev pub room_of_block : Core → ℕ → Block → ℕ
 room_of_block core r b = most_of (room_of_instruction core r) b.code
 
+-- as many as one of its instructions takes, and one at least
 abbrev pub scratch_of_routine : Core → ℕ → Routine → ℕ
-scratch_of_routine core r routine = max 2 (most_of (room_of_block core r) routine.blocks)
+scratch_of_routine core r routine = max (max 1 (begin_of_routine core r routine)) (most_of (room_of_block core r) routine.blocks)
 
 -- no more registers are named by the low code of the routine
 abbrev pub registers_of_routine : Core → ℕ → Routine → ℕ

@@ -1,5 +1,5 @@
 -- What a node passes is what it says passes.
-use Rattle.std.proofs.Common.{◌≡◌, Bool, List, [], ◌∷◌, length, refl, ap, sym, ◌∙◌, arith}
+use Rattle.std.proofs.Common.{◌≡◌, ℕ, Bool, List, [], ◌∷◌, length, refl, ap, sym, ◌∙◌, arith}
 use Rattle.op_core.proofs.Nodes.{list_nodes}
 use Rattle.op_core.specs.Expression.{expr_of, expression, root_of}
 use Rattle.op_core.specs.Nodes.{steps_of}
@@ -15,16 +15,16 @@ no_items : {A : Type 0} (xs : List A) → length xs ≡ 0 → xs ≡ []
 no_items [] none = refl
 no_items (x ∷ xs) none = absurd (omega (arith, none))
 
-module _ (core : Core) (e : CoreExpr) where
-  pub amount_bare : length (out-CoreExpr e).steps.items ≡ 0 → is_plain_amount core (expr_of e) ≡ is_plain_bare core (root_of (out-CoreExpr e).root) (out-CoreExpr e).of
+module _ (texts : List ℕ → Bool) (core : Core) (e : CoreExpr) where
+  pub amount_bare : length (out-CoreExpr e).steps.items ≡ 0 → is_plain_amount texts core (expr_of e) ≡ is_plain_bare texts core (root_of (out-CoreExpr e).root) (out-CoreExpr e).of
   amount_bare none =
-      ap (is_plain_amount core) (list_nodes.expr_says e)
-      ∙ ap (λ xs. is_plain_amount core (expression (root_of (out-CoreExpr e).root) (out-CoreExpr e).of (steps_of xs))) (no_items (out-CoreExpr e).steps.items none)
+      ap (is_plain_amount texts core) (list_nodes.expr_says e)
+      ∙ ap (λ xs. is_plain_amount texts core (expression (root_of (out-CoreExpr e).root) (out-CoreExpr e).of (steps_of xs))) (no_items (out-CoreExpr e).steps.items none)
 
-  pub amount_long : (x : Step) (xs : List Step) → (out-CoreExpr e).steps.items ≡ x ∷ xs → is_plain_amount core (expr_of e) ≡ is_plain_expression core (expr_of e)
+  pub amount_long : (x : Step) (xs : List Step) → (out-CoreExpr e).steps.items ≡ x ∷ xs → is_plain_amount texts core (expr_of e) ≡ is_plain_expression texts core (expr_of e)
   amount_long x xs some =
-      let amount : is_plain_amount core (expr_of e) ≡ is_plain_expression core (expression (root_of (out-CoreExpr e).root) (out-CoreExpr e).of (steps_of (x ∷ xs))) =
-      ap (is_plain_amount core) (list_nodes.expr_says e) ∙ ap (λ ys. is_plain_amount core (expression (root_of (out-CoreExpr e).root) (out-CoreExpr e).of (steps_of ys))) some in
-      let whole : is_plain_expression core (expr_of e) ≡ is_plain_expression core (expression (root_of (out-CoreExpr e).root) (out-CoreExpr e).of (steps_of (x ∷ xs))) =
-      ap (is_plain_expression core) (list_nodes.expr_says e) ∙ ap (λ ys. is_plain_expression core (expression (root_of (out-CoreExpr e).root) (out-CoreExpr e).of (steps_of ys))) some in
+      let amount : is_plain_amount texts core (expr_of e) ≡ is_plain_expression texts core (expression (root_of (out-CoreExpr e).root) (out-CoreExpr e).of (steps_of (x ∷ xs))) =
+      ap (is_plain_amount texts core) (list_nodes.expr_says e) ∙ ap (λ ys. is_plain_amount texts core (expression (root_of (out-CoreExpr e).root) (out-CoreExpr e).of (steps_of ys))) some in
+      let whole : is_plain_expression texts core (expr_of e) ≡ is_plain_expression texts core (expression (root_of (out-CoreExpr e).root) (out-CoreExpr e).of (steps_of (x ∷ xs))) =
+      ap (is_plain_expression texts core) (list_nodes.expr_says e) ∙ ap (λ ys. is_plain_expression texts core (expression (root_of (out-CoreExpr e).root) (out-CoreExpr e).of (steps_of ys))) some in
       amount ∙ sym whole

@@ -1,13 +1,13 @@
 -- A program that passes the test is of the class.
-use Rattle.std.proofs.Common.{◌≡◌, ◌<◌, ◌≤◌, ◌⊎◌, inl, inr, ℕ, zero, suc, ◌+◌, Bool, true, false, ◌&&◌, if◌then◌else◌, nat_eq, nat_lt, Option, Some, None, List, [], ◌∷◌, length, slice_get, filter, flat_map, map, reverse, take, drop, refl, ap, subst, arith, nat_le}
-use Rattle.std.proofs.lemmas.Bool.{and_parts, not-true, or_cases}
+use Rattle.std.proofs.Common.{◌≡◌, ◌<◌, ◌≤◌, ℕ, zero, suc, ◌+◌, Bool, true, false, ◌&&◌, if◌then◌else◌, Option, Some, None, List, [], ◌∷◌, length, slice_get, filter, flat_map, map, reverse, take, drop, refl, ap, subst, arith, nat_le}
+use Rattle.std.proofs.lemmas.Bool.{and_parts, not-true}
 use Rattle.std.proofs.lemmas.Bool.Decides.{nat_tests}
 use Rattle.std.proofs.lemmas.List.Elements.{All-cons, All-nil}
 use Rattle.std.proofs.lemmas.Option.{slice_get_within}
 use Rattle.std.specs.List.{All, list_all}
 use Rattle.op_constants.specs.Offsets.{size_in}
 use Rattle.op_core.specs.Rows.{rows}
-use Rattle.op_core.specs.Statement.{Statements, stmts_of}
+use Rattle.op_core.specs.Statement.{stmts_of}
 use Rattle.op_core.specs.declared.ids.Run.{Run}
 use Rattle.op_core.specs.declared.ids.RoutineId.{RoutineId}
 use Rattle.op_core.specs.declared.ids.TypeId.{TypeId}
@@ -26,23 +26,19 @@ use Rattle.op_frames.specs.Charged.{IsCharged}
 use Rattle.op_frames.specs.Counted.{AreCountedStatements}
 use Rattle.op_frames.specs.Made.{Every}
 use Rattle.op_meaning.specs.Calls.{ended_variables, ending_of}
-use Rattle.op_meaning.specs.Charge.{nodes_of, statements_weight}
 use Rattle.op_meaning.specs.Frames.{empty_global, program_of}
 use Rattle.op_meaning.specs.Shapes.{is_managed, type_of_variable, variables_of}
 use Rattle.op_meaning.specs.Start.{first_pending}
 use Rattle.op_mir.specs.Plain.{ArePlainUnits, IfExists}
-use Rattle.op_plain.proofs.CountedLemmas.{statements_counted, statements_some}
-use Rattle.op_plain.proofs.Parts.{Tests, below, failed, tests_of}
+use Rattle.op_plain.proofs.CountedLemmas.{statements_counted}
+use Rattle.op_plain.proofs.Parts.{Tests, failed, tests_of}
 use Rattle.op_plain.proofs.SimpleLemmas.{simple_test}
 use Rattle.op_plain.proofs.WrittenLemmas.{statements_written}
 use Rattle.op_plain.specs.Claims.{IsPlainCore, PlainByItems}
-use Rattle.op_plain.specs.Plain.{are_plain_statements, has_work, is_plain_body, is_plain_program, is_plain_result, is_plain_role, is_plain_routine, is_plain_unit, is_plain_variable, takes_few, most_units}
+use Rattle.op_plain.specs.Plain.{is_plain_body, is_plain_program, is_plain_result, is_plain_role, is_plain_routine, is_plain_unit, is_plain_variable, takes_few, most_units}
 use Rattle.op_sizes.specs.Written.{AreWrittenStatements}
 use Rattle.op_typing.proofs.SimpleTestLemmas.{simple_by_test}
-use Rattle.op_typing.specs.SimpleTests.{begins_itself, gives_nothing, is_none, is_of_unit, is_procedure, is_solid_type}
-
-equal : (a b : ℕ) → nat_eq a b ≡ true → a ≡ b
-equal a b h = grind (arith, nat_tests)
+use Rattle.op_typing.specs.SimpleTests.{begins_itself, gives_nothing, is_none, is_of_unit, is_procedure, is_short_text, is_solid_type}
 
 none_is : {A : Type 0} (o : Option A) → is_none o ≡ true → o ≡ None
 none_is None e = refl
@@ -95,12 +91,8 @@ no_object (Parameter mode) e is = absurd cc
 no_object Result e is = absurd cc
 no_object Handler e is = failed e
 
-few : (parameters : ℕ) (ss : Statements) → takes_few parameters ss ≡ true → (parameters ≤ 63) ⊎ ((parameters ≡ 64) × (has_work ss ≡ true))
-few parameters ss e = by (or_cases (nat_lt parameters 64) (nat_eq parameters 64 && has_work ss) e)
-  where
-    by : ((nat_lt parameters 64 ≡ true) ⊎ ((nat_eq parameters 64 && has_work ss) ≡ true)) → (parameters ≤ 63) ⊎ ((parameters ≡ 64) × (has_work ss ≡ true))
-    by (inl less) = let under = below parameters 64 less in inl (omega (arith, under))
-    by (inr most) = let parts = and_parts _ _ most in inr (equal parameters 64 parts.0, parts.1)
+few : (parameters : ℕ) → takes_few parameters ≡ true → parameters ≤ 64
+few parameters e = grind (arith, nat_tests)
 
 -- ---- what passes
 
@@ -132,10 +124,10 @@ module _ (core : Core) (tests : Tests core) where
   ending_by_result r x there None is e = rw (ended_nothing r (variables_of core r).count, there, is) refl
   ending_by_result r x there (Some of) is e = rw (ended_nothing r (variables_of core r).count, there, is, unmanaged_result of e) refl
 
-  routine_at : (r : ℕ) (x : Routine) → slice_get core.routines r ≡ Some x → is_plain_routine core x ≡ true
-  routine_at r x there = passes_at (is_plain_routine core) core.routines r x tests.routines there
+  routine_at : (r : ℕ) (x : Routine) → slice_get core.routines r ≡ Some x → is_plain_routine is_short_text core x ≡ true
+  routine_at r x there = passes_at (is_plain_routine is_short_text core) core.routines r x tests.routines there
 
-  result_at : (x : Routine) → is_plain_routine core x ≡ true → is_plain_result core x.result ≡ true
+  result_at : (x : Routine) → is_plain_routine is_short_text core x ≡ true → is_plain_result core x.result ≡ true
   result_at x e = (and_parts _ _ (and_parts _ _ (and_parts (is_of_unit x.owner) _ e).1).1).0
 
   ending_by_row : (r : ℕ) (x : Option Routine) → slice_get core.routines r ≡ x → ending_of core r ≡ []
@@ -177,52 +169,40 @@ module _ (core : Core) (tests : Tests core) where
 
   -- ---- bodies
 
-  body_at : (x : Routine) → is_plain_routine core x ≡ true → is_plain_body core x.parameters.count x.body ≡ true
-  body_at x e = (and_parts (is_plain_result core x.result) _ (and_parts (is_none x.enclosing) _ (and_parts (is_of_unit x.owner) _ e).1).1).1
+  code_at : (x : Routine) → is_plain_routine is_short_text core x ≡ true → (takes_few x.parameters.count ≡ true) × (is_plain_body is_short_text core x.body ≡ true)
+  code_at x e = and_parts _ _ (and_parts (is_plain_result core x.result) _ (and_parts (is_none x.enclosing) _ (and_parts (is_of_unit x.owner) _ e).1).1).1
 
-  counted_by_body : (stack r : ℕ) (x : Routine) → slice_get core.routines r ≡ Some x → (b : Option Body) → x.body ≡ b → is_plain_body core x.parameters.count b ≡ true → AreCountedStatements ((program_of core stack).body r)
+  counted_by_body : (stack r : ℕ) (x : Routine) → slice_get core.routines r ≡ Some x → (b : Option Body) → x.body ≡ b → is_plain_body is_short_text core b ≡ true → AreCountedStatements ((program_of core stack).body r)
   counted_by_body stack r x there None is e = rw (there, is) tt
-  counted_by_body stack r x there (Some b) is e = rw (there, is) (statements_counted core (stmts_of b.statements.items) (and_parts _ _ e).1)
+  counted_by_body stack r x there (Some b) is e = rw (there, is) (statements_counted is_short_text core (stmts_of b.statements.items) e)
 
   counted_by : (stack r : ℕ) (x : Option Routine) → slice_get core.routines r ≡ x → AreCountedStatements ((program_of core stack).body r)
   counted_by stack r None there = rw there tt
-  counted_by stack r (Some x) there = counted_by_body stack r x there x.body refl (body_at x (routine_at r x there))
+  counted_by stack r (Some x) there = counted_by_body stack r x there x.body refl (code_at x (routine_at r x there)).1
 
-  written_by_body : (stack r : ℕ) (x : Routine) → slice_get core.routines r ≡ Some x → (b : Option Body) → x.body ≡ b → is_plain_body core x.parameters.count b ≡ true → AreWrittenStatements ((program_of core stack).body r)
+  written_by_body : (stack r : ℕ) (x : Routine) → slice_get core.routines r ≡ Some x → (b : Option Body) → x.body ≡ b → is_plain_body is_short_text core b ≡ true → AreWrittenStatements ((program_of core stack).body r)
   written_by_body stack r x there None is e = rw (there, is) tt
-  written_by_body stack r x there (Some b) is e = rw (there, is) (statements_written core (stmts_of b.statements.items) (and_parts _ _ e).1)
+  written_by_body stack r x there (Some b) is e = rw (there, is) (statements_written is_short_text core (stmts_of b.statements.items) e)
 
   written_by : (stack r : ℕ) (x : Option Routine) → slice_get core.routines r ≡ x → AreWrittenStatements ((program_of core stack).body r)
   written_by stack r None there = rw there tt
-  written_by stack r (Some x) there = written_by_body stack r x there x.body refl (body_at x (routine_at r x there))
+  written_by stack r (Some x) there = written_by_body stack r x there x.body refl (code_at x (routine_at r x there)).1
 
   -- ---- parameters
 
   none_more : (n : ℕ) → 0 + n ≡ n
   none_more n = omega arith
 
-  parameters_are : (r : ℕ) (x : Routine) → slice_get core.routines r ≡ Some x → is_plain_routine core x ≡ true → parameters_of core r ≡ x.parameters.count
+  parameters_are : (r : ℕ) (x : Routine) → slice_get core.routines r ≡ Some x → is_plain_routine is_short_text core x ≡ true → parameters_of core r ≡ x.parameters.count
   parameters_are r x there e = let owner = owner_is x.owner (and_parts (is_of_unit x.owner) _ e).0 in rw (there, owner) (none_more x.parameters.count)
 
-  abbrev Works : ℕ → ℕ → Type 0
-  Works stack r = (1 ≤ nodes_of (statements_weight core ((program_of core stack).body r))) ⊎ (parameters_of core r ≤ 63)
-
-  works_by_body : (stack r : ℕ) (x : Routine) → slice_get core.routines r ≡ Some x → parameters_of core r ≡ x.parameters.count → (b : Option Body) → x.body ≡ b → is_plain_body core x.parameters.count b ≡ true → Works stack r × (parameters_of core r ≤ 64)
-  works_by_body stack r x there count None is e = let less = below x.parameters.count 64 e in (inr (omega (arith, less, count)), omega (arith, less, count))
-  works_by_body stack r x there count (Some b) is e = by (few x.parameters.count (stmts_of b.statements.items) parts.0)
-    where
-      parts : (takes_few x.parameters.count (stmts_of b.statements.items) ≡ true) × (are_plain_statements core (stmts_of b.statements.items) ≡ true)
-      parts = and_parts _ _ e
-
-      by : ((x.parameters.count ≤ 63) ⊎ ((x.parameters.count ≡ 64) × (has_work (stmts_of b.statements.items) ≡ true))) → Works stack r × (parameters_of core r ≤ 64)
-      by (inl less) = (inr (omega (arith, less, count)), omega (arith, less, count))
-      by (inr (exact, work)) =
-          let some : 1 ≤ nodes_of (statements_weight core (stmts_of b.statements.items)) = statements_some core (stmts_of b.statements.items) (statements_counted core (stmts_of b.statements.items) parts.1) work in
-          (inl (rw (there, is) some), omega (arith, exact, count))
-
-  works_by : (stack r : ℕ) (x : Option Routine) → slice_get core.routines r ≡ x → Works stack r × (parameters_of core r ≤ 64)
-  works_by stack r None there = let none : parameters_of core r ≡ 0 = rw there refl in (inr (omega (arith, none)), omega (arith, none))
-  works_by stack r (Some x) there = let passes = routine_at r x there in works_by_body stack r x there (parameters_are r x there passes) x.body refl (body_at x passes)
+  few_by : (r : ℕ) (x : Option Routine) → slice_get core.routines r ≡ x → parameters_of core r ≤ 64
+  few_by r None there = let none : parameters_of core r ≡ 0 = rw there refl in omega (arith, none)
+  few_by r (Some x) there =
+      let passes = routine_at r x there in
+      let count = parameters_are r x there passes in
+      let less = few x.parameters.count (code_at x passes).0 in
+      omega (arith, count, less)
 
   -- ---- variables
 
@@ -247,8 +227,7 @@ plain_by_test core e =
       units = λ stack. units_plain core tests stack core.units tests.units;
       few = few_units (length core.units) tests.few;
       globals = pending_none core tests;
-      parameters = λ r. (works_by core tests 0 r (slice_get core.routines r) refl).1;
-      works = λ stack r. (works_by core tests stack r (slice_get core.routines r) refl).0;
+      parameters = λ r. few_by core tests r (slice_get core.routines r) refl;
       charged = λ r. every_row (λ v. IsCharged v.role) (variables_of core r) core.variables (every_pass (is_plain_variable core) (λ v. IsCharged v.role) core.variables (variable_charged core tests) tests.variables);
       sized = λ r. every_row (λ v. IsCharged v.role × (v.role ≡ Object → size_in core v.of ≤ 4)) (variables_of core r) core.variables (every_pass (is_plain_variable core) (λ v. IsCharged v.role × (v.role ≡ Object → size_in core v.of ≤ 4)) core.variables (variable_sized core tests) tests.variables);
     }

@@ -1,5 +1,5 @@
 -- The bodies of a program that passes the test are written: conversions that are not stand apart, and each branch of a case has a label.
-use Rattle.std.proofs.Common.{◌≡◌, Bool, true, false, not, ◌&&◌, List, [], ◌∷◌, length}
+use Rattle.std.proofs.Common.{◌≡◌, ℕ, Bool, true, false, not, ◌&&◌, List, [], ◌∷◌, length}
 use Rattle.std.proofs.lemmas.Bool.{and_parts}
 use Rattle.std.specs.List.{list_all}
 use Rattle.op_core.specs.Expression.{Expression, expression, Root, constant, variable, object, call, construct, set, eof, eoln, Steps, no_steps, steps, Action, convert, bracket, field, index, method, prefixed, operate, is, apply, copy, Elements, no_elements, elements, Element, one, range, Arguments, no_arguments, arguments, Argument, value, place, array, listed}
@@ -29,12 +29,12 @@ may_follow true (is class) e = tt
 may_follow true (apply function checked) e = tt
 may_follow true (copy i j) e = tt
 
-module _ (core : Core) where
+module _ (texts : List ℕ → Bool) (core : Core) where
   mutual
-    expression_written : (e : Expression) → is_plain_expression core e ≡ true → IsWritten e
+    expression_written : (e : Expression) → is_plain_expression texts core e ≡ true → IsWritten e
     expression_written (expression root of others) e = both (root_written root of) (λ f. let parts = and_parts _ _ f in steps_written others (is_text root) false parts.0 parts.1) e
 
-    root_written : (root : Root) (of : TypeId) → is_plain_root core root of ≡ true → IsWrittenRoot root
+    root_written : (root : Root) (of : TypeId) → is_plain_root texts core root of ≡ true → IsWrittenRoot root
     root_written (constant v nodes words) of e = tt
     root_written (variable id) of e = tt
     root_written (object id) of e = failed e
@@ -44,55 +44,55 @@ module _ (core : Core) where
     root_written eof of e = failed e
     root_written eoln of e = failed e
 
-    steps_written : (others : Steps) (text implied : Bool) → are_apart implied others ≡ true → are_plain_steps core text others ≡ true → AreWrittenSteps implied others
+    steps_written : (others : Steps) (text implied : Bool) → are_apart implied others ≡ true → are_plain_steps texts core text others ≡ true → AreWrittenSteps implied others
     steps_written no_steps text implied f e = tt
     steps_written (steps action next others) text implied f e =
         let apart = and_parts (not (implied && is_implied action)) (are_apart (is_implied action) others) f in
-        let parts = and_parts (is_plain_step core text action next) (are_plain_steps core (text_after text action) others) e in
+        let parts = and_parts (is_plain_step texts core text action next) (are_plain_steps texts core (text_after text action) others) e in
         (may_follow implied action apart.0, step_written action text next parts.0, steps_written others (text_after text action) (is_implied action) apart.1 parts.1)
 
-    step_written : (action : Action) (text : Bool) (next : TypeId) → is_plain_step core text action next ≡ true → IsWrittenAction action
+    step_written : (action : Action) (text : Bool) (next : TypeId) → is_plain_step texts core text action next ≡ true → IsWrittenAction action
     step_written (index i) true next e = expression_written i (and_parts _ _ e).1
     step_written (index i) false next e = expression_written i (and_parts _ _ e).1
     step_written (operate operator checked i) true next e = failed e
     step_written (operate operator checked i) false next e = expression_written i (and_parts _ _ e).1
     step_written _ text next e = tt
 
-    elements_written : (es : Elements) → are_plain_elements core es ≡ true → AreWrittenElements es
+    elements_written : (es : Elements) → are_plain_elements texts core es ≡ true → AreWrittenElements es
     elements_written no_elements e = tt
     elements_written (elements x es) e = both (element_written x) (elements_written es) e
 
-    element_written : (x : Element) → is_plain_element core x ≡ true → IsWrittenElement x
+    element_written : (x : Element) → is_plain_element texts core x ≡ true → IsWrittenElement x
     element_written (one a) e = expression_written a e
     element_written (range a b) e = both (expression_written a) (expression_written b) e
 
-    arguments_written : (given : Arguments) → are_plain_arguments core given ≡ true → AreWrittenArguments given
+    arguments_written : (given : Arguments) → are_plain_arguments texts core given ≡ true → AreWrittenArguments given
     arguments_written no_arguments e = tt
     arguments_written (arguments a others) e = both (argument_written a) (arguments_written others) e
 
-    argument_written : (a : Argument) → is_plain_argument core a ≡ true → IsWrittenArgument a
+    argument_written : (a : Argument) → is_plain_argument texts core a ≡ true → IsWrittenArgument a
     argument_written (value a) e = expression_written a e
     argument_written (place a) e = expression_written a e
     argument_written (array a) e = failed e
     argument_written (listed of es) e = failed e
 
-  item_written : (item : Item) → is_plain_item core item ≡ true → IsWrittenItem item
+  item_written : (item : Item) → is_plain_item texts core item ≡ true → IsWrittenItem item
   item_written (plain a) e = expression_written a e
   item_written (padded a width) e = both (expression_written a) (expression_written width) e
 
-  items_written : (items : List Item) → list_all (is_plain_item core) items ≡ true → AreWrittenItems items
+  items_written : (items : List Item) → list_all (is_plain_item texts core) items ≡ true → AreWrittenItems items
   items_written [] e = tt
   items_written (x ∷ xs) e = both (item_written x) (items_written xs) e
 
-  bare_written : (root : Root) (of : TypeId) → is_plain_bare core root of ≡ true → IsWrittenRoot root
+  bare_written : (root : Root) (of : TypeId) → is_plain_bare texts core root of ≡ true → IsWrittenRoot root
   bare_written (constant v nodes words) of e = tt
   bare_written root of e = root_written root of e
 
-  amount_written : (amount : Expression) → is_plain_amount core amount ≡ true → IsWritten amount
+  amount_written : (amount : Expression) → is_plain_amount texts core amount ≡ true → IsWritten amount
   amount_written (expression root of no_steps) e = (bare_written root of e, tt)
   amount_written a e = expression_written a e
 
-  built_in_written : (b : BuiltIn) → is_plain_built_in core b ≡ true → IsWrittenBuiltIn b
+  built_in_written : (b : BuiltIn) → is_plain_built_in texts core b ≡ true → IsWrittenBuiltIn b
   built_in_written (write items ends_line) e = items_written items e
   built_in_written (read targets ends_line) e = failed e
   built_in_written (count direction target amount checked) e = both (expression_written target.place) (amount_written amount) e
@@ -108,7 +108,7 @@ module _ (core : Core) where
   labels_written labels e = below 0 (length labels) (and_parts _ _ e).0
 
   mutual
-    statement_written : (s : Statement) → is_plain_statement core s ≡ true → IsWrittenStatement s
+    statement_written : (s : Statement) → is_plain_statement texts core s ≡ true → IsWrittenStatement s
     statement_written empty e = tt
     statement_written (block ss) e = statements_written ss e
     statement_written (if_then a s) e = both (expression_written a) (statement_written s) e
@@ -132,10 +132,10 @@ module _ (core : Core) where
     statement_written (halt a) e = amount_written a e
     statement_written (built_in action) e = built_in_written action e
 
-    pub statements_written : (ss : Statements) → are_plain_statements core ss ≡ true → AreWrittenStatements ss
+    pub statements_written : (ss : Statements) → are_plain_statements texts core ss ≡ true → AreWrittenStatements ss
     statements_written no_statements e = tt
     statements_written (statements s ss) e = both (statement_written s) (statements_written ss) e
 
-    branches_written : (bs : Branches) → are_plain_branches core bs ≡ true → AreWrittenBranches bs
+    branches_written : (bs : Branches) → are_plain_branches texts core bs ≡ true → AreWrittenBranches bs
     branches_written no_branches e = tt
     branches_written (branches labels s bs) e = three (labels_written labels) (statement_written s) (branches_written bs) e

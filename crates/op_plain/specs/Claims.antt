@@ -1,5 +1,5 @@
 -- What is proved of programs that pass the test.
-use Rattle.std.specs.Prelude.{◌≡◌, ◌≤◌, ◌⊎◌, ℕ, true, [], None, length}
+use Rattle.std.specs.Prelude.{◌≡◌, ◌≤◌, ℕ, true, [], None, length}
 use Rattle.op_constants.specs.Offsets.{size_in}
 use Rattle.op_core.specs.Rows.{rows}
 use Rattle.op_core.specs.declared.program.Core.{Core}
@@ -9,7 +9,6 @@ use Rattle.op_frames.specs.Charged.{IsCharged}
 use Rattle.op_frames.specs.Counted.{AreCountedStatements}
 use Rattle.op_frames.specs.Made.{Every}
 use Rattle.op_meaning.specs.Calls.{ending_of}
-use Rattle.op_meaning.specs.Charge.{nodes_of, statements_weight}
 use Rattle.op_meaning.specs.Frames.{program_of}
 use Rattle.op_meaning.specs.Shapes.{variables_of}
 use Rattle.op_meaning.specs.Start.{first_pending}
@@ -33,9 +32,8 @@ pub record IsPlainCore (core : Core) : Type 0 where
   pub units : (stack : ℕ) → ArePlainUnits (program_of core stack) core.units
   pub few : length core.units ≤ 1024
   pub globals : first_pending core ≡ []
-  -- at most 64 parameters, and where there are so many a node of the body
+  -- at most 64 parameters
   pub parameters : (r : ℕ) → parameters_of core r ≤ 64
-  pub works : (stack r : ℕ) → (1 ≤ nodes_of (statements_weight core ((program_of core stack).body r))) ⊎ (parameters_of core r ≤ 63)
   -- each variable of a routine is charged its words
   pub charged : (r : ℕ) → Every (λ v. IsCharged v.role) (rows core.variables (variables_of core r))
   pub sized : (r : ℕ) → Every (λ v. IsCharged v.role × (v.role ≡ Object → size_in core v.of ≤ 4)) (rows core.variables (variables_of core r))

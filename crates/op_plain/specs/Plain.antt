@@ -1,10 +1,10 @@
 -- A test of whether a program is of the class that the theorems of the compiler are about: it works on numbers, sets, records and arrays
 -- with bounds, and on texts only as they are written in it; its routines stand in no other one, nothing is read, and nothing is raised. Each node of a tree
--- is asked once for all of it. (Free Pascal Reference Guide, "Types", "Expressions" and "Statements".)
-use Rattle.std.specs.Prelude.{ℕ, Bool, true, false, not, ◌&&◌, ◌||◌, Option, Some, None, nat_eq, nat_le, nat_lt, List, length}
+-- is asked once for all of it. `texts` is what is asked of a text. (Free Pascal Reference Guide, "Types", "Expressions" and "Statements".)
+use Rattle.std.specs.Prelude.{ℕ, ◌^◌, Bool, true, false, not, ◌&&◌, Option, Some, None, nat_le, nat_lt, List, length}
 use Rattle.std.specs.List.{list_all}
 use Rattle.op_core.specs.Expression.{Expression, expression, Root, constant, variable, object, call, construct, set, eof, eoln, Steps, no_steps, steps, Action, bracket, index, method, operate, apply, Elements, no_elements, elements, Element, one, range, Arguments, no_arguments, arguments, Argument, value, place, array, listed}
-use Rattle.op_core.specs.Statement.{Item, plain, padded, BuiltIn, write, count, include, exclude, Statement, empty, block, if_then, if_else, case_of, while_do, repeat_until, for_to, for_in, try_finally, try_on, try_on_else, raise, reraise, call as call_statement, assign, exit_with, halt, built_in, Statements, no_statements, statements, Branches, no_branches, branches, stmts_of}
+use Rattle.op_core.specs.Statement.{Item, plain, padded, BuiltIn, write, count, include, exclude, Statement, block, if_then, if_else, case_of, while_do, repeat_until, for_to, for_in, try_finally, try_on, try_on_else, raise, reraise, call as call_statement, assign, exit_with, halt, built_in, Statements, no_statements, statements, Branches, no_branches, branches, stmts_of}
 use Rattle.op_core.specs.declared.constant.Const.{Const}
 use Rattle.op_core.specs.declared.constant.Const.TheVariants.{Text}
 use Rattle.op_core.specs.declared.ids.TypeId.{TypeId}
@@ -23,9 +23,9 @@ use Rattle.op_core.specs.declared.statement.Label.{Label}
 
 -- ---- expressions: the type of each part that comes out is solid, but of a text that is written there
 
-abbrev pub is_plain_constant : Core → Const → TypeId → Bool
-is_plain_constant core (Text bytes) of = is_short_text bytes
-is_plain_constant core _ of = is_solid_type core of
+abbrev pub is_plain_constant : (List ℕ → Bool) → Core → Const → TypeId → Bool
+is_plain_constant texts core (Text bytes) of = texts bytes
+is_plain_constant texts core _ of = is_solid_type core of
 
 -- no conversion that is not written stands behind another one; `implied` says whether one stands in front
 abbrev pub are_apart : (implied : Bool) → Steps → Bool
@@ -33,74 +33,74 @@ are_apart implied no_steps = true
 are_apart implied (steps action next others) = not (implied && is_implied action) && are_apart (is_implied action) others
 
 abbrev mutual
-  pub is_plain_expression : Core → Expression → Bool
-  is_plain_expression core (expression root of others) = is_plain_root core root of && (are_apart false others && are_plain_steps core (is_text root) others)
+  pub is_plain_expression : (List ℕ → Bool) → Core → Expression → Bool
+  is_plain_expression texts core (expression root of others) = is_plain_root texts core root of && (are_apart false others && are_plain_steps texts core (is_text root) others)
 
   -- a constant stands for a node of the text at least
-  pub is_plain_root : Core → Root → TypeId → Bool
-  is_plain_root core (constant v nodes words) of = nat_lt 0 nodes && is_plain_constant core v of
-  is_plain_root core (object id) of = false
-  is_plain_root core (call id given) of = is_solid_type core of && are_plain_arguments core given
-  is_plain_root core (construct c id given) of = false
-  is_plain_root core (set es) of = is_solid_type core of && are_plain_elements core es
-  is_plain_root core (variable id) of = is_solid_type core of
-  is_plain_root core eof of = false
-  is_plain_root core eoln of = false
+  pub is_plain_root : (List ℕ → Bool) → Core → Root → TypeId → Bool
+  is_plain_root texts core (constant v nodes words) of = nat_lt 0 nodes && is_plain_constant texts core v of
+  is_plain_root texts core (object id) of = false
+  is_plain_root texts core (call id given) of = is_solid_type core of && are_plain_arguments texts core given
+  is_plain_root texts core (construct c id given) of = false
+  is_plain_root texts core (set es) of = is_solid_type core of && are_plain_elements texts core es
+  is_plain_root texts core (variable id) of = is_solid_type core of
+  is_plain_root texts core eof of = false
+  is_plain_root texts core eoln of = false
 
-  pub are_plain_steps : Core → Bool → Steps → Bool
-  are_plain_steps core text no_steps = true
-  are_plain_steps core text (steps action next others) = is_plain_step core text action next && are_plain_steps core (text_after text action) others
+  pub are_plain_steps : (List ℕ → Bool) → Core → Bool → Steps → Bool
+  are_plain_steps texts core text no_steps = true
+  are_plain_steps texts core text (steps action next others) = is_plain_step texts core text action next && are_plain_steps texts core (text_after text action) others
 
   -- behind a text that is written there, and behind any other value or place
-  pub is_plain_step : Core → Bool → Action → TypeId → Bool
-  is_plain_step core true bracket next = true
-  is_plain_step core true (index e) next = is_solid_type core next && is_plain_expression core e
-  is_plain_step core true (apply function checked) next = asks_text function && is_solid_type core next
-  is_plain_step core true _ next = false
-  is_plain_step core false (index e) next = is_solid_type core next && is_plain_expression core e
-  is_plain_step core false (operate operator checked e) next = is_solid_type core next && is_plain_expression core e
-  is_plain_step core false (method id dispatch given) next = false
-  is_plain_step core false _ next = is_solid_type core next
+  pub is_plain_step : (List ℕ → Bool) → Core → Bool → Action → TypeId → Bool
+  is_plain_step texts core true bracket next = true
+  is_plain_step texts core true (index e) next = is_solid_type core next && is_plain_expression texts core e
+  is_plain_step texts core true (apply function checked) next = asks_text function && is_solid_type core next
+  is_plain_step texts core true _ next = false
+  is_plain_step texts core false (index e) next = is_solid_type core next && is_plain_expression texts core e
+  is_plain_step texts core false (operate operator checked e) next = is_solid_type core next && is_plain_expression texts core e
+  is_plain_step texts core false (method id dispatch given) next = false
+  is_plain_step texts core false _ next = is_solid_type core next
 
-  pub are_plain_elements : Core → Elements → Bool
-  are_plain_elements core no_elements = true
-  are_plain_elements core (elements e es) = is_plain_element core e && are_plain_elements core es
+  pub are_plain_elements : (List ℕ → Bool) → Core → Elements → Bool
+  are_plain_elements texts core no_elements = true
+  are_plain_elements texts core (elements e es) = is_plain_element texts core e && are_plain_elements texts core es
 
-  pub is_plain_element : Core → Element → Bool
-  is_plain_element core (one e) = is_plain_expression core e
-  is_plain_element core (range e e') = is_plain_expression core e && is_plain_expression core e'
+  pub is_plain_element : (List ℕ → Bool) → Core → Element → Bool
+  is_plain_element texts core (one e) = is_plain_expression texts core e
+  is_plain_element texts core (range e e') = is_plain_expression texts core e && is_plain_expression texts core e'
 
-  pub are_plain_arguments : Core → Arguments → Bool
-  are_plain_arguments core no_arguments = true
-  are_plain_arguments core (arguments a others) = is_plain_argument core a && are_plain_arguments core others
+  pub are_plain_arguments : (List ℕ → Bool) → Core → Arguments → Bool
+  are_plain_arguments texts core no_arguments = true
+  are_plain_arguments texts core (arguments a others) = is_plain_argument texts core a && are_plain_arguments texts core others
 
-  pub is_plain_argument : Core → Argument → Bool
-  is_plain_argument core (value e) = is_plain_expression core e
-  is_plain_argument core (place e) = is_plain_expression core e
-  is_plain_argument core (array e) = false
-  is_plain_argument core (listed of es) = false
+  pub is_plain_argument : (List ℕ → Bool) → Core → Argument → Bool
+  is_plain_argument texts core (value e) = is_plain_expression texts core e
+  is_plain_argument texts core (place e) = is_plain_expression texts core e
+  is_plain_argument texts core (array e) = false
+  is_plain_argument texts core (listed of es) = false
 
 -- ---- statements: no exception is raised or handled, no instance is ended, nothing is read, and no text is made
 
-abbrev pub is_plain_item : Core → Item → Bool
-is_plain_item core (plain e) = is_plain_expression core e
-is_plain_item core (padded e width) = is_plain_expression core e && is_plain_expression core width
+abbrev pub is_plain_item : (List ℕ → Bool) → Core → Item → Bool
+is_plain_item texts core (plain e) = is_plain_expression texts core e
+is_plain_item texts core (padded e width) = is_plain_expression texts core e && is_plain_expression texts core width
 
 -- an amount or a status that is not written is a constant that counts for nothing
-abbrev pub is_plain_bare : Core → Root → TypeId → Bool
-is_plain_bare core (constant v nodes words) of = is_plain_constant core v of
-is_plain_bare core root of = is_plain_root core root of
+abbrev pub is_plain_bare : (List ℕ → Bool) → Core → Root → TypeId → Bool
+is_plain_bare texts core (constant v nodes words) of = is_plain_constant texts core v of
+is_plain_bare texts core root of = is_plain_root texts core root of
 
-abbrev pub is_plain_amount : Core → Expression → Bool
-is_plain_amount core (expression root of no_steps) = is_plain_bare core root of
-is_plain_amount core e = is_plain_expression core e
+abbrev pub is_plain_amount : (List ℕ → Bool) → Core → Expression → Bool
+is_plain_amount texts core (expression root of no_steps) = is_plain_bare texts core root of
+is_plain_amount texts core e = is_plain_expression texts core e
 
-abbrev pub is_plain_built_in : Core → BuiltIn → Bool
-is_plain_built_in core (write items ends_line) = list_all (is_plain_item core) items
-is_plain_built_in core (count direction target amount checked) = is_plain_expression core target.place && is_plain_amount core amount
-is_plain_built_in core (include s e) = is_plain_expression core s && is_plain_expression core e
-is_plain_built_in core (exclude s e) = is_plain_expression core s && is_plain_expression core e
-is_plain_built_in core _ = false
+abbrev pub is_plain_built_in : (List ℕ → Bool) → Core → BuiltIn → Bool
+is_plain_built_in texts core (write items ends_line) = list_all (is_plain_item texts core) items
+is_plain_built_in texts core (count direction target amount checked) = is_plain_expression texts core target.place && is_plain_amount texts core amount
+is_plain_built_in texts core (include s e) = is_plain_expression texts core s && is_plain_expression texts core e
+is_plain_built_in texts core (exclude s e) = is_plain_expression texts core s && is_plain_expression texts core e
+is_plain_built_in texts core _ = false
 
 -- each label stands for a node of the text at least, and there is one
 abbrev pub are_nodes : List Label → Bool
@@ -110,34 +110,34 @@ abbrev pub are_plain_labels : List Label → Bool
 are_plain_labels labels = nat_lt 0 (length labels) && are_nodes labels
 
 abbrev mutual
-  pub is_plain_statement : Core → Statement → Bool
-  is_plain_statement core (block ss) = are_plain_statements core ss
-  is_plain_statement core (if_then e s) = is_plain_expression core e && is_plain_statement core s
-  is_plain_statement core (if_else e s t) = is_plain_expression core e && (is_plain_statement core s && is_plain_statement core t)
-  is_plain_statement core (case_of e bs ss) = is_plain_expression core e && (are_plain_branches core bs && are_plain_statements core ss)
-  is_plain_statement core (while_do e s) = is_plain_expression core e && is_plain_statement core s
-  is_plain_statement core (repeat_until ss e) = is_plain_expression core e && are_plain_statements core ss
-  is_plain_statement core (for_to id e direction f s) = is_plain_expression core e && (is_plain_expression core f && is_plain_statement core s)
-  is_plain_statement core (for_in id store e s) = is_plain_expression core e && is_plain_statement core s
-  is_plain_statement core (try_finally ss ts) = are_plain_statements core ss && are_plain_statements core ts
-  is_plain_statement core (try_on ss hs) = false
-  is_plain_statement core (try_on_else ss hs ts) = false
-  is_plain_statement core (raise e) = false
-  is_plain_statement core reraise = false
-  is_plain_statement core (call_statement e) = is_plain_expression core e
-  is_plain_statement core (assign target e) = is_plain_expression core target && is_plain_expression core e
-  is_plain_statement core (exit_with e) = is_plain_expression core e
-  is_plain_statement core (halt e) = is_plain_amount core e
-  is_plain_statement core (built_in action) = is_plain_built_in core action
-  is_plain_statement core _ = true
+  pub is_plain_statement : (List ℕ → Bool) → Core → Statement → Bool
+  is_plain_statement texts core (block ss) = are_plain_statements texts core ss
+  is_plain_statement texts core (if_then e s) = is_plain_expression texts core e && is_plain_statement texts core s
+  is_plain_statement texts core (if_else e s t) = is_plain_expression texts core e && (is_plain_statement texts core s && is_plain_statement texts core t)
+  is_plain_statement texts core (case_of e bs ss) = is_plain_expression texts core e && (are_plain_branches texts core bs && are_plain_statements texts core ss)
+  is_plain_statement texts core (while_do e s) = is_plain_expression texts core e && is_plain_statement texts core s
+  is_plain_statement texts core (repeat_until ss e) = is_plain_expression texts core e && are_plain_statements texts core ss
+  is_plain_statement texts core (for_to id e direction f s) = is_plain_expression texts core e && (is_plain_expression texts core f && is_plain_statement texts core s)
+  is_plain_statement texts core (for_in id store e s) = is_plain_expression texts core e && is_plain_statement texts core s
+  is_plain_statement texts core (try_finally ss ts) = are_plain_statements texts core ss && are_plain_statements texts core ts
+  is_plain_statement texts core (try_on ss hs) = false
+  is_plain_statement texts core (try_on_else ss hs ts) = false
+  is_plain_statement texts core (raise e) = false
+  is_plain_statement texts core reraise = false
+  is_plain_statement texts core (call_statement e) = is_plain_expression texts core e
+  is_plain_statement texts core (assign target e) = is_plain_expression texts core target && is_plain_expression texts core e
+  is_plain_statement texts core (exit_with e) = is_plain_expression texts core e
+  is_plain_statement texts core (halt e) = is_plain_amount texts core e
+  is_plain_statement texts core (built_in action) = is_plain_built_in texts core action
+  is_plain_statement texts core _ = true
 
-  pub are_plain_statements : Core → Statements → Bool
-  are_plain_statements core no_statements = true
-  are_plain_statements core (statements s ss) = is_plain_statement core s && are_plain_statements core ss
+  pub are_plain_statements : (List ℕ → Bool) → Core → Statements → Bool
+  are_plain_statements texts core no_statements = true
+  are_plain_statements texts core (statements s ss) = is_plain_statement texts core s && are_plain_statements texts core ss
 
-  pub are_plain_branches : Core → Branches → Bool
-  are_plain_branches core no_branches = true
-  are_plain_branches core (branches labels s bs) = are_plain_labels labels && (is_plain_statement core s && are_plain_branches core bs)
+  pub are_plain_branches : (List ℕ → Bool) → Core → Branches → Bool
+  are_plain_branches texts core no_branches = true
+  are_plain_branches texts core (branches labels s bs) = are_plain_labels labels && (is_plain_statement texts core s && are_plain_branches texts core bs)
 
 -- ---- tables
 
@@ -158,25 +158,16 @@ abbrev pub is_plain_result : Core → Option TypeId → Bool
 is_plain_result core None = true
 is_plain_result core (Some of) = is_plain_type core of
 
-abbrev pub is_work : Statement → Bool
-is_work empty = false
-is_work _ = true
+abbrev pub is_plain_body : (List ℕ → Bool) → Core → Option Body → Bool
+is_plain_body texts core None = true
+is_plain_body texts core (Some b) = are_plain_statements texts core (stmts_of b.statements.items)
 
--- one of the statements is not empty
-abbrev pub has_work : Statements → Bool
-has_work no_statements = false
-has_work (statements s ss) = is_work s || has_work ss
+-- a routine has no more parameters
+abbrev pub takes_few : ℕ → Bool
+takes_few parameters = nat_le parameters 64
 
--- At most 64 parameters; where there are so many, the charge of the body has room for the last of them.
-abbrev pub takes_few : ℕ → Statements → Bool
-takes_few parameters ss = nat_lt parameters 64 || (nat_eq parameters 64 && has_work ss)
-
-abbrev pub is_plain_body : Core → ℕ → Option Body → Bool
-is_plain_body core parameters None = nat_lt parameters 64
-is_plain_body core parameters (Some b) = takes_few parameters (stmts_of b.statements.items) && are_plain_statements core (stmts_of b.statements.items)
-
-abbrev pub is_plain_routine : Core → Routine → Bool
-is_plain_routine core x = is_of_unit x.owner && (is_none x.enclosing && (is_plain_result core x.result && is_plain_body core x.parameters.count x.body))
+abbrev pub is_plain_routine : (List ℕ → Bool) → Core → Routine → Bool
+is_plain_routine texts core x = is_of_unit x.owner && (is_none x.enclosing && (is_plain_result core x.result && (takes_few x.parameters.count && is_plain_body texts core x.body)))
 
 -- its parts are there, if it has some, and give nothing
 abbrev pub is_plain_unit : Core → UnitRow → Bool
@@ -186,13 +177,21 @@ is_plain_unit core u = is_procedure core u.initialization && is_procedure core u
 abbrev pub most_units : ℕ
 most_units = 1024
 
-unfoldable pub is_plain_program : Core → Bool
-is_plain_program core =
+unfoldable pub is_plain_by : (List ℕ → Bool) → Core → Bool
+is_plain_by texts core =
     is_none core.exceptions
     && (not (is_managed core no_type)
     && (list_all (is_counted core) core.types
     && (list_all (is_solid_parameter core) core.parameters
     && (list_all (is_plain_variable core) core.variables
-    && (list_all (is_plain_routine core) core.routines
+    && (list_all (is_plain_routine texts core) core.routines
     && (list_all (is_plain_unit core) core.units
     && nat_le (length core.units) most_units))))))
+
+-- its texts have lengths of 31 bits, and are made of bytes
+abbrev pub is_plain_program : Core → Bool
+is_plain_program core = is_plain_by is_short_text core
+
+-- that it is made of bytes is so of each text of a program, and goes without saying
+abbrev pub is_short : List ℕ → Bool
+is_short text = nat_lt (length text) (2 ^ 31)

@@ -2,9 +2,10 @@
 ghost use Rattle.std.specs.Prelude.{◌≡◌, true, false};
 ghost use Rattle.op_core.specs.Expression.{action_of, argument_of, element_of, expr_of, root_of};
 ghost use Rattle.op_core.specs.Nodes.{arguments_of, elements_of, steps_of};
-ghost use Rattle.op_plain.specs.Plain.{are_apart, are_plain_arguments, are_plain_elements, is_plain_argument, is_plain_element, is_plain_expression, is_plain_root, is_plain_step};
+ghost use Rattle.op_plain.specs.Plain.{are_apart, are_plain_arguments, are_plain_elements, is_plain_argument, is_plain_element, is_plain_expression, is_plain_root, is_plain_step, is_short};
 ghost use Rattle.op_sizes.specs.Written.{is_implied};
 ghost use Rattle.op_typing.specs.Simple.{is_text, text_after};
+ghost use Rattle.op_typing.specs.SimpleTests.{is_short_text};
 
 use crate::types::{asks_text, is_plain_constant, is_solid_type};
 use op_core::{
@@ -13,7 +14,8 @@ use op_core::{
 
 #[cycle(expression)]
 pub fn is_plain_expression(core: &Core, e: &CoreExpr) -> bool
-    ensures { result ≡ is_plain_expression core.now (expr_of e.now) }
+    ensures texts { result ≡ is_plain_expression is_short_text core.now (expr_of e.now) }
+    ensures lengths { result ≡ is_plain_expression is_short core.now (expr_of e.now) }
 {
     if !is_plain_root(core, &e.root, e.of) {
         return false;
@@ -34,7 +36,8 @@ pub fn is_plain_expression(core: &Core, e: &CoreExpr) -> bool
 /// A constant stands for a node of the text at least.
 #[cycle(expression)]
 pub fn is_plain_root(core: &Core, root: &Root, of: TypeId) -> bool
-    ensures { result ≡ is_plain_root core.now (root_of root.now) of }
+    ensures texts { result ≡ is_plain_root is_short_text core.now (root_of root.now) of }
+    ensures lengths { result ≡ is_plain_root is_short core.now (root_of root.now) of }
 {
     match root {
         Root::Constant { value, nodes, .. } => 0 < *nodes && is_plain_constant(core, value, of),
@@ -104,7 +107,8 @@ fn text_after(text: bool, action: &Action) -> bool
 /// `text` tells whether the step is behind a text that is written there; `next` is the type of what comes out.
 #[cycle(expression)]
 fn is_plain_step(core: &Core, text: bool, action: &Action, next: TypeId) -> bool
-    ensures { result ≡ is_plain_step core.now text (action_of action.now) next }
+    ensures texts { result ≡ is_plain_step is_short_text core.now text (action_of action.now) next }
+    ensures lengths { result ≡ is_plain_step is_short core.now text (action_of action.now) next }
 {
     if text {
         is_plain_behind_text(core, action, next)
@@ -115,7 +119,8 @@ fn is_plain_step(core: &Core, text: bool, action: &Action, next: TypeId) -> bool
 
 #[cycle(expression)]
 fn is_plain_behind_text(core: &Core, action: &Action, next: TypeId) -> bool
-    ensures { result ≡ is_plain_step core.now true (action_of action.now) next }
+    ensures texts { result ≡ is_plain_step is_short_text core.now true (action_of action.now) next }
+    ensures lengths { result ≡ is_plain_step is_short core.now true (action_of action.now) next }
 {
     match action {
         Action::Bracket => true,
@@ -127,7 +132,8 @@ fn is_plain_behind_text(core: &Core, action: &Action, next: TypeId) -> bool
 
 #[cycle(expression)]
 fn is_plain_behind_value(core: &Core, action: &Action, next: TypeId) -> bool
-    ensures { result ≡ is_plain_step core.now false (action_of action.now) next }
+    ensures texts { result ≡ is_plain_step is_short_text core.now false (action_of action.now) next }
+    ensures lengths { result ≡ is_plain_step is_short core.now false (action_of action.now) next }
 {
     match action {
         Action::Index(at) => is_solid_type(core, next) && is_plain_expression(core, at),
@@ -141,7 +147,8 @@ fn is_plain_behind_value(core: &Core, action: &Action, next: TypeId) -> bool
 
 #[cycle(expression)]
 fn are_plain_elements(core: &Core, list: &[CoreElement]) -> bool
-    ensures { result ≡ are_plain_elements core.now (elements_of list.now) }
+    ensures texts { result ≡ are_plain_elements is_short_text core.now (elements_of list.now) }
+    ensures lengths { result ≡ are_plain_elements is_short core.now (elements_of list.now) }
 {
     for each in list {
         if !is_plain_element(core, each) {
@@ -153,7 +160,8 @@ fn are_plain_elements(core: &Core, list: &[CoreElement]) -> bool
 
 #[cycle(expression)]
 fn is_plain_element(core: &Core, element: &CoreElement) -> bool
-    ensures { result ≡ is_plain_element core.now (element_of element.now) }
+    ensures texts { result ≡ is_plain_element is_short_text core.now (element_of element.now) }
+    ensures lengths { result ≡ is_plain_element is_short core.now (element_of element.now) }
 {
     match element {
         CoreElement::One(value) => is_plain_expression(core, value),
@@ -165,7 +173,8 @@ fn is_plain_element(core: &Core, element: &CoreElement) -> bool
 
 #[cycle(expression)]
 fn are_plain_arguments(core: &Core, list: &[CoreArgument]) -> bool
-    ensures { result ≡ are_plain_arguments core.now (arguments_of list.now) }
+    ensures texts { result ≡ are_plain_arguments is_short_text core.now (arguments_of list.now) }
+    ensures lengths { result ≡ are_plain_arguments is_short core.now (arguments_of list.now) }
 {
     for each in list {
         if !is_plain_argument(core, each) {
@@ -178,7 +187,8 @@ fn are_plain_arguments(core: &Core, list: &[CoreArgument]) -> bool
 /// No open array is given anything.
 #[cycle(expression)]
 fn is_plain_argument(core: &Core, argument: &CoreArgument) -> bool
-    ensures { result ≡ is_plain_argument core.now (argument_of argument.now) }
+    ensures texts { result ≡ is_plain_argument is_short_text core.now (argument_of argument.now) }
+    ensures lengths { result ≡ is_plain_argument is_short core.now (argument_of argument.now) }
 {
     match argument {
         CoreArgument::Value(value) => is_plain_expression(core, value),

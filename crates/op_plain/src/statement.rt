@@ -4,7 +4,8 @@ ghost use Rattle.std.specs.List.{list_all};
 ghost use Rattle.op_core.specs.Expression.{expr_of, root_of};
 ghost use Rattle.op_core.specs.Nodes.{branches_of};
 ghost use Rattle.op_core.specs.Statement.{built_in_of, item_of, stmt_of, stmts_of};
-ghost use Rattle.op_plain.specs.Plain.{are_nodes, are_plain_branches, are_plain_labels, are_plain_statements, has_work, is_plain_amount, is_plain_bare, is_plain_built_in, is_plain_item, is_plain_statement, is_work};
+ghost use Rattle.op_plain.specs.Plain.{are_nodes, are_plain_branches, are_plain_labels, are_plain_statements, is_plain_amount, is_plain_bare, is_plain_built_in, is_plain_item, is_plain_statement, is_short};
+ghost use Rattle.op_typing.specs.SimpleTests.{is_short_text};
 
 use crate::expression::{is_plain_expression, is_plain_root};
 use crate::types::is_plain_constant;
@@ -12,7 +13,8 @@ use op_core::{Core, CoreAction, CoreBranch, CoreExpr, CoreItem, CoreStmt, Label,
 
 #[cycle(statement)]
 pub fn are_plain_statements(core: &Core, list: &[CoreStmt]) -> bool
-    ensures { result ≡ are_plain_statements core.now (stmts_of list.now) }
+    ensures texts { result ≡ are_plain_statements is_short_text core.now (stmts_of list.now) }
+    ensures lengths { result ≡ are_plain_statements is_short core.now (stmts_of list.now) }
 {
     for each in list {
         if !is_plain_statement(core, each) {
@@ -24,7 +26,8 @@ pub fn are_plain_statements(core: &Core, list: &[CoreStmt]) -> bool
 
 #[cycle(statement)]
 fn is_plain_statement(core: &Core, stmt: &CoreStmt) -> bool
-    ensures { result ≡ is_plain_statement core.now (stmt_of stmt.now) }
+    ensures texts { result ≡ is_plain_statement is_short_text core.now (stmt_of stmt.now) }
+    ensures lengths { result ≡ is_plain_statement is_short core.now (stmt_of stmt.now) }
 {
     match stmt {
         CoreStmt::Empty => true,
@@ -93,7 +96,8 @@ fn is_plain_statement(core: &Core, stmt: &CoreStmt) -> bool
 
 #[cycle(statement)]
 fn are_plain_branches(core: &Core, list: &[CoreBranch]) -> bool
-    ensures { result ≡ are_plain_branches core.now (branches_of list.now) }
+    ensures texts { result ≡ are_plain_branches is_short_text core.now (branches_of list.now) }
+    ensures lengths { result ≡ are_plain_branches is_short core.now (branches_of list.now) }
 {
     for each in list {
         if !are_plain_labels(each.labels.as_slice()) {
@@ -120,7 +124,8 @@ fn are_nodes(labels: &[Label]) -> bool
 }
 
 fn is_plain_built_in(core: &Core, action: &CoreAction) -> bool
-    ensures { result ≡ is_plain_built_in core.now (built_in_of action.now) }
+    ensures texts { result ≡ is_plain_built_in is_short_text core.now (built_in_of action.now) }
+    ensures lengths { result ≡ is_plain_built_in is_short core.now (built_in_of action.now) }
 {
     match action {
         CoreAction::Write { items, .. } => are_plain_items(core, items),
@@ -138,7 +143,8 @@ fn is_plain_built_in(core: &Core, action: &CoreAction) -> bool
 }
 
 fn are_plain_items(core: &Core, list: &[CoreItem]) -> bool
-    ensures { result ≡ list_all (is_plain_item core.now) (map item_of list.now) }
+    ensures texts { result ≡ list_all (is_plain_item is_short_text core.now) (map item_of list.now) }
+    ensures lengths { result ≡ list_all (is_plain_item is_short core.now) (map item_of list.now) }
 {
     for each in list {
         if !is_plain_item(core, each) {
@@ -149,7 +155,8 @@ fn are_plain_items(core: &Core, list: &[CoreItem]) -> bool
 }
 
 fn is_plain_item(core: &Core, item: &CoreItem) -> bool
-    ensures { result ≡ is_plain_item core.now (item_of item.now) }
+    ensures texts { result ≡ is_plain_item is_short_text core.now (item_of item.now) }
+    ensures lengths { result ≡ is_plain_item is_short core.now (item_of item.now) }
 {
     match item {
         CoreItem::Plain(value) => is_plain_expression(core, value),
@@ -160,7 +167,8 @@ fn is_plain_item(core: &Core, item: &CoreItem) -> bool
 }
 
 fn is_plain_amount(core: &Core, amount: &CoreExpr) -> bool
-    ensures { result ≡ is_plain_amount core.now (expr_of amount.now) }
+    ensures texts { result ≡ is_plain_amount is_short_text core.now (expr_of amount.now) }
+    ensures lengths { result ≡ is_plain_amount is_short core.now (expr_of amount.now) }
 {
     match amount.steps.split_first() {
         None => is_plain_bare(core, &amount.root, amount.of),
@@ -170,31 +178,11 @@ fn is_plain_amount(core: &Core, amount: &CoreExpr) -> bool
 
 /// An amount or a status that is not written is a constant that stands for no node.
 fn is_plain_bare(core: &Core, root: &Root, of: TypeId) -> bool
-    ensures { result ≡ is_plain_bare core.now (root_of root.now) of }
+    ensures texts { result ≡ is_plain_bare is_short_text core.now (root_of root.now) of }
+    ensures lengths { result ≡ is_plain_bare is_short core.now (root_of root.now) of }
 {
     match root {
         Root::Constant { value, .. } => is_plain_constant(core, value, of),
         _ => is_plain_root(core, root, of),
-    }
-}
-
-/// Whether one of the statements is not empty.
-pub fn has_work(list: &[CoreStmt]) -> bool
-    ensures { result ≡ has_work (stmts_of list.now) }
-{
-    for each in list {
-        if is_work(each) {
-            return true;
-        }
-    }
-    false
-}
-
-fn is_work(stmt: &CoreStmt) -> bool
-    ensures { result ≡ is_work (stmt_of stmt.now) }
-{
-    match stmt {
-        CoreStmt::Empty => false,
-        _ => true,
     }
 }

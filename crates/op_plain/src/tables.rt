@@ -1,27 +1,28 @@
 //! The test of a program's tables, and of the bodies in them.
 ghost use Rattle.std.specs.Prelude.{◌≡◌, ◌&&◌};
 ghost use Rattle.std.specs.List.{list_all};
-ghost use Rattle.op_core.specs.Statement.{stmts_of};
-ghost use Rattle.op_plain.specs.Plain.{is_plain_body, is_plain_program, is_plain_role, is_plain_routine, is_plain_unit, is_plain_variable, takes_few};
-ghost use Rattle.op_typing.specs.SimpleTests.{begins_itself, is_counted, is_none, is_of_unit, is_procedure, is_solid_parameter};
+ghost use Rattle.op_plain.specs.Plain.{is_plain_body, is_plain_by, is_plain_program, is_plain_role, is_plain_routine, is_plain_unit, is_plain_variable, is_short, takes_few};
+ghost use Rattle.op_typing.specs.SimpleTests.{begins_itself, is_counted, is_none, is_of_unit, is_procedure, is_short_text, is_solid_parameter};
 
-use crate::statement::{are_plain_statements, has_work};
+use crate::statement::are_plain_statements;
 use crate::types::{is_counted, is_plain_result, is_plain_type, is_solid_type};
 use op_core::{Body, Core, Owner, Role, Routine, RoutineId, TypeId, Unit, Variable};
 use op_tree::ParameterMode;
 use op_types::is_managed;
 
-/// As many parameters a routine has at most.
+/// A routine has no more parameters.
 const MOST_PARAMETERS: u32 = 64;
 
 /// The closing looks through so many finalization parts, which is more than a program may have units.
 const MOST_UNITS: usize = 1024;
 
 /// Whether the program is of the class that the theorems of the compiler are about. It works on numbers, sets, records and arrays with
-/// bounds, and on texts as they are written in it; there are no exceptions, and no routine stands in another one.
-#[tactic(auto, unfolding(crate::specs::Plain::is_plain_program))]
+/// bounds, and on texts as they are written in it; there are no exceptions, and no routine stands in another one. `lengths` says that
+/// nothing but its length is asked of a text.
+#[tactic(auto, unfolding(crate::specs::Plain::is_plain_by))]
 pub fn is_plain(core: &Core) -> bool
-    ensures { result ≡ is_plain_program core.now }
+    ensures texts { result ≡ is_plain_program core.now }
+    ensures lengths { result ≡ is_plain_by is_short core.now }
 {
     core.exceptions.is_none()
         && !is_managed(core, TypeId::SHORT_INT)
@@ -58,7 +59,8 @@ fn are_plain_variables(core: &Core) -> bool
 }
 
 fn are_plain_routines(core: &Core) -> bool
-    ensures { result ≡ list_all (is_plain_routine core.now) core.now.routines }
+    ensures texts { result ≡ list_all (is_plain_routine is_short_text core.now) core.now.routines }
+    ensures lengths { result ≡ list_all (is_plain_routine is_short core.now) core.now.routines }
 {
     core.routines
         .as_slice()
@@ -108,12 +110,14 @@ fn begins_itself(variable: &Variable) -> bool
 // ---- routines
 
 fn is_plain_routine(core: &Core, routine: &Routine) -> bool
-    ensures { result ≡ is_plain_routine core.now routine.now }
+    ensures texts { result ≡ is_plain_routine is_short_text core.now routine.now }
+    ensures lengths { result ≡ is_plain_routine is_short core.now routine.now }
 {
     is_of_unit(routine.owner)
         && routine.enclosing.is_none()
         && is_plain_result(core, routine.result)
-        && is_plain_body(core, routine.parameters.count, &routine.body)
+        && takes_few(routine.parameters.count)
+        && is_plain_body(core, &routine.body)
 }
 
 fn is_of_unit(owner: Owner) -> bool
@@ -122,23 +126,20 @@ fn is_of_unit(owner: Owner) -> bool
     matches!(owner, Owner::Unit)
 }
 
-fn is_plain_body(core: &Core, parameters: u32, body: &Option<Body>) -> bool
-    ensures { result ≡ is_plain_body core.now parameters body.now }
+fn is_plain_body(core: &Core, body: &Option<Body>) -> bool
+    ensures texts { result ≡ is_plain_body is_short_text core.now body.now }
+    ensures lengths { result ≡ is_plain_body is_short core.now body.now }
 {
     match body {
-        None => parameters < MOST_PARAMETERS,
-        Some(body) => {
-            takes_few(parameters, body) && are_plain_statements(core, body.statements.as_slice())
-        }
+        None => true,
+        Some(body) => are_plain_statements(core, body.statements.as_slice()),
     }
 }
 
-/// Whether a routine with this body may have so many parameters: for as many as there can be the body has a statement.
-fn takes_few(parameters: u32, body: &Body) -> bool
-    ensures { result ≡ takes_few parameters (stmts_of body.now.statements.items) }
+fn takes_few(parameters: u32) -> bool
+    ensures { result ≡ takes_few parameters }
 {
-    parameters < MOST_PARAMETERS
-        || parameters == MOST_PARAMETERS && has_work(body.statements.as_slice())
+    parameters <= MOST_PARAMETERS
 }
 
 // ---- units

@@ -1,7 +1,7 @@
 //! What is asked of types, constants and functions.
 ghost use Rattle.std.specs.Prelude.{◌≡◌};
 ghost use Rattle.op_image.specs.Means.{AreBytes};
-ghost use Rattle.op_plain.specs.Plain.{is_plain_constant, is_plain_result, is_plain_type};
+ghost use Rattle.op_plain.specs.Plain.{is_plain_constant, is_plain_result, is_plain_type, is_short};
 ghost use Rattle.op_typing.specs.Simple.{asks_text};
 ghost use Rattle.op_typing.specs.SimpleTests.{is_counted, is_short_text, is_solid_type};
 
@@ -57,7 +57,8 @@ pub fn is_counted(core: &Core, of: CoreType) -> bool
 
 /// Whether it is a text whose length has 31 bits, or of a solid type.
 pub fn is_plain_constant(core: &Core, value: &Const, of: TypeId) -> bool
-    ensures { result ≡ is_plain_constant core.now value.now of }
+    ensures texts { result ≡ is_plain_constant is_short_text core.now value.now of }
+    ensures lengths { result ≡ is_plain_constant is_short core.now value.now of }
 {
     match value {
         Const::Text(text) => is_short_text(text.as_slice()),
@@ -66,7 +67,8 @@ pub fn is_plain_constant(core: &Core, value: &Const, of: TypeId) -> bool
 }
 
 fn is_short_text(text: &[u8]) -> bool
-    ensures { result ≡ is_short_text text.now }
+    ensures texts { result ≡ is_short_text text.now }
+    ensures lengths { result ≡ is_short text.now }
 {
     are_bytes(text);
     (text.len() as u64) < MOST

@@ -1,5 +1,5 @@
 -- The frame of a routine takes no more bytes than the routine is charged.
-use Rattle.std.proofs.Common.{◌≡◌, ◌≤◌, ◌⊎◌, ℕ, zero, suc, ◌+◌, ◌*◌, List, length, Option, Some, None, slice_get, refl, sym, ap, ◌∙◌, subst, arith, ◌-◌}
+use Rattle.std.proofs.Common.{◌≡◌, ◌≤◌, ℕ, zero, suc, ◌+◌, ◌*◌, List, length, Option, Some, None, slice_get, refl, sym, ap, ◌∙◌, subst, arith, ◌-◌}
 use Rattle.std.specs.List.{sum_by}
 use Rattle.op_constants.specs.Offsets.{size_in}
 use Rattle.op_core.specs.Initial.{FirstValue}
@@ -25,7 +25,7 @@ use Rattle.op_frames.specs.Wholes.{AreWholesIn}
 use Rattle.op_lower.specs.Lowers.{IsRoutine}
 use Rattle.op_meaning.specs.Actions.{begin_with}
 use Rattle.op_meaning.specs.Calls.{env_of}
-use Rattle.op_meaning.specs.Charge.{charge_of, nodes_of, statements_weight, words_of}
+use Rattle.op_meaning.specs.Charge.{charge_of, statements_weight, words_of}
 use Rattle.op_meaning.specs.Expressions.{first_here}
 use Rattle.op_meaning.specs.Frames.{program_of}
 use Rattle.op_meaning.specs.Items.{act, none, only}
@@ -86,8 +86,8 @@ module _ (core : Core) (stack r : ℕ) (row : Row) (b : Body) (sound : IsSound c
 pub frame_fits : (core : Core) (stack r : ℕ) (row : Row) (b : Body) → IsSound core → IsSimpleProgram core → slice_get core.routines r ≡ Some row → row.body ≡ Some b
     → (routine : Routine) → IsRoutine core r routine → AreCountedStatements ((program_of core stack).body r)
     → Every (λ v. IsCharged v.role × (v.role ≡ Object → size_in core v.of ≤ 4)) (rows core.variables (variables_of core r))
-    → parameters_of core r ≤ 64 → (1 ≤ nodes_of (statements_weight core ((program_of core stack).body r))) ⊎ (parameters_of core r ≤ 63)
+    → parameters_of core r ≤ 64
     → (frame_of core r routine).locals + 4 * (registers_of_routine core r routine + 1) + 4 * (63 - parameters_of core r) ≤ charge_of core (record { 0 = r })
-frame_fits core stack r row b sound simple there body routine is counted kept few most =
+frame_fits core stack r row b sound simple there body routine is counted kept few =
     frame_small core stack r row b there body routine is counted (open_small core sound.extents) (single_some core sound.extents) kept
-    (roots_small core stack r row b sound simple there body counted routine is) few most
+    (roots_small core stack r row b sound simple there body counted routine is) few
