@@ -1,8 +1,7 @@
 -- Errors before and in the check.
-use Rattle.std.proofs.Common.{◌≡◌, ℕ, false, map, inl, inr, Option, Result, Ok, Err, IfErr, IfOk, List, sym, subst}
+use Rattle.std.proofs.Common.{◌≡◌, ℕ, map, inl, inr, Option, Result, Ok, Err, IfErr, IfOk, List, sym, subst}
 use Rattle.op_base.specs.declared.files.NamedFile.{NamedFile}
 use Rattle.op_base.specs.declared.rule.Refusal.{Refusal}
-use Rattle.op_build.specs.declared.building.BuildError.TheVariants as build
 use Rattle.op_check_unit.specs.Checking.{CheckIs}
 use Rattle.op_check_unit.specs.Programs.{program_means}
 use Rattle.op_check_unit.specs.Rules.{Obeys, ProgramBreaks}
@@ -11,9 +10,8 @@ use Rattle.op_core.specs.declared.program.Core.{Core}
 use Rattle.op_link.specs.declared.memory_map.Settings.{Settings}
 use Rattle.op_tree.specs.File.{file_of}
 use Rattle.op_tree.specs.declared.file.Tree.{Tree}
-use Rattle.op_plain.specs.Plain.{is_plain_program}
 use Rattle.op_units.specs.declared.forest.Forest.{Forest}
-use Rattle.op_tool.specs.Compiles.{Checks, error_of, FailsAs, FailsToBuild, FailsToCheck, HasNoImage, IsBroken, IsImage, IsTypedProgram, Made, RefusesBy, by_files, not_compiled}
+use Rattle.op_tool.specs.Compiles.{Checks, error_of, FailsAs, FailsToCheck, HasNoImage, IsBroken, IsImage, IsNotCompiled, IsTypedProgram, Made, RefusesBy, by_files, not_compiled}
 use Rattle.op_tool.specs.declared.compiler.CompileError.{CompileError}
 use Rattle.op_tool.specs.declared.compiler.CompileError.TheVariants.{Refused, ReadFault, Limit, NoMemory}
 use Rattle.op_units.specs.Walk.{Stops}
@@ -64,19 +62,12 @@ fails_as stored name settings before after core ReadFault is never = absurd neve
 fails_as stored name settings before after core Limit is no_image = (core, is, no_image)
 fails_as stored name settings before after core NoMemory is free = free
 
--- a typed program that is refused is not of the class that is compiled
-pub not_plain : (core : Core) (name : List ℕ) (settings : Settings) (error : CompileError) → is_plain_program core ≡ false → RefusesBy name not_compiled error → HasNoImage core name settings error
-not_plain core name settings (Refused refusal file) is (is_file, is_refusal) = (is_file, is_refusal, inl is)
-not_plain core name settings ReadFault is never = never
-not_plain core name settings Limit is never = absurd never
-not_plain core name settings NoMemory is free = free
-
--- nor is one whose low code names what does not exist
-pub not_built : (core : Core) (name : List ℕ) (settings : Settings) (error : CompileError) → FailsToBuild core settings build.Unbuildable → RefusesBy name not_compiled error → HasNoImage core name settings error
-not_built core name settings (Refused refusal file) fails (is_file, is_refusal) = (is_file, is_refusal, inr fails)
-not_built core name settings ReadFault fails never = never
-not_built core name settings Limit fails never = absurd never
-not_built core name settings NoMemory fails free = free
+-- a typed program that is refused is not compiled
+pub not_made : (core : Core) (name : List ℕ) (settings : Settings) (error : CompileError) → IsNotCompiled core settings → RefusesBy name not_compiled error → HasNoImage core name settings error
+not_made core name settings (Refused refusal file) is (is_file, is_refusal) = (is_file, is_refusal, is)
+not_made core name settings ReadFault is never = never
+not_made core name settings Limit is never = absurd never
+not_made core name settings NoMemory is free = free
 
 pub err_also : {A E : Type 0} {P Q : E → Type 0} (r : Result A E) → ((e : E) → P e → Q e) → IfErr r P → IfErr r Q
 err_also (Ok a) f holds = holds

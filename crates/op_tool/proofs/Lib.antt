@@ -3,7 +3,9 @@ pub mod Compiling
 pub mod Executing
 pub mod Failing
 pub mod Grows
+pub mod Large
 pub mod Numbers
+pub mod Orders
 pub mod Parsing
 pub mod Reading
 pub mod Running

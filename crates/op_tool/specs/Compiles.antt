@@ -103,9 +103,10 @@ pub record FailsToBuild (core : Core) (settings : Settings) (error : BuildError)
   pub lowers : Lowers core mir
   pub why : IsNotBuilt core mir settings error
 
--- it is not of the class that is compiled, or its low code may not be built
-abbrev pub IsNotCompiled : Core → Settings → Type 0
-IsNotCompiled core settings = (is_plain_program core ≡ false) ⊎ FailsToBuild core settings build.Unbuildable
+-- It is not of the class that is compiled, or its low code may not be built: its size is more than an image may take.
+pub record IsNotCompiled (core : Core) (settings : Settings) : Type 0 where
+  pub why : (is_plain_program core ≡ false) ⊎ FailsToBuild core settings build.Unbuildable
+  pub size : most_linked < program_size core
 
 -- the program breaks this rule first, in the file of this name, or it breaks none and is not compiled
 abbrev pub IsRefused : Option (List NamedFile) → List ℕ → Settings → List ℕ → Refusal → Type 0

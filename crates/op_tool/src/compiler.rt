@@ -1,7 +1,9 @@
 //! From a source file to its image.
-ghost use Rattle.std.specs.Prelude.{◌≡◌, ◌≤◌, IfErr, IfOk, IsTrue};
+ghost use Rattle.std.specs.Prelude.{◌≡◌, ◌≤◌, IfErr, IfOk, IsTrue, true};
+ghost use Rattle.op_accepted.specs.Fit.{any_text};
 ghost use Rattle.op_core.specs.Sound.{IsSound, IsSoundNesting};
 ghost use Rattle.op_link.specs.Memory.{are_in_range};
+ghost use Rattle.op_plain.specs.Plain.{is_plain_by};
 ghost use Rattle.op_tool.specs.Compiles.{FailsAs, FailsToCheck, HasNoImage, IsImage, IsTypedProgram, Made, RefusesBy, name_at};
 
 use op_base::{Files, NoMemory, Place, Refusal, Rule, Text};
@@ -21,7 +23,7 @@ pub(crate) const MAIN_START: Place = Place {
     col: 1,
 };
 
-/// A program breaks no rule, and is not of the class that is compiled.
+/// A program breaks no rule, and its size is more than an image may take: it is not of the class that is compiled, or its low code may not be built.
 const NOT_COMPILED: Refusal = Refusal {
     rule: Rule {
         number: 13,
@@ -68,8 +70,9 @@ impl From<LoadError> for CompileError {
 
 /// The image of the program in this file, which does what the program means with these sizes of heap and stack.
 ///
-/// `Refused` tells the first rule that the program breaks, as `load` and then `check` have them, or that it is not of the class that is
-/// compiled or that its low code may not be built. `Limit` comes where code, constants and initial globals would take more than 67,108,864 bytes.
+/// `Refused` tells the first rule that the program breaks, as `load` and then `check` have them. It also comes of a program that breaks none, but only
+/// where its size passes 67,108,864 bytes: it has a text of 2^31 bytes, or its global variables have no room. `Limit` comes where code, constants and
+/// initial globals would take more than 67,108,864 bytes, so only where its size does too.
 pub fn compile<F: Files>(
     alloc: Global,
     files: &mut F,
@@ -118,6 +121,7 @@ fn image_of(
     settings: &Settings,
 ) -> Result<Vec<u8>, CompileError>
     requires sound { IsSound core × IsSoundNesting core }
+    requires fit { is_plain_by any_text core ≡ true }
     requires settings { IsTrue (are_in_range settings.now) }
     ensures made { IfOk result (λ image. IsImage core settings.now image.items) }
     ensures failed { IfErr result (HasNoImage core main.now settings.now) }

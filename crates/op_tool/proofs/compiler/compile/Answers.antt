@@ -1,9 +1,20 @@
+use Rattle.std.proofs.Common.{map}
 use Rattle.std.proofs.lemmas.Result.{err_from_is_err_and}
+use Rattle.op_accepted.proofs.Accepted.{accepted_is_fit}
+use Rattle.op_tree.specs.File.{file_of}
+use Rattle.op_tool.proofs.Orders.{few_units}
 use Rattle.op_tool.proofs.Compiling.{err_also, fails_as, made_of, not_compiled_by, ok_also}
 use Rattle.op_tool.proofs.compiler.compile.Goals as goal
 
 pub image_of-requires : goal.image_of-requires
-image_of-requires g c = let is = c.in_ok-core.ensures.made.1 in record { sound = (is.sound, is.nesting); settings = c.requires.settings }
+image_of-requires g c =
+    let forest = c.in_ok-core.ensures.made.0 in
+    let is = c.in_ok-core.ensures.made.1 in
+    record {
+      sound = (is.sound, is.nesting);
+      fit = accepted_is_fit (map file_of forest.trees) forest.order c.in_ok-core.core is.checks.means is.sound is.nesting (few_units (g.F.Files.stored c.args.files.now) c.args.main.now forest is.loads);
+      settings = c.requires.settings;
+    }
 
 pub returns-in_err-core-clause-failed : goal.returns-in_err-core-clause-failed
 returns-in_err-core-clause-failed g c =

@@ -1,13 +1,15 @@
-use Rattle.std.proofs.Common.{subst, sym}
+use Rattle.std.proofs.Common.{inl, inr, subst, sym}
 use Rattle.op_build.specs.Built.{IsNotBuilt}
-use Rattle.op_build.specs.declared.building.BuildError.TheVariants.{Limit}
+use Rattle.op_build.specs.declared.building.BuildError.TheVariants.{Limit, Unbuildable}
 use Rattle.op_correctness.proofs.Correct.{correct}
 use Rattle.op_correctness.proofs.Sized.{limited, sized}
-use Rattle.op_tool.proofs.Compiling.{not_built, not_plain}
+use Rattle.op_accepted.proofs.Lengths.{not_short}
+use Rattle.op_tool.proofs.Compiling.{not_made}
+use Rattle.op_tool.proofs.Large.{unbuildable}
 use Rattle.op_tool.proofs.compiler.image_of.Goals as goal
 
 pub returns-then-not-is_plain-clause-failed : goal.returns-then-not-is_plain-clause-failed
-returns-then-not-is_plain-clause-failed c = not_plain c.args.core c.args.main.now c.args.settings.now c.refused.result (sym c.if-not-is_plain.ensures.texts) c.refused.ensures
+returns-then-not-is_plain-clause-failed c = not_made c.args.core c.args.main.now c.args.settings.now c.refused.result (record { why = inl (sym c.if-not-is_plain.ensures.texts); size = not_short c.args.core c.requires.fit (sym c.if-not-is_plain.ensures.lengths) }) c.refused.ensures
 
 pub returns-in-Ok-clause-made : goal.returns-in-Ok-clause-made
 returns-in-Ok-clause-made c = record {
@@ -27,4 +29,10 @@ returns-in-Err-Limit-clause-failed c =
     }
 
 pub returns-in-Err-Unbuildable-clause-failed : goal.returns-in-Err-Unbuildable-clause-failed
-returns-in-Err-Unbuildable-clause-failed c = not_built c.args.core c.args.main.now c.args.settings.now c.refused-in-Err-Unbuildable.result (record { mir = c.in_ok-mir.mir; lowers = c.in_ok-mir.ensures.lowers; why = subst (IsNotBuilt c.args.core c.in_ok-mir.mir c.args.settings.now) c.in-Err-Unbuildable.field-0-is c.in-Err-Unbuildable.ensures.failed }) c.refused-in-Err-Unbuildable.ensures
+returns-in-Err-Unbuildable-clause-failed c =
+    let why : IsNotBuilt c.args.core c.in_ok-mir.mir c.args.settings.now Unbuildable = subst (IsNotBuilt c.args.core c.in_ok-mir.mir c.args.settings.now) c.in-Err-Unbuildable.field-0-is c.in-Err-Unbuildable.ensures.failed in
+    not_made c.args.core c.args.main.now c.args.settings.now c.refused-in-Err-Unbuildable.result
+    (record {
+      why = inr (record { mir = c.in_ok-mir.mir; lowers = c.in_ok-mir.ensures.lowers; why = why });
+      size = unbuildable c.args.core c.in_ok-mir.mir c.args.settings.now (sym c.if-not-is_plain.ensures.texts) c.requires.sound.0 c.requires.sound.1 c.in_ok-mir.ensures.lowers why;
+    }) c.refused-in-Err-Unbuildable.ensures

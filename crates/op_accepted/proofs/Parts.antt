@@ -1,0 +1,84 @@
+-- What is said of parts that have a type, by what is said of their own parts.
+use Rattle.std.proofs.Common.{◌≡◌, ℕ, Bool, true, false, Option, Some, None, refl, subst, if◌then◌else◌}
+use Rattle.std.specs.Option.{option_map}
+use Rattle.op_base.specs.declared.place.Place.{Place}
+use Rattle.op_check_expr.specs.Words.{by_feature}
+use Rattle.op_check_stmt.specs.Parts.{both_typed, of_two}
+use Rattle.op_core.specs.Faults.{Checked, Faults, after, by_entry, by_test, none as no_faults, fine, with_part}
+use Rattle.op_accepted.specs.Fit.{IfAny, IfTyped, none, some, typed}
+
+-- ---- values that may be there
+
+pub any_of : {A : Type 0} {P : A → Type 0} (o : Option A) → ((a : A) → o ≡ Some a → P a) → IfAny P o
+any_of None g = none
+any_of (Some a) g = some a (g a refl)
+
+pub any_is : {A : Type 0} {P : A → Type 0} (o : Option A) (a : A) → IfAny P o → o ≡ Some a → P a
+any_is None a h e = absurd (cc)
+any_is {P} (Some b) a (some _ p) e = subst P (cc) p
+
+pub any_as : {A : Type 0} {P Q : A → Type 0} {o : Option A} → IfAny P o → ((a : A) → P a → Q a) → IfAny Q o
+any_as none g = none
+any_as (some a p) g = some a (g a p)
+
+pub any_map : {A B : Type 0} {P : A → Type 0} {Q : B → Type 0} {o : Option A} (f : A → B) → IfAny P o → ((a : A) → P a → Q (f a)) → IfAny Q (option_map f o)
+any_map f none g = none
+any_map f (some a p) g = some (f a) (g a p)
+
+-- ---- parts
+
+pub fits_fine : {A : Type 0} {P : A → Type 0} {a : A} → P a → IfTyped P (fine a)
+fits_fine {a} p = typed (some a p)
+
+-- what has no type
+pub fits_silent : {A : Type 0} {P : A → Type 0} {faults : Faults} → IfTyped P (record { typed = None; faults = faults })
+fits_silent = typed none
+
+pub fits_standing : {A : Type 0} {P : A → Type 0} {o : Option A} → IfAny P o → IfTyped P (record { typed = o; faults = no_faults })
+fits_standing h = typed h
+
+-- by the table's entry, where a test holds, and where no feature is shown
+pub fits_entry : {A B : Type 0} {P : B → Type 0} {f : A → Checked B} (number : ℕ) (place : Place) (o : Option A) → ((a : A) → o ≡ Some a → IfTyped P (f a)) → IfTyped P (by_entry number place f o)
+fits_entry number place None g = fits_silent
+fits_entry number place (Some a) g = g a refl
+
+pub fits_test : {A : Type 0} {P : A → Type 0} {c : Checked A} (number : ℕ) (place : Place) (b : Bool) → (b ≡ true → IfTyped P c) → IfTyped P (by_test number place c b)
+fits_test number place false g = fits_silent
+fits_test number place true g = g refl
+
+pub fits_feature : {A : Type 0} {P : A → Type 0} {c : Checked A} (place : Place) (o : Option ℕ) → (o ≡ None → IfTyped P c) → IfTyped P (by_feature place o c)
+fits_feature place None g = g refl
+fits_feature place (Some feature) g = fits_silent
+
+pub fits_if : {A : Type 0} {P : A → Type 0} {c d : Checked A} (b : Bool) → (b ≡ true → IfTyped P c) → (b ≡ false → IfTyped P d) → IfTyped P (if b then c else d)
+fits_if true g h = g refl
+fits_if false g h = h refl
+
+-- a part, and what is made of it
+pub fits_with : {A B : Type 0} {P : A → Type 0} {Q : B → Type 0} {f : A → Checked B} {o : Option A} → IfAny P o → ((a : A) → P a → IfTyped Q (f a)) → IfTyped Q (with_part f o)
+fits_with none g = fits_silent
+fits_with (some a p) g = g a p
+
+pub fits_after : {A : Type 0} {P : A → Type 0} {faults : Faults} {c : Checked A} → IfTyped P c → IfTyped P (after faults c)
+fits_after (typed h) = typed h
+
+pub fits_followed : {A B : Type 0} {P : A → Type 0} {Q : B → Type 0} {c : Checked A} {f : Option A → Checked B} → IfTyped P c → ((o : Option A) → IfAny P o → IfTyped Q (f o)) → IfTyped Q (after c.faults (f c.typed))
+fits_followed {c} (typed h) g = fits_after (g c.typed h)
+
+pub fits_behind : {A B : Type 0} {P : A → Type 0} {Q : B → Type 0} {c : Checked A} {f : A → Checked B} → IfTyped P c → ((a : A) → P a → IfTyped Q (f a)) → IfTyped Q (after c.faults (with_part f c.typed))
+fits_behind h g = fits_followed h (λ o k. fits_with k g)
+
+pub fits_changed : {A B : Type 0} {P : A → Type 0} {Q : B → Type 0} {c : Checked A} (f : A → B) → IfTyped P c → ((a : A) → P a → Q (f a)) → IfTyped Q (record { typed = option_map f c.typed; faults = c.faults })
+fits_changed f (typed h) g = typed (any_map f h g)
+
+pub fits_as : {A : Type 0} {P Q : A → Type 0} {c : Checked A} → IfTyped P c → ((a : A) → P a → Q a) → IfTyped Q c
+fits_as (typed h) g = typed (any_as h g)
+
+-- of two parts
+pub both_are : {A B C : Type 0} {P : A → Type 0} {Q : B → Type 0} {R : C → Type 0} {a : Option A} {b : Option B} (f : A → B → C) → IfAny P a → IfAny Q b → ((x : A) (y : B) → P x → Q y → R (f x y)) → IfAny R (both_typed f a b)
+both_are f none k g = none
+both_are f (some x h) none g = none
+both_are f (some x h) (some y k) g = some (f x y) (g x y h k)
+
+pub fits_two : {A B C : Type 0} {P : A → Type 0} {Q : B → Type 0} {R : C → Type 0} {a : Checked A} {b : Checked B} (f : A → B → C) → IfTyped P a → IfTyped Q b → ((x : A) (y : B) → P x → Q y → R (f x y)) → IfTyped R (of_two f a b)
+fits_two f (typed h) (typed k) g = typed (both_are f h k g)
