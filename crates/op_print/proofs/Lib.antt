@@ -9,5 +9,6 @@ pub mod PrintedFiles
 pub mod Words
 pub mod Quotes
 pub mod Symbols
+pub mod Directives
 pub mod Scanned
 pub mod TokensKept

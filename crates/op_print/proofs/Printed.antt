@@ -1,17 +1,27 @@
 -- What it means that a part can be printed and read again, and how parts are put together.
 use Rattle.std.proofs.Common.{◌≡◌, List, [], ◌∷◌, codes, map, refl, sym, ap, ◌∙◌, subst, arith}
-use Rattle.op_print.specs.Page.{Draft, nothing, word, tight, ◌&◌, behind, separated, enclosed}
-use Rattle.op_print.specs.Scanned.{IsIdentifierText, IsSpellable, AreSpellable, kinds_before}
+use Rattle.op_base.specs.declared.place.Place.{Place}
+use Rattle.op_print.specs.Page.{Draft, nothing, word, tight, word_at, tight_at, ◌&◌, behind, separated, enclosed}
+use Rattle.op_print.specs.Scanned.{IsIdentifierText, IsSpellable, AreSpellable, Sign, AreSigned, signs_before}
 use Rattle.op_scan.specs.Byte.{is_name_start, is_name_byte}
 use Rattle.op_scan.specs.Keyword.{keyword_of}
+use Rattle.op_scan.specs.declared.token.Switches.{Switches}
+use Rattle.op_scan.specs.declared.token.Token.{Token}
 use Rattle.op_scan.specs.declared.token.TokenKind.{TokenKind}
-use Rattle.op_tree.specs.Terminal.{Terminal, ◌at◌}
+use Rattle.op_tree.proofs.ExpressionUnique.{same2}
+use Rattle.op_tree.specs.Terminal.{Terminal, ◌at◌, terminals}
 use Rattle.op_tree.specs.declared.position.Position.{Position}
 
--- where the words of a draft stand
+-- the position of this place with the switches of a position
+abbrev pub here : Place → Position → Position
+here place q = record { place = place; switches = q.switches }
+
+-- Where the words of a draft stand: the place, and the switches there where the draft does not say them.
 abbrev pub Places : Draft → Type 0
 Places (word k) = Position
 Places (tight k) = Position
+Places (word_at s k) = Place
+Places (tight_at s k) = Place
 Places (a & b) = Places a × Places b
 Places other = Unit {0}
 
@@ -19,6 +29,8 @@ Places other = Unit {0}
 abbrev pub tokens : (d : Draft) → Places d → List Terminal → List Terminal
 tokens (word k) p z = k at p ∷ z
 tokens (tight k) p z = k at p ∷ z
+tokens (word_at s k) p z = k at (record { place = p; switches = s }) ∷ z
+tokens (tight_at s k) p z = k at (record { place = p; switches = s }) ∷ z
 tokens (a & b) p z = tokens a p.0 (tokens b p.1 z)
 tokens other p z = z
 
@@ -110,27 +122,29 @@ more {x = x} {Q = Q} {g = g} {y = y} {mark = mark} {d = d} {ds = ds} {r = r} nod
 pub bracketed : {X : Type 0} {P Q : X → List Terminal → List Terminal → Type 0} {f : X → X} {x : X} {mark closing : TokenKind} {q : Position} {ds : List Draft} {r : List Terminal} (opening : TokenKind) → ((a : X) (p q : Position) (ks z : List Terminal) → P a ks (closing at q ∷ z) → Q a (opening at p ∷ ks) z) → IsSpellable opening → Listed P f mark x ds (closing at q ∷ r) → Printed Q f x (enclosed opening mark closing ds) r
 bracketed {Q = Q} {f = f} {x = x} {mark = mark} {closing = closing} {ds = ds} {r = r} opening made o u = subst (λ c. Printed Q f x c r) (sym (enclosed_is opening mark closing ds u.some)) (printed (o, (u.all.words, u.all.able.0)) u.all.able.1 (λ p z. let a = u.all.again p.1.0 _ in again a.part (made a.part p.0 p.1.1 _ z a.is) a.same))
 
--- ---- tokens that have a draft's kinds
+-- ---- tokens that have a draft's signs
 
-pub record Placed (d : Draft) (ts : List Terminal) (ks : List TokenKind) : Type 0 where
+pub record Placed (d : Draft) (ts : List Token) (signs : List Sign) : Type 0 where
   pub places : Places d
-  pub rest : List Terminal
-  pub are : ts ≡ tokens d places rest
-  pub kinds : map (λ t. t.kind) rest ≡ ks
+  pub rest : List Token
+  pub are : terminals ts ≡ tokens d places (terminals rest)
+  pub signed : AreSigned rest signs
 
-head_same : {j k : TokenKind} {js ks : List TokenKind} → j ∷ js ≡ k ∷ ks → j ≡ k
-head_same e = cc
+-- a token of this kind with these switches
+token_is : (t : Token) (k : TokenKind) (s : Switches) (z : List Terminal) → t.kind ≡ k → t.switches ≡ s → (t.kind at (record { place = t.place; switches = t.switches })) ∷ z ≡ (k at (record { place = t.place; switches = s })) ∷ z
+token_is t k s z e h = same2 (λ x y. (x at (record { place = t.place; switches = y })) ∷ z) e h
 
-tail_same : {j k : TokenKind} {js ks : List TokenKind} → j ∷ js ≡ k ∷ ks → js ≡ ks
-tail_same e = cc
-
-pub placed : (d : Draft) (ts : List Terminal) (ks : List TokenKind) → map (λ t. t.kind) ts ≡ kinds_before d ks → Placed d ts ks
-placed (word k) [] ks e = absurd cc
-placed (word k) (t ∷ ts) ks e = record { places = t.position; rest = ts; are = ap (λ j. (j at t.position) ∷ ts) (head_same e); kinds = tail_same e }
-placed (tight k) [] ks e = absurd cc
-placed (tight k) (t ∷ ts) ks e = record { places = t.position; rest = ts; are = ap (λ j. (j at t.position) ∷ ts) (head_same e); kinds = tail_same e }
-placed (a & b) ts ks e =
-    let u = placed a ts (kinds_before b ks) e in
-    let v = placed b u.rest ks u.kinds in
-    record { places = (u.places, v.places); rest = v.rest; are = u.are ∙ ap (tokens a u.places) v.are; kinds = v.kinds }
-placed other ts ks e = record { places = tt; rest = ts; are = refl; kinds = e }
+pub placed : (d : Draft) (ts : List Token) (signs : List Sign) → AreSigned ts (signs_before d signs) → Placed d ts signs
+placed (word k) [] signs h = absurd h
+placed (word k) (t ∷ ts) signs h = record { places = record { place = t.place; switches = t.switches }; rest = ts; are = token_is t k t.switches (terminals ts) h.0 refl; signed = h.2 }
+placed (tight k) [] signs h = absurd h
+placed (tight k) (t ∷ ts) signs h = record { places = record { place = t.place; switches = t.switches }; rest = ts; are = token_is t k t.switches (terminals ts) h.0 refl; signed = h.2 }
+placed (word_at s k) [] signs h = absurd h
+placed (word_at s k) (t ∷ ts) signs h = record { places = t.place; rest = ts; are = token_is t k s (terminals ts) h.0 h.1.0; signed = h.2 }
+placed (tight_at s k) [] signs h = absurd h
+placed (tight_at s k) (t ∷ ts) signs h = record { places = t.place; rest = ts; are = token_is t k s (terminals ts) h.0 h.1.0; signed = h.2 }
+placed (a & b) ts signs h =
+    let u = placed a ts (signs_before b signs) h in
+    let v = placed b u.rest signs u.signed in
+    record { places = (u.places, v.places); rest = v.rest; are = u.are ∙ ap (tokens a u.places) v.are; signed = v.signed }
+placed other ts signs h = record { places = tt; rest = ts; are = refl; signed = h }

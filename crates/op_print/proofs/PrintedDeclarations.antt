@@ -1,13 +1,13 @@
 -- Declarations can be printed and read again.
 use Rattle.std.proofs.Common.{ℕ, List, ◌∷◌, map, Option, Some, None, refl, ap}
 use Rattle.std.specs.Option.{option_map}
-use Rattle.op_print.proofs.Printed.{Able, fixed, Printed, printed, again, passed, first_of_all, alone}
+use Rattle.op_print.proofs.Printed.{here, Able, fixed, Printed, printed, again, passed, first_of_all, alone}
 use Rattle.op_print.proofs.PrintedDenoters.{printed_names, printed_denoter, printed_initial}
 use Rattle.op_print.proofs.PrintedHeadings.{printed_class, printed_directives, printed_heading, printed_identifier, printed_interface, printed_method, printed_type}
 use Rattle.op_print.proofs.PrintedStatements.{printed_block}
 use Rattle.op_print.specs.DeclarationDrafts.{begin_end_draft, body_draft, constant_draft, declaration_draft, declarations_draft, definition_draft, first_value_draft, type_declaration_draft, variables_draft}
 use Rattle.op_print.specs.Page.{each, optional}
-use Rattle.op_print.specs.Unplaced.{nowhere, bare_initial, bare_statements, bare_constant, bare_variables, bare_definition, bare_type, bare_declaration, bare_declarations, bare_body}
+use Rattle.op_print.specs.Unplaced.{bare_position, bare_initial, bare_statements, bare_constant, bare_variables, bare_definition, bare_type, bare_declaration, bare_declarations, bare_body}
 use Rattle.op_tree.proofs.ExpressionUnique.{same2, same3}
 use Rattle.op_tree.specs.Declaration.{Constant, Variables, TypeDefinition, denotes, forward_class, class, forward_interface, interface, TypeDeclaration, Declaration, constants, types, variables, heading, routine, Declarations, no_declarations, declarations, Body, forward, body}
 use Rattle.op_tree.specs.DeclarationGrammar.{IsConstant, is_constant, AreConstants, is_one_constant, are_constants, IsFirstValue, has_no_first_value, has_first_value, AreVariablesOfOneType, are_variables_of_one_type, AreVariables, is_one_variables, are_variables, IsDefinition, denotes_type, is_forward_class, is_class, is_forward_interface, is_interface, IsTypeDeclaration, is_type_declaration, AreTypes, is_one_type, are_types, IsDataDeclaration, declares_constants, declares_types, declares_variables, AreInterfaceDeclarations, are_no_interface_declarations, data_in_interface, heading_in_interface, AreDeclarations, are_no_declarations, data_declared, routine_declared, IsRoutine, is_routine, IsBody, is_body, is_forward}
@@ -25,10 +25,10 @@ abbrev constant_with : Name → Option Denoter → Initial → Constant
 constant_with n t i = record { name = n; denoter = t; value = i }
 
 printed_constant : {d : ℕ} {c : Constant} {ks r : List Terminal} → IsConstant d c ks r → Able ks → Printed (IsConstant d) bare_constant c (constant_draft c) r
-printed_constant (is_constant (is_name {text = text}) t i) g =
+printed_constant (is_constant (is_name {text = text} {p = n}) t i) g =
     let u = printed_type t g.1 in
     let v = printed_initial i u.able.1 in
-    printed (tt, (g.0, (u.words, (tt, (v.words, tt))))) v.able.1 (λ p z. let a = u.again p.1.1.0 _ in let b = v.again p.1.1.1.1.0 _ in again (constant_with (name text p.1.0) a.part b.part) (is_constant is_name a.is b.is) (same2 (constant_with (name text nowhere)) a.same b.same))
+    printed (tt, (g.0, (u.words, (tt, (v.words, tt))))) v.able.1 (λ p z. let a = u.again p.1.1.0 _ in let b = v.again p.1.1.1.1.0 _ in again (constant_with (name text (here p.1.0 n)) a.part b.part) (is_constant is_name a.is b.is) (same2 (constant_with (name text (bare_position n))) a.same b.same))
 
 printed_constants : {d : ℕ} {xs : List Constant} {ks r : List Terminal} → AreConstants d xs ks r → Able ks → Printed (AreConstants d) (map bare_constant) xs (each (map constant_draft xs)) r
 printed_constants (is_one_constant x) g = alone (λ a ks z. is_one_constant) (printed_constant x g)
@@ -73,9 +73,9 @@ abbrev type_with : Name → TypeDefinition → TypeDeclaration
 type_with n t = record { name = n; definition = t }
 
 printed_type_declaration : {d : ℕ} {t : TypeDeclaration} {ks r : List Terminal} → IsTypeDeclaration d t ks r → Able ks → Printed (IsTypeDeclaration d) bare_type t (type_declaration_draft t) r
-printed_type_declaration (is_type_declaration (is_name {text = text}) t) g =
+printed_type_declaration (is_type_declaration (is_name {text = text} {p = n}) t) g =
     let u = printed_definition t g.1.1 in
-    printed (tt, (g.0, (tt, (u.words, tt)))) u.able.1 (λ p z. let a = u.again p.1.1.1.0 _ in again (type_with (name text p.1.0) a.part) (is_type_declaration is_name a.is) (ap (type_with (name text nowhere)) a.same))
+    printed (tt, (g.0, (tt, (u.words, tt)))) u.able.1 (λ p z. let a = u.again p.1.1.1.0 _ in again (type_with (name text (here p.1.0 n)) a.part) (is_type_declaration is_name a.is) (ap (type_with (name text (bare_position n))) a.same))
 
 printed_types : {d : ℕ} {xs : List TypeDeclaration} {ks r : List Terminal} → AreTypes d xs ks r → Able ks → Printed (AreTypes d) (map bare_type) xs (each (map type_declaration_draft xs)) r
 printed_types (is_one_type x) g = alone (λ a ks z. is_one_type) (printed_type_declaration x g)

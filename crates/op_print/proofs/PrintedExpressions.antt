@@ -1,9 +1,9 @@
 -- Expressions can be printed and read again.
 use Rattle.std.proofs.Common.{◌≡◌, ℕ, List, Some, refl, sym, ap, subst}
-use Rattle.op_print.proofs.Printed.{Able, Printed, printed, again, passed, first_of_all, Listed, last, more}
+use Rattle.op_print.proofs.Printed.{here, Able, Printed, printed, again, passed, first_of_all, Listed, last, more}
 use Rattle.op_print.specs.ExpressionDrafts.{operator_kind, prefix_kind, expression_draft, operations_draft, designator_draft, root_draft, selectors_draft, selector_draft, expression_drafts, element_drafts, element_draft, argument_drafts, argument_draft}
 use Rattle.op_print.specs.Scanned.{IsSpellable}
-use Rattle.op_print.specs.Unplaced.{nowhere, bare_expression, bare_operations, bare_designator, bare_root, bare_selectors, bare_selector, bare_expressions, bare_elements, bare_element, bare_arguments, bare_argument}
+use Rattle.op_print.specs.Unplaced.{bare_position, bare_expression, bare_operations, bare_designator, bare_root, bare_selectors, bare_selector, bare_expressions, bare_elements, bare_element, bare_arguments, bare_argument}
 use Rattle.op_scan.specs.declared.token.TokenKind.TheVariants as kind
 use Rattle.op_tree.proofs.ExpressionUnique.{same2, same3}
 use Rattle.op_tree.specs.Expression.{Expression, chain, prefixed, number, nil, set, literal, designated, inherited, Operations, no_operations, operation, Elements, no_elements, elements, Element, one, range, Designator, designator, Root, named, string, bracketed, Selectors, no_selectors, selectors, Selector, member, index, call, Expressions, no_expressions, expressions, Arguments, no_arguments, arguments, Argument, value, padded, rounded}
@@ -56,28 +56,28 @@ mutual
 
   printed_operations : {l : Level} {d : ℕ} {os : Operations} {ks r : List Terminal} → AreOperations l d os ks r → Able ks → Printed (AreOperations l d) bare_operations os (operations_draft os) r
   printed_operations are_no_operations g = printed tt g (λ p z. again no_operations are_no_operations refl)
-  printed_operations (are_operations {o = o} e q x xs) g =
+  printed_operations (are_operations {o = o} {p = w} e q x xs) g =
       let u = printed_operand x g.1 in
       let v = printed_operations xs u.able in
-      printed (operator_able o, (u.words, v.words)) v.able (λ p z. let a = u.again p.1.0 _ in let b = v.again p.1.1 z in again (operation o p.0 a.part b.part) (are_operations (operator_is o) q a.is b.is) (same2 (operation o nowhere) a.same b.same))
+      printed (operator_able o, (u.words, v.words)) v.able (λ p z. let a = u.again p.1.0 _ in let b = v.again p.1.1 z in again (operation o (here p.0 w) a.part b.part) (are_operations (operator_is o) q a.is b.is) (same2 (operation o (bare_position w)) a.same b.same))
 
   printed_factor : {d : ℕ} {e : Expression} {ks r : List Terminal} → IsFactor d e ks r → Able ks → Printed (IsFactor d) bare_expression e (expression_draft e) r
-  printed_factor (is_prefixed {o = o} e f) g =
+  printed_factor (is_prefixed {o = o} {p = w} e f) g =
       let u = printed_factor f g.1 in
-      printed (prefix_able o, u.words) u.able (λ p z. let a = u.again p.1 z in again (prefixed o p.0 a.part) (is_prefixed (prefix_is o) a.is) (ap (prefixed o nowhere) a.same))
-  printed_factor (is_number {n = n}) g = printed g.0 g.1 (λ p z. again (number n p) is_number refl)
-  printed_factor is_nil g = printed tt g.1 (λ p z. again (nil p) is_nil refl)
-  printed_factor is_empty_set g = printed (tt, (tt, tt)) g.1.1 (λ p z. again (set p.0 no_elements) is_empty_set refl)
-  printed_factor (is_set es) g =
+      printed (prefix_able o, u.words) u.able (λ p z. let a = u.again p.1 z in again (prefixed o (here p.0 w) a.part) (is_prefixed (prefix_is o) a.is) (ap (prefixed o (bare_position w)) a.same))
+  printed_factor (is_number {n = n} {p = w}) g = printed g.0 g.1 (λ p z. again (number n (here p w)) is_number refl)
+  printed_factor (is_nil {p = w}) g = printed tt g.1 (λ p z. again (nil (here p w)) is_nil refl)
+  printed_factor (is_empty_set {p = w}) g = printed (tt, (tt, tt)) g.1.1 (λ p z. again (set (here p.0 w) no_elements) is_empty_set refl)
+  printed_factor (is_set {p = w} es) g =
       let u = printed_elements es g.1 in
-      printed (tt, (u.all.words, tt)) u.all.able.1 (λ p z. let a = u.all.again p.1.0 _ in again (set p.0 a.part) (is_set a.is) (ap (set nowhere) a.same))
-  printed_factor (is_literal {text = text} ss) g =
+      printed (tt, (u.all.words, tt)) u.all.able.1 (λ p z. let a = u.all.again p.1.0 _ in again (set (here p.0 w) a.part) (is_set a.is) (ap (set (bare_position w)) a.same))
+  printed_factor (is_literal {text = text} {p = w} ss) g =
       let u = printed_selectors ss g.1 in
-      printed (g.0, u.words) u.able (λ p z. let a = u.again p.1 z in again (literal text p.0 a.part) (is_literal a.is) (ap (literal text nowhere) a.same))
+      printed (g.0, u.words) u.able (λ p z. let a = u.again p.1 z in again (literal text (here p.0 w) a.part) (is_literal a.is) (ap (literal text (bare_position w)) a.same))
   printed_factor (is_designated f) g = passed designated (λ a ks z h. is_designated h) (λ a. ap designated) (printed_designator f g)
-  printed_factor (is_inherited f) g =
+  printed_factor (is_inherited {p = w} f) g =
       let u = printed_designator f g.1 in
-      printed (tt, u.words) u.able (λ p z. let a = u.again p.1 z in again (inherited p.0 a.part) (is_inherited a.is) (ap (inherited nowhere) a.same))
+      printed (tt, u.words) u.able (λ p z. let a = u.again p.1 z in again (inherited (here p.0 w) a.part) (is_inherited a.is) (ap (inherited (bare_position w)) a.same))
 
   pub printed_designator : {d : ℕ} {f : Designator} {ks r : List Terminal} → IsDesignator d f ks r → Able ks → Printed (IsDesignator d) bare_designator f (designator_draft f) r
   printed_designator (is_designator root ss) g =
@@ -86,11 +86,11 @@ mutual
       printed (u.words, v.words) v.able (λ p z. let a = u.again p.0 _ in let b = v.again p.1 z in again (designator a.part b.part) (is_designator a.is b.is) (same2 designator a.same b.same))
 
   printed_root : {d : ℕ} {f : Root} {ks r : List Terminal} → IsRoot d f ks r → Able ks → Printed (IsRoot d) bare_root f (root_draft f) r
-  printed_root (is_named {text = text}) g = printed g.0 g.1 (λ p z. again (named (name text p)) is_named refl)
-  printed_root is_string g = printed tt g.1 (λ p z. again (string p) is_string refl)
-  printed_root (is_bracketed f) g =
+  printed_root (is_named {text = text} {p = w}) g = printed g.0 g.1 (λ p z. again (named (name text (here p w))) is_named refl)
+  printed_root (is_string {p = w}) g = printed tt g.1 (λ p z. again (string (here p w)) is_string refl)
+  printed_root (is_bracketed {p = w} f) g =
       let u = printed_chain f g.1 in
-      printed (tt, (u.words, tt)) u.able.1 (λ p z. let a = u.again p.1.0 _ in again (bracketed p.0 a.part) (is_bracketed a.is) (ap (bracketed nowhere) a.same))
+      printed (tt, (u.words, tt)) u.able.1 (λ p z. let a = u.again p.1.0 _ in again (bracketed (here p.0 w) a.part) (is_bracketed a.is) (ap (bracketed (bare_position w)) a.same))
 
   printed_selectors : {d : ℕ} {ss : Selectors} {ks r : List Terminal} → AreSelectors d ss ks r → Able ks → Printed (AreSelectors d) bare_selectors ss (selectors_draft ss) r
   printed_selectors are_no_selectors g = printed tt g (λ p z. again no_selectors are_no_selectors refl)
@@ -99,10 +99,10 @@ mutual
       first_of_all selectors (λ a b ks m z. are_selectors) (λ a b. same2 selectors) u (printed_selectors ss u.able)
 
   printed_selector : {d : ℕ} {s : Selector} {ks r : List Terminal} → IsSelector d s ks r → Able ks → Printed (IsSelector d) bare_selector s (selector_draft s) r
-  printed_selector (is_member {text = text}) g = printed (tt, g.1.0) g.1.1 (λ p z. again (member (name text p.1)) is_member refl)
-  printed_selector (is_index es) g =
+  printed_selector (is_member {text = text} {p = w}) g = printed (tt, g.1.0) g.1.1 (λ p z. again (member (name text (here p.1 w))) is_member refl)
+  printed_selector (is_index {p = w} es) g =
       let u = printed_expressions es g.1 in
-      printed (tt, (u.all.words, tt)) u.all.able.1 (λ p z. let a = u.all.again p.1.0 _ in again (index p.0 a.part) (is_index a.is) (ap (index nowhere) a.same))
+      printed (tt, (u.all.words, tt)) u.all.able.1 (λ p z. let a = u.all.again p.1.0 _ in again (index (here p.0 w) a.part) (is_index a.is) (ap (index (bare_position w)) a.same))
   printed_selector is_empty_call g = printed (tt, (tt, tt)) g.1.1 (λ p z. again (call no_arguments) is_empty_call refl)
   printed_selector (is_call args) g =
       let u = printed_arguments args g.1 in

@@ -2,13 +2,13 @@
 use Rattle.std.proofs.Common.{◌≡◌, ℕ, Bool, true, false, List, [], ◌∷◌, map, Option, Some, None, refl, ap, arith}
 use Rattle.std.specs.Char.{to_ascii_lowercase}
 use Rattle.std.specs.Option.{option_map}
-use Rattle.op_print.proofs.Printed.{Able, fixed, Printed, printed, again, passed, first_of_all, Listed, last, more, bracketed}
+use Rattle.op_print.proofs.Printed.{here, Able, fixed, Printed, printed, again, passed, first_of_all, Listed, last, more, bracketed}
 use Rattle.op_print.proofs.PrintedDenoters.{printed_name, printed_names, printed_qualified, printed_brackets, printed_denoter}
 use Rattle.op_print.specs.HeadingDrafts.{routine_word, directive_word, visibility_word, mode_draft, open_array_draft, parameter_type_draft, parameter_draft, type_draft, heading_draft, directive_draft, method_draft, accessor_draft, property_draft, member_draft, section_draft, class_draft, identifier_draft, interface_draft}
 use Rattle.op_print.specs.NameDrafts.{qualified_of}
 use Rattle.op_print.specs.Page.{each, enclosed, optional, ended}
 use Rattle.op_print.specs.Scanned.{IsIdentifierText, IsSpellable}
-use Rattle.op_print.specs.Unplaced.{nowhere, bare_name, bare_denoter, bare_parameter_type, bare_parameter, bare_heading, bare_method, bare_property, bare_member, bare_section, bare_class, bare_interface}
+use Rattle.op_print.specs.Unplaced.{bare_position, bare_name, bare_denoter, bare_parameter_type, bare_parameter, bare_heading, bare_method, bare_property, bare_member, bare_section, bare_class, bare_interface}
 use Rattle.op_scan.specs.Byte.{is_name_start, is_name_byte}
 use Rattle.op_scan.specs.Keyword.{keyword_of}
 use Rattle.op_tree.specs.declared.heading.ParameterMode.TheVariants as mode
@@ -63,7 +63,7 @@ printed_array is_open_array g = printed (tt, tt) g.1.1 (λ p z. again true is_op
 
 printed_parameter_type : {t : ParameterType} {ks r : List Terminal} → IsParameterType t ks r → Able ks → Printed IsParameterType bare_parameter_type t (parameter_type_draft t) r
 printed_parameter_type (is_named q) g = passed Named (λ a ks z. is_named) (λ a. ap Named) (printed_qualified q g)
-printed_parameter_type is_string g = printed tt g.1 (λ p z. again (String p) is_string refl)
+printed_parameter_type (is_string {p = w}) g = printed tt g.1 (λ p z. again (String (here p w)) is_string refl)
 
 abbrev parameter_with : ParameterMode → List Name → Bool → ParameterType → Parameter
 parameter_with m ns b t = record { mode = m; names = ns; open_array = b; of = t }
@@ -106,8 +106,8 @@ abbrev bare_routine : Routine → Routine
 bare_routine a = (option_map bare_name a.0, bare_name a.1)
 
 printed_routine_name : {c : Option Name} {n : Name} {ks r : List Terminal} → IsRoutineName c n ks r → Able ks → Printed IsRoutineOf bare_routine (c, n) (qualified_of c n) r
-printed_routine_name (is_of_no_class (is_name {text = t})) g = printed g.0 g.1 (λ p z. again (None, name t p) (is_of_no_class is_name) refl)
-printed_routine_name (is_of_class (is_name {text = t}) (is_name {text = w})) g = printed (g.0, (tt, g.1.1.0)) g.1.1.1 (λ p z. again (Some (name t p.0), name w p.1.1) (is_of_class is_name is_name) refl)
+printed_routine_name (is_of_no_class (is_name {text = t} {p = x})) g = printed g.0 g.1 (λ p z. again (None, name t (here p x)) (is_of_no_class is_name) refl)
+printed_routine_name (is_of_class (is_name {text = t} {p = x}) (is_name {text = w} {p = y})) g = printed (g.0, (tt, g.1.1.0)) g.1.1.1 (λ p z. again (Some (name t (here p.0 x)), name w (here p.1.1 y)) (is_of_class is_name is_name) refl)
 
 abbrev heading_with : RoutineKind → Routine → List Parameter → Option Denoter → Heading
 heading_with k n ps t = record { kind = k; class = n.0; name = n.1; parameters = ps; result = t }
@@ -151,11 +151,11 @@ abbrev property_with : Name → Denoter → Option Name → Option Name → Prop
 property_with n t a b = record { name = n; denoter = t; read = a; write = b }
 
 printed_property : {d : ℕ} {a : Property} {ks r : List Terminal} → IsProperty d a ks r → Able ks → Printed (IsProperty d) bare_property a (property_draft a) r
-printed_property (is_property (is_name {text = text}) t v w) g =
+printed_property (is_property (is_name {text = text} {p = n}) t v w) g =
     let u = printed_denoter t g.1.1.1 in
     let x = printed_accessor refl fixed.read v u.able in
     let y = printed_accessor refl fixed.write w x.able in
-    printed (tt, (tt, (g.1.0, (tt, (u.words, (x.words, (y.words, tt))))))) y.able.1 (λ p z. let a = u.again p.1.1.1.1.0 _ in let b = x.again p.1.1.1.1.1.0 _ in let c = y.again p.1.1.1.1.1.1.0 _ in again (property_with (name text p.1.1.0) a.part b.part c.part) (is_property is_name a.is b.is c.is) (same3 (property_with (name text nowhere)) a.same b.same c.same))
+    printed (tt, (tt, (g.1.0, (tt, (u.words, (x.words, (y.words, tt))))))) y.able.1 (λ p z. let a = u.again p.1.1.1.1.0 _ in let b = x.again p.1.1.1.1.1.0 _ in let c = y.again p.1.1.1.1.1.1.0 _ in again (property_with (name text (here p.1.1.0 n)) a.part b.part c.part) (is_property is_name a.is b.is c.is) (same3 (property_with (name text (bare_position n))) a.same b.same c.same))
 
 printed_member : {d : ℕ} {a : Member} {ks r : List Terminal} → IsMember d a ks r → Able ks → Printed (IsMember d) bare_member a (member_draft a) r
 printed_member (are_fields ns t) g =
@@ -226,12 +226,12 @@ printed_interface (has_methods_alone t as_) g =
     let u = printed_identifier t g.1 in
     let v = printed_methods as_ u.able in
     printed (tt, (tt, (u.words, ((tt, (v.words, (tt, tt))), tt)))) v.able.1 (λ p z. let a = u.again p.1.1.0 _ in let b = v.again p.1.1.1.0.1.0 _ in again (interface_with None a.part b.part) (has_methods_alone a.is b.is) (same2 (interface_with None) a.same b.same))
-printed_interface (has_ancestor_alone (are_bracketed_names (are_one_name (is_name {text = text}))) t) g =
+printed_interface (has_ancestor_alone (are_bracketed_names (are_one_name (is_name {text = text} {p = n}))) t) g =
     let u = printed_identifier t g.1.1.1.1 in
-    printed (tt, ((tt, (g.1.1.0, tt)), (u.words, ((tt, (tt, (tt, tt))), tt)))) u.able (λ p z. let a = u.again p.1.1.0 _ in again (interface_with (Some (name text p.1.0.1.0)) a.part []) (has_ancestor_and_methods (are_bracketed_names (are_one_name is_name)) a.is are_no_methods) (ap (λ x. interface_with (Some (name text nowhere)) x []) a.same))
+    printed (tt, ((tt, (g.1.1.0, tt)), (u.words, ((tt, (tt, (tt, tt))), tt)))) u.able (λ p z. let a = u.again p.1.1.0 _ in again (interface_with (Some (name text (here p.1.0.1.0 n))) a.part []) (has_ancestor_and_methods (are_bracketed_names (are_one_name is_name)) a.is are_no_methods) (ap (λ x. interface_with (Some (name text (bare_position n))) x []) a.same))
 printed_interface (has_ancestor_alone (are_bracketed_names (are_names n ns)) t) g = elim ns [ ]
-printed_interface (has_ancestor_and_methods (are_bracketed_names (are_one_name (is_name {text = text}))) t as_) g =
+printed_interface (has_ancestor_and_methods (are_bracketed_names (are_one_name (is_name {text = text} {p = n}))) t as_) g =
     let u = printed_identifier t g.1.1.1.1 in
     let v = printed_methods as_ u.able in
-    printed (tt, ((tt, (g.1.1.0, tt)), (u.words, ((tt, (v.words, (tt, tt))), tt)))) v.able.1 (λ p z. let a = u.again p.1.1.0 _ in let b = v.again p.1.1.1.0.1.0 _ in again (interface_with (Some (name text p.1.0.1.0)) a.part b.part) (has_ancestor_and_methods (are_bracketed_names (are_one_name is_name)) a.is b.is) (same2 (interface_with (Some (name text nowhere))) a.same b.same))
+    printed (tt, ((tt, (g.1.1.0, tt)), (u.words, ((tt, (v.words, (tt, tt))), tt)))) v.able.1 (λ p z. let a = u.again p.1.1.0 _ in let b = v.again p.1.1.1.0.1.0 _ in again (interface_with (Some (name text (here p.1.0.1.0 n))) a.part b.part) (has_ancestor_and_methods (are_bracketed_names (are_one_name is_name)) a.is b.is) (same2 (interface_with (Some (name text (bare_position n)))) a.same b.same))
 printed_interface (has_ancestor_and_methods (are_bracketed_names (are_names n ns)) t as_) g = elim ns [ ]

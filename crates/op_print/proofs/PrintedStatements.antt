@@ -1,13 +1,13 @@
 -- Statements can be printed and read again.
 use Rattle.std.proofs.Common.{◌≡◌, ℕ, suc, List, ◌∷◌, Option, Some, None, refl, sym, ap, subst}
 use Rattle.std.specs.Option.{option_map}
-use Rattle.op_print.proofs.Printed.{Able, Printed, printed, again, passed, Listed, last, more, fixed}
+use Rattle.op_print.proofs.Printed.{here, Able, Printed, printed, again, passed, Listed, last, more, fixed}
 use Rattle.op_print.proofs.PrintedDenoters.{printed_qualified}
 use Rattle.op_print.proofs.PrintedExpressions.{printed_chain, printed_designator, printed_elements}
 use Rattle.op_print.specs.Page.{Draft, ◌&◌}
 use Rattle.op_print.specs.Scanned.{IsSpellable}
 use Rattle.op_print.specs.StatementDrafts.{direction_kind, on_draft, block_draft, begun, statement_draft, statement_drafts, branches_draft, handlers_draft}
-use Rattle.op_print.specs.Unplaced.{nowhere, bare_name, bare_qualified, bare_statement, bare_statements, bare_branches, bare_handlers}
+use Rattle.op_print.specs.Unplaced.{bare_position, bare_name, bare_qualified, bare_statement, bare_statements, bare_branches, bare_handlers}
 use Rattle.op_scan.specs.declared.token.TokenKind.TheVariants as kind
 use Rattle.op_tree.proofs.ExpressionUnique.{same2, same3}
 use Rattle.op_tree.specs.Statement.{Statement, empty, block, if_then, if_else, case_of, case_else, while_do, repeat_until, for_to, for_in, try_finally, try_except, try_on, try_on_else, raise, reraise, inherited, inherited_call, call, assign, Statements, no_statements, statements, Branches, no_branches, branches, Handlers, no_handlers, handlers}
@@ -73,9 +73,9 @@ printed_on : {v : Option Name} {c : QualifiedName} {ks r : List Terminal} → Is
 printed_on (is_on_class e q) g =
     let u = printed_qualified q g.1 in
     printed (tt, (fixed.on, (tt, (u.words, tt)))) u.able.1 (λ p z. let a = u.again p.1.1.1.0 _ in again (None, a.part) (is_on_class refl a.is) (ap (λ x. (None, x)) a.same))
-printed_on (is_on_variable e (is_name {text = text}) q) g =
+printed_on (is_on_variable e (is_name {text = text} {p = w}) q) g =
     let u = printed_qualified q g.1.1.1 in
-    printed (tt, (fixed.on, ((g.1.0, tt), (u.words, tt)))) u.able.1 (λ p z. let a = u.again p.1.1.1.0 _ in again (Some (name text p.1.1.0.0), a.part) (is_on_variable refl is_name a.is) (ap (λ x. (Some (name text nowhere), x)) a.same))
+    printed (tt, (fixed.on, ((g.1.0, tt), (u.words, tt)))) u.able.1 (λ p z. let a = u.again p.1.1.1.0 _ in again (Some (name text (here p.1.1.0.0 w)), a.part) (is_on_variable refl is_name a.is) (ap (λ x. (Some (name text (bare_position w)), x)) a.same))
 
 -- handlers are there also without places
 try_on_again : {d : ℕ} {v : Option Name} {c : QualifiedName} {s : Statement} {hs : Handlers} {ss : Statements} {p q u : Position} {ks m r : List Terminal} (x : Handlers) → AreStatements d ss ks (kind.Except at q ∷ m) → AreHandlers d x m (kind.End at u ∷ r) → bare_handlers x ≡ handlers v c s hs → IsStatement (suc d) (try_on ss x) (kind.Try_ at p ∷ ks) r
@@ -118,15 +118,15 @@ mutual
       let u = in_block (printed_statements ss g.1) in
       let v = printed_chain c u.able.1 in
       printed (tt, (u.words, (tt, v.words))) v.able (λ p z. let a = u.again p.1.0 _ in let b = v.again p.1.1.1 z in again (repeat_until a.part b.part) (is_repeat a.is b.is) (same2 repeat_until a.same b.same))
-  printed_statement (is_for_to {way = way} (is_name {text = text}) x w y s) g =
+  printed_statement (is_for_to {way = way} (is_name {text = text} {p = n}) x w y s) g =
       let u = printed_chain x g.1.1.1 in
       let v = printed_chain y u.able.1 in
       let t = printed_statement s v.able.1 in
-      printed (tt, (g.1.0, (tt, (u.words, (direction_able way, (v.words, (tt, t.words))))))) t.able (λ p z. let a = u.again p.1.1.1.0 _ in let b = v.again p.1.1.1.1.1.0 _ in let c = t.again p.1.1.1.1.1.1.1 z in again (for_to (name text p.1.0) a.part way b.part c.part) (is_for_to is_name a.is (direction_is way) b.is c.is) (same3 (λ x y. for_to (name text nowhere) x way y) a.same b.same c.same))
-  printed_statement (is_for_in (is_name {text = text}) e s) g =
+      printed (tt, (g.1.0, (tt, (u.words, (direction_able way, (v.words, (tt, t.words))))))) t.able (λ p z. let a = u.again p.1.1.1.0 _ in let b = v.again p.1.1.1.1.1.0 _ in let c = t.again p.1.1.1.1.1.1.1 z in again (for_to (name text (here p.1.0 n)) a.part way b.part c.part) (is_for_to is_name a.is (direction_is way) b.is c.is) (same3 (λ x y. for_to (name text (bare_position n)) x way y) a.same b.same c.same))
+  printed_statement (is_for_in (is_name {text = text} {p = n}) e s) g =
       let u = printed_chain e g.1.1.1 in
       let v = printed_statement s u.able.1 in
-      printed (tt, (g.1.0, (tt, (u.words, (tt, v.words))))) v.able (λ p z. let a = u.again p.1.1.1.0 _ in let b = v.again p.1.1.1.1.1 z in again (for_in (name text p.1.0) a.part b.part) (is_for_in is_name a.is b.is) (same2 (for_in (name text nowhere)) a.same b.same))
+      printed (tt, (g.1.0, (tt, (u.words, (tt, v.words))))) v.able (λ p z. let a = u.again p.1.1.1.0 _ in let b = v.again p.1.1.1.1.1 z in again (for_in (name text (here p.1.0 n)) a.part b.part) (is_for_in is_name a.is b.is) (same2 (for_in (name text (bare_position n))) a.same b.same))
   printed_statement (is_try_finally ss ts) g =
       let u = in_block (printed_statements ss g.1) in
       let v = in_block (printed_statements ts u.able.1) in
@@ -144,19 +144,19 @@ mutual
       let v = printed_handlers hs u.able.1 in
       let w = in_block (printed_statements ts v.able.1) in
       printed (tt, (u.words, (tt, ((tt, (v.words, (tt, tt))), (tt, (w.words, tt)))))) w.able.1 (λ p z. let a = u.again p.1.0 _ in let b = v.again p.1.1.1.0.1.0 _ in let c = w.again p.1.1.1.1.1.0 _ in again (try_on_else a.part b.part c.part) (try_on_else_again b.part a.is b.is c.is b.same) (same3 try_on_else a.same b.same c.same))
-  printed_statement (is_raise e) g =
+  printed_statement (is_raise {p = w} e) g =
       let u = printed_chain e g.1 in
-      printed (tt, u.words) u.able (λ p z. let a = u.again p.1 z in again (raise p.0 a.part) (is_raise a.is) (ap (raise nowhere) a.same))
-  printed_statement is_reraise g = printed tt g.1 (λ p z. again (reraise p) is_reraise refl)
-  printed_statement is_inherited g = printed tt g.1 (λ p z. again (inherited p) is_inherited refl)
-  printed_statement (is_inherited_call f) g =
+      printed (tt, u.words) u.able (λ p z. let a = u.again p.1 z in again (raise (here p.0 w) a.part) (is_raise a.is) (ap (raise (bare_position w)) a.same))
+  printed_statement (is_reraise {p = w}) g = printed tt g.1 (λ p z. again (reraise (here p w)) is_reraise refl)
+  printed_statement (is_inherited {p = w}) g = printed tt g.1 (λ p z. again (inherited (here p w)) is_inherited refl)
+  printed_statement (is_inherited_call {p = w} f) g =
       let u = printed_designator f g.1 in
-      printed (tt, u.words) u.able (λ p z. let a = u.again p.1 z in again (inherited_call p.0 a.part) (is_inherited_call a.is) (ap (inherited_call nowhere) a.same))
+      printed (tt, u.words) u.able (λ p z. let a = u.again p.1 z in again (inherited_call (here p.0 w) a.part) (is_inherited_call a.is) (ap (inherited_call (bare_position w)) a.same))
   printed_statement (is_call f) g = passed call (λ a ks z. is_call) (λ a. ap call) (printed_designator f g)
-  printed_statement (is_assignment f e) g =
+  printed_statement (is_assignment {p = w} f e) g =
       let u = printed_designator f g in
       let v = printed_chain e u.able.1 in
-      printed (u.words, (tt, v.words)) v.able (λ p z. let a = u.again p.0 _ in let b = v.again p.1.1 z in again (assign a.part p.1.0 b.part) (is_assignment a.is b.is) (same2 (λ x y. assign x nowhere y) a.same b.same))
+      printed (u.words, (tt, v.words)) v.able (λ p z. let a = u.again p.0 _ in let b = v.again p.1.1 z in again (assign a.part (here p.1.0 w) b.part) (is_assignment a.is b.is) (same2 (λ x y. assign x (bare_position w) y) a.same b.same))
 
   printed_statements : {d : ℕ} {ss : Statements} {ks r : List Terminal} → AreStatements d ss ks r → Able ks → Listed (AreStatements d) bare_statements kind.Semicolon ss (statement_drafts ss) r
   printed_statements (are_one_statement {s = s0} s) g = last (λ x. statements x no_statements) (λ a ks z. are_one_statement) (λ a. ap (λ x. statements x no_statements)) (on_line s0 (printed_statement s g))

@@ -1,6 +1,6 @@
 -- The print of expressions, as drafts.
 use Rattle.std.specs.Prelude.{List, [], ◌∷◌}
-use Rattle.op_print.specs.Page.{Draft, nothing, word, tight, ◌&◌, separated}
+use Rattle.op_print.specs.Page.{Draft, nothing, word, tight, word_at, tight_at, ◌&◌, separated}
 use Rattle.op_scan.specs.declared.token.TokenKind.{TokenKind}
 use Rattle.op_scan.specs.declared.token.TokenKind.TheVariants as kind
 use Rattle.op_tree.specs.Expression.{Expression, chain, prefixed, number, nil, set, literal, designated, inherited, Operations, no_operations, operation, Elements, no_elements, elements, Element, one, range, Designator, designator, Root, named, string, bracketed, Selectors, no_selectors, selectors, Selector, member, index, call, Expressions, no_expressions, expressions, Arguments, no_arguments, arguments, Argument, value, padded, rounded}
@@ -39,33 +39,33 @@ prefix_kind prefix.Minus = kind.Minus
 abbrev mutual
   pub expression_draft : Expression → Draft
   expression_draft (chain first rest) = expression_draft first & operations_draft rest
-  expression_draft (prefixed o p e) = word (prefix_kind o) & expression_draft e
-  expression_draft (number n p) = word (kind.Number n)
-  expression_draft (nil p) = word kind.Nil
-  expression_draft (set p es) = word kind.OpenBracket & separated kind.Comma (element_drafts es) & tight kind.CloseBracket
-  expression_draft (literal text p ss) = word (kind.CharacterString text) & selectors_draft ss
+  expression_draft (prefixed o p e) = word_at p.switches (prefix_kind o) & expression_draft e
+  expression_draft (number n p) = word_at p.switches (kind.Number n)
+  expression_draft (nil p) = word_at p.switches kind.Nil
+  expression_draft (set p es) = word_at p.switches kind.OpenBracket & separated kind.Comma (element_drafts es) & tight kind.CloseBracket
+  expression_draft (literal text p ss) = word_at p.switches (kind.CharacterString text) & selectors_draft ss
   expression_draft (designated g) = designator_draft g
-  expression_draft (inherited p g) = word kind.Inherited & designator_draft g
+  expression_draft (inherited p g) = word_at p.switches kind.Inherited & designator_draft g
 
   pub operations_draft : Operations → Draft
   operations_draft no_operations = nothing
-  operations_draft (operation o p e os) = word (operator_kind o) & expression_draft e & operations_draft os
+  operations_draft (operation o p e os) = word_at p.switches (operator_kind o) & expression_draft e & operations_draft os
 
   pub designator_draft : Designator → Draft
   designator_draft (designator root ss) = root_draft root & selectors_draft ss
 
   pub root_draft : Root → Draft
-  root_draft (named n) = word (kind.Identifier n.text)
-  root_draft (string p) = word kind.String
-  root_draft (bracketed p e) = word kind.OpenParenthesis & expression_draft e & tight kind.CloseParenthesis
+  root_draft (named n) = word_at n.position.switches (kind.Identifier n.text)
+  root_draft (string p) = word_at p.switches kind.String
+  root_draft (bracketed p e) = word_at p.switches kind.OpenParenthesis & expression_draft e & tight kind.CloseParenthesis
 
   pub selectors_draft : Selectors → Draft
   selectors_draft no_selectors = nothing
   selectors_draft (selectors s ss) = selector_draft s & selectors_draft ss
 
   pub selector_draft : Selector → Draft
-  selector_draft (member n) = tight kind.Dot & tight (kind.Identifier n.text)
-  selector_draft (index p es) = tight kind.OpenBracket & separated kind.Comma (expression_drafts es) & tight kind.CloseBracket
+  selector_draft (member n) = tight kind.Dot & tight_at n.position.switches (kind.Identifier n.text)
+  selector_draft (index p es) = tight_at p.switches kind.OpenBracket & separated kind.Comma (expression_drafts es) & tight kind.CloseBracket
   selector_draft (call args) = tight kind.OpenParenthesis & separated kind.Comma (argument_drafts args) & tight kind.CloseParenthesis
 
   pub expression_drafts : Expressions → List Draft

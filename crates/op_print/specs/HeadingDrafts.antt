@@ -2,7 +2,7 @@
 use Rattle.std.specs.Prelude.{ℕ, Bool, true, false, List, codes, map}
 use Rattle.op_print.specs.DenoterDrafts.{denoter_draft, field_line}
 use Rattle.op_print.specs.NameDrafts.{bracketed_draft, name_draft, names_draft, qualified_of, qualified_draft}
-use Rattle.op_print.specs.Page.{Draft, nothing, word, tight, line, ◌&◌, each, enclosed, optional, ended}
+use Rattle.op_print.specs.Page.{Draft, nothing, word, tight, word_at, line, ◌&◌, each, enclosed, optional, ended}
 use Rattle.op_scan.specs.declared.token.TokenKind.{TokenKind}
 use Rattle.op_scan.specs.declared.token.TokenKind.TheVariants as kind
 use Rattle.op_tree.specs.Declaration.{Class, Heading, Interface, Member, fields, method, property, Method, Property, Section}
@@ -56,7 +56,7 @@ open_array_draft false = nothing
 
 abbrev pub parameter_type_draft : ParameterType → Draft
 parameter_type_draft (parameter_type.Named q) = qualified_draft q
-parameter_type_draft (parameter_type.String p) = word kind.String
+parameter_type_draft (parameter_type.String p) = word_at p.switches kind.String
 
 abbrev pub parameter_draft : Parameter → Draft
 parameter_draft a = mode_draft a.mode & names_draft a.names & tight kind.Colon & open_array_draft a.open_array & parameter_type_draft a.of

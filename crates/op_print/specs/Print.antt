@@ -2,7 +2,7 @@
 use Rattle.std.specs.Prelude.{ℕ, List, [], ◌∷◌}
 use Rattle.op_print.specs.DeclarationDrafts.{begin_end_draft, declarations_draft}
 use Rattle.op_print.specs.NameDrafts.{bracketed_draft, name_draft, names_draft}
-use Rattle.op_print.specs.Page.{Draft, nothing, word, tight, line, ◌&◌, optional, after, empty_page}
+use Rattle.op_print.specs.Page.{Draft, nothing, word, tight, word_at, switch, line, ◌&◌, optional, after, empty_page}
 use Rattle.op_print.specs.StatementDrafts.{block_draft, statement_drafts}
 use Rattle.op_scan.specs.declared.token.TokenKind.{TokenKind}
 use Rattle.op_scan.specs.declared.token.TokenKind.TheVariants as kind
@@ -32,10 +32,10 @@ abbrev pub tail_draft : Tail → Draft
 tail_draft t = line & optional (tail_part_draft kind.Initialization) t.initialization & optional (tail_part_draft kind.Finalization) t.finalization & word kind.End
 
 abbrev pub unit_draft : UnitFile → Draft
-unit_draft u = word kind.Unit & name_draft u.name & tight kind.Semicolon & line & word kind.Interface & part_draft u.interface & line & word kind.Implementation & part_draft u.implementation & tail_draft u.tail
+unit_draft u = word_at u.position.switches kind.Unit & name_draft u.name & tight kind.Semicolon & line & word kind.Interface & part_draft u.interface & line & word kind.Implementation & part_draft u.implementation & tail_draft u.tail
 
 abbrev pub file_draft : File → Draft
-file_draft (program p) = program_draft p & tight kind.Dot & line
+file_draft (program p) = switch p.position.switches & program_draft p & tight kind.Dot & line
 file_draft (unit u) = unit_draft u & tight kind.Dot & line
 
 -- the text of a tree

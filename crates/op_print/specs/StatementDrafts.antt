@@ -2,7 +2,7 @@
 use Rattle.std.specs.Prelude.{List, [], ◌∷◌, codes, Option}
 use Rattle.op_print.specs.ExpressionDrafts.{designator_draft, element_drafts, expression_draft}
 use Rattle.op_print.specs.NameDrafts.{name_draft, qualified_draft}
-use Rattle.op_print.specs.Page.{Draft, nothing, word, tight, line, ◌&◌, separated, optional, indented}
+use Rattle.op_print.specs.Page.{Draft, nothing, word, tight, word_at, line, ◌&◌, separated, optional, indented}
 use Rattle.op_scan.specs.declared.token.TokenKind.{TokenKind}
 use Rattle.op_scan.specs.declared.token.TokenKind.TheVariants as kind
 use Rattle.op_tree.specs.Statement.{Statement, empty, block, if_then, if_else, case_of, case_else, while_do, repeat_until, for_to, for_in, try_finally, try_except, try_on, try_on_else, raise, reraise, inherited, inherited_call, call, assign, Statements, no_statements, statements, Branches, no_branches, branches, Handlers, no_handlers, handlers}
@@ -46,12 +46,12 @@ abbrev mutual
   statement_draft (try_except ss ts) = word kind.Try_ & block_draft (statement_drafts ss) & word kind.Except & block_draft (statement_drafts ts) & word kind.End
   statement_draft (try_on ss hs) = word kind.Try_ & block_draft (statement_drafts ss) & word kind.Except & indented (handlers_draft hs) & word kind.End
   statement_draft (try_on_else ss hs ts) = word kind.Try_ & block_draft (statement_drafts ss) & word kind.Except & indented (handlers_draft hs) & word kind.Else_ & block_draft (statement_drafts ts) & word kind.End
-  statement_draft (raise p e) = word kind.Raise & expression_draft e
-  statement_draft (reraise p) = word kind.Raise
-  statement_draft (inherited p) = word kind.Inherited
-  statement_draft (inherited_call p g) = word kind.Inherited & designator_draft g
+  statement_draft (raise p e) = word_at p.switches kind.Raise & expression_draft e
+  statement_draft (reraise p) = word_at p.switches kind.Raise
+  statement_draft (inherited p) = word_at p.switches kind.Inherited
+  statement_draft (inherited_call p g) = word_at p.switches kind.Inherited & designator_draft g
   statement_draft (call g) = designator_draft g
-  statement_draft (assign g p e) = designator_draft g & word kind.Assign & expression_draft e
+  statement_draft (assign g p e) = designator_draft g & word_at p.switches kind.Assign & expression_draft e
 
   pub statement_drafts : Statements → List Draft
   statement_drafts no_statements = []

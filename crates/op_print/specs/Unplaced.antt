@@ -1,6 +1,7 @@
--- A tree without its places: every position in it is the same one.
-use Rattle.std.specs.Prelude.{false, List, map}
+-- A tree without its places: every position in it has the same place, and its own switches.
+use Rattle.std.specs.Prelude.{List, map}
 use Rattle.std.specs.Option.{option_map}
+use Rattle.op_base.specs.declared.place.Place.{Place}
 use Rattle.op_tree.specs.Declaration.{Heading, Method, FieldList, Property, Member, fields as member_fields, method, property, Section, Class, Interface, Constant, Variables, TypeDefinition, denotes, forward_class, class, forward_interface, interface, TypeDeclaration, Declaration, constants, types, variables, heading, routine, Declarations, no_declarations, declarations, Body, forward, body}
 use Rattle.op_tree.specs.Denoter.{Denoter, named as named_type, string as string_type, subrange, enumeration, set as set_type, array, record_, Denoters, no_denoters, denoters, FieldLists, no_fields, fields}
 use Rattle.op_tree.specs.Expression.{Expression, chain, prefixed, number, nil, set, literal, designated, inherited, Operations, no_operations, operation, Elements, no_elements, elements, Element, one, range, Designator, designator, Root, named, string, bracketed, Selectors, no_selectors, selectors, Selector, member, index, call, Expressions, no_expressions, expressions, Arguments, no_arguments, arguments, Argument, value, padded, rounded}
@@ -16,13 +17,17 @@ use Rattle.op_tree.specs.declared.position.Name.{Name}
 use Rattle.op_tree.specs.declared.position.Position.{Position}
 use Rattle.op_tree.specs.declared.position.QualifiedName.{QualifiedName}
 
-abbrev pub nowhere : Position
-nowhere = record { place = record { file = 0; line = 0; col = 0 }; switches = record { h = false; q = false; r = false } }
+abbrev pub nowhere : Place
+nowhere = record { file = 0; line = 0; col = 0 }
+
+-- a position without its place
+abbrev pub bare_position : Position → Position
+bare_position p = record { place = nowhere; switches = p.switches }
 
 -- ---- names
 
 abbrev pub bare_name : Name → Name
-bare_name n = name n.text nowhere
+bare_name n = name n.text (bare_position n.position)
 
 abbrev pub bare_names : List Name → List Name
 bare_names ns = map bare_name ns
@@ -35,25 +40,25 @@ bare_qualified q = record { unit = option_map bare_name q.unit; name = bare_name
 abbrev mutual
   pub bare_expression : Expression → Expression
   bare_expression (chain first rest) = chain (bare_expression first) (bare_operations rest)
-  bare_expression (prefixed o p e) = prefixed o nowhere (bare_expression e)
-  bare_expression (number n p) = number n nowhere
-  bare_expression (nil p) = nil nowhere
-  bare_expression (set p es) = set nowhere (bare_elements es)
-  bare_expression (literal text p ss) = literal text nowhere (bare_selectors ss)
+  bare_expression (prefixed o p e) = prefixed o (bare_position p) (bare_expression e)
+  bare_expression (number n p) = number n (bare_position p)
+  bare_expression (nil p) = nil (bare_position p)
+  bare_expression (set p es) = set (bare_position p) (bare_elements es)
+  bare_expression (literal text p ss) = literal text (bare_position p) (bare_selectors ss)
   bare_expression (designated g) = designated (bare_designator g)
-  bare_expression (inherited p g) = inherited nowhere (bare_designator g)
+  bare_expression (inherited p g) = inherited (bare_position p) (bare_designator g)
 
   pub bare_operations : Operations → Operations
   bare_operations no_operations = no_operations
-  bare_operations (operation o p e os) = operation o nowhere (bare_expression e) (bare_operations os)
+  bare_operations (operation o p e os) = operation o (bare_position p) (bare_expression e) (bare_operations os)
 
   pub bare_designator : Designator → Designator
   bare_designator (designator root ss) = designator (bare_root root) (bare_selectors ss)
 
   pub bare_root : Root → Root
   bare_root (named n) = named (bare_name n)
-  bare_root (string p) = string nowhere
-  bare_root (bracketed p e) = bracketed nowhere (bare_expression e)
+  bare_root (string p) = string (bare_position p)
+  bare_root (bracketed p e) = bracketed (bare_position p) (bare_expression e)
 
   pub bare_selectors : Selectors → Selectors
   bare_selectors no_selectors = no_selectors
@@ -61,7 +66,7 @@ abbrev mutual
 
   pub bare_selector : Selector → Selector
   bare_selector (member n) = member (bare_name n)
-  bare_selector (index p es) = index nowhere (bare_expressions es)
+  bare_selector (index p es) = index (bare_position p) (bare_expressions es)
   bare_selector (call args) = call (bare_arguments args)
 
   pub bare_expressions : Expressions → Expressions
@@ -90,12 +95,12 @@ abbrev mutual
 abbrev mutual
   pub bare_denoter : Denoter → Denoter
   bare_denoter (named_type q) = named_type (bare_qualified q)
-  bare_denoter (string_type p) = string_type nowhere
+  bare_denoter (string_type p) = string_type (bare_position p)
   bare_denoter (subrange first last) = subrange (bare_expression first) (bare_expression last)
-  bare_denoter (enumeration p ns) = enumeration nowhere (bare_names ns)
-  bare_denoter (set_type p base) = set_type nowhere (bare_denoter base)
-  bare_denoter (array p b ts t) = array nowhere b (bare_denoters ts) (bare_denoter t)
-  bare_denoter (record_ p b fs) = record_ nowhere b (bare_field_lists fs)
+  bare_denoter (enumeration p ns) = enumeration (bare_position p) (bare_names ns)
+  bare_denoter (set_type p base) = set_type (bare_position p) (bare_denoter base)
+  bare_denoter (array p b ts t) = array (bare_position p) b (bare_denoters ts) (bare_denoter t)
+  bare_denoter (record_ p b fs) = record_ (bare_position p) b (bare_field_lists fs)
 
   pub bare_denoters : Denoters → Denoters
   bare_denoters no_denoters = no_denoters
@@ -108,8 +113,8 @@ abbrev mutual
 abbrev mutual
   pub bare_initial : Initial → Initial
   bare_initial (value_of e) = value_of (bare_expression e)
-  bare_initial (list p is) = list nowhere (bare_initials is)
-  bare_initial (record_value p fs) = record_value nowhere (bare_field_initials fs)
+  bare_initial (list p is) = list (bare_position p) (bare_initials is)
+  bare_initial (record_value p fs) = record_value (bare_position p) (bare_field_initials fs)
 
   pub bare_initials : Initials → Initials
   bare_initials no_initials = no_initials
@@ -137,12 +142,12 @@ abbrev mutual
   bare_statement (try_except ss ts) = try_except (bare_statements ss) (bare_statements ts)
   bare_statement (try_on ss hs) = try_on (bare_statements ss) (bare_handlers hs)
   bare_statement (try_on_else ss hs ts) = try_on_else (bare_statements ss) (bare_handlers hs) (bare_statements ts)
-  bare_statement (raise p e) = raise nowhere (bare_expression e)
-  bare_statement (reraise p) = reraise nowhere
-  bare_statement (alone p) = alone nowhere
-  bare_statement (inherited_call p g) = inherited_call nowhere (bare_designator g)
+  bare_statement (raise p e) = raise (bare_position p) (bare_expression e)
+  bare_statement (reraise p) = reraise (bare_position p)
+  bare_statement (alone p) = alone (bare_position p)
+  bare_statement (inherited_call p g) = inherited_call (bare_position p) (bare_designator g)
   bare_statement (call_of g) = call_of (bare_designator g)
-  bare_statement (assign g p e) = assign (bare_designator g) nowhere (bare_expression e)
+  bare_statement (assign g p e) = assign (bare_designator g) (bare_position p) (bare_expression e)
 
   pub bare_statements : Statements → Statements
   bare_statements no_statements = no_statements
@@ -160,7 +165,7 @@ abbrev mutual
 
 abbrev pub bare_parameter_type : ParameterType → ParameterType
 bare_parameter_type (parameter_type.Named q) = parameter_type.Named (bare_qualified q)
-bare_parameter_type (parameter_type.String p) = parameter_type.String nowhere
+bare_parameter_type (parameter_type.String p) = parameter_type.String (bare_position p)
 
 abbrev pub bare_parameter : Parameter → Parameter
 bare_parameter a = record { mode = a.mode; names = bare_names a.names; open_array = a.open_array; of = bare_parameter_type a.of }
@@ -238,5 +243,5 @@ bare_tail t = record { initialization = option_map bare_statements t.initializat
 
 -- the tree of a file, but for its places
 abbrev pub unplaced : File → File
-unplaced (program p) = program (record { position = nowhere; heading = option_map bare_program_heading p.heading; uses = bare_names p.uses; declarations = bare_declarations p.declarations; statements = bare_statements p.statements })
-unplaced (unit u) = unit (record { position = nowhere; name = bare_name u.name; interface = bare_part u.interface; implementation = bare_part u.implementation; tail = bare_tail u.tail })
+unplaced (program p) = program (record { position = bare_position p.position; heading = option_map bare_program_heading p.heading; uses = bare_names p.uses; declarations = bare_declarations p.declarations; statements = bare_statements p.statements })
+unplaced (unit u) = unit (record { position = bare_position u.position; name = bare_name u.name; interface = bare_part u.interface; implementation = bare_part u.implementation; tail = bare_tail u.tail })

@@ -6,9 +6,9 @@ ghost use Rattle.op_scan.specs.declared.token.TokenKind.TheVariants as kind;
 ghost use Rattle.op_tree.specs.Declaration.{class_of, interface_of, member_of, property_of, section_of};
 
 use crate::denoter::{denoter, field_line};
-use crate::list::{Printed, all, in_brackets};
+use crate::list::{Printed, all, ended, in_brackets};
 use crate::name::name;
-use crate::printer::{Printer, end, indent, line, string, tight, word};
+use crate::printer::{Printer, line, string, tight, word};
 use op_base::NoMemory;
 use op_scan::CompactText;
 use op_tree::{Class, Interface, Member, Name, Property, Section, Visibility};
@@ -77,8 +77,7 @@ pub fn class(page: &mut Printer, class: &Class) -> Result<(), NoMemory>
     ensures { IfOk result (λ _. page.new ≡ after page.old (class_draft (class_of class.now))) }
 {
     print_all!(page:
-        word(b"class"), in_brackets(b",", class.ancestors.as_slice()), indent(),
-        all(&class.sections), end())
+        word(b"class"), in_brackets(b",", class.ancestors.as_slice()), ended(&class.sections))
 }
 
 fn ancestor(page: &mut Printer, ancestor: &Option<Name>) -> Result<(), NoMemory>
@@ -112,5 +111,5 @@ fn interface_head(page: &mut Printer, interface: &Interface) -> Result<(), NoMem
 pub fn interface(page: &mut Printer, interface: &Interface) -> Result<(), NoMemory>
     ensures { IfOk result (λ _. page.new ≡ after page.old (interface_draft (interface_of interface.now))) }
 {
-    print_all!(page: interface_head(interface), indent(), all(&interface.methods), end())
+    print_all!(page: interface_head(interface), ended(&interface.methods))
 }

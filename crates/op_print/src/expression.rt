@@ -9,7 +9,7 @@ ghost use Rattle.op_tree.specs.Lists.{arguments_of, expressions_of, operations_o
 ghost use Rattle.op_tree.specs.Statement.{designator_of, elements_of, selectors_of};
 
 use crate::name::name;
-use crate::printer::{Printer, number, string, tight, word};
+use crate::printer::{Printer, number, string_at, tight, tight_at, word, word_at};
 use op_base::NoMemory;
 use op_tree::{
     Argument, Designator, Element, Expr, Operation, Operator, PrefixOperator, Root, Selector,
@@ -60,23 +60,27 @@ pub fn expression(page: &mut Printer, expr: &Expr) -> Result<(), NoMemory>
         Expr::Chain { first, rest } => print_all!(page: expression(first), operations(rest)),
         Expr::Prefix {
             operator,
+            position,
             operand,
-            ..
-        } => print_all!(page: word(prefix_word(*operator)), expression(operand)),
-        Expr::Number { value, .. } => number(page, *value),
-        Expr::Nil { .. } => word(page, b"nil"),
-        Expr::Set { elements: list, .. } =>
-            print_all!(page: word(b"["), elements(list), tight(b"]")),
+        } => {
+            print_all!(page: word_at(position.switches, prefix_word(*operator)), expression(operand))
+        }
+        Expr::Number { value, position } => number(page, position.switches, *value),
+        Expr::Nil { position } => word_at(page, position.switches, b"nil"),
+        Expr::Set {
+            position,
+            elements: list,
+        } => print_all!(page: word_at(position.switches, b"["), elements(list), tight(b"]")),
         Expr::Literal {
             text,
+            position,
             selectors: list,
-            ..
-        } => print_all!(page: string(text.as_slice()), selectors(list)),
+        } => print_all!(page: string_at(position.switches, text.as_slice()), selectors(list)),
         Expr::Designator(called) => designator(page, called),
         Expr::Inherited {
+            position,
             designator: called,
-            ..
-        } => print_all!(page: word(b"inherited"), designator(called)),
+        } => print_all!(page: word_at(position.switches, b"inherited"), designator(called)),
     }
 }
 
@@ -85,7 +89,7 @@ fn operations(page: &mut Printer, list: &[Operation]) -> Result<(), NoMemory>
     ensures { IfOk result (λ _. page.new ≡ after page.old (operations_draft (operations_of list.now))) }
 {
     for each in list {
-        word(page, operator_word(each.operator))?;
+        word_at(page, each.position.switches, operator_word(each.operator))?;
         expression(page, &each.operand)?;
     }
     Ok(())
@@ -104,9 +108,10 @@ fn root(page: &mut Printer, root: &Root) -> Result<(), NoMemory>
 {
     match root {
         Root::Named(named) => name(page, named),
-        Root::String { .. } => word(page, b"string"),
-        Root::Bracketed { inside, .. } =>
-            print_all!(page: word(b"("), expression(inside), tight(b")")),
+        Root::String { position } => word_at(page, position.switches, b"string"),
+        Root::Bracketed { position, inside } => {
+            print_all!(page: word_at(position.switches, b"("), expression(inside), tight(b")"))
+        }
     }
 }
 
@@ -125,9 +130,12 @@ fn selector(page: &mut Printer, selector: &Selector) -> Result<(), NoMemory>
     ensures { IfOk result (λ _. page.new ≡ after page.old (selector_draft (selector_of selector.now))) }
 {
     match selector {
-        Selector::Member(name) => print_all!(page: tight(b"."), tight(name.text.as_slice())),
-        Selector::Index { indices, .. } =>
-            print_all!(page: tight(b"["), expressions(indices), tight(b"]")),
+        Selector::Member(name) => {
+            print_all!(page: tight(b"."), tight_at(name.position.switches, name.text.as_slice()))
+        }
+        Selector::Index { position, indices } => {
+            print_all!(page: tight_at(position.switches, b"["), expressions(indices), tight(b"]"))
+        }
         Selector::Call { arguments: list } =>
             print_all!(page: tight(b"("), arguments(list), tight(b")")),
     }

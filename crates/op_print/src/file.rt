@@ -2,7 +2,7 @@
 ghost use Rattle.std.specs.Prelude.{◌≡◌, Option, IfOk};
 ghost use Rattle.std.specs.Option.{option_map};
 ghost use Rattle.op_print.specs.DeclarationDrafts.{declarations_draft};
-ghost use Rattle.op_print.specs.Page.{after, optional, ◌&◌};
+ghost use Rattle.op_print.specs.Page.{after, optional, switch, ◌&◌};
 ghost use Rattle.op_print.specs.Print.{file_draft, print_of, program_draft, program_heading_draft, tail_draft, tail_part_draft, unit_draft, uses_draft};
 ghost use Rattle.op_print.specs.Scanned.{PrintsAgain, ScansAsPrinted};
 ghost use Rattle.op_print.specs.Spelling.{spelling};
@@ -14,7 +14,7 @@ ghost use Rattle.op_tree.specs.Statement.{stmts_of};
 use crate::declaration::{begin_end, declarations};
 use crate::list::in_brackets;
 use crate::name::{name, names};
-use crate::printer::{Printer, line, tight, word};
+use crate::printer::{Printer, line, switch, tight, word, word_at};
 use crate::statement::block;
 use op_base::{NoMemory, Text};
 use op_tree::{Declaration, Name, Program, ProgramHeading, Stmt, Tree, Unit};
@@ -43,10 +43,10 @@ fn uses(page: &mut Printer, list: &[Name]) -> Result<(), NoMemory>
 }
 
 fn program(page: &mut Printer, program: &Program) -> Result<(), NoMemory>
-    ensures { IfOk result (λ _. page.new ≡ after page.old (program_draft (program_of program.now))) }
+    ensures { IfOk result (λ _. page.new ≡ after page.old (switch (program_of program.now).position.switches & program_draft (program_of program.now))) }
 {
     print_all!(page:
-        program_heading(&program.heading), uses(program.uses.as_slice()),
+        switch(program.position.switches), program_heading(&program.heading), uses(program.uses.as_slice()),
         declarations(&program.declarations), begin_end(&program.statements))
 }
 
@@ -79,7 +79,7 @@ fn unit(page: &mut Printer, unit: &Unit) -> Result<(), NoMemory>
     ensures { IfOk result (λ _. page.new ≡ after page.old (unit_draft (unit_of unit.now))) }
 {
     print_all!(page:
-        word(b"unit"), name(&unit.name), tight(b";"),
+        word_at(unit.position.switches, b"unit"), name(&unit.name), tight(b";"),
         line(), word(b"interface"), part(unit.interface_uses.as_slice(), &unit.interface_declarations),
         line(), word(b"implementation"), part(unit.uses.as_slice(), &unit.declarations),
         tail(unit))
@@ -94,16 +94,18 @@ fn file(page: &mut Printer, tree: &Tree) -> Result<(), NoMemory>
     }
 }
 
-/// The text of a tree: the words of its tokens, with blanks and line ends between them.
+/// The text of a tree: the words of its tokens, with blanks and line ends between them. A directive stands before a word at
+/// which the tree has other switches.
 ///
 /// Statements and declarations begin lines, and what belongs to them stands further in. `NoMemory` comes where the
 /// allocator has no room.
 #[tactic(auto, unfolding(crate::specs::Print::print_of))]
 pub fn print(alloc: Global, tree: &Tree) -> Result<Text, NoMemory>
     ensures text { IfOk result (λ text. text ≡ print_of (file_of tree.now)) }
-    // Scanning it gives the tokens of its words, where each of them can be a token.
+    // Scanning it gives the tokens of its words, with the switches of the tree, where each of them can be a token.
     ensures scans { IfOk result (λ text. ScansAsPrinted (file_of tree.now) text) }
-    // Where the tree spells the tokens of a text, those of the print are spelled by the same tree but for places.
+    // Where the tree spells the tokens of a text, those of the print are spelled by the same tree with its switches, but for
+    // places.
     ensures again { IfOk result (λ text. PrintsAgain (file_of tree.now) text) }
 {
     let mut page = Printer::new(alloc);

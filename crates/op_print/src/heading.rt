@@ -10,7 +10,7 @@ ghost use Rattle.op_tree.specs.Denoter.{denoter_of};
 use crate::denoter::denoter;
 use crate::list::{Printed, all, in_brackets};
 use crate::name::{names, qualified, qualified_name};
-use crate::printer::{Printer, line, tight, word};
+use crate::printer::{Printer, line, tight, word, word_at};
 use op_base::NoMemory;
 use op_tree::{
     Directive, Heading, Method, Parameter, ParameterMode, ParameterType, RoutineKind, TypeDenoter,
@@ -67,7 +67,7 @@ fn parameter_type(page: &mut Printer, of: &ParameterType) -> Result<(), NoMemory
 {
     match of {
         ParameterType::Named(name) => qualified_name(page, name),
-        ParameterType::String { .. } => word(page, b"string"),
+        ParameterType::String { position } => word_at(page, position.switches, b"string"),
     }
 }
 

@@ -9,7 +9,7 @@ ghost use Rattle.op_tree.specs.Lists.{field_initials_of, initials_of};
 
 use crate::expression::expression;
 use crate::name::name;
-use crate::printer::{Printer, tight, word};
+use crate::printer::{Printer, tight, word_at};
 use op_base::NoMemory;
 use op_tree::{FieldInitializer, Initializer};
 
@@ -19,10 +19,11 @@ pub fn initializer(page: &mut Printer, value: &Initializer) -> Result<(), NoMemo
 {
     match value {
         Initializer::Value(value) => expression(page, value),
-        Initializer::List { items, .. } =>
-            print_all!(page: word(b"("), initializers(items), tight(b")")),
-        Initializer::Record { fields, .. } => {
-            print_all!(page: word(b"("), field_initializers(fields), tight(b")"))
+        Initializer::List { position, items } => {
+            print_all!(page: word_at(position.switches, b"("), initializers(items), tight(b")"))
+        }
+        Initializer::Record { position, fields } => {
+            print_all!(page: word_at(position.switches, b"("), field_initializers(fields), tight(b")"))
         }
     }
 }

@@ -1,11 +1,11 @@
 //! The print of lists.
 ghost use Rattle.std.specs.Prelude.{◌≡◌, List, IfOk, map};
-ghost use Rattle.op_print.specs.Page.{Draft, after, each, enclosed, separated};
+ghost use Rattle.op_print.specs.Page.{Draft, after, each, enclosed, ended, separated};
 ghost use Rattle.op_print.specs.Spelling.{spelling};
 ghost use Rattle.op_scan.specs.declared.token.TokenKind.{TokenKind};
 ghost use Rattle.op_scan.specs.declared.token.TokenKind.TheVariants as kind;
 
-use crate::printer::{Printer, tight};
+use crate::printer::{Printer, end, indent, tight};
 use op_base::NoMemory;
 
 /// What can be printed by itself.
@@ -24,6 +24,13 @@ pub fn all<T: Printed>(page: &mut Printer, list: &[T]) -> Result<(), NoMemory>
         part.print(page)?;
     }
     Ok(())
+}
+
+/// The same further in, up to `end` on a line of its own.
+pub fn ended<T: Printed>(page: &mut Printer, list: &[T]) -> Result<(), NoMemory>
+    ensures { IfOk result (λ _. page.new ≡ after page.old (ended (each (map T.draft list.now)))) }
+{
+    print_all!(page: indent(), all(list), end())
 }
 
 /// With a mark between them.

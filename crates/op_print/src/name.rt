@@ -4,7 +4,7 @@ ghost use Rattle.op_print.specs.NameDrafts.{name_draft, names_draft, qualified_d
 ghost use Rattle.op_print.specs.Page.{after};
 
 use crate::list::{Printed, separated};
-use crate::printer::{Printer, tight, word};
+use crate::printer::{Printer, tight, tight_at, word_at};
 use op_base::NoMemory;
 use op_tree::{Name, QualifiedName};
 
@@ -19,7 +19,7 @@ impl Printed for Name {
 pub fn name(page: &mut Printer, name: &Name) -> Result<(), NoMemory>
     ensures { IfOk result (λ _. page.new ≡ after page.old (name_draft name.now)) }
 {
-    word(page, name.text.as_slice())
+    word_at(page, name.position.switches, name.text.as_slice())
 }
 
 /// Names with commas between them.
@@ -35,7 +35,11 @@ pub fn qualified(page: &mut Printer, unit: &Option<Name>, last: &Name) -> Result
 {
     match unit {
         None => name(page, last),
-        Some(unit) => print_all!(page: name(unit), tight(b"."), tight(last.text.as_slice())),
+        Some(unit) => {
+            print_all!(page:
+                name(unit), tight(b"."),
+                tight_at(last.position.switches, last.text.as_slice()))
+        }
     }
 }
 

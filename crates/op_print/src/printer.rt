@@ -1,6 +1,6 @@
 //! The page that a print is put on: words with blanks and line ends between them.
 ghost use Rattle.std.specs.Prelude.{◌≡◌, true, false, decimal, IfOk};
-ghost use Rattle.op_print.specs.Page.{◌&◌, after, broken, empty_page, first_byte, hugs, indent, last_byte, line, outdent, parted, put, runs_together, wants_gap, word, written};
+ghost use Rattle.op_print.specs.Page.{◌&◌, after, broken, directive_of, empty_page, first_byte, hugs, indent, last_byte, line, outdent, parted, put, runs_together, same_state, same_switches, sign_of, switched_to, wants_gap, word, written};
 ghost use Rattle.op_print.specs.Spelling.{quoted};
 ghost use Rattle.op_scan.specs.Byte.{is_name_byte};
 ghost use Rattle.op_scan.specs.declared.token.TokenKind.TheVariants as kind;
@@ -8,19 +8,21 @@ ghost use Rattle.op_scan.specs.declared.token.TokenKind.TheVariants as kind;
 use crate::string::quoted;
 use itoa::Buffer;
 use op_base::{NoMemory, Text};
+use op_scan::Switches;
 use std::alloc::Global;
 use std::marker::Model;
 
 /// How many bytes may stand on a line before it is broken.
 const LINE_LENGTH: usize = 100;
 
-/// What was printed so far, the blanks with which a line begins, and how many bytes more fit on this one.
+/// What was printed so far, the blanks with which a line begins, how many bytes more fit on this one, and the switches there.
 #[derive(Drop)]
 pub struct Printer {
     alloc: Global,
     text: Vec<u8>,
     margin: Vec<u8>,
     room: usize,
+    switches: Switches,
 }
 
 impl Model for Printer {
@@ -28,7 +30,7 @@ impl Model for Printer {
 
     ghost Value = { Page };
 
-    ghost view = { λ p. record { text = p.text.items; margin = p.margin.items; room = p.room } };
+    ghost view = { λ p. record { text = p.text.items; margin = p.margin.items; room = p.room; switches = p.switches } };
 }
 
 #[tactic(auto, unfolding(op_scan::specs::Byte::is_name_byte))]
@@ -96,6 +98,7 @@ impl Printer {
             text: Vec::new(alloc),
             margin: Vec::new(alloc),
             room: LINE_LENGTH,
+            switches: Switches::OFF,
         }
     }
 
@@ -172,12 +175,80 @@ pub fn tight(page: &mut Printer, bytes: &[u8]) -> Result<(), NoMemory>
     put(page, true, bytes)
 }
 
+fn same_state(one: bool, other: bool) -> bool
+    ensures { result ≡ same_state one other }
+{
+    if one { other } else { !other }
+}
+
+#[tactic(auto, unfolding(crate::specs::Page::same_switches))]
+fn same_switches(one: Switches, other: Switches) -> bool
+    ensures { result ≡ same_switches one other }
+{
+    same_state(one.h, other.h) && same_state(one.q, other.q) && same_state(one.r, other.r)
+}
+
+fn sign_of(on: bool) -> u8
+    ensures { result ≡ sign_of on }
+{
+    if on { b'+' } else { b'-' }
+}
+
+/// The directive with these states.
+fn directive(page: &mut Printer, switches: Switches) -> Result<(), NoMemory>
+    ensures { IfOk result (λ _. page.new ≡ put false (directive_of switches) page.old) }
+{
+    let bytes = [
+        b'{',
+        b'$',
+        b'H',
+        sign_of(switches.h),
+        b',',
+        b'Q',
+        sign_of(switches.q),
+        b',',
+        b'R',
+        sign_of(switches.r),
+        b'}',
+    ];
+    word(page, &bytes)
+}
+
+/// A directive, where other switches hold.
+#[tactic(auto, unfolding(crate::specs::Page::switched_to))]
+pub fn switch(page: &mut Printer, switches: Switches) -> Result<(), NoMemory>
+    ensures { IfOk result (λ _. page.new ≡ switched_to switches page.old) }
+{
+    if same_switches(switches, page.switches) {
+        return Ok(());
+    }
+    directive(page, switches)?;
+    page.switches = switches;
+    Ok(())
+}
+
+/// A word whose token has these switches, with a blank before it.
+pub fn word_at(page: &mut Printer, switches: Switches, bytes: &[u8]) -> Result<(), NoMemory>
+    ensures { IfOk result (λ _. page.new ≡ put false bytes.now (switched_to switches page.old)) }
+{
+    switch(page, switches)?;
+    word(page, bytes)
+}
+
+/// The same, with a blank before it only where it would run into what stands there.
+pub fn tight_at(page: &mut Printer, switches: Switches, bytes: &[u8]) -> Result<(), NoMemory>
+    ensures { IfOk result (λ _. page.new ≡ put true bytes.now (switched_to switches page.old)) }
+{
+    switch(page, switches)?;
+    tight(page, bytes)
+}
+
 /// A number, in decimal.
-pub fn number(page: &mut Printer, value: u32) -> Result<(), NoMemory>
-    ensures { IfOk result (λ _. page.new ≡ put false (decimal value) page.old) }
+pub fn number(page: &mut Printer, switches: Switches, value: u32) -> Result<(), NoMemory>
+    ensures { IfOk result (λ _. page.new ≡ put false (decimal value) (switched_to switches page.old)) }
 {
     let mut buffer = Buffer::new();
-    word(page, buffer.format(value).as_bytes())
+    word_at(page, switches, buffer.format(value).as_bytes())
 }
 
 /// A string with these bytes.
@@ -188,7 +259,16 @@ pub fn string(page: &mut Printer, text: &[u8]) -> Result<(), NoMemory>
     word(page, spelled.as_slice())
 }
 
+/// The same, where its token has these switches.
+pub fn string_at(page: &mut Printer, switches: Switches, text: &[u8]) -> Result<(), NoMemory>
+    ensures { IfOk result (λ _. page.new ≡ put false (quoted text.now) (switched_to switches page.old)) }
+{
+    let spelled = quoted(page.alloc, text)?;
+    word_at(page, switches, spelled.as_slice())
+}
+
 /// From now on lines begin two columns further in.
+#[tactic(auto, unfolding(crate::specs::Page::further_in))]
 pub fn indent(page: &mut Printer) -> Result<(), NoMemory>
     ensures { IfOk result (λ _. page.new ≡ after page.old indent) }
 {
@@ -197,6 +277,7 @@ pub fn indent(page: &mut Printer) -> Result<(), NoMemory>
 }
 
 /// From now on lines begin two columns less far in.
+#[tactic(auto, unfolding(crate::specs::Page::less_far_in))]
 pub fn outdent(page: &mut Printer) -> Result<(), NoMemory>
     ensures { IfOk result (λ _. page.new ≡ after page.old outdent) }
 {

@@ -1,18 +1,19 @@
 //! The print of statements.
 ghost use Rattle.std.specs.Prelude.{◌≡◌, Option, IfOk};
-ghost use Rattle.op_print.specs.ExpressionDrafts.{element_drafts};
+ghost use Rattle.op_print.specs.ExpressionDrafts.{element_drafts, expression_draft};
 ghost use Rattle.op_print.specs.Page.{after, indented, line, optional, separated, tight, word, ◌&◌};
 ghost use Rattle.op_print.specs.Spelling.{spelling};
 ghost use Rattle.op_print.specs.StatementDrafts.{begun, block_draft, branches_draft, direction_kind, handlers_draft, on_draft, statement_draft, statement_drafts, variable_draft};
 ghost use Rattle.op_scan.specs.declared.token.TokenKind.TheVariants as kind;
+ghost use Rattle.op_tree.specs.Expression.{expr_of};
 ghost use Rattle.op_tree.specs.Lists.{branches_of, handlers_of};
 ghost use Rattle.op_tree.specs.Statement.{elements_of, stmt_of, stmts_of};
 
 use crate::expression::{designator, elements, expression};
 use crate::name::{name, qualified_name};
-use crate::printer::{Printer, indent, line, outdent, tight, word};
+use crate::printer::{Printer, indent, line, outdent, tight, word, word_at};
 use op_base::NoMemory;
-use op_tree::{Branch, Direction, Handler, Name, QualifiedName, Stmt};
+use op_tree::{Branch, Direction, Expr, Handler, Name, QualifiedName, Stmt};
 
 fn direction_word(direction: Direction) -> &'static [u8]
     ensures { result.now ≡ spelling (direction_kind direction) }
@@ -38,6 +39,13 @@ fn on(page: &mut Printer, variable: &Option<Name>, class: &QualifiedName) -> Res
 {
     print_all!(page:
         line(), word(b"on"), handler_variable(variable), qualified_name(class), word(b"do"))
+}
+
+/// `case selector of`
+fn case_head(page: &mut Printer, selector: &Expr) -> Result<(), NoMemory>
+    ensures { IfOk result (λ _. page.new ≡ after page.old (word kind.Case & expression_draft (expr_of selector.now) & word kind.Of)) }
+{
+    print_all!(page: word(b"case"), expression(selector), word(b"of"))
 }
 
 /// A statement begins a line where it has a token.
@@ -72,18 +80,14 @@ fn statement(page: &mut Printer, stmt: &Stmt) -> Result<(), NoMemory>
         Stmt::Case {
             selector,
             branches: list,
-        } => {
-            print_all!(page:
-                word(b"case"), expression(selector), word(b"of"), branches(list), word(b"end"))
-        }
+        } => print_all!(page: case_head(selector), branches(list), word(b"end")),
         Stmt::CaseElse {
             selector,
             branches: list,
             otherwise,
         } => {
             print_all!(page:
-                word(b"case"), expression(selector), word(b"of"), branches(list), word(b"else"),
-                block_end(otherwise))
+                case_head(selector), branches(list), word(b"else"), block_end(otherwise))
         }
         Stmt::While { condition, body } => {
             print_all!(page: word(b"while"), expression(condition), word(b"do"), statement(body))
@@ -128,13 +132,22 @@ fn statement(page: &mut Printer, stmt: &Stmt) -> Result<(), NoMemory>
         } => {
             print_all!(page: guarded(body), handlers(list), word(b"else"), block_end(otherwise))
         }
-        Stmt::Raise { exception, .. } => print_all!(page: word(b"raise"), expression(exception)),
-        Stmt::Reraise { .. } => word(page, b"raise"),
-        Stmt::Inherited { .. } => word(page, b"inherited"),
-        Stmt::InheritedCall { call, .. } => print_all!(page: word(b"inherited"), designator(call)),
+        Stmt::Raise {
+            position,
+            exception,
+        } => print_all!(page: word_at(position.switches, b"raise"), expression(exception)),
+        Stmt::Reraise { position } => word_at(page, position.switches, b"raise"),
+        Stmt::Inherited { position } => word_at(page, position.switches, b"inherited"),
+        Stmt::InheritedCall { position, call } => {
+            print_all!(page: word_at(position.switches, b"inherited"), designator(call))
+        }
         Stmt::Call(call) => designator(page, call),
-        Stmt::Assign { target, value, .. } => {
-            print_all!(page: designator(target), word(b":="), expression(value))
+        Stmt::Assign {
+            target,
+            position,
+            value,
+        } => {
+            print_all!(page: designator(target), word_at(position.switches, b":="), expression(value))
         }
     }
 }

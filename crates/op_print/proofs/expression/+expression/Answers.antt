@@ -18,10 +18,10 @@ pub expression-returns-in-Designator : goal.expression-returns-in-Designator
 expression-returns-in-Designator t c = grind (arith, said expression_draft expr_of c.in-Designator.is (designated_says c.in-Designator.called))
 
 pub expression-returns-in_ok-designator-in-Inherited : goal.expression-returns-in_ok-designator-in-Inherited
-expression-returns-in_ok-designator-in-Inherited t c = simp (c.in_ok-designator-in-Inherited.ensures, c.in_ok-word-in-Inherited.ensures, c.deref-in-Inherited.ensures, said expression_draft expr_of c.in-Inherited.is (inherited_says c.in-Inherited.position c.in-Inherited.called)) refl
+expression-returns-in_ok-designator-in-Inherited t c = simp (c.in_ok-designator-in-Inherited.ensures, c.in_ok-word_at-in-Inherited.ensures, c.deref-in-Inherited.ensures, said expression_draft expr_of c.in-Inherited.is (inherited_says c.in-Inherited.position c.in-Inherited.called)) refl
 
-pub selector-returns-in_ok-tight-in-Index-2 : goal.selector-returns-in_ok-tight-in-Index-2
-selector-returns-in_ok-tight-in-Index-2 t c = grind (arith, said selector_draft selector_of c.in-Index.is (index_says c.in-Index.position c.in-Index.indices))
+pub selector-returns-in_ok-tight-in-Index : goal.selector-returns-in_ok-tight-in-Index
+selector-returns-in_ok-tight-in-Index t c = grind (arith, said selector_draft selector_of c.in-Index.is (index_says c.in-Index.position c.in-Index.indices))
 
 pub selector-returns-in_ok-tight-in-Call-2 : goal.selector-returns-in_ok-tight-in-Call-2
 selector-returns-in_ok-tight-in-Call-2 t c = grind (arith, said selector_draft selector_of c.in-Call.is (call_says c.in-Call.list))

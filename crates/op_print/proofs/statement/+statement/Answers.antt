@@ -8,8 +8,8 @@ use Rattle.op_print.proofs.statement.+statement.Goals as goal
 pub statement-returns-in_ok-block_end-in-Block : goal.statement-returns-in_ok-block_end-in-Block
 statement-returns-in_ok-block_end-in-Block t c = grind (arith, said statement_draft stmt_of c.in-Block.is (block_says c.in-Block.list))
 
-pub statement-returns-in_ok-word-in-Case-3 : goal.statement-returns-in_ok-word-in-Case-3
-statement-returns-in_ok-word-in-Case-3 t c = grind (arith, said statement_draft stmt_of c.in-Case.is (case_of_says c.in-Case.selector c.in-Case.list))
+pub statement-returns-in_ok-word-in-Case : goal.statement-returns-in_ok-word-in-Case
+statement-returns-in_ok-word-in-Case t c = grind (arith, said statement_draft stmt_of c.in-Case.is (case_of_says c.in-Case.selector c.in-Case.list))
 
 pub statement-returns-in_ok-block_end-in-CaseElse : goal.statement-returns-in_ok-block_end-in-CaseElse
 statement-returns-in_ok-block_end-in-CaseElse t c = grind (arith, said statement_draft stmt_of c.in-CaseElse.is (case_else_says c.in-CaseElse.selector c.in-CaseElse.list c.in-CaseElse.otherwise))
