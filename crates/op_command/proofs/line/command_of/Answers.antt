@@ -1,8 +1,8 @@
 use Rattle.std.proofs.Common.{map, string_bytes, sym, ◌∙◌}
-use Rattle.op_tool.proofs.Parsing.{at_most_one}
-use Rattle.op_tool.proofs.Reading.{is_no_command, is_some_command}
-use Rattle.op_tool.proofs.Telling.{answer_in_range, matches_ask, refused_is_none}
-use Rattle.op_tool.proofs.line.command_of.Goals as goal
+use Rattle.op_command.proofs.Parsing.{at_most_one}
+use Rattle.op_command.proofs.Reading.{is_no_command, is_some_command}
+use Rattle.op_command.proofs.Telling.{answer_in_range, matches_ask, refused_is_none}
+use Rattle.op_command.proofs.line.command_of.Goals as goal
 
 pub returns-then-not-is_command-clause-is : goal.returns-then-not-is_command-clause-is
 returns-then-not-is_command-clause-is c = is_no_command (map string_bytes c.args.words.now) (sym c.is_command.ensures ∙ c.if-not-is_command.true)

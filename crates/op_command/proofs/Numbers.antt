@@ -4,8 +4,8 @@ use Rattle.std.proofs.lemmas.Bool.Decides.{nat_tests}
 use Rattle.std.specs.Char.{digit_value}
 use Rattle.std.specs.List.{starts_with}
 use Rattle.std.specs.Str.Parse.{AllDigits, IsNumeral, digits_value, without_leading_plus}
-use Rattle.op_tool.specs.Command.{IsNumber, Range}
-use Rattle.op_tool.specs.Reading.{are_digits, is_in, number_in}
+use Rattle.op_command.specs.Command.{IsNumber, Range}
+use Rattle.op_command.specs.Reading.{are_digits, is_in, number_in}
 
 -- ---- tests
 

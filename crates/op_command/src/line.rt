@@ -7,9 +7,9 @@ ghost use Rattle.clap.specs.Values.{kind_of};
 ghost use Rattle.clap.specs.Walk.{rows_of, rule_of};
 ghost use Rattle.clap.specs.declared.error.kind.ErrorKind.TheVariants.{OutOfMemory};
 ghost use Rattle.op_link.specs.Memory.{are_in_range};
-ghost use Rattle.op_tool.specs.Command.{IsAtMostOneCommand, IsCommand, IsNoCommand, IsSomeCommand};
-ghost use Rattle.op_tool.specs.Line.{IsTold, and_command, asked_by_matches, asked_in_matches, file_rule, line, named, no_commands, option_rule, told_of, with_sizes, with_steps};
-ghost use Rattle.op_tool.specs.Reading.{asked_of};
+ghost use Rattle.op_command.specs.Command.{IsAtMostOneCommand, IsCommand, IsNoCommand, IsSomeCommand};
+ghost use Rattle.op_command.specs.Line.{IsTold, and_command, asked_by_matches, asked_in_matches, file_rule, line, named, no_commands, option_rule, told_of, with_sizes, with_steps};
+ghost use Rattle.op_command.specs.Reading.{asked_of};
 
 use crate::command::{
     Command, DEFAULT_STEPS, MOST_STEPS, Verb, is_command, kibibytes_or, number_or, verb_of,
@@ -136,7 +136,7 @@ fn command_in<'a>(matches: &ArgMatches<'a>) -> Option<Command<'a>>
 
 /// The command that the words ask for, if they do. `clap` reads them. It takes more lines than the grammar of the command line has, so that is
 /// tested too, and it wants memory, for want of which a command may fail.
-pub(crate) fn command_of(alloc: Global, words: &[String]) -> Result<Option<Command<'_>>, NoMemory>
+pub fn command_of(alloc: Global, words: &[String]) -> Result<Option<Command<'_>>, NoMemory>
     ensures is { MatchResult result (λ found. MatchOption found (IsNoCommand (map string_bytes words.now)) (λ command. IsCommand (map string_bytes words.now) (asked_of command))) (λ _. IsSomeCommand (map string_bytes words.now)) }
     ensures settings { IfOk result (λ found. IfSome found (λ command. IsTrue (are_in_range command.settings))) }
     ensures one { IsAtMostOneCommand (map string_bytes words.now) }

@@ -17,12 +17,12 @@ use Rattle.clap.specs.declared.parser.matches.ValueSource.TheVariants.{CommandLi
 use Rattle.clap.proofs.OnLiterals.{clap_on_literals}
 use Rattle.clap.proofs.SimpleLemmas.{is_nil}
 use Rattle.clap.proofs.WalkLemmas.{walk_stopped}
-use Rattle.op_tool.proofs.Numbers.{alone, both, both_are, not_true, number_found, turned}
-use Rattle.op_tool.proofs.Reading.{is_named, word_of_verb}
-use Rattle.op_tool.specs.Command.{Asked, IsAtMostOneCommand, IsCommand, IsGiven, IsNumber, Piece, Range, heap_of, heap_range, is_name, is_operand, makes_image, operands_of, runs_image, stack_of, stack_range, step_range, steps_of, the_heap, the_operand, the_stack, the_steps, word_of, words_of}
-use Rattle.op_tool.specs.Line.{asked_by_matches, asked_in_matches, asked_with, line, number_or}
-use Rattle.op_tool.specs.declared.command.Verb.{Verb}
-use Rattle.op_tool.specs.declared.command.Verb.TheVariants as verb
+use Rattle.op_command.proofs.Numbers.{alone, both, both_are, not_true, number_found, turned}
+use Rattle.op_command.proofs.Reading.{is_named, word_of_verb}
+use Rattle.op_command.specs.Command.{Asked, IsAtMostOneCommand, IsCommand, IsGiven, IsNumber, Piece, Range, heap_of, heap_range, is_name, is_operand, makes_image, operands_of, runs_image, stack_of, stack_range, step_range, steps_of, the_heap, the_operand, the_stack, the_steps, word_of, words_of}
+use Rattle.op_command.specs.Line.{asked_by_matches, asked_in_matches, asked_with, line, number_or}
+use Rattle.op_command.specs.declared.command.Verb.{Verb}
+use Rattle.op_command.specs.declared.command.Verb.TheVariants as verb
 
 -- ---- what building makes of the line
 

@@ -4,8 +4,8 @@ use Rattle.std.specs.Prelude.{◌≡◌, ℕ, ◌≤◌, Bool, true, false, ◌&
 use Rattle.std.specs.List.{ends_with, flat_map, starts_with}
 use Rattle.std.specs.Str.Parse.{IsNumeral, digits_value}
 use Rattle.op_link.specs.declared.memory_map.Settings.{Settings}
-use Rattle.op_tool.specs.declared.command.Verb.{Verb}
-use Rattle.op_tool.specs.declared.command.Verb.TheVariants as verb
+use Rattle.op_command.specs.declared.command.Verb.{Verb}
+use Rattle.op_command.specs.declared.command.Verb.TheVariants as verb
 
 -- ---- commands
 

@@ -1,7 +1,7 @@
 use Rattle.std.proofs.Common.{codes, subst, sym}
 use Rattle.std.proofs.lemmas.Result.{IfOk-weaker}
-use Rattle.op_tool.specs.Line.{IsTold, named, told_of, with_steps}
-use Rattle.op_tool.proofs.line.command_told.Goals as goal
+use Rattle.op_command.specs.Line.{IsTold, named, told_of, with_steps}
+use Rattle.op_command.proofs.line.command_told.Goals as goal
 
 pub returns-in_ok-with_steps-in-Exec : goal.returns-in_ok-with_steps-in-Exec
 returns-in_ok-with_steps-in-Exec c =

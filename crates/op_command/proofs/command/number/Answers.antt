@@ -1,7 +1,7 @@
 use Rattle.std.proofs.Common.{◌≡◌, ◌≤◌, ◌<◌, ◌^◌, arith, codes, false, length, nat_eq, subst, sym, ◌∙◌}
 use Rattle.std.specs.List.{starts_with}
-use Rattle.op_tool.proofs.Numbers.{no_plus, not_parsed, number_parsed}
-use Rattle.op_tool.proofs.command.number.Goals as goal
+use Rattle.op_command.proofs.Numbers.{no_plus, not_parsed, number_parsed}
+use Rattle.op_command.proofs.command.number.Goals as goal
 
 pub returns-in-Ok-clause-is : goal.returns-in-Ok-clause-is
 returns-in-Ok-clause-is c default =

@@ -1,10 +1,10 @@
 use Rattle.std.proofs.Common.{Some, None, ap, option_map, refl, ◌∙◌, codes}
 use Rattle.clap.specs.Matches.{found_of}
 use Rattle.clap.specs.Walk.{rows_of}
-use Rattle.op_tool.proofs.Telling.{asks_with, number_found, text_found}
-use Rattle.op_tool.specs.Command.{heap_range, stack_range, step_range}
-use Rattle.op_tool.specs.Reading.{asked_of}
-use Rattle.op_tool.proofs.line.command_by.Goals as goal
+use Rattle.op_command.proofs.Telling.{asks_with, number_found, text_found}
+use Rattle.op_command.specs.Command.{heap_range, stack_range, step_range}
+use Rattle.op_command.specs.Reading.{asked_of}
+use Rattle.op_command.proofs.line.command_by.Goals as goal
 
 pub returns-in_err-operand : goal.returns-in_err-operand
 returns-in_err-operand c =

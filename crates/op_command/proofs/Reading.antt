@@ -5,12 +5,12 @@ use Rattle.std.proofs.lemmas.Slice.Eq.{bytes_eq-Decides}
 use Rattle.std.specs.List.{flat_map}
 use Rattle.std.specs.Option.{option_map_or}
 use Rattle.op_link.specs.Memory.{are_in_range}
-use Rattle.op_tool.proofs.Numbers.{both, both_are, if_some, if_true, not_true, number_found, number_read}
-use Rattle.op_tool.specs.Command.{Asked, IsCommand, IsGiven, IsNoCommand, IsSomeCommand, Piece, Range, heap_of, heap_range, is_name, is_operand, operands_of, stack_of, stack_range, step_range, steps_of, makes_image, runs_image, the_heap, the_operand, the_stack, the_steps, word_of, words_of}
-use Rattle.op_tool.specs.Reading.{completes, is_command, is_given, nothing, number_in, verb_of, with_heap, with_option, with_stack, with_steps}
-use Rattle.op_tool.specs.declared.command.Met.{Met}
-use Rattle.op_tool.specs.declared.command.Verb.{Verb}
-use Rattle.op_tool.specs.declared.command.Verb.TheVariants as verb
+use Rattle.op_command.proofs.Numbers.{both, both_are, if_some, if_true, not_true, number_found, number_read}
+use Rattle.op_command.specs.Command.{Asked, IsCommand, IsGiven, IsNoCommand, IsSomeCommand, Piece, Range, heap_of, heap_range, is_name, is_operand, operands_of, stack_of, stack_range, step_range, steps_of, makes_image, runs_image, the_heap, the_operand, the_stack, the_steps, word_of, words_of}
+use Rattle.op_command.specs.Reading.{completes, is_command, is_given, nothing, number_in, verb_of, with_heap, with_option, with_stack, with_steps}
+use Rattle.op_command.specs.declared.command.Met.{Met}
+use Rattle.op_command.specs.declared.command.Verb.{Verb}
+use Rattle.op_command.specs.declared.command.Verb.TheVariants as verb
 
 -- ---- parts of one kind
 

@@ -1,15 +1,15 @@
 //! The commands, and the tests of the grammar of the command line.
 ghost use Rattle.std.specs.Prelude.{◌≡◌, ℕ, None, map, string_bytes, IfSome, ◌≤◌};
 ghost use Rattle.std.specs.Option.{option_map};
-ghost use Rattle.op_tool.specs.Command.{Range, is_name, is_operand, is_source_name, makes_image, runs_image};
-ghost use Rattle.op_tool.specs.Line.{number_or};
-ghost use Rattle.op_tool.specs.Reading.{completes, is_command, number_in, verb_of, with_heap, with_option, with_stack, with_steps};
+ghost use Rattle.op_command.specs.Command.{Range, is_name, is_operand, is_source_name, makes_image, runs_image};
+ghost use Rattle.op_command.specs.Line.{number_or};
+ghost use Rattle.op_command.specs.Reading.{completes, is_command, number_in, verb_of, with_heap, with_option, with_stack, with_steps};
 
 use op_link::Settings;
 
 /// What is done with the operand.
 #[derive(Clone, Copy)]
-pub(crate) enum Verb {
+pub enum Verb {
     /// Compiles the program in the file and runs it.
     Exec,
     /// Compiles the program in the file and writes its image.
@@ -24,14 +24,14 @@ pub(crate) enum Verb {
 
 /// What a line asks for.
 #[derive(Clone, Copy)]
-pub(crate) struct Command<'a> {
-    pub(crate) verb: Verb,
+pub struct Command<'a> {
+    pub verb: Verb,
     /// The name of a file.
-    pub(crate) operand: &'a str,
+    pub operand: &'a str,
     /// What the program gets to run.
-    pub(crate) settings: Settings,
+    pub settings: Settings,
     /// How many steps its image may do.
-    pub(crate) steps: u64,
+    pub steps: u64,
 }
 
 /// The steps that an image may do where no number of them is given.

@@ -5,10 +5,10 @@ use Rattle.clap.specs.Simple.{new_shape}
 use Rattle.clap.specs.Words.{App, Row, Rule, app_of, first_of, new_app, new_rule, with_rule, with_subcommand}
 use Rattle.clap.specs.declared.builder.command.Command.{Command}
 use Rattle.clap.specs.declared.builder.command.Command.TheViews.{out-Command}
-use Rattle.op_tool.specs.Command.{Asked, Range, heap_range, stack_range, step_range, word_of}
-use Rattle.op_tool.specs.Reading.{number_in, verb_of}
-use Rattle.op_tool.specs.declared.command.Verb.{Verb}
-use Rattle.op_tool.specs.declared.command.Verb.TheVariants as verb
+use Rattle.op_command.specs.Command.{Asked, Range, heap_range, stack_range, step_range, word_of}
+use Rattle.op_command.specs.Reading.{number_in, verb_of}
+use Rattle.op_command.specs.declared.command.Verb.{Verb}
+use Rattle.op_command.specs.declared.command.Verb.TheVariants as verb
 
 -- ---- what is told
 

@@ -11,13 +11,13 @@ use Rattle.clap.specs.declared.parser.matches.ArgMatches.{ArgMatches}
 use Rattle.clap.specs.declared.parser.matches.Found.{Found}
 use Rattle.clap.proofs.WalkLemmas.{first_value-rows}
 use Rattle.op_link.specs.Memory.{are_in_range}
-use Rattle.op_tool.proofs.Parsing.{is_simple_line, line_is_matched, line_is_taken}
-use Rattle.op_tool.proofs.Reading.{is_some_command, settings_in_range}
-use Rattle.op_tool.specs.Command.{Asked, IsCommand, IsNoCommand, Range, heap_range, stack_range, step_range}
-use Rattle.op_tool.specs.Line.{asked_by_matches, asked_in_matches, asked_with, line, number_or}
-use Rattle.op_tool.specs.Reading.{asked_of, is_command}
-use Rattle.op_tool.specs.declared.command.Command.{Command}
-use Rattle.op_tool.specs.declared.command.Verb.{Verb}
+use Rattle.op_command.proofs.Parsing.{is_simple_line, line_is_matched, line_is_taken}
+use Rattle.op_command.proofs.Reading.{is_some_command, settings_in_range}
+use Rattle.op_command.specs.Command.{Asked, IsCommand, IsNoCommand, Range, heap_range, stack_range, step_range}
+use Rattle.op_command.specs.Line.{asked_by_matches, asked_in_matches, asked_with, line, number_or}
+use Rattle.op_command.specs.Reading.{asked_of, is_command}
+use Rattle.op_command.specs.declared.command.Command.{Command}
+use Rattle.op_command.specs.declared.command.Verb.{Verb}
 
 -- ---- the getters
 

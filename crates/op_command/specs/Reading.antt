@@ -4,11 +4,11 @@ use Rattle.std.specs.Char.{digit_value}
 use Rattle.std.specs.List.{list_all}
 use Rattle.std.specs.Option.{option_map_or}
 use Rattle.std.specs.Str.Parse.{digits_value}
-use Rattle.op_tool.specs.Command.{Asked, Range, heap_range, is_name, is_operand, stack_range, step_range, makes_image, runs_image, word_of}
-use Rattle.op_tool.specs.declared.command.Verb.{Verb}
-use Rattle.op_tool.specs.declared.command.Verb.TheVariants as verb
-use Rattle.op_tool.specs.declared.command.Command.{Command}
-use Rattle.op_tool.specs.declared.command.Met.{Met}
+use Rattle.op_command.specs.Command.{Asked, Range, heap_range, is_name, is_operand, stack_range, step_range, makes_image, runs_image, word_of}
+use Rattle.op_command.specs.declared.command.Verb.{Verb}
+use Rattle.op_command.specs.declared.command.Verb.TheVariants as verb
+use Rattle.op_command.specs.declared.command.Command.{Command}
+use Rattle.op_command.specs.declared.command.Met.{Met}
 
 -- ---- numbers
 
