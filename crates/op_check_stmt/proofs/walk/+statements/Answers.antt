@@ -60,6 +60,64 @@ statement-returns-in_ok-statements-in-Block t c =
     (one block (statements here (stmts_of c.in-Block.list.items)) c.args.sink.now c.statements.new.sink (statements_in c.in_ok-statements-in-Block.field-0) (option_map typed_statement c.block.result)
     (subst (λ ss. Reports (statements here (stmts_of ss)) c.args.sink.now c.statements.new.sink (statements_in c.in_ok-statements-in-Block.field-0)) c.deref.ensures.value c.in_ok-statements-in-Block.ensures) c.block.ensures)
 
+pub statement-returns-in_ok-parts-in-If : goal.statement-returns-in_ok-parts-in-If
+statement-returns-in_ok-parts-in-If t c =
+    let here = here_of c.args.here.scope in
+    let e = condition here (expr_of c.in-If.condition) in
+    let body = statement here (stmt_of c.in-If.then.value) in
+    let old = c.args.sink.now in
+    let mid = c.check_condition.new.sink in
+    let new = c.statement.new.sink in
+    subst (λ s. IfOk c.if_then.result (λ r. Reports (statement here s) old new (option_map typed_statement r))) (sym (ap stmt_of c.in-If.is))
+    (node_ok (both_views typed_of typed_statement) typed_statement if_then e body old new c.in_ok-parts-in-If.parts c.if_then.result
+    (joins typed_of typed_statement e body old mid new c.in_ok-condition-in-If.condition c.statement.result c.in_ok-parts-in-If.parts c.in_ok-condition-in-If.ensures
+    (subst (λ s. IfOk c.statement.result (λ y. Reports (statement here (stmt_of s)) mid new (option_map typed_statement y))) c.deref-in-If.ensures c.statement.ensures)
+    (sym c.joined.ensures ∙ c.in_ok-parts-in-If.was))
+    c.if_then.ensures)
+
+pub statement-returns-in_ok-parts-in-IfElse : goal.statement-returns-in_ok-parts-in-IfElse
+statement-returns-in_ok-parts-in-IfElse t c =
+    let here = here_of c.args.here.scope in
+    let e = condition here (expr_of c.in-IfElse.condition) in
+    let then = statement here (stmt_of c.in-IfElse.then.value) in
+    let otherwise = statement here (stmt_of c.in-IfElse.otherwise.value) in
+    let old = c.args.sink.now in
+    let mid = c.check_condition-in-IfElse.new.sink in
+    let far = c.statement-in-IfElse.new.sink in
+    let new = c.statement-in-IfElse-2.new.sink in
+    subst (λ s. IfOk c.if_else.result (λ r. Reports (statement here s) old new (option_map typed_statement r))) (sym (ap stmt_of c.in-IfElse.is))
+    (node_ok (both_views (both_views typed_of typed_statement) typed_statement) typed_statement (λ (p : Expression × Statement) (s : Statement). if_else p.0 p.1 s) (paired e then) otherwise old new c.in_ok-parts-in-IfElse.parts c.if_else.result
+    (joins (both_views typed_of typed_statement) typed_statement (paired e then) otherwise old far new c.in_ok-front-in-IfElse.front c.statement-in-IfElse-2.result c.in_ok-parts-in-IfElse.parts
+    (joins typed_of typed_statement e then old mid far c.in_ok-condition-in-IfElse.condition c.statement-in-IfElse.result c.in_ok-front-in-IfElse.front c.in_ok-condition-in-IfElse.ensures
+    (subst (λ s. IfOk c.statement-in-IfElse.result (λ y. Reports (statement here (stmt_of s)) mid far (option_map typed_statement y))) c.deref-in-IfElse.ensures c.statement-in-IfElse.ensures)
+    (sym c.joined-in-IfElse.ensures ∙ c.in_ok-front-in-IfElse.was))
+    (subst (λ s. IfOk c.statement-in-IfElse-2.result (λ y. Reports (statement here (stmt_of s)) far new (option_map typed_statement y))) c.deref-in-IfElse-2.ensures c.statement-in-IfElse-2.ensures)
+    (sym c.joined-in-IfElse-2.ensures ∙ c.in_ok-parts-in-IfElse.was))
+    c.if_else.ensures)
+
+pub statement-returns-in_ok-parts-in-While : goal.statement-returns-in_ok-parts-in-While
+statement-returns-in_ok-parts-in-While t c =
+    let here = here_of c.args.here.scope in
+    let inner = moved here (here.around ++ Loop None ∷ []) in
+    let e = condition here (expr_of c.in-While.condition) in
+    let body = statement inner (stmt_of c.in-While.body.value) in
+    let old = c.args.sink.now in
+    let mid = c.check_condition-in-While.new.sink in
+    let new = c.statement-in-While.new.sink in
+    subst (λ s. IfOk c.while_do.result (λ r. Reports (statement here s) old new (option_map typed_statement r))) (sym (ap stmt_of c.in-While.is))
+    (node_ok (both_views typed_of typed_statement) typed_statement while_do e body old new c.in_ok-parts-in-While.parts c.while_do.result
+    (joins typed_of typed_statement e body old mid new c.in_ok-condition-in-While.condition c.statement-in-While.result c.in_ok-parts-in-While.parts c.in_ok-condition-in-While.ensures
+    (subst (λ h. IfOk c.statement-in-While.result (λ y. Reports (statement h (stmt_of c.in-While.body.value)) mid new (option_map typed_statement y)))
+    (c.inside.ensures ∙ ap (moved here) (c.as_slice.ensures.value ∙ c.in_ok-around-in-While.ensures))
+    (subst (λ s. IfOk c.statement-in-While.result (λ y. Reports (statement (here_of c.inside.result.scope) (stmt_of s)) mid new (option_map typed_statement y))) c.deref-in-While.ensures c.statement-in-While.ensures))
+    (sym c.joined-in-While.ensures ∙ c.in_ok-parts-in-While.was))
+    c.while_do.ensures)
+
+pub statement-returns-in-Assign : goal.statement-returns-in-Assign
+statement-returns-in-Assign t c =
+    subst (λ s. IfOk c.assignment.result (λ r. Reports (statement (here_of c.args.here.scope) s) c.args.sink.now c.assignment.new.sink (option_map typed_statement r))) (sym (ap stmt_of c.in-Assign.is))
+    (subst (λ e. IfOk c.assignment.result (λ r. Reports (assign_means (here_of c.args.here.scope) (designator_of c.in-Assign.target) c.in-Assign.position (expr_of e)) c.args.sink.now c.assignment.new.sink (option_map typed_statement r))) c.deref-in-Assign.ensures c.assignment.ensures)
+
 pub statement-returns-in_ok-head-in-Case : goal.statement-returns-in_ok-head-in-Case
 statement-returns-in_ok-head-in-Case t c =
     let here = here_of c.args.here.scope in
