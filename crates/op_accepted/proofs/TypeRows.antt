@@ -6,16 +6,17 @@ use Rattle.std.specs.Option.{option_or}
 use Rattle.std.specs.Str.{bytes_eq}
 use Rattle.op_accepted.proofs.Grown.{same_type, type_on}
 use Rattle.op_accepted.proofs.StateParts.{Nothing, keeps_gives, keeps_here, keeps_where}
-use Rattle.op_accepted.proofs.Parts.{any_of, fits_after, fits_entry, fits_feature, fits_fine, fits_if, fits_silent, fits_test, fits_with}
+use Rattle.op_accepted.proofs.Parts.{any_of, both_are, fits_after, fits_entry, fits_feature, fits_fine, fits_if, fits_silent, fits_test, fits_with}
 use Rattle.op_accepted.proofs.Rows.{behind_front, named_fit, wide, wide_fit, wide_later}
 use Rattle.op_accepted.proofs.Solid.{boolean_solid, char_solid, integer_solid}
 use Rattle.op_accepted.specs.Fit.{IfAny, IfTyped, IsFitMeaning, IsFitTables, IsFitType, typed}
 use Rattle.op_accepted.specs.State.{AreFitNames, AreTreesFit, IsFitState, Keeps}
 use Rattle.op_base.specs.declared.place.Place.{Place}
 use Rattle.op_check_expr.specs.Naming.{feature_of_type}
-use Rattle.op_check_unit.specs.Naming.{declared, entered_name, has_room, is_declared, is_name, own_type, qualified, told_by, type_meant, type_named, type_of_unit, with_name}
+use Rattle.op_check_unit.specs.Naming.{has_room, is_declared, is_name, qualified, told_by, with_name}
+use Rattle.op_check_unit.specs.Readings.{bounds, constant_part, declared, entered_name, lower_of, own_type, row, sized_row, subrange_of, type_meant, type_named, type_of_unit}
 use Rattle.op_check_unit.specs.Steps.{Here, gives}
-use Rattle.op_check_unit.specs.Types.{bounds, constant_part, has_few_elements, in_core, is_kind, is_small, lower_of, most_bytes, number_of_next, row, sized_row, subrange_of, whole_type}
+use Rattle.op_check_unit.specs.Types.{has_few_elements, in_core, is_kind, is_small, most_bytes, number_of_next, pair, whole_type}
 use Rattle.op_core.proofs.Growing.{each_stands}
 use Rattle.op_core.specs.Faults.{Checked}
 use Rattle.op_core.specs.Sizes.{extent_of, range_of, type_at, values_of}
@@ -201,4 +202,6 @@ typed_any (typed h) = h
 
 pub subrange_fits : {core : Core} → IsFitTables core → (names : List Named) (first last : Expression) → IfTyped (IsFitRow core) (subrange_of core names first last)
 subrange_fits {core} t names first last =
-    fits_after (fits_with (typed_any (lower_fits t names first)) (λ low h. fits_with (present (constant_part core names last).typed) (λ c _. bounds_fits core (start_of first) (start_of last) low c h)))
+    fits_after
+    (fits_with (both_are {C = (OrdinalKind × ℤ) × Constant} {R = λ both. IsSolidType core (whole_type both.0.0)} pair (typed_any (lower_fits t names first)) (present (constant_part core names last).typed) (λ low c h _. h))
+    (λ both h. bounds_fits core (start_of first) (start_of last) both.0 both.1 h))

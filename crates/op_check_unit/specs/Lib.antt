@@ -1,6 +1,8 @@
 pub mod Bodies
 pub mod FirstValues
 pub mod Steps
+pub mod Constants
+pub mod Below
 pub mod Naming
 pub mod Types
 pub mod Records
@@ -14,16 +16,8 @@ pub mod System
 pub mod Tables
 pub mod Interfaces
 pub mod Programs
+pub mod Readings
 pub mod Outlines
 pub mod Checking
-pub mod RulesSteps
-pub mod RulesNames
-pub mod RulesTypes
-pub mod RulesRecords
-pub mod RulesDenoting
-pub mod RulesInitials
-pub mod RulesDeclaring
-pub mod RulesHeadings
-pub mod RulesRoutines
 pub mod Rules
 pub mod Complete

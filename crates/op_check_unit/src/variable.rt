@@ -11,6 +11,7 @@ use crate::Declarer;
 use crate::first_value::Begun;
 use op_base::{NoMemory, Place};
 use op_core::{Initial, Role, TypeId, Variable, VariableId};
+use op_judgement::rules;
 use op_scan::CompactText;
 use op_tree::{Initializer, Name, Variables};
 use op_types::{Meaning, size_of};
@@ -184,7 +185,7 @@ impl Declarer {
         ensures { Declares (globals_fit place (here_of self.old)) self.old self.new }
     {
         if self.routine.is_none() && self.bytes > MOST_GLOBAL_BYTES {
-            self.refuse(72, place);
+            self.refuse(rules::GLOBALS_TOO_LARGE, place);
         }
     }
 }
