@@ -1,5 +1,5 @@
 -- Where every name stands for what is there, each statement is a sound one or breaks a rule.
-use Rattle.std.proofs.Common.{◌≡◌, ℕ, zero, suc, ◌<◌, ℤ, ◌≤ℤ◌, not, Bool, true, false, is_some, List, [], ◌∷◌, ◌++◌, slice_get, IsTrue, Option, Some, None, refl, sym, ap, subst, ◌∙◌, arith}
+use Rattle.std.proofs.Common.{◌≡◌, ℕ, zero, suc, ℤ, ◌≤ℤ◌, not, Bool, true, false, is_some, List, [], ◌∷◌, ◌++◌, slice_get, IsTrue, Option, Some, None, refl, sym, ap, subst, ◌∙◌, arith}
 use Rattle.std.proofs.lemmas.Bool.{false≢true, not-true, or_parts, true≢false}
 use Rattle.std.proofs.lemmas.Int.{ints}
 use Rattle.std.proofs.lemmas.List.Elements.{All-cons, All-nil}
@@ -41,7 +41,7 @@ use Rattle.op_core.specs.Members.{Kind}
 use Rattle.op_core.specs.Relations.{Filled, Whole, filled, typed, faulty}
 use Rattle.op_core.specs.Sizes.{range_of, type_at}
 use Rattle.op_core.specs.Sound.{IsFounded, Row, is_whole}
-use Rattle.op_core.specs.Statement.{plain, padded, write, count, Statement, block, if_then, if_else, while_do, repeat_until, try_finally, assign, call as call_statement, exit, exit_with, halt, built_in, Branches, no_branches, Statements, no_statements, statements as core_statements}
+use Rattle.op_core.specs.Statement.{plain, padded, write, count, Statement, block, if_then, if_else, while_do, repeat_until, try_finally, assign, call as call_statement, exit_with, halt, built_in, Branches, Statements, statements as core_statements}
 use Rattle.op_core.specs.StatementTyping as place
 use Rattle.op_core.specs.StatementTyping.{AreBranches, AreStatements, Bounds, Has, IsElementOf, IsItem, IsLabel, IsStatement, IsTarget, IsTargetOf, IsText, IsVariable}
 use Rattle.op_core.specs.Typing as typing

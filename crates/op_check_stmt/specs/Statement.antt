@@ -1,6 +1,6 @@
 -- What statements mean: a typed statement, or the rules that they break (Free Pascal Reference Guide, "Statements").
-use Rattle.std.specs.Prelude.{◌≡◌, Result, Ok, Err, Bool, false, List, [], ◌∷◌, ◌++◌, Option, Some, None, slice_get}
-use Rattle.std.specs.Option.{option_and_then, option_map}
+use Rattle.std.specs.Prelude.{◌≡◌, Result, Ok, Err, Bool, false, List, [], ◌∷◌, ◌++◌, Option, Some, None}
+use Rattle.std.specs.Option.{option_map}
 use Rattle.op_base.specs.declared.place.Place.{Place}
 use Rattle.op_check_expr.specs.Scopes.{Here}
 use Rattle.op_check_expr.specs.Values.{Value, as_type, tree_of, type_of}
@@ -13,11 +13,9 @@ use Rattle.op_core.specs.Statement.{Statement, empty, block, if_then, if_else, c
 use Rattle.op_core.specs.Typing as typing
 use Rattle.op_core.specs.declared.error.CheckError.{CheckError}
 use Rattle.op_core.specs.declared.error.CheckError.TheVariants.{Refused, NoMemory}
-use Rattle.op_core.specs.declared.ids.RoutineId.{RoutineId}
 use Rattle.op_core.specs.declared.ids.TypeId.{TypeId}
 use Rattle.op_core.specs.declared.ids.VariableId.{VariableId}
 use Rattle.op_core.specs.declared.program.Core.{Core}
-use Rattle.op_core.specs.declared.routine.Routine.{Routine}
 use Rattle.op_core.specs.declared.statement.CoreStmt.{CoreStmt}
 use Rattle.op_core.specs.declared.statement.Label.{Label}
 use Rattle.op_tree.specs.Expression.{Expression, Designator}

@@ -1,8 +1,9 @@
 //! Declarations of variables, and the rows of variables and typed constants.
+ghost use Rattle.op_judgement.specs.Steps.{each};
 ghost use Rattle.std.specs.Prelude.{◌≡◌, IfOk, map};
 ghost use Rattle.std.specs.Option.{option_copied, option_map};
 ghost use Rattle.op_check_unit.specs.Declaring.{first_means, globals_fit, names_declared, next_variable, one_type_declared, row_entered, rows_entered, variable_meaning, variables_declared, variables_named, with_first, with_row};
-ghost use Rattle.op_check_unit.specs.Steps.{Declares, Leaves, each, here_of};
+ghost use Rattle.op_check_unit.specs.Steps.{Declares, Leaves, here_of};
 ghost use Rattle.op_core.specs.Initial.{first_value_of};
 ghost use Rattle.op_tree.specs.Declaration.{variables_of};
 ghost use Rattle.op_tree.specs.Initial.{initial_of};

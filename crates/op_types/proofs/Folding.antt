@@ -9,7 +9,7 @@ use Rattle.op_core.specs.Faults.{kept, none}
 use Rattle.op_core.specs.Relations.{Entry, Never}
 use Rattle.op_core.specs.declared.first_refusal.FirstRefusal.{FirstRefusal}
 use Rattle.op_core.specs.declared.program.Core.{Core}
-use Rattle.op_judgement.specs.Judgement.{Judgement, Reports, checked, fine, followed, known}
+use Rattle.op_judgement.specs.Judgement.{Judgement, Reports, checked, fine, followed, known, with_part}
 use Rattle.op_tree.specs.Expression.{Expression, chain, literal, number, Operations, no_operations, operation, Elements, no_elements, elements, Selectors, no_selectors, selectors, no_arguments, arguments, argument_of, element_of, expr_of}
 use Rattle.op_tree.specs.Lists.{arguments_of, operations_of}
 use Rattle.op_tree.specs.Statement.{elements_of}
@@ -62,13 +62,29 @@ finds_same b j k old mid new (Some a) h f = (f.0, (f.1.0 ∙ h.0, f.1.1 ∙ h.1)
 pub record Completes (b : Bool) (whole : Judgement Constant) (c : Bool) (rest : Judgement Constant) (old mid : FirstRefusal) : Type 0 where
   pub completes : (new : FirstRefusal) (given : Option (Option Constant)) → Finds c rest mid new given → Finds b whole old new given
 
-pub begins : (core : Core) (names : List Named) (first : Expression) (rest : Operations) (old mid : FirstRefusal) (a : Option Constant) → Finds (is_constant core names first) (constant core names first) old mid (Some a) → Completes (is_constant core names (chain first rest)) (constant core names (chain first rest)) (are_constant_operands core names rest) (operations core names (start_of first) (standing a) rest) old mid
-begins core names first rest old mid a h = record {
-  completes = λ new given k.
-      let whole = operations core names (start_of first) (constant core names first) rest in
-      let others = operations core names (start_of first) (standing a) rest in
-      subst (λ t. Finds (t && are_constant_operands core names rest) whole old new given) (sym h.0)
-      (finds_same (are_constant_operands core names rest) whole others old mid new given (operations_same core names (start_of first) rest (constant core names first) (standing a) old.kept mid.kept h.1) k);
+part_same : (a : Option Constant) (s : Option Refusal) → Same (with_part fine a) (standing a) s s
+part_same None s = (refl, refl)
+part_same (Some a) s = (refl, refl)
+
+behind_same : (j : Judgement Constant) (a : Option Constant) (old mid : FirstRefusal) → Reports j old mid a → Same j (with_part fine a) old.kept mid.kept
+behind_same j None old mid h = (h.0, h.1)
+behind_same j (Some a) old mid h = (h.0, h.1)
+
+-- a first operand, and what stands behind it
+pub chained : (core : Core) (names : List Named) (first : Expression) (rest : Operations) (old mid : FirstRefusal) (a : Option Constant) → Finds (is_constant core names first) (constant core names first) old mid (Some a) → (new : FirstRefusal) (given : Option (Option Constant)) → Finds (are_constant_operands core names rest) (operations core names (start_of first) (with_part fine a) rest) mid new given → Finds (is_constant core names (chain first rest)) (constant core names (chain first rest)) old new given
+chained core names first rest old mid a h new given k =
+    let whole = operations core names (start_of first) (constant core names first) rest in
+    let others = operations core names (start_of first) (with_part fine a) rest in
+    subst (λ t. Finds (t && are_constant_operands core names rest) whole old new given) (sym h.0)
+    (finds_same (are_constant_operands core names rest) whole others old mid new given (operations_same core names (start_of first) rest (constant core names first) (with_part fine a) old.kept mid.kept (behind_same (constant core names first) a old mid h.1)) k)
+
+-- the first operand is no constant
+pub no_first : (core : Core) (names : List Named) (first : Expression) (rest : Operations) → is_constant core names first ≡ false → is_constant core names (chain first rest) ≡ false
+no_first core names first rest e = subst (λ t. (t && are_constant_operands core names rest) ≡ false) (sym e) refl
+
+pub begins : (core : Core) (names : List Named) (start : Place) (rest : Operations) (s : FirstRefusal) (a : Option Constant) → Completes (are_constant_operands core names rest) (operations core names start (with_part fine a) rest) (are_constant_operands core names rest) (operations core names start (standing a) rest) s s
+begins core names start rest s a = record {
+  completes = λ new given k. finds_same (are_constant_operands core names rest) (operations core names start (with_part fine a) rest) (operations core names start (standing a) rest) s s new given (operations_same core names start rest (with_part fine a) (standing a) s.kept s.kept (part_same a s.kept)) k;
 }
 
 pub stands_as : (core : Core) (names : List Named) (es : Elements) (s : FirstRefusal) → Completes (are_constant_elements core names es) (members core names (fine no_members) es) (are_constant_elements core names es) (members core names (standing (Some no_members)) es) s s

@@ -1,14 +1,14 @@
 //! Constant expressions (Free Pascal Reference Guide, "Ordinary constants").
 ghost use Rattle.std.specs.Prelude.{◌≡◌, Some, IfOk};
 ghost use Rattle.std.specs.Option.{option_copied, option_map};
-ghost use Rattle.op_judgement.specs.Judgement.{fine};
-ghost use Rattle.op_tree.specs.Expression.{argument_of, arguments, call, chain, designator, element_of, expr_of, member, named, no_arguments, no_selectors, prefixed, selector_of, selectors};
+ghost use Rattle.op_judgement.specs.Judgement.{fine, with_part};
+ghost use Rattle.op_tree.specs.Expression.{argument_of, arguments, call, designator, element_of, expr_of, member, named, no_arguments, no_selectors, prefixed, selector_of, selectors};
 ghost use Rattle.op_tree.specs.Lists.{arguments_of, operations_of};
 ghost use Rattle.op_tree.specs.Statement.{designator_of, elements_of};
 ghost use Rattle.op_types.specs.Answered.{FoldIs, Folds};
 ghost use Rattle.op_types.specs.ConstantParts.{no_members, type_named, use_of};
 ghost use Rattle.op_types.specs.Constants as readings;
-ghost use Rattle.op_types.specs.Folding.{Finds, are_constant_elements, argument_means, call_means, constant, designated_constant, element, in_brackets, is_constant, is_constant_argument, is_constant_call, is_constant_designator, is_constant_element, members};
+ghost use Rattle.op_types.specs.Folding.{Finds, are_constant_elements, are_constant_operands, argument_means, call_means, constant, designated_constant, element, in_brackets, is_constant, is_constant_argument, is_constant_call, is_constant_designator, is_constant_element, members, operations};
 
 use crate::part::{
     in_brackets, is_folded, made, no_members, nodes, number_behind, start_of, start_of_element,
@@ -107,7 +107,10 @@ impl<'a> Setting<'a> {
         ensures { IfOk result (Finds (is_constant self.entry.core.now self.entry.visible.now (expr_of e.now)) (constant self.entry.core.now self.entry.visible.now (expr_of e.now)) sink.old sink.new) }
     {
         match e {
-            Expr::Chain { first, rest } => self.chain(sink, first, rest),
+            Expr::Chain { first, rest } => match self.expression(sink, first)? {
+                None => Ok(None),
+                Some(a) => self.operations(sink, start_of(first), a, rest),
+            },
             Expr::Prefix {
                 operator,
                 position,
@@ -128,15 +131,18 @@ impl<'a> Setting<'a> {
         }
     }
 
-    /// A first operand, with operators and operands behind it.
+    /// Operators and operands behind a first operand, in an expression that begins at `start`.
     #[cycle(folding)]
-    fn chain(self, sink: &mut FirstRefusal, first: &Expr, rest: &[Operation]) -> Folded
-        ensures { IfOk result (Finds (is_constant self.entry.core.now self.entry.visible.now (chain (expr_of first.now) (operations_of rest.now))) (constant self.entry.core.now self.entry.visible.now (chain (expr_of first.now) (operations_of rest.now))) sink.old sink.new) }
+    fn operations(
+        self,
+        sink: &mut FirstRefusal,
+        start: Place,
+        first: Option<Constant>,
+        rest: &[Operation],
+    ) -> Folded
+        ensures { IfOk result (Finds (are_constant_operands self.entry.core.now self.entry.visible.now (operations_of rest.now)) (operations self.entry.core.now self.entry.visible.now start (with_part fine first) (operations_of rest.now)) sink.old sink.new) }
     {
-        let Some(mut a) = self.expression(sink, first)? else {
-            return Ok(None);
-        };
-        let start = start_of(first);
+        let mut a = first;
         for operation in rest {
             let Some(b) = self.expression(sink, &operation.operand)? else {
                 return Ok(None);

@@ -3,23 +3,28 @@ use Rattle.op_tree.proofs.Rows.{call_says, chain_says, designated_says, literal_
 use Rattle.op_tree.specs.Expression.{call, chain, designator, element_of, expr_of, literal, member, named, no_selectors, selector_of, selectors}
 use Rattle.op_tree.specs.Lists.{arguments_of, operations_of}
 use Rattle.op_tree.specs.Statement.{elements_of, selectors_of}
-use Rattle.op_judgement.specs.Judgement.{Reports, fine}
-use Rattle.op_types.proofs.Folding.{Completes, begins, ends, gathers, goes_on, literal_finds, map_ok, next_of, next_operation, no_element, no_operand, not_folded, one_given, standing, stands_as, stops}
+use Rattle.op_judgement.specs.Judgement.{Reports, fine, with_part}
+use Rattle.op_types.proofs.Folding.{Completes, begins, chained, ends, gathers, goes_on, literal_finds, map_ok, next_of, next_operation, no_element, no_first, no_operand, not_folded, one_given, standing, stands_as, stops}
 use Rattle.op_types.specs.ConstantParts.{is_folded, literal_means, no_members, start_of, type_named, use_of}
 use Rattle.op_types.specs.Folding.{Finds, are_constant_elements, are_constant_operands, argument_means, call_means, constant, designated_constant, element, gathered_means, in_brackets, is_constant, is_constant_argument, is_constant_call, is_constant_designator, is_constant_element, members, operations}
 use Rattle.op_types.specs.Names.{lower, meaning_of}
 use Rattle.op_types.specs.declared.constant.Use.TheVariants.{Apply}
 use Rattle.op_types.proofs.setting.Setting.+folding.Goals as goal
 
-pub expression-returns-in-Chain : goal.expression-returns-in-Chain
-expression-returns-in-Chain t c =
+pub expression-returns-in-Some : goal.expression-returns-in-Some
+expression-returns-in-Some t c =
     let core = c.args.self.core.now in
     let names = c.args.self.visible.now in
+    let first = expr_of c.in-Chain.first.value in
     let rest = operations_of c.in-Chain.rest.items in
-    let first = c.deref.result.now in
-    subst (λ e. IfOk c.chain.result (Finds (is_constant core names e) (constant core names e) c.args.sink.now c.chain.new.sink)) (sym (ap expr_of c.in-Chain.is ∙ chain_says c.in-Chain.first c.in-Chain.rest))
-    (subst (λ e. IfOk c.chain.result (Finds (is_constant core names (chain (expr_of e) rest)) (constant core names (chain (expr_of e) rest)) c.args.sink.now c.chain.new.sink)) c.deref.ensures
-    (subst (λ os. IfOk c.chain.result (Finds (is_constant core names (chain (expr_of first) (operations_of os))) (constant core names (chain (expr_of first) (operations_of os))) c.args.sink.now c.chain.new.sink)) c.deref-in-Chain.ensures.value c.chain.ensures))
+    let a = c.in-Some.a in
+    subst (λ e. IfOk c.operations.result (Finds (is_constant core names e) (constant core names e) c.args.sink.now c.operations.new.sink)) (sym (ap expr_of c.in-Chain.is ∙ chain_says c.in-Chain.first c.in-Chain.rest))
+    (map_ok {P = Finds (are_constant_operands core names rest) (operations core names (start_of first) (with_part fine a) rest) c.expression.new.sink c.operations.new.sink} {Q = Finds (is_constant core names (chain first rest)) (constant core names (chain first rest)) c.args.sink.now c.operations.new.sink} c.operations.result
+    (λ g k. chained core names first rest c.args.sink.now c.expression.new.sink a
+    (subst (λ e. Finds (is_constant core names (expr_of e)) (constant core names (expr_of e)) c.args.sink.now c.expression.new.sink (Some a)) c.deref.ensures
+    (subst (Finds (is_constant core names (expr_of c.deref.result.now)) (constant core names (expr_of c.deref.result.now)) c.args.sink.now c.expression.new.sink) c.in-Some.is c.in_ok-expression-in-Chain.ensures)) c.operations.new.sink g k)
+    (subst (λ s. IfOk c.operations.result (Finds (are_constant_operands core names rest) (operations core names s (with_part fine a) rest) c.expression.new.sink c.operations.new.sink)) (c.start_of.ensures ∙ ap (λ e. start_of (expr_of e)) c.deref-in-Some.ensures)
+    (subst (λ os. IfOk c.operations.result (Finds (are_constant_operands core names (operations_of os)) (operations core names c.start_of.result (with_part fine a) (operations_of os)) c.expression.new.sink c.operations.new.sink)) c.deref-in-Some-2.ensures.value c.operations.ensures)))
 
 pub expression-returns-in-Designator : goal.expression-returns-in-Designator
 expression-returns-in-Designator t c =
@@ -56,17 +61,11 @@ expression-returns-in-Literal t c =
     (λ g h. literal_finds core names c.in-Literal.text c.in-Literal.position (selectors_of c.in-Literal.selectors.items) c.args.sink.now g (h ∙ (λ i. literal_means (c.as_slice.ensures i) (selectors_of (c.deref-in-Literal.ensures.value i)))))
     c.literal.ensures)
 
-pub chain-loop-operation-init : goal.chain-loop-operation-init
-chain-loop-operation-init t c =
-    let core = c.args.self.core.now in
-    let names = c.args.self.visible.now in
-    let first = expr_of c.args.first.now in
-    let rest = operations_of c.args.rest.now in
-    subst (λ s. Completes (is_constant core names (chain first rest)) (constant core names (chain first rest)) (are_constant_operands core names rest) (operations core names s (standing c.in-Some.a) rest) c.args.sink.now c.expression.new.sink) (sym c.start_of-start.ensures)
-    (begins core names first rest c.args.sink.now c.expression.new.sink c.in-Some.a (subst (Finds (is_constant core names first) (constant core names first) c.args.sink.now c.expression.new.sink) c.in-Some.is c.in_ok-a.ensures))
+pub operations-loop-operation-init : goal.operations-loop-operation-init
+operations-loop-operation-init t c = begins c.args.self.core.now c.args.self.visible.now c.args.start (operations_of c.args.rest.now) c.args.sink.now c.args.first
 
-pub chain-loop-operation-preserved : goal.chain-loop-operation-preserved
-chain-loop-operation-preserved t c =
+pub operations-loop-operation-preserved : goal.operations-loop-operation-preserved
+operations-loop-operation-preserved t c =
     let core = c.args.self.core.now in
     let names = c.args.self.visible.now in
     let x = c.operation-item.result in
@@ -75,48 +74,48 @@ chain-loop-operation-preserved t c =
     let g = c.if-not-is_folded.false in
     record {
       completes = λ new given k. c.loop-operation.invariant.completes new given
-          (subst (λ os. Finds (are_constant_operands core names os) (operations core names c.start_of-start.result (standing c.loop-operation.a) os) c.loop-operation.sink new given)
+          (subst (λ os. Finds (are_constant_operands core names os) (operations core names c.args.start (standing c.loop-operation.a) os) c.loop-operation.sink new given)
           (sym (next_operation c.args.rest.now c.loop-operation.operation-index x c.loop-operation-test.true c.operation-item.is))
-          (goes_on core names c.start_of-start.result x others c.loop-operation.sink c.expression-in-loop-operation.new.sink c.operation.new.sink c.loop-operation.a c.in-Some-2.b c.in_ok-a-2.a
+          (goes_on core names c.args.start x others c.loop-operation.sink c.expression.new.sink c.operation.new.sink c.loop-operation.a c.in-Some.b c.in_ok-a.a
           (grind (arith, f, g))
-          (subst (Finds (is_constant core names (expr_of x.operand)) (constant core names (expr_of x.operand)) c.loop-operation.sink c.expression-in-loop-operation.new.sink) c.in-Some-2.is c.in_ok-b.ensures)
-          c.in_ok-a-2.ensures new given k));
+          (subst (Finds (is_constant core names (expr_of x.operand)) (constant core names (expr_of x.operand)) c.loop-operation.sink c.expression.new.sink) c.in-Some.is c.in_ok-b.ensures)
+          c.in_ok-a.ensures new given k));
     }
 
-pub chain-returns-in_default-2 : goal.chain-returns-in_default-2
-chain-returns-in_default-2 t c =
+pub operations-returns-in_default : goal.operations-returns-in_default
+operations-returns-in_default t c =
     let core = c.args.self.core.now in
     let names = c.args.self.visible.now in
     let x = c.operation-item.result in
-    let whole = chain (expr_of c.args.first.now) (operations_of c.args.rest.now) in
+    let whole = operations_of c.args.rest.now in
     let rest = operations_of (drop c.loop-operation.operation-index c.args.rest.now) in
     let others = operations_of (drop (c.loop-operation.operation-index + 1) c.args.rest.now) in
-    stops (is_constant core names whole) (are_constant_operands core names rest) (constant core names whole) (operations core names c.start_of-start.result (standing c.loop-operation.a) rest) c.args.sink.now c.loop-operation.sink c.loop-operation.invariant
+    stops (are_constant_operands core names whole) (are_constant_operands core names rest) (operations core names c.args.start (with_part fine c.args.first) whole) (operations core names c.args.start (standing c.loop-operation.a) rest) c.args.sink.now c.loop-operation.sink c.loop-operation.invariant
     (subst (λ os. are_constant_operands core names os ≡ false) (sym (next_operation c.args.rest.now c.loop-operation.operation-index x c.loop-operation-test.true c.operation-item.is))
     (no_operand core names x others
-    (subst (Finds (is_constant core names (expr_of x.operand)) (constant core names (expr_of x.operand)) c.loop-operation.sink c.expression-in-loop-operation.new.sink) c.in_default-2.is c.in_ok-b.ensures)))
+    (subst (Finds (is_constant core names (expr_of x.operand)) (constant core names (expr_of x.operand)) c.loop-operation.sink c.expression.new.sink) c.in_default.is c.in_ok-b.ensures)))
 
-pub chain-returns-then-not-is_folded : goal.chain-returns-then-not-is_folded
-chain-returns-then-not-is_folded t c =
+pub operations-returns-then-not-is_folded : goal.operations-returns-then-not-is_folded
+operations-returns-then-not-is_folded t c =
     let core = c.args.self.core.now in
     let names = c.args.self.visible.now in
     let x = c.operation-item.result in
-    let whole = chain (expr_of c.args.first.now) (operations_of c.args.rest.now) in
+    let whole = operations_of c.args.rest.now in
     let rest = operations_of (drop c.loop-operation.operation-index c.args.rest.now) in
     let others = operations_of (drop (c.loop-operation.operation-index + 1) c.args.rest.now) in
     let f = c.is_folded.ensures in
     let g = c.if-not-is_folded.true in
-    stops (is_constant core names whole) (are_constant_operands core names rest) (constant core names whole) (operations core names c.start_of-start.result (standing c.loop-operation.a) rest) c.args.sink.now c.loop-operation.sink c.loop-operation.invariant
+    stops (are_constant_operands core names whole) (are_constant_operands core names rest) (operations core names c.args.start (with_part fine c.args.first) whole) (operations core names c.args.start (standing c.loop-operation.a) rest) c.args.sink.now c.loop-operation.sink c.loop-operation.invariant
     (subst (λ os. are_constant_operands core names os ≡ false) (sym (next_operation c.args.rest.now c.loop-operation.operation-index x c.loop-operation-test.true c.operation-item.is))
     (not_folded core names x others (grind (arith, f, g))))
 
-pub chain-returns : goal.chain-returns
-chain-returns t c =
+pub operations-returns : goal.operations-returns
+operations-returns t c =
     let core = c.args.self.core.now in
     let names = c.args.self.visible.now in
-    let whole = chain (expr_of c.args.first.now) (operations_of c.args.rest.now) in
+    let whole = operations_of c.args.rest.now in
     let a = c.loop-operation.a in
-    ends (is_constant core names whole) (constant core names whole) c.args.rest.now c.loop-operation.operation-index (λ os. are_constant_operands core names (operations_of os)) (λ os. operations core names c.start_of-start.result (standing a) (operations_of os)) c.args.sink.now c.loop-operation.sink a
+    ends (are_constant_operands core names whole) (operations core names c.args.start (with_part fine c.args.first) whole) c.args.rest.now c.loop-operation.operation-index (λ os. are_constant_operands core names (operations_of os)) (λ os. operations core names c.args.start (standing a) (operations_of os)) c.args.sink.now c.loop-operation.sink a
     c.loop-operation-test.false refl (refl, (refl, refl)) c.loop-operation.invariant
 
 pub members-returns-in_default : goal.members-returns-in_default

@@ -1,21 +1,20 @@
 use Rattle.std.proofs.Common.{drop}
-use Rattle.op_judgement.specs.Judgement.{fine}
-use Rattle.op_tree.specs.Expression.{chain, expr_of}
+use Rattle.op_judgement.specs.Judgement.{fine, with_part}
 use Rattle.op_tree.specs.Lists.{operations_of}
 use Rattle.op_tree.specs.Statement.{elements_of}
 use Rattle.op_types.proofs.Folding.{Completes, standing}
 use Rattle.op_types.specs.ConstantParts.{no_members}
-use Rattle.op_types.specs.Folding.{are_constant_elements, are_constant_operands, constant, is_constant, members, operations}
+use Rattle.op_types.specs.Folding.{are_constant_elements, are_constant_operands, members, operations}
 use Rattle.op_types.proofs.setting.Setting.+folding.Given as goal
 
 -- what is left gives the whole
-abbrev pub invariant-chain-loop-operation : goal.invariant-chain-loop-operation
-invariant-chain-loop-operation l =
+abbrev pub invariant-operations-loop-operation : goal.invariant-operations-loop-operation
+invariant-operations-loop-operation l =
     let core = l.self.core.now in
     let names = l.self.visible.now in
-    let whole = chain (expr_of l.first) (operations_of l.rest) in
+    let whole = operations_of l.rest in
     let others = operations_of (drop l.operation-index l.rest) in
-    Completes (is_constant core names whole) (constant core names whole) (are_constant_operands core names others) (operations core names l.start (standing l.a) others) l.fn.sink l.sink
+    Completes (are_constant_operands core names whole) (operations core names l.start (with_part fine l.initial.a) whole) (are_constant_operands core names others) (operations core names l.start (standing l.a) others) l.fn.sink l.sink
 
 abbrev pub invariant-members-loop-element : goal.invariant-members-loop-element
 invariant-members-loop-element l =
