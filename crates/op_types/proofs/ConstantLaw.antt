@@ -4,8 +4,8 @@ use Rattle.std.specs.Option.{option_flatten, option_map}
 use Rattle.op_base.specs.declared.place.Place.{Place}
 use Rattle.op_base.specs.declared.rule.Refusal.{Refusal}
 use Rattle.op_core.proofs.Agreeing.{agrees_with, first_broken, holds_map, holds_some, none_broken}
-use Rattle.op_core.specs.Faults.{Checked, FirstIs}
-use Rattle.op_core.specs.Relations.{Agrees, Filled, Holds, Through, filled, faulty, typed}
+use Rattle.op_core.specs.Faults.{Checked}
+use Rattle.op_core.specs.Relations.{Agrees, Holds, Through}
 use Rattle.op_core.specs.declared.constant.Const.{Const}
 use Rattle.op_core.specs.declared.error.CheckError.{CheckError}
 use Rattle.op_core.specs.declared.error.CheckError.TheVariants.{Refused, NoMemory}
@@ -17,7 +17,7 @@ use Rattle.op_judgement.specs.Judgement.{Breaks, Judgement, Means, checked, know
 use Rattle.op_tree.specs.Expression.{Expression, no_selectors}
 use Rattle.op_tree.specs.declared.operator.Operator.{Operator}
 use Rattle.op_tree.specs.declared.operator.PrefixOperator.{PrefixOperator}
-use Rattle.op_types.proofs.ConstantValue.{Told, has_value, silent}
+use Rattle.op_types.proofs.ConstantValue.{has_value, silent}
 use Rattle.op_types.specs.Answered.{FoldIs, Folds, Without}
 use Rattle.op_types.specs.ConstantParts.{literal_means, text_constant}
 use Rattle.op_types.specs.ConstantRules.{BoundBreaks, BoundIs, ConstantBreaks, ElementBreaks, ElementIs, Evaluates, IsConstant, LiteralIs, NumeralBreaks, NumeralIs, OperatorBreaks, OperatorIs, PrefixBreaks, PrefixIs, RangeBreaks, RangeIs, SingleBreaks, SingleIs, UnionBreaks, UnionIs, UseBreaks, UseIs}

@@ -5,7 +5,7 @@ use Rattle.std.specs.List.{All}
 use Rattle.std.specs.Option.{IfSome, IsSomeAnd}
 use Rattle.op_base.specs.declared.place.Place.{Place}
 use Rattle.op_core.proofs.Completing.{whole_changed_so, whole_rule, whole_behind, whole_followed, whole_gives, whole_tested, whole_with}
-use Rattle.op_core.specs.Faults.{Checked, both}
+use Rattle.op_core.specs.Faults.{Checked}
 use Rattle.op_core.specs.Relations.{Filled, Whole, filled, typed, faulty}
 use Rattle.op_core.specs.Faults.{front, behind}
 use Rattle.op_core.specs.Sizes.{range_of, type_at}

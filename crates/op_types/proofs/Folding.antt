@@ -1,7 +1,6 @@
 -- What nodes with lists mean as constants, and what stands behind faults.
 use Rattle.std.proofs.Common.{◌≡◌, ℕ, ◌<◌, ◌≤◌, ◌+◌, Bool, true, false, ◌&&◌, List, [], ◌∷◌, length, drop, drop-cons, add-one, get_or, Option, None, Some, Result, Ok, Err, IfOk, refl, sym, ap, subst, ◌∙◌, arith}
 use Rattle.std.proofs.lemmas.List.{drop_all}
-use Rattle.std.specs.Option.{option_map}
 use Rattle.op_base.specs.declared.place.Place.{Place}
 use Rattle.op_base.specs.declared.rule.Refusal.{Refusal}
 use Rattle.op_core.proofs.Agreeing.{agrees_standing, holds_entry}
@@ -10,18 +9,15 @@ use Rattle.op_core.specs.Relations.{Entry, Never}
 use Rattle.op_core.specs.declared.first_refusal.FirstRefusal.{FirstRefusal}
 use Rattle.op_core.specs.declared.program.Core.{Core}
 use Rattle.op_judgement.specs.Judgement.{Judgement, Reports, checked, fine, followed, known, with_part}
-use Rattle.op_tree.specs.Expression.{Expression, chain, literal, number, Operations, no_operations, operation, Elements, no_elements, elements, Selectors, no_selectors, selectors, no_arguments, arguments, argument_of, element_of, expr_of}
+use Rattle.op_tree.specs.Expression.{Expression, chain, literal, Operations, no_operations, operation, Elements, no_elements, elements, Selectors, no_selectors, selectors, no_arguments, arguments, argument_of, element_of, expr_of}
 use Rattle.op_tree.specs.Lists.{arguments_of, operations_of}
 use Rattle.op_tree.specs.Statement.{elements_of}
 use Rattle.op_tree.specs.declared.expression.Argument.{Argument}
 use Rattle.op_tree.specs.declared.expression.Element.{Element}
 use Rattle.op_tree.specs.declared.expression.Operation.{Operation}
-use Rattle.op_tree.specs.declared.operator.PrefixOperator.{PrefixOperator}
-use Rattle.op_tree.specs.declared.operator.PrefixOperator.TheVariants.{Minus}
 use Rattle.op_tree.specs.declared.position.Position.{Position}
-use Rattle.op_types.specs.ConstantParts.{boxed, is_folded, literal_means, no_members, number_behind, start_of, start_of_element}
-use Rattle.op_types.specs.Constants.{Gives, if_constant}
-use Rattle.op_types.specs.Folding.{Finds, are_constant_elements, are_constant_operands, constant, element, gathered_means, in_brackets, is_constant, is_constant_element, members, operation_means, operations}
+use Rattle.op_types.specs.ConstantParts.{is_folded, literal_means, no_members, start_of, start_of_element}
+use Rattle.op_types.specs.Folding.{Finds, are_constant_elements, are_constant_operands, constant, element, gathered_means, is_constant, is_constant_element, members, operation_means, operations}
 use Rattle.op_types.specs.Names.{Named}
 use Rattle.op_types.specs.declared.constant.Constant.{Constant}
 
@@ -78,10 +74,6 @@ chained core names first rest old mid a h new given k =
     subst (λ t. Finds (t && are_constant_operands core names rest) whole old new given) (sym h.0)
     (finds_same (are_constant_operands core names rest) whole others old mid new given (operations_same core names (start_of first) rest (constant core names first) (with_part fine a) old.kept mid.kept (behind_same (constant core names first) a old mid h.1)) k)
 
--- the first operand is no constant
-pub no_first : (core : Core) (names : List Named) (first : Expression) (rest : Operations) → is_constant core names first ≡ false → is_constant core names (chain first rest) ≡ false
-no_first core names first rest e = subst (λ t. (t && are_constant_operands core names rest) ≡ false) (sym e) refl
-
 pub begins : (core : Core) (names : List Named) (start : Place) (rest : Operations) (s : FirstRefusal) (a : Option Constant) → Completes (are_constant_operands core names rest) (operations core names start (with_part fine a) rest) (are_constant_operands core names rest) (operations core names start (standing a) rest) s s
 begins core names start rest s a = record {
   completes = λ new given k. finds_same (are_constant_operands core names rest) (operations core names start (with_part fine a) rest) (operations core names start (standing a) rest) s s new given (operations_same core names start rest (with_part fine a) (standing a) s.kept s.kept (part_same a s.kept)) k;
@@ -128,14 +120,6 @@ pub ends : {A : Type 0} (b : Bool) (j : Judgement Constant) (list : List A) (k :
 ends b j list k test rest old mid a l e f h =
     h.completes mid (Some a) (subst (λ xs. Finds (test xs) (rest xs) mid mid (Some a)) (sym (drop_all k list l)) (subst (λ t. Finds t (rest []) mid mid (Some a)) (sym e) f))
 
-none_is : {A : Type 0} {a : A} → None ≡ Some a → ⊥
-none_is e = absurd (cc)
-
--- a number behind a minus is a constant
-pub number_is_one : (core : Core) (names : List Named) (o : PrefixOperator) (e : Expression) (n : ℕ × Place) → number_behind o e ≡ Some n → is_constant core names e ≡ true
-number_is_one core names Minus (number x p) n h = refl
-number_is_one core names o e n h = absurd (none_is h)
-
 -- an element of a set, and the others
 pub gathers : (core : Core) (names : List Named) (x : Element) (others : List Element) (old mid far : FirstRefusal) (a b c : Option Constant) → Finds (is_constant_element core names (element_of x)) (element core names (element_of x)) old mid (Some b) → Reports (gathered_means core (start_of_element (element_of x)) a b) mid far c → (new : FirstRefusal) (given : Option (Option Constant)) → Finds (are_constant_elements core names (elements_of others)) (members core names (standing c) (elements_of others)) far new given → Finds (are_constant_elements core names (elements_of (x ∷ others))) (members core names (standing a) (elements_of (x ∷ others))) old new given
 gathers core names x others old mid far a b c h r new given k =
@@ -160,15 +144,6 @@ next_operation list k x h e = ap operations_of (next_of list k x h e)
 pub literal_finds : (core : Core) (names : List Named) (text : List ℕ) (p : Position) (ss : Selectors) (s : FirstRefusal) (given : Option (Option Constant)) → given ≡ literal_means text ss → Finds (is_constant core names (literal text p ss)) (constant core names (literal text p ss)) s s given
 literal_finds core names text p no_selectors s given h = subst (Finds (is_constant core names (literal text p no_selectors)) (constant core names (literal text p no_selectors)) s s) (sym h) (refl, (refl, refl))
 literal_finds core names text p (selectors x ss) s given h = subst (Finds (is_constant core names (literal text p (selectors x ss))) (constant core names (literal text p (selectors x ss))) s s) (sym h) refl
-
--- a node round what has a meaning
-pub bracketed : (b : Bool) (j : Judgement Constant) (old new : FirstRefusal) (a c : Option Constant) → Finds b j old new (Some a) → c ≡ option_map boxed a → Finds b (in_brackets j) old new (Some c)
-bracketed b j old new a c h e = (h.0, (e ∙ ap (option_map boxed) h.1.0, h.1.1))
-
--- the same of what is given, if it is constant
-pub gives_of : (b : Bool) (j : Judgement Constant) (old new : FirstRefusal) (given : Option (Option Constant)) → Finds b j old new given → Gives (if_constant b j) old new given
-gives_of b j old new None h = subst (λ b. Gives (if_constant b j) old new None) (sym h) refl
-gives_of b j old new (Some a) h = subst (λ b. Gives (if_constant b j) old new (Some a)) (sym h.0) (ap Some h.1.0, h.1.1)
 
 pub map_ok : {A E : Type 0} {P Q : A → Type 0} (r : Result A E) → ((a : A) → P a → Q a) → IfOk r P → IfOk r Q
 map_ok (Ok a) f h = f a h
