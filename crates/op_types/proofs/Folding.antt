@@ -79,8 +79,8 @@ begins core names start rest s a = record {
   completes = λ new given k. finds_same (are_constant_operands core names rest) (operations core names start (with_part fine a) rest) (operations core names start (standing a) rest) s s new given (operations_same core names start rest (with_part fine a) (standing a) s.kept s.kept (part_same a s.kept)) k;
 }
 
-pub stands_as : (core : Core) (names : List Named) (es : Elements) (s : FirstRefusal) → Completes (are_constant_elements core names es) (members core names (fine no_members) es) (are_constant_elements core names es) (members core names (standing (Some no_members)) es) s s
-stands_as core names es s = record {
+pub members_begin : (core : Core) (names : List Named) (es : Elements) (s : FirstRefusal) → Completes (are_constant_elements core names es) (members core names (fine no_members) es) (are_constant_elements core names es) (members core names (standing (Some no_members)) es) s s
+members_begin core names es s = record {
   completes = λ new given k. finds_same (are_constant_elements core names es) (members core names (fine no_members) es) (members core names (standing (Some no_members)) es) s s new given (members_same core names es (fine no_members) (standing (Some no_members)) s.kept s.kept (refl, refl)) k;
 }
 

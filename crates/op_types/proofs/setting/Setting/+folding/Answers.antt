@@ -4,7 +4,7 @@ use Rattle.op_tree.specs.Expression.{call, chain, designator, element_of, expr_o
 use Rattle.op_tree.specs.Lists.{arguments_of, operations_of}
 use Rattle.op_tree.specs.Statement.{elements_of, selectors_of}
 use Rattle.op_judgement.specs.Judgement.{Reports, fine, with_part}
-use Rattle.op_types.proofs.Folding.{Completes, begins, chained, ends, gathers, goes_on, literal_finds, map_ok, next_of, next_operation, no_element, no_operand, not_folded, one_given, standing, stands_as, stops}
+use Rattle.op_types.proofs.Folding.{Completes, begins, chained, ends, gathers, goes_on, literal_finds, map_ok, next_of, next_operation, no_element, no_operand, not_folded, one_given, standing, members_begin, stops}
 use Rattle.op_types.specs.ConstantParts.{literal_means, no_members, start_of, type_named, use_of}
 use Rattle.op_types.specs.Folding.{Finds, are_constant_elements, are_constant_operands, argument_means, call_means, constant, designated_constant, element, gathered_means, in_brackets, is_constant, is_constant_argument, is_constant_call, is_constant_designator, is_constant_element, members, operations}
 use Rattle.op_types.specs.Names.{lower, meaning_of}
@@ -165,7 +165,7 @@ members-loop-element-init t c =
     let es = elements_of c.args.elements.now in
     let s = c.args.sink.now in
     subst (λ n. Completes (are_constant_elements core names es) (members core names (fine no_members) es) (are_constant_elements core names es) (members core names (standing (Some n)) es) s s) (sym c.no_members.ensures)
-    (stands_as core names es s)
+    (members_begin core names es s)
 
 pub members-loop-element-preserved : goal.members-loop-element-preserved
 members-loop-element-preserved t c =
