@@ -5,9 +5,10 @@ use Rattle.std.specs.Int.{w32, cast_unsigned, int_bit_not}
 use Rattle.std.specs.Prelude.{int_div, int_lt, int_rem, neg_ℤ, ◌*ℤ◌, unsigned_abs, ◌%◌}
 use Rattle.std.specs.Option.{option_and_then, option_map}
 use Rattle.op_base.specs.declared.place.Place.{Place}
+use Rattle.op_base.specs.declared.rule.Refusal.{Refusal}
 use Rattle.op_check_expr.specs.Operating.{joins}
 use Rattle.op_check_expr.specs.Values.{constant}
-use Rattle.op_core.specs.Faults.{Checked, with_part}
+use Rattle.op_core.specs.Faults.{Checked, by_entry, fine, with_part}
 use Rattle.op_core.specs.Sizes.{integer_range, range_of, type_at}
 use Rattle.op_core.specs.declared.constant.Const.{Const}
 use Rattle.op_core.specs.declared.constant.Const.TheVariants as const
@@ -17,12 +18,14 @@ use Rattle.op_core.specs.declared.operation.Function.TheVariants.{Length, Ord, S
 use Rattle.op_core.specs.declared.program.Core.{Core}
 use Rattle.op_core.specs.declared.types.CoreType.{CoreType}
 use Rattle.op_core.specs.declared.types.CoreType.TheVariants as type
+use Rattle.op_judgement.specs.Judgement.{both_typed, fault, or_fault}
 use Rattle.op_tree.specs.declared.operator.Operator.{Operator}
 use Rattle.op_tree.specs.declared.operator.Operator.TheVariants.{Equal, NotEqual, Less, Greater, LessEqual, GreaterEqual, In_, Is, Add, Subtract, Or, Xor, Multiply, Slash, Div, Mod_, And, Shl, Shr, As_}
 use Rattle.op_tree.specs.declared.operator.PrefixOperator.{PrefixOperator}
 use Rattle.op_tree.specs.declared.operator.PrefixOperator.TheVariants.{Not, Plus, Minus}
 use Rattle.op_types.specs.Assignable.{assignable}
-use Rattle.op_types.specs.Constants.{bound_means, element_means, entered, gathered_means, in_brackets, is_ordinal, joined, made, no_members, nodes, numeral, operator_means, prefix_means, range_means, rule_of, single_means, text_constant, use_means}
+use Rattle.op_types.specs.Constants.{bound_means, element_means, gathered_means, in_brackets, is_ordinal, joined, made, no_members, nodes, numeral, operator_means, prefix_means, range_means, rule_of, single_means, text_constant, use_means}
+use Rattle.op_types.specs.Folding.{pair}
 use Rattle.op_types.specs.Operators as table
 use Rattle.op_types.specs.Sets.{common_set, set_over}
 use Rattle.op_types.specs.Sorts.{are_sets, is_text, same_kind, sort_of}
@@ -36,7 +39,7 @@ use Rattle.op_types.specs.declared.sort.Sort.{Sort}
 use Rattle.op_types.specs.declared.sort.Sort.TheVariants as sort
 use Rattle.op_typing.specs.Simple.{IsSolidType, is_solid}
 use Rattle.op_accepted.specs.Fit.{IfAny, IfTyped, IsFitConstant, IsFitTables, IsFitValue}
-use Rattle.op_accepted.proofs.Parts.{any_of, fits_after, fits_behind, fits_entry, fits_fine, fits_test, fits_with}
+use Rattle.op_accepted.proofs.Parts.{any_of, fits_after, fits_behind, fits_entry, fits_fine, fits_silent, fits_test, fits_with}
 use Rattle.op_accepted.proofs.SetTypes.{IsSetType, common_is_set, common_solid, empty_is_set, is_solid_sort, over_is_set, set_solid, sort_solid}
 use Rattle.op_accepted.proofs.Solid.{boolean_solid, char_solid, integer_solid, ordinal_solid, string_is}
 use Rattle.op_accepted.proofs.Trees.{IsNoText, no_text_fits, in_range_no_text, none_is, some_is, within_no_text}
@@ -52,6 +55,10 @@ joined_counts v of a b = omega arith
 
 pub nodes_count : (v : Const) (of : TypeId) (n : ℕ) → 0 < n → 0 < (made v of (nodes n)).weight.nodes
 nodes_count v of n h = omega (arith, h)
+
+-- a value of a type, or a rule that is broken
+abbrev entered : ℕ → Place → TypeId → Weight → Option Const → Checked Constant
+entered rule place of w v = by_entry rule place (λ v. fine (made v of w)) v
 
 -- what is there counts for two parts and a node
 joined_entry : (core : Core) (rule : ℕ) (place : Place) (of : TypeId) (a b : Weight) (o : Option Const) → ((v : Const) → o ≡ Some v → IsFitConstant core v of) → IfTyped (IsFitFolded core) (entered rule place of (joined a b) o)
@@ -260,11 +267,16 @@ application_solid {core} t f of to e = go f (sort_of core of) refl e
     go UpCase (sort.Ordinal kind.Char) q e = subst (IsSolidType core) (some_is e) (char_solid t)
     go f s q e = absurd (none_is e)
 
+-- by the table's entry
+fits_row : {A B : Type 0} {P : B → Type 0} {g : A → Checked B} (fault : Refusal) (o : Option A) → ((a : A) → o ≡ Some a → IfTyped P (g a)) → IfTyped P (or_fault fault g o)
+fits_row fault None h = fits_silent
+fits_row fault (Some a) h = h a refl
+
 pub use_fits : {core : Core} → IsFitTables core → (what : Applied) (place at : Place) (a : Constant) → IfTyped (IsFitFolded core) (use_means core what place at a)
 use_fits {core} t (Cast of) place at a =
     fits_test 39 place (is_ordinal (sort_of core a.of)) (λ o. joined_entry core 33 place of a.weight (nodes 0) (cast (type_at core of) (number_of a.value)) (λ v e. cast_fits core of (number_of a.value) v e))
 use_fits {core} t (Function' f) place at a =
-    fits_entry (rule_of f) at (table.application f (sort_of core a.of) a.of) (λ of e. joined_entry core 33 place of a.weight (nodes 0) (applied core f a.of a.value) (λ v g. no_text_fits core v of (applied_no_text core f a.of a.value v g) (application_solid t f a.of of e)))
+    fits_row (fault (rule_of f) at) (table.application f (sort_of core a.of) a.of) (λ of e. joined_entry core 33 place of a.weight (nodes 0) (applied core f a.of a.value) (λ v g. no_text_fits core v of (applied_no_text core f a.of a.value v g) (application_solid t f a.of of e)))
 
 pub bound_fits : (core : Core) (f : Function) (of : TypeId × Place) → IfTyped (IsFitFolded core) (bound_means core f of)
 bound_fits core f of = fits_entry 23 of.1 (bound_of core f of.0) (λ b e. fits_fine (nodes_count b.0 b.1 2 (omega arith), ranged (index_by of.0 (type_at core of.0)) b e))
@@ -294,8 +306,8 @@ single_fits {core} t at a = fits_after (fits_with (any_part (with_part (element_
 
 pub range_fits : {core : Core} → IsFitTables core → (at : Place) (a : Option Constant) (at' : Place) (b : Option Constant) → IfTyped (IsFitSet core) (range_means core at a at' b)
 range_fits {core} t at a at' b =
-    fits_after (fits_with (any_part (with_part (element_means core at) a).typed) (λ a _. fits_with (any_part (with_part (element_means core at') b).typed) (λ b _.
-    fits_test 20 at' (assignable core b.of a.of) (λ _. fits_fine (tt, common_is_set t (set_over core a.of) (set_over core b.of) (over_is_set t a.of) (over_is_set t b.of))))))
+    fits_after (fits_with (any_part (both_typed pair (with_part (element_means core at) a).typed (with_part (element_means core at') b).typed)) (λ ab _.
+    fits_test 20 at' (assignable core ab.1.of ab.0.of) (λ _. fits_fine (tt, common_is_set t (set_over core ab.0.of) (set_over core ab.1.of) (over_is_set t ab.0.of) (over_is_set t ab.1.of)))))
 
 pub gathered_fits : {core : Core} → IsFitTables core → (at : Place) {a b : Option Constant} → IfAny (IsFitSet core) a → IfAny (IsFitSet core) b → IfTyped (IsFitSet core) (gathered_means core at a b)
 gathered_fits {core} t at h k =
@@ -304,8 +316,11 @@ gathered_fits {core} t at h k =
 pub no_members_fit : {core : Core} → IsFitTables core → IsFitSet core no_members
 no_members_fit t = (tt, empty_is_set t)
 
+pub bracketed_fits : (core : Core) (a : Constant) → IsFitSet core a → IsFitFolded core (made a.value a.of (joined a.weight (nodes 0)))
+bracketed_fits core a h = (joined_counts a.value a.of a.weight (nodes 0), no_text_fits core a.value a.of h.0 (set_solid core a.of h.1))
+
 pub set_fits : (core : Core) {c : Checked Constant} → IfTyped (IsFitSet core) c → IfTyped (IsFitFolded core) (in_brackets c)
-set_fits core h = fits_behind h (λ a h. fits_fine (joined_counts a.value a.of a.weight (nodes 0), no_text_fits core a.value a.of h.0 (set_solid core a.of h.1)))
+set_fits core h = fits_behind h (λ a h. fits_fine (bracketed_fits core a h))
 
 pub brackets_fit : (core : Core) (c : Constant) → IsFitFolded core c → IsFitFolded core (made c.value c.of (joined c.weight (nodes 0)))
 brackets_fit core c h = (joined_counts c.value c.of c.weight (nodes 0), h.1)

@@ -18,6 +18,7 @@ use Rattle.op_core.specs.declared.types.CoreType.TheVariants as type
 use Rattle.op_plain.specs.Plain.{are_plain_elements, is_plain_element, is_plain_expression}
 use Rattle.op_types.proofs.Sorting.{stands_as}
 use Rattle.op_types.proofs.TypeFacts.{one_or_elements}
+use Rattle.op_judgement.specs.Judgement.{checked}
 use Rattle.op_types.specs.Assignable.{assignable, fits}
 use Rattle.op_types.specs.Constants.{is_ordinal, no_members}
 use Rattle.op_types.specs.Operators as table
@@ -28,8 +29,8 @@ use Rattle.op_types.specs.declared.sort.Sort.{Sort}
 use Rattle.op_types.specs.declared.sort.Sort.TheVariants as sort
 use Rattle.op_typing.specs.Simple.{IsSolidType, is_solid}
 use Rattle.op_accepted.specs.Fit.{IfAny, IfTyped, IsFitTables, IsFitTree, IsFitValue, any_text, some}
-use Rattle.op_accepted.proofs.ConstantParts.{IsFitSet, gathered_fits, no_members_fit, range_fits, set_fits, single_fits}
-use Rattle.op_accepted.proofs.Parts.{any_as, fits_as, fits_behind, fits_changed, fits_fine, fits_followed, fits_standing, fits_test, fits_with}
+use Rattle.op_accepted.proofs.ConstantParts.{IsFitSet, bracketed_fits, gathered_fits, no_members_fit, range_fits, single_fits}
+use Rattle.op_accepted.proofs.Parts.{any_as, fits_as, fits_changed, fits_fine, fits_followed, fits_standing, fits_test, fits_with}
 use Rattle.op_accepted.proofs.SetTypes.{IsSetType, common_is_set, empty_is_set, over_is_set, set_solid}
 use Rattle.op_accepted.proofs.Solid.{made_of}
 use Rattle.op_accepted.proofs.Trees.{as_ordinal_fits}
@@ -46,11 +47,11 @@ pub members_behind : (core : Core) (ms : List Member) (m : Member) → AreFitMem
 members_behind core [] m h k = (k, tt)
 members_behind core (x ∷ xs) m h k = (h.0, members_behind core xs m h.1 k)
 
-constant_member_fits : {core : Core} → IsFitTables core → (m : Member) → IfTyped (IsFitSet core) (constant_member core m)
+constant_member_fits : {core : Core} → IsFitTables core → (m : Member) → IfTyped (IsFitSet core) (checked (constant_member core m))
 constant_member_fits t (member.one at v) = single_fits t at (constant_of v)
 constant_member_fits t (member.range at v at' v') = range_fits t at (constant_of v) at' (constant_of v')
 
-constant_members_fit : {core : Core} → IsFitTables core → (ms : List Member) {o : Option Constant} → IfAny (IsFitSet core) o → IfTyped (IsFitSet core) (constant_members core o ms)
+constant_members_fit : {core : Core} → IsFitTables core → (ms : List Member) {o : Option Constant} → IfAny (IsFitSet core) o → IfTyped (IsFitSet core) (checked (constant_members core o ms))
 constant_members_fit t [] h = fits_standing h
 constant_members_fit t (m ∷ ms) h = fits_followed (constant_member_fits t m) (λ b k. fits_followed (gathered_fits t (place_of m) h k) (λ c i. constant_members_fit t ms i))
 
@@ -70,21 +71,21 @@ ordinal_sort : (s : Sort) → is_ordinal s ≡ true → (kind : OrdinalKind) × 
 ordinal_sort (sort.Ordinal kind) h = (kind, refl)
 ordinal_sort s h = absurd (false≢true h)
 
-value_in_set_fits : {core : Core} → IsFitTables core → (at : Place) (v : Value) → IfTyped (λ of. IsSetType core of × InOrdinal core v) (value_in_set core at v)
+value_in_set_fits : {core : Core} → IsFitTables core → (at : Place) (v : Value) → IfTyped (λ of. IsSetType core of × InOrdinal core v) (checked (value_in_set core at v))
 value_in_set_fits {core} t at v = fits_test 23 at (is_ordinal (sort_of core (type_of v))) (λ o. fits_test 34 at (is_small v) (λ _. fits_fine (over_is_set t (type_of v), ordinal_sort (sort_of core (type_of v)) o)))
 
-member_in_set_fits : {core : Core} → IsFitTables core → (m : Member) → IfTyped (λ of. IsSetType core of × IsOrdinalMember core m) (member_in_set core m)
+member_in_set_fits : {core : Core} → IsFitTables core → (m : Member) → IfTyped (λ of. IsSetType core of × IsOrdinalMember core m) (checked (member_in_set core m))
 member_in_set_fits t (member.one at v) = value_in_set_fits t at v
 member_in_set_fits {core} t (member.range at v at' v') =
     fits_followed (value_in_set_fits t at v) (λ a h. fits_followed (value_in_set_fits t at' v') (λ b k. fits_with h (λ a h. fits_with k (λ b k.
     fits_test 20 at' (assignable core (type_of v') (type_of v)) (λ _. fits_fine (common_is_set t a b h.0 k.0, (h.1, k.1)))))))
 
-both_in_set_fits : {core : Core} → IsFitTables core → (Q R : Type 0) (at : Place) {a b : Option TypeId} → IfAny (λ of. IsSetType core of × Q) a → IfAny (λ of. IsSetType core of × R) b → IfTyped (λ of. IsSetType core of × (Q × R)) (both_in_set core at a b)
+both_in_set_fits : {core : Core} → IsFitTables core → (Q R : Type 0) (at : Place) {a b : Option TypeId} → IfAny (λ of. IsSetType core of × Q) a → IfAny (λ of. IsSetType core of × R) b → IfTyped (λ of. IsSetType core of × (Q × R)) (checked (both_in_set core at a b))
 both_in_set_fits {core} t Q R at h k =
     fits_with h (λ a h. fits_with k (λ b k. fits_test 20 at (are_sets (sort_of core a) (sort_of core b)) (λ _. fits_fine (common_is_set t a b h.0 k.0, (h.1, k.1)))))
 
 -- Q is what is known of the elements so far
-type_of_set_fits : {core : Core} → IsFitTables core → (Q : Type 0) (ms : List Member) {o : Option TypeId} → IfAny (λ of. IsSetType core of × Q) o → IfTyped (λ of. IsSetType core of × (Q × AreOrdinal core ms)) (type_of_set core o ms)
+type_of_set_fits : {core : Core} → IsFitTables core → (Q : Type 0) (ms : List Member) {o : Option TypeId} → IfAny (λ of. IsSetType core of × Q) o → IfTyped (λ of. IsSetType core of × (Q × AreOrdinal core ms)) (checked (type_of_set core o ms))
 type_of_set_fits t Q [] h = fits_standing (any_as h (λ of k. (k.0, (k.1, tt))))
 type_of_set_fits {core} t Q (m ∷ ms) h =
     fits_followed (member_in_set_fits t m) (λ b k. fits_followed (both_in_set_fits t Q (IsOrdinalMember core m) (place_of m) h k) (λ c i. fits_as (type_of_set_fits t (Q × IsOrdinalMember core m) ms i) (λ of q. (q.0, (q.1.0.0, (q.1.0.1, q.1.1))))))
@@ -155,9 +156,9 @@ wanted_set core (Some to) own h = go (assignable core own to) refl
     go true e = by (or_cases (is_one_type core.types own to) (fits core (sort_of core own) (sort_of core to)) e)
     go false e = h
 
-pub set_of_fits : {core : Core} → IsFitTables core → (wanted : Option TypeId) (ms : List Member) → AreFitMembers core ms → IfTyped (IsFitValue core) (member.set_of core wanted ms)
+pub set_of_fits : {core : Core} → IsFitTables core → (wanted : Option TypeId) (ms : List Member) → AreFitMembers core ms → IfTyped (IsFitValue core) (checked (member.set_of core wanted ms))
 set_of_fits {core} t wanted ms h = go (list_all are_constants ms)
   where
-    go : (b : Bool) → IfTyped (IsFitValue core) (set_by core wanted ms b)
-    go true = fits_changed constant (set_fits core (constant_members_fit t ms (some no_members (no_members_fit t)))) (λ c q. q)
-    go false = fits_behind (type_of_set_fits t (Unit {0}) ms (some table.empty_set (empty_is_set t, tt))) (λ own q. fits_fine (set_tree_fits t (wanted_or core wanted own) ms (wanted_set core wanted own q.0) q.1.1 h))
+    go : (b : Bool) → IfTyped (IsFitValue core) (checked (set_by core wanted ms b))
+    go true = fits_changed constant (fits_changed _ (constant_members_fit t ms (some no_members (no_members_fit t))) (λ a h. bracketed_fits core a h)) (λ c q. q)
+    go false = fits_changed _ (type_of_set_fits t (Unit {0}) ms (some table.empty_set (empty_is_set t, tt))) (λ own q. set_tree_fits t (wanted_or core wanted own) ms (wanted_set core wanted own q.0) q.1.1 h)

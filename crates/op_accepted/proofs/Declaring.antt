@@ -9,9 +9,9 @@ use Rattle.op_accepted.proofs.Rows.{valued_fit, variabled, variabled_fit, variab
 use Rattle.op_accepted.proofs.TypeRows.{IsSolid, declared_fits}
 use Rattle.op_accepted.specs.Fit.{IfAny, IsFitConstant, none, some}
 use Rattle.op_accepted.specs.State.{AreTreesFit, IsFit, IsFitState, IsLater, IsPlainRow, Keeps}
-use Rattle.op_check_unit.specs.Declaring.{constant_by, constant_declared, constant_meaning, constants_declared, defined, globals_fit, most_global_bytes, names_declared, next_variable, one_type_declared, row_entered, rows_entered, type_declared, type_meaning, typed_declared, types_declared, value_means, variable_meaning, variables_declared, variables_named, with_first, with_row}
-use Rattle.op_check_unit.specs.Initials.{first}
-use Rattle.op_check_unit.specs.Naming.{all_ahead, declared, ended, with_ahead}
+use Rattle.op_check_unit.specs.Declaring.{constant_meaning, most_global_bytes, next_variable, type_meaning, variable_meaning, with_first, with_row}
+use Rattle.op_check_unit.specs.Naming.{all_ahead, ended, with_ahead}
+use Rattle.op_check_unit.specs.Readings.{constant_by, constant_declared, constants_declared, declared, defined, first, globals_fit, names_declared, one_type_declared, row_entered, rows_entered, type_declared, typed_declared, types_declared, value_means, variables_declared, variables_named}
 use Rattle.op_check_unit.specs.Steps.{Here, each}
 use Rattle.op_core.proofs.Growing.{some_and}
 use Rattle.op_core.specs.Faults.{none as no_faults}

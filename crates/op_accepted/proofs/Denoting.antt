@@ -10,11 +10,11 @@ use Rattle.op_accepted.proofs.TypeRows.{IsFitRow, IsSolid, array_fits, declared_
 use Rattle.op_accepted.specs.Fit.{IfAny, IfTyped, none, some}
 use Rattle.op_accepted.specs.State.{AreTreesFit, IsFitState, Keeps, faulty}
 use Rattle.op_base.specs.declared.place.Place.{Place}
-use Rattle.op_check_unit.specs.Denoting.{denoted, field_lists, indices}
 use Rattle.op_check_unit.specs.Naming.{is_ahead, is_declared, most_names}
-use Rattle.op_check_unit.specs.Records.{is_seen, no_rows, record_of, some_fields, with_field}
+use Rattle.op_check_unit.specs.Readings.{array_of, arrays, denoted, enumerated, field_lists, index_over, indices, one_array, record_of, row, set_over, some_fields, values}
+use Rattle.op_check_unit.specs.Records.{is_seen, no_rows, with_field}
 use Rattle.op_check_unit.specs.Steps.{Here, by, checked, followed, gives}
-use Rattle.op_check_unit.specs.Types.{array_of, arrays, enumerated, enumeration_of, in_core, index_over, is_within_set, one_array, row, set_over, start_of_denoter, value_of, values}
+use Rattle.op_check_unit.specs.Types.{enumeration_of, in_core, is_within_set, start_of_denoter, value_of}
 use Rattle.op_check_unit.specs.declared.record.FieldRows.{FieldRows}
 use Rattle.op_core.specs.Faults.{broken, here, with_part}
 use Rattle.op_core.specs.Growing.{IsFrontOf}

@@ -10,7 +10,8 @@ use Rattle.op_accepted.proofs.Rows.{parametered_fit, parametered_later}
 use Rattle.op_accepted.proofs.TypeRows.{IsSolid, type_named_fits}
 use Rattle.op_accepted.specs.Fit.{none, some}
 use Rattle.op_accepted.specs.State.{AreTreesFit, IsFitState, Keeps, faulty}
-use Rattle.op_check_unit.specs.Headings.{head_by, head_means, is_taken, most_parameters, no_parameters, one_parameter, own_name, parameter_group, parameter_type, result_means, some_parameters, with_parameter}
+use Rattle.op_check_unit.specs.Headings.{is_taken, most_parameters, no_parameters, own_name, with_parameter}
+use Rattle.op_check_unit.specs.Readings.{head_by, head_means, one_parameter, parameter_group, parameter_type, result_means, some_parameters}
 use Rattle.op_check_unit.specs.Steps.{Here, by, followed, gather, gives}
 use Rattle.op_check_unit.specs.declared.heading.Head.{Head}
 use Rattle.op_check_unit.specs.declared.heading.ParameterRows.{ParameterRows}

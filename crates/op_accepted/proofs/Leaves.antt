@@ -17,7 +17,7 @@ use Rattle.op_check_expr.specs.Values.{Value, constant, computed, index_at, inde
 use Rattle.op_check_expr.specs.Words.{number_at}
 use Rattle.op_core.proofs.Growing.{all_at}
 use Rattle.op_core.specs.Expression.{Expression as Tree, Argument, field, index, value as value_argument, place as place_argument}
-use Rattle.op_core.specs.Faults.{Checked}
+use Rattle.op_judgement.specs.Judgement.{Judgement, checked}
 use Rattle.op_core.specs.Rows.{rows}
 use Rattle.op_core.specs.Sizes.{type_at}
 use Rattle.op_core.specs.Typing as typing
@@ -43,39 +43,38 @@ use Rattle.op_types.specs.declared.visible.Meaning.TheVariants as meaning
 use Rattle.op_typing.specs.Simple.{IsSolidType, is_solid, text_after}
 use Rattle.op_accepted.specs.Fit.{IfAny, IfTyped, IsFitHere, IsFitMeaning, IsFitMeant, IsFitTables, IsFitTree, IsFitValue, IsSolidTree, any_text, none, some, stays_text, typed}
 use Rattle.op_accepted.proofs.ConstantParts.{nodes_count, numeral_fits}
-use Rattle.op_accepted.proofs.Parts.{fits_behind, fits_changed, fits_entry, fits_feature, fits_fine, fits_if, fits_silent, fits_test, fits_with}
+use Rattle.op_accepted.proofs.Parts.{fits_changed, fits_entry, fits_fine, fits_silent, fits_test, fits_unshown, fits_whether, fits_with}
 use Rattle.op_accepted.proofs.Solid.{char_solid, integer_solid, made_of}
 use Rattle.op_accepted.proofs.Trees.{as_type_fits, none_is, open_step, some_is, step_fits, tree_fits, tree_open}
 
-pub number_fits : {core : Core} → IsFitTables core → (n : Option (ℕ × Place)) {c : Checked Value} → IfTyped (IsFitValue core) c → IfTyped (IsFitValue core) (or_number n c)
-number_fits t None h = h
-number_fits t (Some n) h = fits_changed constant (numeral_fits t n.1 2 (neg_ℤ (pos n.0)) (omega arith)) (λ c q. q)
+pub number_fits : {core : Core} → IsFitTables core → (n : Option (ℕ × Place)) (j : Judgement Value) → IfTyped (IsFitValue core) (checked j) → IfTyped (IsFitValue core) (checked (or_number n j))
+number_fits t None j h = h
+number_fits t (Some n) j h = fits_changed constant (numeral_fits t n.1 2 (neg_ℤ (pos n.0)) (omega arith)) (λ c q. q)
 
 -- ---- values as what is stored, given and assigned to
 
-pub stored_fits : {core : Core} → IsFitTables core → (at : Place) (checked : Bool) (to : TypeId) (v : Value) → IsFitValue core v → IsSolidType core to → IfTyped (IsFitTree core) (stored core at checked to v)
-stored_fits {core} t at checked to v h s = fits_test 20 at (assignable core (type_of v) to) (λ a. fits_fine (as_type_fits core t checked to v h s a))
+pub stored_fits : {core : Core} → IsFitTables core → (at : Place) (ranges : Bool) (to : TypeId) (v : Value) → IsFitValue core v → IsSolidType core to → IfTyped (IsFitTree core) (checked (stored core at ranges to v))
+stored_fits {core} t at ranges to v h s = fits_test 20 at (assignable core (type_of v) to) (λ a. fits_fine (as_type_fits core t ranges to v h s a))
 
-pub variable_value_fits : (here : Here) (at : Place) (of : Option TypeId) (v : Value) → IsFitValue here.core v → IfTyped (IsSolidTree here.core) (variable_value here at of v)
+pub variable_value_fits : (here : Here) (at : Place) (of : Option TypeId) (v : Value) → IsFitValue here.core v → IfTyped (IsSolidTree here.core) (checked (variable_value here at of v))
 variable_value_fits here at of (computed e) h =
     fits_test 27 at (is_place true here.core e) (λ _. fits_test 28 at (is_very here.core (typing.type_of e) of) (λ _. fits_test 29 at (is_writable here true e) (λ _. fits_test 37 at (is_place false here.core e) (λ _. fits_fine h.0))))
 variable_value_fits here at of (constant c) h = fits_silent
 
-pub target_value_fits : (here : Here) (at : Place) (v : Value) → IsFitValue here.core v → IfTyped (IsSolidTree here.core) (target_value here at v)
+pub target_value_fits : (here : Here) (at : Place) (v : Value) → IsFitValue here.core v → IfTyped (IsSolidTree here.core) (checked (target_value here at v))
 target_value_fits here at (computed e) h = fits_test 29 at (is_writable here true e) (λ _. fits_fine h.0)
 target_value_fits here at (constant c) h = fits_silent
 
 abbrev pub IsFitArgument : Core → Argument → Type 0
 IsFitArgument core a = is_plain_argument any_text core a ≡ true
 
-pub passed_fits : (here : Here) → IsFitTables here.core → (p : Parameter) (at : Position) {o : Option Value} → IsSolidType here.core p.of → IfAny (IsFitValue here.core) o → IfTyped (IsFitArgument here.core) (passed here (Some p) at o)
-passed_fits here t p at s none = fits_silent
-passed_fits here t p at s (some v h) =
-    fits_if (takes_place p.mode) (λ _. fits_changed place_argument (variable_value_fits here at.place (Some p.of) v h) (λ e k. k.0)) (λ _. fits_changed value_argument (stored_fits t at.place at.switches.r p.of v h s) (λ e k. k))
+pub passed_fits : (here : Here) → IsFitTables here.core → (p : Parameter) (at : Position) (v : Value) → IsSolidType here.core p.of → IsFitValue here.core v → IfTyped (IsFitArgument here.core) (checked (passed here (Some p) at v))
+passed_fits here t p at v s h =
+    fits_whether _ _ (takes_place p.mode) (fits_changed place_argument (variable_value_fits here at.place (Some p.of) v h) (λ e k. k.0)) (fits_changed value_argument (stored_fits t at.place at.switches.r p.of v h s) (λ e k. k))
 
 -- ---- elements of arrays and texts
 
-index_at_fits : {core : Core} → IsFitTables core → (at : Place) (of : Option CoreType) (to : TypeId) (v : Value) → IsFitValue core v → IsSolidType core to → IfTyped (IsFitTree core) (index_at core at of to v)
+index_at_fits : {core : Core} → IsFitTables core → (at : Place) (of : Option CoreType) (to : TypeId) (v : Value) → IsFitValue core v → IsSolidType core to → IfTyped (IsFitTree core) (checked (index_at core at of to v))
 index_at_fits {core} t at of to v h s = fits_test 20 at (assignable core (type_of v) to) (λ a. fits_fine (go of a))
   where
     go : (of : Option CoreType) → assignable core (type_of v) to ≡ true → IsFitTree core (index_tree core of to v)
@@ -104,12 +103,12 @@ no_text_after : (text : Bool) (i : Tree) → text_after text (index i) ≡ false
 no_text_after true i = refl
 no_text_after false i = refl
 
-element_at_fits : {core : Core} → IsFitTables core → (at : Place) (a : Value) (of : TypeId × TypeId) (v : Value) → index_types (type_at core (type_of a)) ≡ Some of → IsFitValue core a → IsFitValue core v → IfTyped (IsFitValue core) (element_at core at a of v)
+element_at_fits : {core : Core} → IsFitTables core → (at : Place) (a : Value) (of : TypeId × TypeId) (v : Value) → index_types (type_at core (type_of a)) ≡ Some of → IsFitValue core a → IsFitValue core v → IfTyped (IsFitValue core) (checked (element_at core at a of v))
 element_at_fits {core} t at a of v e h k =
     let s = index_solid t (type_of a) of e in
-    fits_behind (index_at_fits t at (type_at core (type_of a)) of.0 v k s.0) (λ i q. fits_fine (step_fits core (tree_of a) (index i) of.1 (tree_fits core a h) refl (indexed_step core (stays_text (tree_of a)) i of.1 q s.1) (no_text_after (stays_text (tree_of a)) i) s.1))
+    fits_changed _ (index_at_fits t at (type_at core (type_of a)) of.0 v k s.0) (λ i q. step_fits core (tree_of a) (index i) of.1 (tree_fits core a h) refl (indexed_step core (stays_text (tree_of a)) i of.1 q s.1) (no_text_after (stays_text (tree_of a)) i) s.1)
 
-pub indexed_fits : {core : Core} → IsFitTables core → (bracket at : Place) {a v : Option Value} → IfAny (IsFitValue core) a → IfAny (IsFitValue core) v → IfTyped (IsFitValue core) (indexed core bracket at a v)
+pub indexed_fits : {core : Core} → IsFitTables core → (bracket at : Place) {a v : Option Value} → IfAny (IsFitValue core) a → IfAny (IsFitValue core) v → IfTyped (IsFitValue core) (checked (indexed core bracket at a v))
 indexed_fits {core} t bracket at h k = fits_with h (λ a h. fits_entry 24 bracket (index_types (type_at core (type_of a))) (λ of e. fits_with k (λ v k. element_at_fits t at a of v e h k)))
 
 -- ---- names
@@ -130,10 +129,10 @@ IsFitDenoted core d = IsFitMeant core d.what
 pub variable_tree_fits : (core : Core) (id : VariableId) (of : TypeId) → IsSolidType core of → IsFitValue core (computed (naming.variable_tree id of))
 variable_tree_fits core id of s = ((and_from (is_solid (type_at core of)) true s refl, s), refl, refl)
 
-row_named_fits : {core : Core} → IsFitTables core → (p : Position) (id : VariableId) → IfTyped (IsFitDenoted core) (variable_named p id (slice_get core.variables id.0))
+row_named_fits : {core : Core} → IsFitTables core → (p : Position) (id : VariableId) → IfTyped (IsFitDenoted core) (checked (variable_named p id (slice_get core.variables id.0)))
 row_named_fits {core} t p id = go (slice_get core.variables id.0) refl
   where
-    go : (o : Option VariableRow) → slice_get core.variables id.0 ≡ o → IfTyped (IsFitDenoted core) (variable_named p id o)
+    go : (o : Option VariableRow) → slice_get core.variables id.0 ≡ o → IfTyped (IsFitDenoted core) (checked (variable_named p id o))
     go None e = fits_silent
     go (Some v) e = fits_fine (variable_tree_fits core id v.of (all_at (λ v. IsSolidType core v.of) core.variables id.0 v t.variables e))
 
@@ -142,17 +141,17 @@ shown_type : (core : Core) (of : TypeId) → IsSolidType core of ⊎ IsSome (fea
 shown_type core of (inl s) e = s
 shown_type core of (inr i) e = absurd (false≢true (subst IsSome e i))
 
-named_fits : {core : Core} → IsFitTables core → (name : List ℕ) (p : Position) (m : Option Meaning) → ((a : Meaning) → m ≡ Some a → IsFitMeaning core a) → IfTyped (IsFitDenoted core) (naming.named core name p m)
+named_fits : {core : Core} → IsFitTables core → (name : List ℕ) (p : Position) (m : Option Meaning) → ((a : Meaning) → m ≡ Some a → IsFitMeaning core a) → IfTyped (IsFitDenoted core) (checked (naming.named core name p m))
 named_fits t name p None h = fits_silent
 named_fits t name p (Some meaning.Spoiled) h = fits_silent
 named_fits {core} t name p (Some (meaning.Constant c)) h = typed (some (naming.valued p (constant _)) (nodes_count c.value c.of 1 (omega arith), h (meaning.Constant c) refl))
 named_fits t name p (Some (meaning.Variable id w)) h = row_named_fits t p id
-named_fits {core} t name p (Some (meaning.TypeName of)) h = fits_feature p.place (feature_of_type (type_at core of)) (λ e. fits_fine (shown_type core of (h (meaning.TypeName of) refl) e))
+named_fits {core} t name p (Some (meaning.TypeName of)) h = fits_unshown _ p.place (feature_of_type (type_at core of)) (λ e. fits_fine (shown_type core of (h (meaning.TypeName of) refl) e))
 named_fits t name p (Some (meaning.Routine id)) h = fits_fine tt
 named_fits t name p (Some (meaning.Unit id)) h = fits_fine tt
-named_fits t name p (Some (meaning.BuiltIn b)) h = fits_feature p.place (feature_of b) (λ _. fits_fine tt)
+named_fits t name p (Some (meaning.BuiltIn b)) h = fits_unshown _ p.place (feature_of b) (λ _. fits_fine tt)
 
-pub name_fits : {here : Here} → IsFitHere here → (key name : List ℕ) (p : Position) → IfTyped (IsFitDenoted here.core) (means.name_denoted here key name p)
+pub name_fits : {here : Here} → IsFitHere here → (key name : List ℕ) (p : Position) → IfTyped (IsFitDenoted here.core) (checked (means.name_denoted here key name p))
 name_fits {here} s key name p = named_fits s.tables name p (meaning_of here.visible key) (meaning_fits here.core here.visible s.names key)
 
 -- ---- members
@@ -189,6 +188,6 @@ field_solid {core} t name from f e = go (type_at core from) refl e
     go (Some (type.Record run)) q e = (by run (position (is_named name) (rows core.fields run)) e, ap is_solid q)
     go o q e = absurd (none_is e)
 
-pub field_fits : {core : Core} → IsFitTables core → (m : Name) (v : Value) → IsFitValue core v → IfTyped (IsFitDenoted core) (field_of core m v)
+pub field_fits : {core : Core} → IsFitTables core → (m : Name) (v : Value) → IsFitValue core v → IfTyped (IsFitDenoted core) (checked (field_of core m v))
 field_fits {core} t m v h =
     fits_entry 25 m.position.place (field_named core m.text (type_at core (type_of v))) (λ f e. let s = field_solid t m.text (type_of v) f e in fits_fine (open_step core (tree_of v) (field f.0) f.1 (tree_open core v h s.1) refl s.0 s.0))

@@ -36,16 +36,17 @@ use Rattle.op_types.specs.declared.sort.OrdinalKind.TheVariants as kind
 use Rattle.op_types.specs.declared.sort.Sort.{Sort}
 use Rattle.op_types.specs.declared.sort.Sort.TheVariants as sort
 use Rattle.op_typing.specs.Simple.{IsSolidType, asks_text, is_solid, text_after}
+use Rattle.op_judgement.specs.Judgement.{checked, fault}
 use Rattle.op_accepted.specs.Fit.{IfAny, IfTyped, IsFitConstant, IsFitTables, IsFitTree, IsFitValue, any_text, stays_text}
 use Rattle.op_accepted.proofs.ConstantParts.{application_solid, common_sets, operation_solid, operator_fits, prefix_fits, prefixed_solid, use_fits}
-use Rattle.op_accepted.proofs.Parts.{fits_changed, fits_entry, fits_feature, fits_fine, fits_if, fits_with}
+use Rattle.op_accepted.proofs.Parts.{fits_changed, fits_entry, fits_fine, fits_found, fits_unshown, fits_whether, fits_with}
 use Rattle.op_accepted.proofs.SetTypes.{common_solid, over_is_set, set_solid, sort_solid}
 use Rattle.op_accepted.proofs.Solid.{boolean_solid, char_solid, integer_solid, made_of}
 use Rattle.op_accepted.proofs.Trees.{as_type_open, no_string, none_is, open_step, some_is, step_fits, tree_fits, tree_open, value_is}
 
 -- ---- signs
 
-pub prefix_of_fits : {core : Core} → IsFitTables core → (o : PrefixOperator) (p : Position) (v : Value) → IsFitValue core v → IfTyped (IsFitValue core) (prefix_of core o p v)
+pub prefix_of_fits : {core : Core} → IsFitTables core → (o : PrefixOperator) (p : Position) (v : Value) → IsFitValue core v → IfTyped (IsFitValue core) (checked (prefix_of core o p v))
 prefix_of_fits t o p (constant c) h = fits_changed constant (prefix_fits t p.place o c) (λ c q. q)
 prefix_of_fits {core} t o p (computed e) h =
     fits_entry 21 p.place (table.prefixed o (sort_of core (type_of (computed e)))) (λ of q.
@@ -173,20 +174,20 @@ operation_tree_fits {core} t o checked a b of h k s u w =
     let right = as_type_open core true r b k u (right_solid t o (type_of a) (type_of b) s u) in
     open_step core (as_type core true l a) (operate o checked (as_type core true r b)) of left refl (and_from (is_solid (type_at core of)) (is_plain_expression any_text core (as_type core true r b)) w right.0) w
 
-computed_operation_fits : {core : Core} → IsFitTables core → (o : Operator) (p : Position) (a b : Value) → IsFitValue core a → IsFitValue core b → IfTyped (IsFitValue core) (computed_operation core o p a b)
+computed_operation_fits : {core : Core} → IsFitTables core → (o : Operator) (p : Position) (a b : Value) → IsFitValue core a → IsFitValue core b → IfTyped (IsFitValue core) (checked (computed_operation core o p a b))
 computed_operation_fits {core} t o p a b h k =
-    fits_entry 21 p.place (table.operation o (sort_of core (type_of a)) (sort_of core (type_of b)) (common_set core (type_of a) (type_of b))) (λ of e. fits_feature p.place (feature_of_operands o (sort_of core (type_of a)) (sort_of core (type_of b))) (λ g.
+    fits_entry 21 p.place (table.operation o (sort_of core (type_of a)) (sort_of core (type_of b)) (common_set core (type_of a) (type_of b))) (λ of e. fits_unshown _ p.place (feature_of_operands o (sort_of core (type_of a)) (sort_of core (type_of b))) (λ g.
     let m = shown (makes_strings o (sort_of core (type_of a)) (sort_of core (type_of b))) 40 g in
     let sets = common_set core (type_of a) (type_of b) in
     fits_fine (operation_tree_fits t o p.switches.q a b of h k (operand_is core a h (no_string_left core o (type_of a) (type_of b) sets of e m)) (operand_is core b k (no_string_right core o (type_of a) (type_of b) sets of e m))
     (operation_solid t o (sort_of core (type_of a)) (sort_of core (type_of b)) sets of (joins_no_texts o (sort_of core (type_of a)) (sort_of core (type_of b)) m) (common_sets t (type_of a) (type_of b)) e))))
 
-operated_fits : {core : Core} → IsFitTables core → (start : Place) (o : Operator) (p : Position) (a b : Value) → IsFitValue core a → IsFitValue core b → IfTyped (IsFitValue core) (operated core start o p a b)
-operated_fits t start o p (constant a) (constant b) h k = fits_if (is_folded o) (λ _. fits_changed constant (operator_fits t start o p.place a b) (λ c q. q)) (λ _. computed_operation_fits t o p (constant a) (constant b) h k)
+operated_fits : {core : Core} → IsFitTables core → (start : Place) (o : Operator) (p : Position) (a b : Value) → IsFitValue core a → IsFitValue core b → IfTyped (IsFitValue core) (checked (operated core start o p a b))
+operated_fits t start o p (constant a) (constant b) h k = fits_whether _ _ (is_folded o) (fits_changed constant (operator_fits t start o p.place a b) (λ c q. q)) (computed_operation_fits t o p (constant a) (constant b) h k)
 operated_fits t start o p (constant a) (computed b) h k = computed_operation_fits t o p (constant a) (computed b) h k
 operated_fits t start o p (computed a) b h k = computed_operation_fits t o p (computed a) b h k
 
-pub operation_fits : {core : Core} → IsFitTables core → (start : Place) (o : Operator) (p : Position) {a b : Option Value} → IfAny (IsFitValue core) a → IfAny (IsFitValue core) b → IfTyped (IsFitValue core) (operation_of core start o p a b)
+pub operation_fits : {core : Core} → IsFitTables core → (start : Place) (o : Operator) (p : Position) {a b : Option Value} → IfAny (IsFitValue core) a → IfAny (IsFitValue core) b → IfTyped (IsFitValue core) (checked (operation_of core start o p a b))
 operation_fits t start o p h k = fits_with h (λ a h. fits_with k (λ b k. operated_fits t start o p a b h k))
 
 -- ---- casts
@@ -198,7 +199,7 @@ cast_solid core from to c e = go (sort_of core from) (sort_of core to) refl refl
     go (sort.Ordinal a) (sort.Ordinal b) q r e = (sort_solid core from (sort.Ordinal a) q refl, sort_solid core to (sort.Ordinal b) r refl)
     go s u q r e = absurd (none_is e)
 
-cast_of_fits : (core : Core) (place : Place) (to : TypeId) (v : Value) → IsFitValue core v → IfTyped (IsFitValue core) (cast_of core place to (tree_of v) (type_of v))
+cast_of_fits : (core : Core) (place : Place) (to : TypeId) (v : Value) → IsFitValue core v → IfTyped (IsFitValue core) (checked (cast_of core place to (tree_of v) (type_of v)))
 cast_of_fits core place to v h =
     fits_entry 39 place (cast_by core (type_of v) to (sort_of core (type_of v)) (sort_of core to)) (λ c e.
     let s = cast_solid core (type_of v) to c e in
@@ -282,11 +283,11 @@ function_fits t f checked v of h e g = absurd (none_is e)
 
 -- ---- what is used
 
-computed_use_fits : {core : Core} → IsFitTables core → (p : Position) (what : Applied) (at : Place) (v : Value) → IsFitValue core v → IfTyped (IsFitValue core) (computed_use core p what at v)
+computed_use_fits : {core : Core} → IsFitTables core → (p : Position) (what : Applied) (at : Place) (v : Value) → IsFitValue core v → IfTyped (IsFitValue core) (checked (computed_use core p what at v))
 computed_use_fits {core} t p (Cast of) at v h = cast_of_fits core p.place of v h
 computed_use_fits {core} t p (Function' f) at v h =
-    fits_entry (rule_of f) at (function_type core f (type_of v)) (λ of e. fits_feature p.place (feature_of_argument core f (type_of v)) (λ g. fits_fine (function_fits t f p.switches.q v of h e g)))
+    fits_found (fault (rule_of f) at) (function_type core f (type_of v)) (λ of e. fits_unshown _ p.place (feature_of_argument core f (type_of v)) (λ g. fits_fine (function_fits t f p.switches.q v of h e g)))
 
-pub used_fits : {core : Core} → IsFitTables core → (p : Position) (what : Applied) (at : Place) (v : Value) → IsFitValue core v → IfTyped (IsFitValue core) (used core p what at v)
-used_fits {core} t p what at (constant c) h = fits_if (is_evaluated core what) (λ _. fits_changed constant (use_fits t what p.place at c) (λ c q. q)) (λ _. computed_use_fits t p what at (constant c) h)
+pub used_fits : {core : Core} → IsFitTables core → (p : Position) (what : Applied) (at : Place) (v : Value) → IsFitValue core v → IfTyped (IsFitValue core) (checked (used core p what at v))
+used_fits {core} t p what at (constant c) h = fits_whether _ _ (is_evaluated core what) (fits_changed constant (use_fits t what p.place at c) (λ c q. q)) (computed_use_fits t p what at (constant c) h)
 used_fits t p what at (computed e) h = computed_use_fits t p what at (computed e) h

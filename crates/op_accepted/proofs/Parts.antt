@@ -2,9 +2,11 @@
 use Rattle.std.proofs.Common.{◌≡◌, ℕ, Bool, true, false, Option, Some, None, refl, subst, if◌then◌else◌}
 use Rattle.std.specs.Option.{option_map}
 use Rattle.op_base.specs.declared.place.Place.{Place}
-use Rattle.op_check_expr.specs.Words.{by_feature}
+use Rattle.op_base.specs.declared.rule.Refusal.{Refusal}
+use Rattle.op_check_expr.specs.Parts.{whether, by_feature}
 use Rattle.op_check_stmt.specs.Parts.{both_typed, of_two}
 use Rattle.op_core.specs.Faults.{Checked, Faults, after, by_entry, by_test, none as no_faults, fine, with_part}
+use Rattle.op_judgement.specs.Judgement.{Judgement, checked, or_fault}
 use Rattle.op_accepted.specs.Fit.{IfAny, IfTyped, none, some, typed}
 
 -- ---- values that may be there
@@ -46,13 +48,25 @@ pub fits_test : {A : Type 0} {P : A → Type 0} {c : Checked A} (number : ℕ) (
 fits_test number place false g = fits_silent
 fits_test number place true g = g refl
 
-pub fits_feature : {A : Type 0} {P : A → Type 0} {c : Checked A} (place : Place) (o : Option ℕ) → (o ≡ None → IfTyped P c) → IfTyped P (by_feature place o c)
-fits_feature place None g = g refl
-fits_feature place (Some feature) g = fits_silent
-
 pub fits_if : {A : Type 0} {P : A → Type 0} {c d : Checked A} (b : Bool) → (b ≡ true → IfTyped P c) → (b ≡ false → IfTyped P d) → IfTyped P (if b then c else d)
 fits_if true g h = g refl
 fits_if false g h = h refl
+
+pub fits_whether : {A : Type 0} {P : A → Type 0} (j k : Judgement A) (b : Bool) → IfTyped P (checked j) → IfTyped P (checked k) → IfTyped P (checked (whether b j k))
+fits_whether j k true g h = g
+fits_whether j k false g h = h
+
+pub fits_unshown : {A : Type 0} {P : A → Type 0} (j : Judgement A) (place : Place) (o : Option ℕ) → (o ≡ None → IfTyped P (checked j)) → IfTyped P (checked (by_feature place o j))
+fits_unshown j place None g = g refl
+fits_unshown j place (Some feature) g = fits_silent
+
+pub fits_found : {A B : Type 0} {P : B → Type 0} {f : A → Checked B} (r : Refusal) (o : Option A) → ((a : A) → o ≡ Some a → IfTyped P (f a)) → IfTyped P (or_fault r f o)
+fits_found r None g = fits_silent
+fits_found r (Some a) g = g a refl
+
+-- whatever it is
+pub fits_any : {A : Type 0} (c : Checked A) → IfTyped (λ a. Unit {0}) c
+fits_any c = typed (any_of c.typed (λ a e. tt))
 
 -- a part, and what is made of it
 pub fits_with : {A B : Type 0} {P : A → Type 0} {Q : B → Type 0} {f : A → Checked B} {o : Option A} → IfAny P o → ((a : A) → P a → IfTyped Q (f a)) → IfTyped Q (with_part f o)

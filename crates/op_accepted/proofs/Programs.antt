@@ -13,7 +13,8 @@ use Rattle.op_accepted.specs.Fit.{IsFitMeaning}
 use Rattle.op_accepted.specs.State.{AreTreesFit, IsFitExport, IsFitState, IsLater, Keeps, faulty, kept}
 use Rattle.op_base.specs.declared.rule.Refusal.{Refusal}
 use Rattle.op_check_unit.specs.Interfaces.{interface_order, unit_at}
-use Rattle.op_check_unit.specs.Programs.{Outline, all_outlined, blank_outline, faulted, faults_among, files_mean, in_unit, interface_faults, interface_faults_by, interface_means, outline, outline_faults, outlined, outlined_by, parts_of_program, program_declared, program_means, unit_completes, units_mean, with_interface, with_units}
+use Rattle.op_check_unit.specs.Programs.{Outline, all_outlined, blank_outline, faulted, faults_among, files_mean, in_unit, interface_faults, interface_faults_by, outline, outline_faults, outlined, outlined_by, parts_of_program, program_means, units_mean, with_interface, with_units}
+use Rattle.op_check_unit.specs.Readings.{interface_means, program_declared, unit_completes}
 use Rattle.op_check_unit.specs.Steps.{Given, Here, is_clear, unless, unless_faulty}
 use Rattle.op_check_unit.specs.System.{beginning}
 use Rattle.op_check_unit.specs.Uses.{exported, put_apart}

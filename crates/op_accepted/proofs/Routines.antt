@@ -13,9 +13,9 @@ use Rattle.op_accepted.specs.Fit.{AreFitStatements, IfAny, IfTyped, IsFitMeaning
 use Rattle.op_accepted.specs.State.{AreFitNames, AreTreesFit, IsFitState, IsLater, IsOuterRow, IsPlainRow, Keeps, kept}
 use Rattle.op_base.specs.declared.place.Place.{Place}
 use Rattle.op_check_stmt.specs.Statements.{statements}
-use Rattle.op_check_unit.specs.Headings.{form_means, head_means}
 use Rattle.op_check_unit.specs.Naming.{ended, told_in, with_ahead}
-use Rattle.op_check_unit.specs.Routines.{ahead_declared, awaited_named, awaits, block_means, body_means, both_typed, by_standing, class_meant, completed, entered, first_declared, headed, if_same, inner, is_heading_of, left, local_declared, locals_fit, most_bytes, next_routine, no_rows, parameter_names, parameter_variable, plain_declared, result_name, routine_by, routine_declared, routine_row, same_means, scope_of, statements_mean, with_body, with_local, with_parameters, with_result, with_routine, with_variables}
+use Rattle.op_check_unit.specs.Readings.{ahead_declared, block_means, body_means, by_standing, class_meant, first_declared, form_means, head_means, headed, if_same, inner, local_declared, locals_fit, plain_declared, routine_by, routine_declared, same_means, statements_mean}
+use Rattle.op_check_unit.specs.Routines.{awaited_named, awaits, both_typed, completed, entered, is_heading_of, left, most_bytes, next_routine, no_rows, parameter_names, parameter_variable, result_name, routine_row, scope_of, with_body, with_local, with_parameters, with_result, with_routine, with_variables}
 use Rattle.op_check_unit.specs.Steps.{Here, followed, gives}
 use Rattle.op_check_unit.specs.declared.heading.Head.{Head}
 use Rattle.op_core.proofs.Growing.{some_and, stay_there}

@@ -16,14 +16,13 @@ use Rattle.op_check_stmt.specs.Leaving.{in_finally, jump_of, reach_of}
 use Rattle.op_check_stmt.specs.Parts.{paired}
 use Rattle.op_check_stmt.specs.Procedures as procedures
 use Rattle.op_check_stmt.specs.Procedures.{Called, Values, base_by, base_in, base_of, called, called_means, change, change_means, count_means, exit_means, exits, halt_means, is_text, item, items, jump_means, member, plain_call, procedure, result_at, result_of, set, text, unwritten, values, written}
-use Rattle.op_check_stmt.specs.Statements.{all_spots, assign_means, bound_of, branches, case_statement, condition, first_class, for_statement, head_means, looped, statement, statements, stored, tried, type_in, with_branch, within}
+use Rattle.op_check_stmt.specs.Statements.{all_spots, assign_means, bound_of, branches, case_statement, condition, first_class, for_statement, head_means, looped, statement, statements, stored, tried_on, type_in, with_branch, within}
 use Rattle.op_check_stmt.specs.Variables.{counter, host_of, is_ordinal}
 use Rattle.op_check_stmt.specs.declared.leaving.Jump.{Jump}
 use Rattle.op_check_stmt.specs.declared.leaving.Jump.TheVariants.{Break, Continue}
 use Rattle.op_check_stmt.specs.declared.variable.Counter.{Counter}
 use Rattle.op_core.specs.Expression.{Expression as Tree}
-use Rattle.op_core.specs.Faults.{Checked}
-use Rattle.op_core.specs.Statement.{plain, padded, write, count, Statement, block, if_then, if_else, while_do, repeat_until, try_finally, assign, call as call_statement, exit_with, halt, built_in, Statements, statements as core_statements}
+use Rattle.op_core.specs.Statement.{plain, padded, write, count, Statement, block, if_then, if_else, while_do, repeat_until, try_finally, assign, call as call_statement, exit_with, halt, built_in, statements as core_statements}
 use Rattle.op_core.specs.Typing as typing
 use Rattle.op_core.specs.declared.ids.TypeId.{TypeId}
 use Rattle.op_core.specs.declared.statement.Label.{Label}
@@ -181,9 +180,9 @@ head_fits here h e bs g =
     fits_followed (fits_two {R = IsFitHead here.core} (λ e bs. (e, bs)) (selector_fits here h e) (g (type_in (selector here e).typed)) (λ t cs k l. (k, l)))
     (λ head k. once_fits k (repeated (all_spots here (type_in (selector here e).typed) bs)))
 
-tried_fits : {P : Statement → Type 0} {whole : Checked Statement} (at : Option Place) (body : Checked Statements) → IfTyped P whole → IfTyped P (tried at body whole)
-tried_fits None body h = h
-tried_fits (Some at) body h = fits_silent
+tried_fits : {P : Statement → Type 0} (here : Here) (at : Option Place) (ss : tree.Statements) → IfTyped P (changed block (statements here ss)) → IfTyped P (tried_on here at ss)
+tried_fits here None ss h = h
+tried_fits here (Some at) ss h = fits_silent
 
 mutual
   pub statement_fits : (here : Here) → IsFitHere here → (x : tree.Statement) → IfTyped (IsFitStatement here.core) (statement here x)
@@ -207,7 +206,7 @@ mutual
   statement_fits here h (tree.for_in n e x) = fits_silent
   statement_fits here h (tree.try_finally ss ts) = fits_two try_finally (statements_fit here h ss) (statements_fit (within here Finally) (fit_within Finally h) ts) (λ ss ts k m. and_from _ _ k m)
   statement_fits here h (tree.try_except ss ts) = fits_silent
-  statement_fits here h (tree.try_on ss hs) = tried_fits (first_class hs) (statements here ss) (fits_changed block (statements_fit here h ss) (λ x k. k))
+  statement_fits here h (tree.try_on ss hs) = tried_fits here (first_class hs) ss (fits_changed block (statements_fit here h ss) (λ x k. k))
   statement_fits here h (tree.try_on_else ss hs ts) = fits_silent
   statement_fits here h (tree.raise p e) = fits_silent
   statement_fits here h (tree.reraise p) = fits_silent

@@ -6,16 +6,17 @@ use Rattle.std.specs.Option.{option_or}
 use Rattle.std.specs.Str.{bytes_eq}
 use Rattle.op_accepted.proofs.Grown.{same_type, type_on}
 use Rattle.op_accepted.proofs.StateParts.{Nothing, keeps_gives, keeps_here, keeps_where}
-use Rattle.op_accepted.proofs.Parts.{any_of, fits_after, fits_entry, fits_feature, fits_fine, fits_if, fits_silent, fits_test, fits_with}
+use Rattle.op_accepted.proofs.Parts.{any_of, both_are, fits_after, fits_entry, fits_fine, fits_if, fits_silent, fits_test, fits_unshown, fits_with}
 use Rattle.op_accepted.proofs.Rows.{behind_front, named_fit, wide, wide_fit, wide_later}
 use Rattle.op_accepted.proofs.Solid.{boolean_solid, char_solid, integer_solid}
 use Rattle.op_accepted.specs.Fit.{IfAny, IfTyped, IsFitMeaning, IsFitTables, IsFitType, typed}
 use Rattle.op_accepted.specs.State.{AreFitNames, AreTreesFit, IsFitState, Keeps}
 use Rattle.op_base.specs.declared.place.Place.{Place}
 use Rattle.op_check_expr.specs.Naming.{feature_of_type}
-use Rattle.op_check_unit.specs.Naming.{declared, entered_name, has_room, is_declared, is_name, own_type, qualified, told_by, type_meant, type_named, type_of_unit, with_name}
+use Rattle.op_check_unit.specs.Naming.{has_room, is_declared, is_name, qualified, told_by, with_name}
+use Rattle.op_check_unit.specs.Readings.{bounds, constant_part, declared, entered_name, lower_of, own_type, row, sized_row, subrange_of, type_meant, type_named, type_of_unit}
 use Rattle.op_check_unit.specs.Steps.{Here, gives}
-use Rattle.op_check_unit.specs.Types.{bounds, constant_part, has_few_elements, in_core, is_kind, is_small, lower_of, most_bytes, number_of_next, row, sized_row, subrange_of, whole_type}
+use Rattle.op_check_unit.specs.Types.{has_few_elements, in_core, is_kind, is_small, most_bytes, number_of_next, pair, whole_type}
 use Rattle.op_core.proofs.Growing.{each_stands}
 use Rattle.op_core.specs.Faults.{Checked}
 use Rattle.op_core.specs.Sizes.{extent_of, range_of, type_at, values_of}
@@ -30,6 +31,8 @@ use Rattle.op_tree.specs.declared.position.Name.{Name}
 use Rattle.op_tree.specs.declared.position.QualifiedName.{QualifiedName}
 use Rattle.op_types.proofs.Entered.{Stand}
 use Rattle.op_types.proofs.TypeFacts.{Rooted, rooted}
+use Rattle.op_judgement.specs.Judgement.{fine, refused}
+use Rattle.op_judgement.specs.Rules.{wrong_kind_of_name}
 use Rattle.op_types.specs.Constants.{joined_name, start_of}
 use Rattle.op_types.specs.Entering.{entered, rows_of, sets_of, with_type, with_types}
 use Rattle.op_types.specs.Names.{Named, lower, meaning_of}
@@ -71,7 +74,7 @@ shown (Some n) h e = absurd (cc)
 meant_fits : (core : Core) (place : Place) (m : Option Meaning) → IfSome m (IsFitMeaning core) → IfTyped (IsSolidType core) (type_meant core place (told_by m))
 meant_fits core place None u = fits_silent
 meant_fits core place (Some meaning.Spoiled) u = fits_silent
-meant_fits core place (Some (meaning.TypeName of)) u = fits_feature place (feature_of_type (type_at core of)) (λ e. fits_fine (one u e))
+meant_fits core place (Some (meaning.TypeName of)) u = fits_unshown (fine of) place (feature_of_type (type_at core of)) (λ e. fits_fine (one u e))
   where
     one : IsSolidType core of ⊎ IsSome (feature_of_type (type_at core of)) → feature_of_type (type_at core of) ≡ None → IsSolidType core of
     one (inl h) e = h
@@ -83,7 +86,7 @@ meant_fits core place (Some m) u = fits_silent
 unit_fits : (core : Core) (names : List Named) → AreFitNames core names → (q n : Name) (m : Option Meaning) → IfTyped (IsSolidType core) (type_of_unit core names q n (told_by m))
 unit_fits core names u q n None = fits_silent
 unit_fits core names u q n (Some meaning.Spoiled) = fits_silent
-unit_fits core names u q n (Some (meaning.TypeName of)) = fits_feature q.position.place (feature_of_type (type_at core of)) (λ e. fits_silent)
+unit_fits core names u q n (Some (meaning.TypeName of)) = fits_unshown (refused wrong_kind_of_name q.position.place) q.position.place (feature_of_type (type_at core of)) (λ e. fits_silent)
 unit_fits core names u q n (Some (meaning.Unit id)) = meant_fits core n.position.place (meaning_of names (joined_name q.text n.text)) (found core names u (joined_name q.text n.text))
 unit_fits core names u q n (Some (meaning.BuiltIn (LeftOut feature))) = fits_silent
 unit_fits core names u q n (Some (meaning.BuiltIn b)) = fits_silent
@@ -201,4 +204,6 @@ typed_any (typed h) = h
 
 pub subrange_fits : {core : Core} → IsFitTables core → (names : List Named) (first last : Expression) → IfTyped (IsFitRow core) (subrange_of core names first last)
 subrange_fits {core} t names first last =
-    fits_after (fits_with (typed_any (lower_fits t names first)) (λ low h. fits_with (present (constant_part core names last).typed) (λ c _. bounds_fits core (start_of first) (start_of last) low c h)))
+    fits_after
+    (fits_with (both_are {C = (OrdinalKind × ℤ) × Constant} {R = λ both. IsSolidType core (whole_type both.0.0)} pair (typed_any (lower_fits t names first)) (present (constant_part core names last).typed) (λ low c h _. h))
+    (λ both h. bounds_fits core (start_of first) (start_of last) both.0 both.1 h))

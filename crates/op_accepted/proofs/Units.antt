@@ -12,10 +12,11 @@ use Rattle.op_accepted.specs.Fit.{IsFitMeaning}
 use Rattle.op_accepted.specs.State.{AreFitNames, AreTreesFit, IsFitExport, IsFitState, Keeps}
 use Rattle.op_check_unit.specs.Declaring.{most_global_bytes, with_bytes}
 use Rattle.op_check_unit.specs.Interfaces.{unit_named}
-use Rattle.op_check_unit.specs.Programs.{all_declared, counted_global, declaration_means, global_counted, implementation_means, interface_means, main_head, main_tail, missing, missing_in, name_of, own_globals, part_means, parts_mean, program_declared, program_ends, reopened, unit_completes, unit_ends, unit_left, unit_means, with_heading, with_unit}
+use Rattle.op_check_unit.specs.Programs.{main_head, main_tail, name_of, own_globals, unit_left, with_heading, with_unit}
+use Rattle.op_check_unit.specs.Readings.{all_declared, counted_global, declaration_means, global_counted, implementation_means, interface_means, missing, missing_in, part_means, parts_mean, program_declared, program_ends, reopened, unit_completes, unit_ends, unit_means, used, used_by, uses_mean}
 use Rattle.op_check_unit.specs.Routines.{next_routine, no_rows, routine_row, with_routine}
 use Rattle.op_check_unit.specs.Steps.{Here, by, each, followed, gives}
-use Rattle.op_check_unit.specs.Uses.{exports_of, is_system, put_back, used, used_by, uses_mean, with_own}
+use Rattle.op_check_unit.specs.Uses.{exports_of, is_system, put_back, with_own}
 use Rattle.op_check_unit.specs.declared.uses.Export.{Export}
 use Rattle.op_core.specs.Sizes.{extent_of}
 use Rattle.op_core.specs.declared.ids.RoutineId.{RoutineId}

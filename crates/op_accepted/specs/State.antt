@@ -5,8 +5,8 @@ use Rattle.op_accepted.specs.Fit.{AreFitStatements, IfAny, IfTyped, IsFitConstan
 use Rattle.op_base.specs.declared.rule.Refusal.{Refusal}
 use Rattle.op_check_expr.specs.Scopes.{Here as Scope}
 use Rattle.op_check_stmt.specs.Statements.{statements}
+use Rattle.op_check_unit.specs.Readings.{constant_part}
 use Rattle.op_check_unit.specs.Steps.{Given, Here}
-use Rattle.op_check_unit.specs.Types.{constant_part}
 use Rattle.op_check_unit.specs.declared.uses.Export.{Export}
 use Rattle.op_core.specs.Faults.{IsIn}
 use Rattle.op_core.specs.Growing.{IsFrontOf, Stay}

@@ -6,7 +6,7 @@ use Rattle.op_core.specs.Expression.{expr_of}
 use Rattle.op_core.specs.Faults.{Checked, FirstIs, or_typed}
 use Rattle.op_core.specs.declared.error.CheckError.{CheckError}
 use Rattle.op_core.specs.declared.expression.CoreExpr.{CoreExpr}
-use Rattle.op_check_expr.specs.Meanings.{ExprIs, failure}
+use Rattle.op_check_expr.specs.Phrases.{ExprIs, failure}
 use Rattle.op_check_expr.specs.Values.{Value, tree_of}
 
 pub by_first : (c : Checked Value) (e : CoreExpr) (r : Result CoreExpr CheckError) (first : Option Refusal) → FirstIs c.faults first → r ≡ or_typed first e → option_map tree_of c.typed ≡ Some (expr_of e) → ExprIs c r

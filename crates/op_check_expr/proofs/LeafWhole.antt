@@ -4,7 +4,8 @@ use Rattle.std.proofs.lemmas.Bool.{and_parts, false≢true}
 use Rattle.std.specs.List.{list_all}
 use Rattle.std.specs.Option.{IfSome, IsSomeAnd}
 use Rattle.op_base.specs.declared.place.Place.{Place}
-use Rattle.op_core.proofs.Completing.{whole_behind, whole_changed_so, whole_entered, whole_as, whole_followed, whole_gives, whole_if, whole_refused, whole_rule, whole_standing, whole_tested, whole_with}
+use Rattle.op_base.specs.declared.rule.Refusal.{Refusal}
+use Rattle.op_core.proofs.Completing.{whole_changed_so, whole_entered, whole_as, whole_followed, whole_gives, whole_rule, whole_standing, whole_tested, whole_with}
 use Rattle.op_core.proofs.OneType.{one_back}
 use Rattle.op_core.specs.Expression.{Expression as Tree, expression, variable, Steps, no_steps, steps, Action, field, index, value as value_argument, place as place_argument}
 use Rattle.op_core.specs.Faults.{Checked}
@@ -24,6 +25,9 @@ use Rattle.op_tree.specs.declared.operator.Operator.{Operator}
 use Rattle.op_tree.specs.declared.operator.PrefixOperator.{PrefixOperator}
 use Rattle.op_tree.specs.declared.position.Name.{Name}
 use Rattle.op_tree.specs.declared.position.Position.{Position}
+use Rattle.op_judgement.specs.Judgement.{Judgement, changed, checked, fault, or_fault}
+use Rattle.op_judgement.specs.Rules.{character_of_string, no_cast, no_member, no_operator, no_set_element, no_variable, not_assignable, not_indexed, not_ordinal, not_writable, variable_of_another_type}
+use Rattle.op_check_expr.specs.Parts.{by_feature, whether}
 use Rattle.op_check_expr.proofs.Operations.{IsIndex, cast_sound, field_sound, function_sound, goes_by, index_is, index_sound, kind_from, operation_sound, prefix_sound, set_sort}
 use Rattle.op_check_expr.proofs.Trees.{Passes, as_type_goes, as_type_value, as_value, one_exact}
 use Rattle.op_check_expr.specs.Calling.{passed}
@@ -38,9 +42,9 @@ use Rattle.op_check_expr.specs.Places.{is_very, is_writable, is_writable_row, ta
 use Rattle.op_check_expr.specs.Scopes.{Here}
 use Rattle.op_check_expr.specs.Settled.{IsKnown, IsSettled, IsSoundValue}
 use Rattle.op_check_expr.specs.Values.{Value, constant, computed, as_type, index_at, stored, tree_of, type_of}
-use Rattle.op_check_expr.specs.Words.{by_feature, changed}
+use Rattle.op_check_expr.specs.Words as words
 use Rattle.op_types.proofs.Assigning.{is_assignable}
-use Rattle.op_types.proofs.ConstantWhole.{brackets_whole, gathered_whole, numeral_whole, operator_whole, prefix_whole as prefix_constant_whole, range_whole, single_whole, use_whole}
+use Rattle.op_types.proofs.ConstantWhole.{gathered_whole, numeral_whole, operator_whole, prefix_whole as prefix_constant_whole, range_whole, single_whole, use_whole}
 use Rattle.op_types.proofs.Sorting.{Stands, stands, stands_as}
 use Rattle.op_types.proofs.TypeFacts.{common_is_set, common_left, empty_set_kind, over_is_set, stands_for}
 use Rattle.op_types.specs.Assignable as assign
@@ -60,21 +64,31 @@ use Rattle.op_types.specs.declared.sort.Sort.TheVariants.{Ordinal, Set, EmptySet
 use Rattle.op_types.specs.declared.visible.Meaning.{Meaning}
 use Rattle.op_types.specs.declared.visible.Meaning.TheVariants as meaning
 
-whole_unshown : {A : Type 0} {P : A → Type 0} {c : Checked A} (place : Place) (o : Option ℕ) → (o ≡ None → Whole P c) → Whole P (by_feature place o c)
-whole_unshown place None h = h refl
-whole_unshown place (Some f) h = whole_rule
+whole_unshown : {A : Type 0} {P : A → Type 0} (j : Judgement A) (place : Place) (o : Option ℕ) → (o ≡ None → Whole P (checked j)) → Whole P (checked (by_feature place o j))
+whole_unshown j place None h = h refl
+whole_unshown j place (Some f) h = whole_rule
 
-pub whole_feature : {A : Type 0} {P : A → Type 0} {c : Checked A} (place : Place) (o : Option ℕ) → Whole P c → Whole P (by_feature place o c)
-whole_feature place o h = whole_unshown place o (λ _. h)
+whole_whether : {A : Type 0} {P : A → Type 0} (j k : Judgement A) (b : Bool) → Whole P (checked j) → Whole P (checked k) → Whole P (checked (whether b j k))
+whole_whether j k true h i = h
+whole_whether j k false h i = i
 
-pub number_whole : {core : Core} (sees : Sees) → IsFounded core → (n : Option (ℕ × Place)) {c : Checked Value} → Whole (IsSoundValue core sees) c → Whole (IsSoundValue core sees) (or_number n c)
-number_whole sees f None h = h
-number_whole sees f (Some n) h = whole_changed_so constant (numeral_whole f n.1 2 (neg_ℤ (pos n.0))) (λ c q. q)
+whole_found : {A B : Type 0} {P : B → Type 0} {f : A → Checked B} (r : Refusal) (o : Option A) → ((a : A) → o ≡ Some a → Whole P (f a)) → Whole P (or_fault r f o)
+whole_found r None g = whole_rule
+whole_found r (Some a) g = g a refl
+
+-- the same of what the checkers above compute
+pub whole_feature : {A : Type 0} {P : A → Type 0} {c : Checked A} (place : Place) (o : Option ℕ) → Whole P c → Whole P (words.by_feature place o c)
+whole_feature place None h = h
+whole_feature place (Some f) h = whole_rule
+
+pub number_whole : {core : Core} (sees : Sees) → IsFounded core → (n : Option (ℕ × Place)) (j : Judgement Value) → Whole (IsSoundValue core sees) (checked j) → Whole (IsSoundValue core sees) (checked (or_number n j))
+number_whole sees f None j h = h
+number_whole sees f (Some n) j h = whole_changed_so constant (numeral_whole f n.1 2 (neg_ℤ (pos n.0))) (λ c q. q)
 
 -- ---- values
 
-pub stored_whole : (core : Core) (sees : Sees) (at : Place) (checked : Bool) (to : TypeId) (v : Value) → IsSoundValue core sees v → Whole (IsValue core sees to) (stored core at checked to v)
-stored_whole core sees at checked to v h = whole_tested 20 at (assignable core (type_of v) to) (λ a. whole_gives (as_type_value core sees checked to v h a))
+pub stored_whole : (core : Core) (sees : Sees) (at : Place) (ranges : Bool) (to : TypeId) (v : Value) → IsSoundValue core sees v → Whole (IsValue core sees to) (checked (stored core at ranges to v))
+stored_whole core sees at ranges to v h = whole_tested not_assignable.number at (assignable core (type_of v) to) (λ a. whole_gives (as_type_value core sees ranges to v h a))
 
 -- a variable, of the very type where one is given, and no character of a string
 abbrev pub AsVariable : Core → Sees → Option TypeId → Tree → Type 0
@@ -84,10 +98,10 @@ very : (core : Core) (from : TypeId) (to : Option TypeId) → is_very core from 
 very core from None h = tt
 very core from (Some to) h = h
 
-pub variable_value_whole : (here : Here) (sees : Sees) (at : Place) (of : Option TypeId) (v : Value) → IsSoundValue here.core sees v → Whole (AsVariable here.core sees of) (variable_value here at of v)
+pub variable_value_whole : (here : Here) (sees : Sees) (at : Place) (of : Option TypeId) (v : Value) → IsSoundValue here.core sees v → Whole (AsVariable here.core sees of) (checked (variable_value here at of v))
 variable_value_whole here sees at of (computed e) h =
-    whole_tested 27 at (is_place true here.core e) (λ _. whole_tested 28 at (is_very here.core (typing.type_of e) of) (λ o. whole_tested 29 at (is_writable here true e) (λ _. whole_tested 37 at (is_place false here.core e) (λ p. whole_gives (h, p, very here.core (typing.type_of e) of o)))))
-variable_value_whole here sees at of (constant c) h = whole_refused
+    whole_tested no_variable.number at (is_place true here.core e) (λ _. whole_tested variable_of_another_type.number at (is_very here.core (typing.type_of e) of) (λ o. whole_tested not_writable.number at (is_writable here true e) (λ _. whole_tested character_of_string.number at (is_place false here.core e) (λ p. whole_gives (h, p, very here.core (typing.type_of e) of o)))))
+variable_value_whole here sees at of (constant c) h = whole_rule
 
 -- what leads to a place by itself, or not
 leads_by : (t : Option CoreType) (a : Action) (b : Bool) → (leads_on true t a false ≡ leads_on true t a b) ⊎ (leads_on true t a false ≡ false)
@@ -119,58 +133,58 @@ written_place here (expression (variable id) of ss) h = go (is_writable_row here
     go false h = place_from here.core of ss true h
 written_place here (expression root of ss) h = h
 
-pub target_value_whole : (here : Here) (sees : Sees) (at : Place) (v : Value) → IsSoundValue here.core sees v → Whole (λ t. IsTyped here.core sees t × (is_place true here.core t ≡ true)) (target_value here at v)
-target_value_whole here sees at (computed e) h = whole_tested 29 at (is_writable here true e) (λ w. whole_gives (h, written_place here e w))
-target_value_whole here sees at (constant c) h = whole_refused
+pub target_value_whole : (here : Here) (sees : Sees) (at : Place) (v : Value) → IsSoundValue here.core sees v → Whole (λ t. IsTyped here.core sees t × (is_place true here.core t ≡ true)) (checked (target_value here at v))
+target_value_whole here sees at (computed e) h = whole_tested not_writable.number at (is_writable here true e) (λ w. whole_gives (h, written_place here e w))
+target_value_whole here sees at (constant c) h = whole_rule
 
-pub passed_whole : (here : Here) (sees : Sees) (p : Parameter) (at : Position) {o : Option Value} → Filled (IsSoundValue here.core sees) o → Whole (IsArgument here.core sees p) (passed here (Some p) at o)
-passed_whole here sees p at (filled v h) = go (takes_place p.mode) refl
+pub passed_whole : (here : Here) (sees : Sees) (p : Parameter) (at : Position) (v : Value) → IsSoundValue here.core sees v → Whole (IsArgument here.core sees p) (checked (passed here (Some p) at v))
+passed_whole here sees p at v h = go (takes_place p.mode) refl
   where
-    go : (b : Bool) → takes_place p.mode ≡ b → Whole (IsArgument here.core sees p) (if b then changed place_argument (variable_value here at.place (Some p.of) v) else changed value_argument (stored here.core at.place at.switches.r p.of v))
+    go : (b : Bool) → takes_place p.mode ≡ b → Whole (IsArgument here.core sees p) (checked (whether b (changed place_argument (variable_value here at.place (Some p.of) v)) (changed value_argument (stored here.core at.place at.switches.r p.of v))))
     go true e = whole_changed_so place_argument (variable_value_whole here sees at.place (Some p.of) v h) (λ t q. (as_value here.core sees p.of t q.0 q.2, e, q.1))
     go false e = whole_changed_so value_argument (stored_whole here.core sees at.place at.switches.r p.of v h) (λ t q. (q, e))
 
-computed_operation_whole : (core : Core) (sees : Sees) → IsFounded core → (o : Operator) (p : Position) (a b : Value) → IsSoundValue core sees a → IsSoundValue core sees b → Whole (IsSoundValue core sees) (computed_operation core o p a b)
+computed_operation_whole : (core : Core) (sees : Sees) → IsFounded core → (o : Operator) (p : Position) (a b : Value) → IsSoundValue core sees a → IsSoundValue core sees b → Whole (IsSoundValue core sees) (checked (computed_operation core o p a b))
 computed_operation_whole core sees f o p a b h k =
-    whole_entered 21 p.place (table.operation o (sort_of core (type_of a)) (sort_of core (type_of b)) (common_set core (type_of a) (type_of b)))
-    (λ of e. whole_unshown p.place (feature_of_operands o (sort_of core (type_of a)) (sort_of core (type_of b))) (λ g. whole_gives (operation_sound core sees f o p.switches.q a b of h k e g)))
+    whole_entered no_operator.number p.place (table.operation o (sort_of core (type_of a)) (sort_of core (type_of b)) (common_set core (type_of a) (type_of b)))
+    (λ of e. whole_unshown _ p.place (feature_of_operands o (sort_of core (type_of a)) (sort_of core (type_of b))) (λ g. whole_gives (operation_sound core sees f o p.switches.q a b of h k e g)))
 
-operated_whole : (core : Core) (sees : Sees) → IsFounded core → (start : Place) (o : Operator) (p : Position) (a b : Value) → IsSoundValue core sees a → IsSoundValue core sees b → Whole (IsSoundValue core sees) (operated core start o p a b)
+operated_whole : (core : Core) (sees : Sees) → IsFounded core → (start : Place) (o : Operator) (p : Position) (a b : Value) → IsSoundValue core sees a → IsSoundValue core sees b → Whole (IsSoundValue core sees) (checked (operated core start o p a b))
 operated_whole core sees f start o p (constant a) (constant b) h k =
-    whole_if (is_folded o) (whole_changed_so constant (operator_whole f start o p.place a b h k) (λ c q. q)) (computed_operation_whole core sees f o p (constant a) (constant b) h k)
+    whole_whether _ _ (is_folded o) (whole_changed_so constant (operator_whole f start o p.place a b h k) (λ c q. q)) (computed_operation_whole core sees f o p (constant a) (constant b) h k)
 operated_whole core sees f start o p (constant a) (computed b) h k = computed_operation_whole core sees f o p (constant a) (computed b) h k
 operated_whole core sees f start o p (computed a) b h k = computed_operation_whole core sees f o p (computed a) b h k
 
-pub operation_whole : (core : Core) (sees : Sees) → IsFounded core → (start : Place) (o : Operator) (p : Position) {a b : Option Value} → Filled (IsSoundValue core sees) a → Filled (IsSoundValue core sees) b → Whole (IsSoundValue core sees) (operation_of core start o p a b)
+pub operation_whole : (core : Core) (sees : Sees) → IsFounded core → (start : Place) (o : Operator) (p : Position) {a b : Option Value} → Filled (IsSoundValue core sees) a → Filled (IsSoundValue core sees) b → Whole (IsSoundValue core sees) (checked (operation_of core start o p a b))
 operation_whole core sees f start o p h k = whole_with h (λ a h. whole_with k (λ b k. operated_whole core sees f start o p a b h k))
 
-pub prefix_whole : (core : Core) (sees : Sees) → IsFounded core → (o : PrefixOperator) (p : Position) (v : Value) → IsSoundValue core sees v → Whole (IsSoundValue core sees) (prefix_of core o p v)
+pub prefix_whole : (core : Core) (sees : Sees) → IsFounded core → (o : PrefixOperator) (p : Position) (v : Value) → IsSoundValue core sees v → Whole (IsSoundValue core sees) (checked (prefix_of core o p v))
 prefix_whole core sees f o p (constant c) h = whole_changed_so constant (prefix_constant_whole f p.place o c h) (λ c q. q)
 prefix_whole core sees f o p (computed e) h =
-    whole_entered 21 p.place (table.prefixed o (sort_of core (type_of (computed e)))) (λ of q. whole_gives (prefix_sound core sees f o p.switches.q (computed e) of h q))
+    whole_entered no_operator.number p.place (table.prefixed o (sort_of core (type_of (computed e)))) (λ of q. whole_gives (prefix_sound core sees f o p.switches.q (computed e) of h q))
 
-computed_use_whole : (core : Core) (sees : Sees) → IsFounded core → (p : Position) (what : Applied) (at : Place) (v : Value) → IsSoundValue core sees v → Whole (IsSoundValue core sees) (computed_use core p what at v)
+computed_use_whole : (core : Core) (sees : Sees) → IsFounded core → (p : Position) (what : Applied) (at : Place) (v : Value) → IsSoundValue core sees v → Whole (IsSoundValue core sees) (checked (computed_use core p what at v))
 computed_use_whole core sees f p (Cast of) at (constant c) h =
-    whole_entered 39 p.place (cast_by core c.of of (sort_of core c.of) (sort_of core of)) (λ q e. whole_gives (cast_sound core sees (tree_of (constant c)) of q (h, tt) e))
+    whole_entered no_cast.number p.place (cast_by core c.of of (sort_of core c.of) (sort_of core of)) (λ q e. whole_gives (cast_sound core sees (tree_of (constant c)) of q (h, tt) e))
 computed_use_whole core sees f p (Cast of) at (computed t) h =
-    whole_entered 39 p.place (cast_by core (typing.type_of t) of (sort_of core (typing.type_of t)) (sort_of core of)) (λ q e. whole_gives (cast_sound core sees t of q h e))
+    whole_entered no_cast.number p.place (cast_by core (typing.type_of t) of (sort_of core (typing.type_of t)) (sort_of core of)) (λ q e. whole_gives (cast_sound core sees t of q h e))
 computed_use_whole core sees f p (Function' g) at v h =
-    whole_entered (rule_of g) at (function_type core g (type_of v)) (λ of e. whole_feature p.place (feature_of_argument core g (type_of v)) (whole_gives (function_sound core sees f g p.switches.q v of h e)))
+    whole_found (fault (rule_of g) at) (function_type core g (type_of v)) (λ of e. whole_unshown _ p.place (feature_of_argument core g (type_of v)) (λ _. whole_gives (function_sound core sees f g p.switches.q v of h e)))
 
-pub used_whole : (core : Core) (sees : Sees) → IsFounded core → (p : Position) (what : Applied) (at : Place) (v : Value) → IsSoundValue core sees v → Whole (IsSoundValue core sees) (used core p what at v)
+pub used_whole : (core : Core) (sees : Sees) → IsFounded core → (p : Position) (what : Applied) (at : Place) (v : Value) → IsSoundValue core sees v → Whole (IsSoundValue core sees) (checked (used core p what at v))
 used_whole core sees f p what at (constant c) h =
-    whole_if (is_evaluated core what) (whole_changed_so constant (use_whole f what p.place at c h) (λ c q. q)) (computed_use_whole core sees f p what at (constant c) h)
+    whole_whether _ _ (is_evaluated core what) (whole_changed_so constant (use_whole f what p.place at c h) (λ c q. q)) (computed_use_whole core sees f p what at (constant c) h)
 used_whole core sees f p what at (computed e) h = computed_use_whole core sees f p what at (computed e) h
 
-index_at_whole : (core : Core) (sees : Sees) (at : Place) (of : Option CoreType) (to : TypeId) (v : Value) → IsSoundValue core sees v → Whole (IsIndex core sees of to) (index_at core at of to v)
-index_at_whole core sees at of to v h = whole_tested 20 at (assignable core (type_of v) to) (λ a. whole_gives (index_is core sees of to v h a))
+index_at_whole : (core : Core) (sees : Sees) (at : Place) (of : Option CoreType) (to : TypeId) (v : Value) → IsSoundValue core sees v → Whole (IsIndex core sees of to) (checked (index_at core at of to v))
+index_at_whole core sees at of to v h = whole_tested not_assignable.number at (assignable core (type_of v) to) (λ a. whole_gives (index_is core sees of to v h a))
 
-element_at_whole : (core : Core) (sees : Sees) → IsFounded core → (at : Place) (a : Value) (of : TypeId × TypeId) (v : Value) → index_types (type_at core (type_of a)) ≡ Some of → IsSoundValue core sees a → IsSoundValue core sees v → Whole (IsSoundValue core sees) (element_at core at a of v)
-element_at_whole core sees f at a of v e h k = whole_behind (index_at_whole core sees at (type_at core (type_of a)) of.0 v k) (λ i q. whole_gives (index_sound core sees f a i of h e q))
+element_at_whole : (core : Core) (sees : Sees) → IsFounded core → (at : Place) (a : Value) (of : TypeId × TypeId) (v : Value) → index_types (type_at core (type_of a)) ≡ Some of → IsSoundValue core sees a → IsSoundValue core sees v → Whole (IsSoundValue core sees) (checked (element_at core at a of v))
+element_at_whole core sees f at a of v e h k = whole_changed_so _ (index_at_whole core sees at (type_at core (type_of a)) of.0 v k) (λ i q. index_sound core sees f a i of h e q)
 
-pub indexed_whole : (core : Core) (sees : Sees) → IsFounded core → (bracket at : Place) {a v : Option Value} → Filled (IsSoundValue core sees) a → Filled (IsSoundValue core sees) v → Whole (IsSoundValue core sees) (indexed core bracket at a v)
+pub indexed_whole : (core : Core) (sees : Sees) → IsFounded core → (bracket at : Place) {a v : Option Value} → Filled (IsSoundValue core sees) a → Filled (IsSoundValue core sees) v → Whole (IsSoundValue core sees) (checked (indexed core bracket at a v))
 indexed_whole core sees f bracket at h k =
-    whole_with h (λ a h. whole_entered 24 bracket (index_types (type_at core (type_of a))) (λ of e. whole_with k (λ v k. element_at_whole core sees f at a of v e h k)))
+    whole_with h (λ a h. whole_entered not_indexed.number bracket (index_types (type_at core (type_of a))) (λ of e. whole_with k (λ v k. element_at_whole core sees f at a of v e h k)))
 
 -- ---- names
 
@@ -179,27 +193,27 @@ there_is [] n l = absurd (omega (arith, l))
 there_is (x ∷ xs) zero l = (x, refl)
 there_is (x ∷ xs) (suc n) l = there_is xs n (omega (arith, l))
 
-variable_whole : (here : Here) (sees : Sees) (p : Position) (id : VariableId) → sees.variable id → Row here.core.variables id.0 → Whole (IsKnown here.core sees) (variable_named p id (slice_get here.core.variables id.0))
+variable_whole : (here : Here) (sees : Sees) (p : Position) (id : VariableId) → sees.variable id → Row here.core.variables id.0 → Whole (IsKnown here.core sees) (checked (variable_named p id (slice_get here.core.variables id.0)))
 variable_whole here sees p id s l =
     let x = there_is here.core.variables id.0 l in
     let k : There here.core.variables id.0 (λ v. v.of ≡ x.0.of) = rw x.1 refl in
     rw x.1 (whole_gives {P = IsKnown here.core sees} ((s, k), tt))
 
-named_whole : (here : Here) (sees : Sees) (name : List ℕ) (p : Position) (m : Option Meaning) → ((a : Meaning) → m ≡ Some a → StandsFor here.core sees a) → Whole (IsKnown here.core sees) (naming.named here.core name p m)
-named_whole here sees name p None h = whole_refused
+named_whole : (here : Here) (sees : Sees) (name : List ℕ) (p : Position) (m : Option Meaning) → ((a : Meaning) → m ≡ Some a → StandsFor here.core sees a) → Whole (IsKnown here.core sees) (checked (naming.named here.core name p m))
+named_whole here sees name p None h = whole_rule
 named_whole here sees name p (Some meaning.Spoiled) h = absurd (h meaning.Spoiled refl)
 named_whole here sees name p (Some (meaning.Constant c)) h = typed (filled (naming.valued p (constant _)) (h (meaning.Constant c) refl))
 named_whole here sees name p (Some (meaning.Variable id w)) h = let k = h (meaning.Variable id w) refl in variable_whole here sees p id k.0 k.1
-named_whole here sees name p (Some (meaning.TypeName of)) h = whole_unshown p.place (feature_of_type (type_at here.core of)) (λ _. whole_gives (h (meaning.TypeName of) refl))
+named_whole here sees name p (Some (meaning.TypeName of)) h = whole_unshown _ p.place (feature_of_type (type_at here.core of)) (λ _. whole_gives (h (meaning.TypeName of) refl))
 named_whole here sees name p (Some (meaning.Routine id)) h = whole_gives (h (meaning.Routine id) refl)
 named_whole here sees name p (Some (meaning.Unit id)) h = whole_gives tt
-named_whole here sees name p (Some (meaning.BuiltIn b)) h = whole_unshown p.place (feature_of b) (λ _. whole_gives tt)
+named_whole here sees name p (Some (meaning.BuiltIn b)) h = whole_unshown _ p.place (feature_of b) (λ _. whole_gives tt)
 
-pub name_whole : {sees : Sees} {here : Here} → IsSettled sees here → (key name : List ℕ) (p : Position) → Whole (IsKnown here.core sees) (means.name_denoted here key name p)
+pub name_whole : {sees : Sees} {here : Here} → IsSettled sees here → (key name : List ℕ) (p : Position) → Whole (IsKnown here.core sees) (checked (means.name_denoted here key name p))
 name_whole {sees} {here} s key name p = named_whole here sees name p (meaning_of here.visible key) (stands_for here.core sees here.visible s.names key)
 
-pub field_whole : (core : Core) (sees : Sees) (m : Name) (v : Value) → IsSoundValue core sees v → Whole (IsKnown core sees) (field_of core m v)
-field_whole core sees m v h = whole_entered 25 m.position.place (field_named core m.text (type_at core (type_of v))) (λ f e. whole_gives (field_sound core sees m.text v f h e))
+pub field_whole : (core : Core) (sees : Sees) (m : Name) (v : Value) → IsSoundValue core sees v → Whole (IsKnown core sees) (checked (field_of core m v))
+field_whole core sees m v h = whole_entered no_member.number m.position.place (field_named core m.text (type_at core (type_of v))) (λ f e. whole_gives (field_sound core sees m.text v f h e))
 
 -- ---- sets
 
@@ -215,14 +229,14 @@ pub sound_behind : (core : Core) (sees : Sees) (ms : List Member) (m : Member) �
 sound_behind core sees [] m h k = (k, tt)
 sound_behind core sees (x ∷ xs) m h k = (h.0, sound_behind core sees xs m h.1 k)
 
-constant_member_whole : (core : Core) (sees : Sees) → IsFounded core → (m : Member) → are_constants m ≡ true → IsSoundMember core sees m → Whole (IsSoundConstant core) (constant_member core m)
+constant_member_whole : (core : Core) (sees : Sees) → IsFounded core → (m : Member) → are_constants m ≡ true → IsSoundMember core sees m → Whole (IsSoundConstant core) (checked (constant_member core m))
 constant_member_whole core sees f (member.one at (constant c)) e h = single_whole f at (filled c h)
 constant_member_whole core sees f (member.one at (computed t)) e h = absurd (false≢true e)
 constant_member_whole core sees f (member.range at (constant c) at' (constant d)) e h = range_whole f at at' (filled c h.0) (filled d h.1)
 constant_member_whole core sees f (member.range at (constant c) at' (computed t)) e h = absurd (false≢true e)
 constant_member_whole core sees f (member.range at (computed t) at' v) e h = absurd (false≢true e)
 
-constant_members_whole : (core : Core) (sees : Sees) → IsFounded core → (ms : List Member) {o : Option Constant} → Filled (IsSoundConstant core) o → list_all are_constants ms ≡ true → AreSound core sees ms → Whole (IsSoundConstant core) (constant_members core o ms)
+constant_members_whole : (core : Core) (sees : Sees) → IsFounded core → (ms : List Member) {o : Option Constant} → Filled (IsSoundConstant core) o → list_all are_constants ms ≡ true → AreSound core sees ms → Whole (IsSoundConstant core) (checked (constant_members core o ms))
 constant_members_whole core sees f [] h e s = whole_standing h
 constant_members_whole core sees f (m ∷ ms) h e s =
     let both = and_parts (are_constants m) (list_all are_constants ms) e in
@@ -244,9 +258,9 @@ ordinal_sort : (s : Sort) → is_ordinal s ≡ true → (k : OrdinalKind) × (s 
 ordinal_sort (Ordinal k) h = (k, refl)
 ordinal_sort s h = absurd (false≢true h)
 
-value_in_set_whole : (core : Core) → IsFounded core → (at : Place) (v : Value) → Whole (λ of. IsSet core of × InOrdinal core v) (value_in_set core at v)
+value_in_set_whole : (core : Core) → IsFounded core → (at : Place) (v : Value) → Whole (λ of. IsSet core of × InOrdinal core v) (checked (value_in_set core at v))
 value_in_set_whole core f at v =
-    whole_tested 23 at (is_ordinal (sort_of core (type_of v))) (λ e. whole_tested 34 at (is_small v) (λ _.
+    whole_tested not_ordinal.number at (is_ordinal (sort_of core (type_of v))) (λ e. whole_tested no_set_element.number at (is_small v) (λ _.
     let k = ordinal_sort (sort_of core (type_of v)) e in
     whole_gives (over_is_set (type_of v) k.0 f (stands_as core (type_of v) (Ordinal k.0) k.1).1, k)))
 
@@ -254,25 +268,25 @@ common_sets : (core : Core) (a b : TypeId) → IsFounded core → IsSet core a �
 common_sets core a b f (inl h) k = let s = set_sort core a f h in let t = set_sort core b f k in common_is_set a b s.0 t.0 f s.1 t.1
 common_sets core a b f (inr e) k = subst (IsSet core) (sym (common_left core a b e)) k
 
-member_in_set_whole : (core : Core) → IsFounded core → (m : Member) → Whole (λ of. IsSet core of × IsOrdinalMember core m) (member_in_set core m)
+member_in_set_whole : (core : Core) → IsFounded core → (m : Member) → Whole (λ of. IsSet core of × IsOrdinalMember core m) (checked (member_in_set core m))
 member_in_set_whole core f (member.one at v) = value_in_set_whole core f at v
 member_in_set_whole core f (member.range at v at' v') =
     whole_followed (value_in_set_whole core f at v) (λ a h. whole_followed (value_in_set_whole core f at' v') (λ b k. whole_with h (λ a h. whole_with k (λ b k.
-    whole_tested 20 at' (assignable core (type_of v') (type_of v)) (λ _. whole_gives (common_sets core a b f (inl h.0) k.0, (h.1, k.1)))))))
+    whole_tested not_assignable.number at' (assignable core (type_of v') (type_of v)) (λ _. whole_gives (common_sets core a b f (inl h.0) k.0, (h.1, k.1)))))))
 
-with_member_whole : (core : Core) → IsFounded core → (m : Member) {o q : Option TypeId} → Filled (λ of. IsSet core of ⊎ (sort_of core of ≡ EmptySet)) o → Filled (λ of. IsSet core of × IsOrdinalMember core m) q → Whole (λ of. IsSet core of × IsOrdinalMember core m) (member.both_in_set core (place_of m) o q)
+with_member_whole : (core : Core) → IsFounded core → (m : Member) {o q : Option TypeId} → Filled (λ of. IsSet core of ⊎ (sort_of core of ≡ EmptySet)) o → Filled (λ of. IsSet core of × IsOrdinalMember core m) q → Whole (λ of. IsSet core of × IsOrdinalMember core m) (checked (member.both_in_set core (place_of m) o q))
 with_member_whole core f m h k =
-    whole_with h (λ a h. whole_with k (λ b k. whole_tested 20 (place_of m) (are_sets (sort_of core a) (sort_of core b)) (λ _. whole_gives (common_sets core a b f h k.0, k.1))))
+    whole_with h (λ a h. whole_with k (λ b k. whole_tested not_assignable.number (place_of m) (are_sets (sort_of core a) (sort_of core b)) (λ _. whole_gives (common_sets core a b f h k.0, k.1))))
 
 -- the type of a set with elements
-type_of_set_whole : (core : Core) → IsFounded core → (m : Member) (ms : List Member) {o : Option TypeId} → Filled (λ of. IsSet core of ⊎ (sort_of core of ≡ EmptySet)) o → Whole (λ of. IsSet core of × AreOrdinal core (m ∷ ms)) (type_of_set core o (m ∷ ms))
+type_of_set_whole : (core : Core) → IsFounded core → (m : Member) (ms : List Member) {o : Option TypeId} → Filled (λ of. IsSet core of ⊎ (sort_of core of ≡ EmptySet)) o → Whole (λ of. IsSet core of × AreOrdinal core (m ∷ ms)) (checked (type_of_set core o (m ∷ ms)))
 type_of_set_whole core f m [] h = whole_followed (member_in_set_whole core f m) (λ b k. whole_followed (with_member_whole core f m h k) (λ c i. alone i))
   where
-    alone : {c : Option TypeId} → Filled (λ of. IsSet core of × IsOrdinalMember core m) c → Whole (λ of. IsSet core of × AreOrdinal core (m ∷ [])) (type_of_set core c [])
+    alone : {c : Option TypeId} → Filled (λ of. IsSet core of × IsOrdinalMember core m) c → Whole (λ of. IsSet core of × AreOrdinal core (m ∷ [])) (checked (type_of_set core c []))
     alone (filled of i) = typed (filled of (i.0, (i.1, tt)))
 type_of_set_whole core f m (x ∷ xs) h = whole_followed (member_in_set_whole core f m) (λ b k. whole_followed (with_member_whole core f m h k) (λ c i. more c i (λ h. type_of_set_whole core f x xs h)))
   where
-    more : (c : Option TypeId) → Filled (λ of. IsSet core of × IsOrdinalMember core m) c → (Filled (λ of. IsSet core of ⊎ (sort_of core of ≡ EmptySet)) c → Whole (λ of. IsSet core of × AreOrdinal core (x ∷ xs)) (type_of_set core c (x ∷ xs))) → Whole (λ of. IsSet core of × AreOrdinal core (m ∷ x ∷ xs)) (type_of_set core c (x ∷ xs))
+    more : (c : Option TypeId) → Filled (λ of. IsSet core of × IsOrdinalMember core m) c → (Filled (λ of. IsSet core of ⊎ (sort_of core of ≡ EmptySet)) c → Whole (λ of. IsSet core of × AreOrdinal core (x ∷ xs)) (checked (type_of_set core c (x ∷ xs)))) → Whole (λ of. IsSet core of × AreOrdinal core (m ∷ x ∷ xs)) (checked (type_of_set core c (x ∷ xs)))
     more _ (filled of i) g = whole_as (g (filled of (inl i.0))) (λ to q. (q.0, (i.1, q.1)))
 
 own_kind_sort : (core : Core) (of : TypeId) → IsFounded core → IsOrdinal core of → (k : OrdinalKind) × (sort_of core of ≡ Ordinal k)
@@ -327,12 +341,12 @@ wanted_set core (Some to) own f h = go (assignable core own to) refl
     go true e = by (is_assignable core own to e)
     go false e = h
 
-pub set_whole : (core : Core) (sees : Sees) → IsFounded core → (wanted : Option TypeId) (ms : List Member) → AreSound core sees ms → (b : Bool) → list_all are_constants ms ≡ b → Whole (IsSoundValue core sees) (set_by core wanted ms b)
+pub set_whole : (core : Core) (sees : Sees) → IsFounded core → (wanted : Option TypeId) (ms : List Member) → AreSound core sees ms → (b : Bool) → list_all are_constants ms ≡ b → Whole (IsSoundValue core sees) (checked (set_by core wanted ms b))
 set_whole core sees f wanted ms s true e =
     let k = empty_set_kind f in
-    whole_changed_so constant (brackets_whole core (constant_members_whole core sees f ms (filled no_members (rw k tt)) e s)) (λ c q. q)
+    whole_changed_so constant (whole_changed_so _ (constant_members_whole core sees f ms (filled no_members (rw k tt)) e s) (λ c q. q)) (λ c q. q)
 set_whole core sees f wanted [] s false e = absurd (cc)
 set_whole core sees f wanted (m ∷ ms) s false e =
     let k = empty_set_kind f in
-    whole_behind (type_of_set_whole core f m ms (filled table.empty_set (inr (simp k))))
-    (λ own q. whole_gives (set_tree_sound core sees (wanted_or core wanted own) (m ∷ ms) f (wanted_set core wanted own f q.0) q.1 s))
+    whole_changed_so _ (type_of_set_whole core f m ms (filled table.empty_set (inr (simp k))))
+    (λ own q. set_tree_sound core sees (wanted_or core wanted own) (m ∷ ms) f (wanted_set core wanted own f q.0) q.1 s)

@@ -1,182 +1,33 @@
--- What statements and declarations are made of: one word for each that the checkers above this one cite.
-use Rattle.std.specs.Prelude.{◌≡◌, ℕ, nat_eq, position, Bool, true, false, List, Option, Some, None, Result, Ok, Err, slice_get, if◌then◌else◌}
-use Rattle.std.specs.Option.{option_and_then, option_map}
-use Rattle.op_base.specs.declared.place.Place.{Place}
-use Rattle.op_base.specs.declared.rule.Refusal.{Refusal}
-use Rattle.op_core.specs.Expression.{Expression as Tree, expr_of as tree_said}
-use Rattle.op_core.specs.Faults.{Checked, FirstIs, by_entry, by_test, fine, refused, with_part}
-use Rattle.op_core.specs.Rows.{rows}
-use Rattle.op_core.specs.declared.error.CheckError.{CheckError}
-use Rattle.op_core.specs.declared.error.CheckError.TheVariants.{Refused, NoMemory}
-use Rattle.op_core.specs.declared.expression.CoreExpr.{CoreExpr}
-use Rattle.op_core.specs.declared.ids.RoutineId.{RoutineId}
-use Rattle.op_core.specs.declared.ids.Run.{Run}
+-- What is computed of the phrases that the checkers above this one cite.
+use Rattle.std.specs.Prelude.{Bool, Option, slice_get}
+use Rattle.op_core.specs.Expression.{Expression as Tree}
+use Rattle.op_core.specs.Faults.{Checked}
 use Rattle.op_core.specs.declared.ids.TypeId.{TypeId}
 use Rattle.op_core.specs.declared.ids.VariableId.{VariableId}
-use Rattle.op_core.specs.declared.program.Core.{Core}
-use Rattle.op_core.specs.declared.routine.Role.{Role}
-use Rattle.op_core.specs.declared.routine.Role.TheVariants.{Result as ResultRole}
-use Rattle.op_core.specs.declared.routine.Routine.{Routine}
-use Rattle.op_core.specs.declared.routine.Variable.{Variable as VariableRow}
-use Rattle.op_tree.specs.Expression.{Expression, designated, Designator, designator, named, Selector, Selectors, no_selectors, selectors, call, Arguments, no_arguments}
-use Rattle.op_check_expr.specs.Calling.{plan_of}
-use Rattle.op_check_expr.specs.Constructors.{is_small}
-use Rattle.op_check_expr.specs.Expressions.{as_value, call_of, called, given_first, given_to, position_of, position_of_designator, root_of, selected, value_in, variable_in}
-use Rattle.op_check_expr.specs.Naming as naming
-use Rattle.op_check_expr.specs.Naming.{Denoted, Meant, valued, variable_tree}
-use Rattle.op_check_expr.specs.Places.{is_writable_row, target_value}
+use Rattle.op_tree.specs.Expression.{Expression, Designator}
+use Rattle.op_judgement.specs.Judgement.{checked}
+use Rattle.op_check_expr.specs.Phrases as phrase
+use Rattle.op_check_expr.specs.Places.{is_writable_row}
 use Rattle.op_check_expr.specs.Scopes.{Here}
-use Rattle.op_check_expr.specs.Values.{Value, as_type, computed, tree_of, type_of}
-use Rattle.op_check_expr.specs.Words.{changed, followed, number_at, standing}
-use Rattle.op_check_expr.specs.declared.call.Plan.{Plan}
-use Rattle.op_check_expr.specs.declared.call.Plan.TheVariants.{Bound, Sole}
-use Rattle.op_tree.specs.declared.position.Name.{Name}
-use Rattle.op_tree.specs.declared.position.Position.{Position}
-use Rattle.op_types.specs.Assignable.{assignable}
-use Rattle.op_types.specs.Names.{lower, meaning_of}
-use Rattle.op_types.specs.declared.visible.Meaning.{Meaning}
-use Rattle.op_types.specs.declared.visible.Meaning.TheVariants.{Routine as RoutineNamed}
+use Rattle.op_check_expr.specs.Values.{Value}
 
--- an expression; `wanted` is the type that its use fixes
-unfoldable pub value_of : Here → Option TypeId → Expression → Checked Value
-value_of here wanted e = value_in here wanted e
+abbrev pub value_of : Here → Option TypeId → Expression → Checked Value
+value_of here wanted e = checked (phrase.value here wanted e)
 
--- a value that is stored in what has a type
-unfoldable pub given : Here → TypeId → Bool → Expression → Checked Tree
-given here to checked e = given_to here to checked e
+abbrev pub given : Here → TypeId → Bool → Expression → Checked Tree
+given here to in_range e = checked (phrase.given here to in_range e)
 
--- an argument that must be a variable
-unfoldable pub variable : Here → Option TypeId → Expression → Checked Tree
-variable here of e = variable_in here of e
+abbrev pub variable : Here → Option TypeId → Expression → Checked Tree
+variable here of e = checked (phrase.variable here of e)
 
 unfoldable pub is_writable_variable : Here → VariableId → Bool
 is_writable_variable here id = is_writable_row here id (slice_get here.core.variables id.0)
 
--- ---- an element for a set of a base
+abbrev pub element : Here → TypeId → Expression → Checked Tree
+element here base e = checked (phrase.element here base e)
 
-abbrev pub element_stored : Core → Place → TypeId → Value → Checked Tree
-element_stored core at base v = by_test 20 at (by_test 34 at (fine (as_type core true base v)) (is_small v)) (assignable core (type_of v) base)
+abbrev pub target : Here → Designator → Checked Tree
+target here d = checked (phrase.target here d)
 
-unfoldable pub element : Here → TypeId → Expression → Checked Tree
-element here base e = followed (value_in here None e) (with_part (element_stored here.core (position_of e).place base))
-
--- ---- what is assigned to
-
-abbrev pub is_result_role : Role → Bool
-is_result_role ResultRole = true
-is_result_role _ = false
-
-abbrev pub is_result : VariableRow → Bool
-is_result v = is_result_role v.role
-
-abbrev pub result_at : Run → List VariableRow → ℕ → Option (VariableId × TypeId)
-result_at run vs k = option_and_then (λ n. option_map (λ v. (record { 0 = n }, v.of)) (slice_get vs k)) (number_at run k)
-
--- the result of a routine, among its variables
-abbrev pub result_in : Core → Option Routine → Option (VariableId × TypeId)
-result_in core None = None
-result_in core (Some r) = option_and_then (result_at r.variables (rows core.variables r.variables)) (position is_result (rows core.variables r.variables))
-
-abbrev pub is_own : Option RoutineId → RoutineId → Bool
-is_own None id = false
-is_own (Some own) id = nat_eq own.0 id.0
-
--- the result of the routine whose body this is, by that routine's name
-abbrev pub own_result : Here → RoutineId → Option (VariableId × TypeId)
-own_result here id = if is_own here.routine id then result_in here.core (slice_get here.core.routines id.0) else None
-
-abbrev pub routine_in : Option Meaning → Option RoutineId
-routine_in (Some (RoutineNamed id)) = Some id
-routine_in _ = None
-
--- a routine's name alone
-abbrev pub routine_alone : Here → Designator → Option RoutineId
-routine_alone here (designator (named n) no_selectors) = routine_in (meaning_of here.visible (lower n.text))
-routine_alone here d = None
-
--- a value is assigned to, in a statement that begins at a place
-abbrev pub target_means : Here → Place → Checked Value → Checked Tree
-target_means here at c = followed c (with_part (target_value here at))
-
-abbrev pub target_by : Here → Designator → Option RoutineId → Checked Tree
-target_by here d (Some id) = refused 29 (position_of_designator d).place
-target_by here d None = target_means here (position_of_designator d).place (value_in here None (designated d))
-
-abbrev pub result_denoted : Position → VariableId × TypeId → Denoted
-result_denoted p v = valued p (computed (variable_tree v.0 v.1))
-
--- the result of the routine whose body this is, by that routine's name
-abbrev pub result_named : Here → Name → Option Denoted
-result_named here n = option_map (result_denoted n.position) (option_and_then (own_result here) (routine_in (meaning_of here.visible (lower n.text))))
-
--- the result that a place begins with; arguments behind the name call the function
-abbrev pub result_first : Here → Designator → Option Denoted
-result_first here (designator (named n) (selectors (call args) ss)) = None
-result_first here (designator (named n) ss) = result_named here n
-result_first here d = None
-
-abbrev pub selectors_behind : Designator → Selectors
-selectors_behind (designator root ss) = ss
-
-abbrev pub target_from : Here → Designator → Option Denoted → Checked Tree
-target_from here d (Some r) = target_means here (position_of_designator d).place (followed (selected here (Some r) (selectors_behind d)) (as_value here))
-target_from here d None = target_by here d (routine_alone here d)
-
--- In its own body a function's name is its result, of which a part may be selected; no other routine's name is assigned to.
-unfoldable pub target : Here → Designator → Checked Tree
-target here d = target_from here d (result_first here d)
-
--- ---- a call alone
-
-abbrev pub call_in : Selector → Option Arguments
-call_in (call args) = Some args
-call_in _ = None
-
--- the last one, if it is a call, with those in front
-abbrev pub last_call : Selectors → Option (Selectors × Arguments)
-last_call no_selectors = None
-last_call (selectors x no_selectors) = option_map (λ args. (no_selectors, args)) (call_in x)
-last_call (selectors x (selectors y ys)) = option_map (λ r. (selectors x r.0, r.1)) (last_call (selectors y ys))
-
--- casts and built-in functions are values and no statements
-abbrev pub is_call : Plan → Bool
-is_call (Bound f of at) = false
-is_call (Sole what p) = false
-is_call _ = true
-
-abbrev pub alone_value : Place → Bool → Option Value → Checked Tree
-alone_value start true v = standing (option_map tree_of v)
-alone_value start false v = refused 35 start
-
-abbrev pub alone_called : Here → Place → Plan → Arguments → Checked Tree
-alone_called here start plan args = followed (called here plan args) (alone_value start (is_call plan))
-
--- a name alone, and no variable
-abbrev pub alone_by : Here → Place → Denoted → Meant → Checked Tree
-alone_by here start d (naming.value v) = refused 35 start
-alone_by here start d (naming.type_name of) = refused 16 d.position.place
-alone_by here start d what = let plan = plan_of here true (Some d) no_arguments in changed tree_of (call_of here plan (given_first plan))
-
-abbrev pub alone_denoted : Here → Place → Denoted → Checked Tree
-alone_denoted here start d = alone_by here start d d.what
-
-abbrev pub alone_behind : Here → Place → Option Denoted → Selectors → Option (Selectors × Arguments) → Checked Tree
-alone_behind here start d ss None = followed (selected here d ss) (with_part (alone_denoted here start))
-alone_behind here start d ss (Some r) = followed (selected here d r.0) (λ c. alone_called here start (plan_of here true c r.1) r.1)
-
--- a call as a statement
-unfoldable pub called_alone : Here → Designator → Checked Tree
-called_alone here (designator root ss) = followed (root_of here root) (λ d. alone_behind here (position_of_designator (designator root ss)).place d ss (last_call ss))
-
--- ---- the call
-
--- the first fault; a part without a fault has a type, unless a name in it is spoiled
-abbrev pub failure : Option Refusal → CheckError
-failure None = NoMemory
-failure (Some r) = Refused r
-
--- the typed expression, where no rule is broken; else the first one
-abbrev pub ExprIs : Checked Value → Result CoreExpr CheckError → Type 0
-ExprIs c (Ok e) = (option_map tree_of c.typed ≡ Some (tree_said e)) × FirstIs c.faults None
-ExprIs c (Err (Refused r)) = FirstIs c.faults (Some r)
-ExprIs c (Err NoMemory) = Unit {0}
+abbrev pub called_alone : Here → Designator → Checked Tree
+called_alone here d = checked (phrase.call_alone here d)

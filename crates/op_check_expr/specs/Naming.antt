@@ -3,7 +3,6 @@ use Rattle.std.specs.Prelude.{ℕ, Bool, nat_eq, List, Option, Some, None, slice
 use Rattle.std.specs.Option.{option_and_then, option_map}
 use Rattle.std.specs.Str.{str_eq_ignore_ascii_case}
 use Rattle.op_core.specs.Expression.{Expression as Tree, expression, variable, field, no_steps, then as with_step}
-use Rattle.op_core.specs.Faults.{Checked, by_entry, fine, untyped}
 use Rattle.op_core.specs.Rows.{rows}
 use Rattle.op_core.specs.Sizes.{type_at}
 use Rattle.op_core.specs.declared.ids.FieldId.{FieldId}
@@ -19,13 +18,15 @@ use Rattle.op_core.specs.declared.types.CoreType.TheVariants as type
 use Rattle.op_core.specs.declared.types.Field.{Field}
 use Rattle.op_tree.specs.declared.position.Name.{Name}
 use Rattle.op_tree.specs.declared.position.Position.{Position}
+use Rattle.op_judgement.specs.Judgement.{Judgement, by_entry, fine, refused, untyped, with_part}
+use Rattle.op_judgement.specs.Rules.{no_member, unknown_name}
+use Rattle.op_check_expr.specs.Parts.{by_feature}
 use Rattle.op_check_expr.specs.Values.{Value, constant, computed, tree_of, type_of, value_of}
-use Rattle.op_check_expr.specs.Words.{by_feature, changed, number_at}
+use Rattle.op_check_expr.specs.Words.{number_at}
 use Rattle.op_check_expr.specs.declared.denoted.Denoted.{Denoted as RustDenoted}
 use Rattle.op_check_expr.specs.declared.denoted.Meant.{Meant as RustMeant}
 use Rattle.op_check_expr.specs.declared.denoted.Meant.TheVariants as rust
-use Rattle.op_types.specs.Constants.{name_means}
-use Rattle.op_types.specs.declared.constant.Constant.{Constant}
+use Rattle.op_types.specs.Constants.{made, nodes}
 use Rattle.op_types.specs.declared.visible.BuiltIn.{BuiltIn}
 use Rattle.op_types.specs.declared.visible.BuiltIn.TheVariants.{Read, ReadLn, Eof, Eoln, SetLength, Copy, Val, Str, Pos, Delete, Insert, StringOfChar, Function, LeftOut}
 use Rattle.op_types.specs.declared.visible.Meaning.{Meaning}
@@ -91,28 +92,19 @@ feature_of_type _ = None
 abbrev pub variable_tree : VariableId → TypeId → Tree
 variable_tree id of = expression (variable id) of no_steps
 
-abbrev pub variable_named : Position → VariableId → Option VariableRow → Checked Denoted
-variable_named p id None = untyped
-variable_named p id (Some v) = fine (valued p (computed (variable_tree id v.of)))
+abbrev pub variable_named : Position → VariableId → Option VariableRow → Judgement Denoted
+variable_named p id v = with_part (λ v. fine (valued p (computed (variable_tree id v.of)))) v
 
-abbrev pub thing_named : Core → List ℕ → Position → Option Meaning → Checked Denoted
-thing_named core name p (Some (meaning.Variable id writable)) = variable_named p id (slice_get core.variables id.0)
-thing_named core name p (Some (meaning.TypeName of)) = by_feature p.place (feature_of_type (type_at core of)) (fine (denoted p (type_name of)))
-thing_named core name p (Some (meaning.Routine id)) = fine (denoted p (routine id))
-thing_named core name p (Some (meaning.Unit id)) = fine (denoted p (unit name))
-thing_named core name p (Some (meaning.BuiltIn b)) = by_feature p.place (feature_of b) (fine (denoted p (built_in b)))
-thing_named core name p _ = untyped
-
-abbrev pub constant_value : Position → Constant → Denoted
-constant_value p c = valued p (constant c)
-
-abbrev pub constant_or : Position → Option (Checked Constant) → Checked Denoted → Checked Denoted
-constant_or p (Some c) others = changed (constant_value p) c
-constant_or p None others = others
-
--- a name, spelled so, at a place: a constant, something else, or unknown
-abbrev pub named : Core → List ℕ → Position → Option Meaning → Checked Denoted
-named core name p m = constant_or p (name_means p.place m) (thing_named core name p m)
+-- What a name stands for, spelled so at a position, by its declaration; a spoiled one is silent.
+abbrev pub named : Core → List ℕ → Position → Option Meaning → Judgement Denoted
+named core name p None = refused unknown_name p.place
+named core name p (Some meaning.Spoiled) = untyped
+named core name p (Some (meaning.Constant c)) = fine (valued p (constant (made c.value c.of (nodes 1))))
+named core name p (Some (meaning.Variable id writable)) = variable_named p id (slice_get core.variables id.0)
+named core name p (Some (meaning.TypeName of)) = by_feature p.place (feature_of_type (type_at core of)) (fine (denoted p (type_name of)))
+named core name p (Some (meaning.Routine id)) = fine (denoted p (routine id))
+named core name p (Some (meaning.Unit id)) = fine (denoted p (unit name))
+named core name p (Some (meaning.BuiltIn b)) = by_feature p.place (feature_of b) (fine (denoted p (built_in b)))
 
 -- ---- members and elements
 
@@ -127,6 +119,6 @@ abbrev pub field_named : Core → List ℕ → Option CoreType → Option (Field
 field_named core name (Some (type.Record run)) = option_and_then (field_at (rows core.fields run) run) (position (is_named name) (rows core.fields run))
 field_named core name _ = None
 
-abbrev pub field_of : Core → Name → Value → Checked Denoted
+abbrev pub field_of : Core → Name → Value → Judgement Denoted
 field_of core m v =
-    by_entry 25 m.position.place (λ f. fine (valued m.position (computed (with_step (tree_of v) (field f.0) f.1)))) (field_named core m.text (type_at core (type_of v)))
+    by_entry no_member m.position.place (λ f. fine (valued m.position (computed (with_step (tree_of v) (field f.0) f.1)))) (field_named core m.text (type_at core (type_of v)))

@@ -2,7 +2,6 @@
 use Rattle.std.specs.Prelude.{ℕ, Bool, true, false, ◌&&◌, ◌||◌, Option, Some, None, if◌then◌else◌}
 use Rattle.op_base.specs.declared.place.Place.{Place}
 use Rattle.op_core.specs.Expression.{Expression as Tree, apply, convert, operate, prefixed, then as with_step}
-use Rattle.op_core.specs.Faults.{Checked, by_entry, fine, with_part}
 use Rattle.op_core.specs.Sizes.{range_of, type_at}
 use Rattle.op_core.specs.declared.ids.TypeId.{TypeId}
 use Rattle.op_core.specs.declared.operation.Conversion.{Conversion}
@@ -17,9 +16,13 @@ use Rattle.op_tree.specs.declared.operator.Operator.{Operator}
 use Rattle.op_tree.specs.declared.operator.Operator.TheVariants.{Add, In_}
 use Rattle.op_tree.specs.declared.operator.PrefixOperator.{PrefixOperator}
 use Rattle.op_tree.specs.declared.position.Position.{Position}
+use Rattle.op_base.specs.declared.rule.Rule.{Rule}
+use Rattle.op_judgement.specs.Judgement.{Judgement, by_entry, changed, fine, with_part}
+use Rattle.op_judgement.specs.Rules.{no_cast, no_operator, not_assignable, not_ordinal}
+use Rattle.op_types.specs.Folding.{operator_means, prefix_means, use_means}
+use Rattle.op_check_expr.specs.Parts.{by_feature, whether}
 use Rattle.op_check_expr.specs.Values.{Value, constant, computed, as_type, is_integer, is_wider, tree_of, type_of}
-use Rattle.op_check_expr.specs.Words.{by_feature, changed}
-use Rattle.op_types.specs.Constants.{is_folded, is_ordinal, operator_means, prefix_means, use_means}
+use Rattle.op_types.specs.Constants.{is_folded, is_ordinal}
 use Rattle.op_types.specs.Operators as table
 use Rattle.op_types.specs.Sets.{common_set, set_over}
 use Rattle.op_types.specs.Sorts.{is_text, sort_of}
@@ -77,28 +80,27 @@ operation_tree core o checked a b of =
     computed (with_step (as_type core true (left_type core o (type_of a) (type_of b)) a) (operate o checked (as_type core true (right_type core o (type_of a) (type_of b)) b)) of)
 
 -- an operator at a position between two values that are not both constants
-abbrev pub computed_operation : Core → Operator → Position → Value → Value → Checked Value
+abbrev pub computed_operation : Core → Operator → Position → Value → Value → Judgement Value
 computed_operation core o p a b =
-    by_entry 21 p.place (λ of. by_feature p.place (feature_of_operands o (sort_of core (type_of a)) (sort_of core (type_of b))) (fine (operation_tree core o p.switches.q a b of)))
+    by_entry no_operator p.place (λ of. by_feature p.place (feature_of_operands o (sort_of core (type_of a)) (sort_of core (type_of b))) (fine (operation_tree core o p.switches.q a b of)))
     (table.operation o (sort_of core (type_of a)) (sort_of core (type_of b)) (common_set core (type_of a) (type_of b)))
 
 -- in an expression that begins at a place
-abbrev pub operated : Core → Place → Operator → Position → Value → Value → Checked Value
+abbrev pub operated : Core → Place → Operator → Position → Value → Value → Judgement Value
 operated core start o p (constant a) (constant b) =
-    if is_folded o then changed constant (operator_means core start o p.place a b)
-    else computed_operation core o p (constant a) (constant b)
+    whether (is_folded o) (changed constant (operator_means core start o p.place a b)) (computed_operation core o p (constant a) (constant b))
 operated core start o p a b = computed_operation core o p a b
 
-abbrev pub operation_of : Core → Place → Operator → Position → Option Value → Option Value → Checked Value
+abbrev pub operation_of : Core → Place → Operator → Position → Option Value → Option Value → Judgement Value
 operation_of core start o p a b = with_part (λ a. with_part (operated core start o p a) b) a
 
 abbrev pub prefix_tree : Core → PrefixOperator → Bool → Value → TypeId → Value
 prefix_tree core o checked v of = computed (with_step (as_type core true of v) (prefixed o checked) of)
 
-abbrev pub prefix_of : Core → PrefixOperator → Position → Value → Checked Value
+abbrev pub prefix_of : Core → PrefixOperator → Position → Value → Judgement Value
 prefix_of core o p (constant c) = changed constant (prefix_means core p.place o c)
 prefix_of core o p (computed e) =
-    by_entry 21 p.place (λ of. fine (prefix_tree core o p.switches.q (computed e) of)) (table.prefixed o (sort_of core (type_of (computed e))))
+    by_entry no_operator p.place (λ of. fine (prefix_tree core o p.switches.q (computed e) of)) (table.prefixed o (sort_of core (type_of (computed e))))
 
 -- ---- casts
 
@@ -116,20 +118,20 @@ abbrev pub cast_by : Core → TypeId → TypeId → Sort → Sort → Option Con
 cast_by core from to (sort.Ordinal a) (sort.Ordinal b) = Some (cast_conversion core from to)
 cast_by core from to _ _ = None
 
-abbrev pub cast_of : Core → Place → TypeId → Tree → TypeId → Checked Value
+abbrev pub cast_of : Core → Place → TypeId → Tree → TypeId → Judgement Value
 cast_of core place to e from =
-    by_entry 39 place (λ c. fine (computed (with_step e (convert c CastOrigin) to))) (cast_by core from to (sort_of core from) (sort_of core to))
+    by_entry no_cast place (λ c. fine (computed (with_step e (convert c CastOrigin) to))) (cast_by core from to (sort_of core from) (sort_of core to))
 
 -- ---- functions
 
 -- the rule that an argument breaks which the function does not take
-abbrev pub rule_of : Function → ℕ
-rule_of Ord = 23
-rule_of Succ = 23
-rule_of Pred = 23
-rule_of Low = 23
-rule_of High = 23
-rule_of _ = 20
+abbrev pub rule_of : Function → Rule
+rule_of Ord = not_ordinal
+rule_of Succ = not_ordinal
+rule_of Pred = not_ordinal
+rule_of Low = not_ordinal
+rule_of High = not_ordinal
+rule_of _ = not_assignable
 
 -- what a sequence's bounds are of
 abbrev pub index_type : Option CoreType → Option TypeId
@@ -182,7 +184,7 @@ abbrev pub feature_of_argument : Core → Function → TypeId → Option ℕ
 feature_of_argument core f of = if becomes_string core f of then Some 40 else None
 
 -- a function at a position, of an argument at a place
-abbrev pub application_of : Core → Position → Function → Place → Value → Checked Value
+abbrev pub application_of : Core → Position → Function → Place → Value → Judgement Value
 application_of core p f at v =
     by_entry (rule_of f) at (λ of. by_feature p.place (feature_of_argument core f (type_of v)) (fine (function_tree core f p.switches.q v of))) (function_type core f (type_of v))
 
@@ -193,12 +195,11 @@ is_evaluated core (Function' Low) = false
 is_evaluated core (Function' High) = false
 is_evaluated core (Function' f) = true
 
-abbrev pub computed_use : Core → Position → Applied → Place → Value → Checked Value
+abbrev pub computed_use : Core → Position → Applied → Place → Value → Judgement Value
 computed_use core p (Cast of) at v = cast_of core p.place of (tree_of v) (type_of v)
 computed_use core p (Function' f) at v = application_of core p f at v
 
-abbrev pub used : Core → Position → Applied → Place → Value → Checked Value
+abbrev pub used : Core → Position → Applied → Place → Value → Judgement Value
 used core p what at (constant c) =
-    if is_evaluated core what then changed constant (use_means core what p.place at c)
-    else computed_use core p what at (constant c)
+    whether (is_evaluated core what) (changed constant (use_means core what p.place at c)) (computed_use core p what at (constant c))
 used core p what at (computed e) = computed_use core p what at (computed e)

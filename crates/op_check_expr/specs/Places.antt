@@ -4,7 +4,6 @@ use Rattle.std.specs.Prelude.{nat_eq, Bool, true, false, not, ◌&&◌, Option, 
 use Rattle.std.specs.List.{list_any}
 use Rattle.op_base.specs.declared.place.Place.{Place}
 use Rattle.op_core.specs.Expression.{Expression as Tree, expression, Root, variable}
-use Rattle.op_core.specs.Faults.{Checked, by_test, fine, untyped}
 use Rattle.op_core.specs.Roles.{is_written}
 use Rattle.op_core.specs.Types.{is_one_type}
 use Rattle.op_core.specs.Typing.{is_place, is_place_after, is_variable}
@@ -13,6 +12,8 @@ use Rattle.op_core.specs.declared.ids.TypeId.{TypeId}
 use Rattle.op_core.specs.declared.ids.VariableId.{VariableId}
 use Rattle.op_core.specs.declared.program.Core.{Core}
 use Rattle.op_core.specs.declared.routine.Variable.{Variable as VariableRow}
+use Rattle.op_judgement.specs.Judgement.{Judgement, by_test, fine, refused}
+use Rattle.op_judgement.specs.Rules.{character_of_string, no_variable, not_writable, variable_of_another_type}
 use Rattle.op_check_expr.specs.Values.{Value, constant, computed}
 use Rattle.op_check_expr.specs.declared.scope.Around.{Around}
 use Rattle.op_check_expr.specs.declared.scope.Around.TheVariants.{Loop}
@@ -49,16 +50,19 @@ is_very core from None = true
 is_very core from (Some to) = is_one_type core.types from to
 
 -- an argument at a place that must be a variable, of the very type where one is given, that may be written
-abbrev pub variable_tree : Here → Place → Option TypeId → Tree → Checked Tree
+abbrev pub variable_tree : Here → Place → Option TypeId → Tree → Judgement Tree
 variable_tree s at to e =
-    by_test 27 at (by_test 28 at (by_test 29 at (by_test 37 at (fine e) (is_place false s.core e)) (is_writable s true e)) (is_very s.core (typing.type_of e) to))
+    by_test no_variable at
+    (by_test variable_of_another_type at
+    (by_test not_writable at (by_test character_of_string at (fine e) (is_place false s.core e)) (is_writable s true e))
+    (is_very s.core (typing.type_of e) to))
     (is_place true s.core e)
 
-abbrev pub variable_value : Here → Place → Option TypeId → Value → Checked Tree
+abbrev pub variable_value : Here → Place → Option TypeId → Value → Judgement Tree
 variable_value s at to (computed e) = variable_tree s at to e
-variable_value s at to (constant c) = by_test 27 at untyped false
+variable_value s at to (constant c) = refused no_variable at
 
 -- what is assigned to, in a statement that begins at a place
-abbrev pub target_value : Here → Place → Value → Checked Tree
-target_value s at (computed e) = by_test 29 at (fine e) (is_writable s true e)
-target_value s at (constant c) = by_test 29 at untyped false
+abbrev pub target_value : Here → Place → Value → Judgement Tree
+target_value s at (computed e) = by_test not_writable at (fine e) (is_writable s true e)
+target_value s at (constant c) = refused not_writable at

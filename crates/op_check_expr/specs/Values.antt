@@ -4,7 +4,6 @@ use Rattle.std.specs.Prelude.{ℕ, ℤ, pos, Bool, true, false, not, ◌&&◌, �
 use Rattle.std.specs.List.{list_all}
 use Rattle.op_base.specs.declared.place.Place.{Place}
 use Rattle.op_core.specs.Expression.{Expression as Tree, expression, constant as constant_root, no_steps, convert, bracket, then as with_step, expr_of}
-use Rattle.op_core.specs.Faults.{Checked, by_test, fine}
 use Rattle.op_core.specs.Sizes.{range_of, type_at}
 use Rattle.op_core.specs.Types.{is_one_type}
 use Rattle.op_core.specs.Typing as typing
@@ -17,6 +16,8 @@ use Rattle.op_core.specs.declared.operation.Origin.TheVariants.{Implied}
 use Rattle.op_core.specs.declared.program.Core.{Core}
 use Rattle.op_core.specs.declared.types.CoreType.{CoreType}
 use Rattle.op_core.specs.declared.types.CoreType.TheVariants as type
+use Rattle.op_judgement.specs.Judgement.{Judgement, by_test, fine}
+use Rattle.op_judgement.specs.Rules.{not_assignable}
 use Rattle.op_check_expr.specs.declared.value.Value.{Value as RustValue}
 use Rattle.op_check_expr.specs.declared.value.Value.TheVariants.{Constant as ConstantValue, Computed}
 use Rattle.op_types.specs.Assignable.{assignable}
@@ -113,8 +114,8 @@ as_type core checked to (constant c) = constant_tree core checked to c (retyped 
 as_type core checked to (computed e) = with_conversion e to (conversion core checked (typing.type_of e) to)
 
 -- a value at a place is stored in what has a type
-abbrev pub stored : Core → Place → Bool → TypeId → Value → Checked Tree
-stored core place checked to v = by_test 20 place (fine (as_type core checked to v)) (assignable core (type_of v) to)
+abbrev pub stored : Core → Place → Bool → TypeId → Value → Judgement Tree
+stored core place checked to v = by_test not_assignable place (fine (as_type core checked to v)) (assignable core (type_of v) to)
 
 -- An index of a static array keeps its type, since its range is tested where the place is followed; any other goes to Integer.
 abbrev pub index_tree : Core → Option CoreType → TypeId → Value → Tree
@@ -122,5 +123,5 @@ index_tree core (Some (type.Array at element)) to v = tree_of v
 index_tree core of to v = as_type core true to v
 
 -- a value at a place is an index of what has the first type
-abbrev pub index_at : Core → Place → Option CoreType → TypeId → Value → Checked Tree
-index_at core place of to v = by_test 20 place (fine (index_tree core of to v)) (assignable core (type_of v) to)
+abbrev pub index_at : Core → Place → Option CoreType → TypeId → Value → Judgement Tree
+index_at core place of to v = by_test not_assignable place (fine (index_tree core of to v)) (assignable core (type_of v) to)

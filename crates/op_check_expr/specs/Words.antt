@@ -1,4 +1,4 @@
--- The words in which the rules of expressions are said, besides those of typed programs.
+-- Words of what is computed that the checkers above this one cite.
 use Rattle.std.specs.Prelude.{◌≡◌, ℕ, ◌+◌, ◌^◌, nat_lt, Option, Some, None, if◌then◌else◌}
 use Rattle.std.specs.Option.{option_map}
 use Rattle.op_base.specs.declared.place.Place.{Place}

@@ -3,22 +3,23 @@ ghost use Rattle.std.specs.Prelude.{◌≡◌, IfOk};
 ghost use Rattle.std.specs.Option.{option_map};
 ghost use Rattle.op_core.specs.Expression.{expr_of};
 ghost use Rattle.op_core.specs.Sizes.{type_at};
+ghost use Rattle.op_judgement.specs.Judgement.{Reports};
 ghost use Rattle.op_check_expr.specs.Operating.{application_of, argument_type, becomes_string, cast_by, cast_conversion, cast_of, computed_use, function_type, index_type, is_evaluated, keeps_low_bits, rule_of, used};
 ghost use Rattle.op_check_expr.specs.Values.{value_of};
-ghost use Rattle.op_check_expr.specs.Words.{Reports};
 ghost use Rattle.op_types.specs.Sorts.{sort_of};
 
 use crate::convert::{as_type, is_integer, is_wider};
 use crate::operate::Valued;
-use crate::sink::{leave_out, refuse};
 use crate::tree::{then, type_of};
 use crate::value::{Value, constant_value};
-use op_base::Place;
+use op_base::{Place, Rule};
 use op_core::{
-    Action, Conversion, Core, CoreExpr, CoreType, FirstRefusal, Function, Origin, TypeId,
+    Action, Conversion, Core, CoreExpr, CoreType, FirstRefusal, Function, Origin, TypeId, range_of,
+    type_at,
 };
+use op_judgement::{refuse, rules};
 use op_tree::Position;
-use op_types::{Applied, Setting, Sort, application, range_of, sort_of, type_at};
+use op_types::{Applied, Setting, Sort, application, sort_of};
 
 /// A cast or a function at a position, of an argument at a place.
 pub fn used(
@@ -94,7 +95,7 @@ fn cast_of(
             let origin = Origin::Cast;
             Ok(Some(Value::Computed(then(e, Action::Convert { conversion, origin }, to)?)))
         }
-        _ => Ok(refuse(sink, 39, place)),
+        _ => Ok(refuse(sink, rules::NO_CAST, place)),
     }
 }
 
@@ -136,7 +137,7 @@ fn application_of(
         return Ok(refuse(sink, rule_of(function), at));
     };
     if becomes_string(core, function, value.type_of()) {
-        return Ok(leave_out(sink, 40, position.place));
+        return Ok(refuse(sink, rules::STRINGS, position.place));
     }
     let to = argument_type(core, function, value.type_of());
     let e = as_type(setting.alloc, core, true, to, value)?;
@@ -156,12 +157,14 @@ fn becomes_string(core: &Core, function: Function, of: TypeId) -> bool
 }
 
 /// The rule that an argument breaks which the function does not take.
-fn rule_of(function: Function) -> u8
+fn rule_of(function: Function) -> Rule
     ensures { result ≡ rule_of function }
 {
     match function {
-        Function::Ord | Function::Succ | Function::Pred | Function::Low | Function::High => 23,
-        _ => 20,
+        Function::Ord | Function::Succ | Function::Pred | Function::Low | Function::High => {
+            rules::NOT_ORDINAL
+        }
+        _ => rules::NOT_ASSIGNABLE,
     }
 }
 

@@ -6,11 +6,11 @@ ghost use Rattle.op_core.specs.Expression.{argument_of, call as call_root, expr_
 ghost use Rattle.op_core.specs.Typing.{takes_place};
 ghost use Rattle.op_tree.specs.Expression as source;
 ghost use Rattle.op_tree.specs.Lists as source_lists;
-ghost use Rattle.op_check_expr.specs.Calling.{are_given, built_in_plan, call_tree, function_plan, given_behind, given_of, is_plain, parameters_of, passed, passed_value, plan_of, routine_plan, sole_plan, type_wanted};
+ghost use Rattle.op_judgement.specs.Judgement.{Reports, with_part};
+ghost use Rattle.op_check_expr.specs.Calling.{are_given, built_in_plan, call_of, call_tree, function_plan, given_behind, given_of, is_plain, parameters_of, passed, passed_value, plan_of, routine_plan, sole_plan, type_wanted};
 ghost use Rattle.op_check_expr.specs.Naming.{denoted_of};
 ghost use Rattle.op_check_expr.specs.Scopes.{here_of};
 ghost use Rattle.op_check_expr.specs.Values.{value_of};
-ghost use Rattle.op_check_expr.specs.Words.{Reports};
 ghost use Rattle.op_types.specs.Constants.{only_value};
 
 use crate::convert::stored;
@@ -21,6 +21,7 @@ use crate::tree::make_room;
 use crate::value::Value;
 use op_base::{NoMemory, Place};
 use op_core::{CoreArgument, CoreExpr, FirstRefusal, Function, Parameter, Root, RoutineId, TypeId};
+use op_judgement::{refuse, rules};
 use op_tree::{Argument, ParameterMode, Position};
 use op_types::{Applied, BuiltIn, only_value};
 use std::alloc::Global;
@@ -33,10 +34,6 @@ pub enum Plan {
     /// A cast or a function of one value, at a position.
     Sole(Applied, Position),
     Routine(RoutineId),
-    /// A rule is broken at a place, whatever the arguments are.
-    Wrong(u8, Place),
-    /// What is called has no meaning.
-    Silent,
 }
 
 /// What is given to a routine so far; None where a rule is broken in it.
@@ -46,71 +43,81 @@ impl<'a> Checker<'a> {
     /// What is done with arguments behind what stands in front of them. `alone` is whether the call is a statement.
     pub fn plan_of(
         self,
+        sink: &mut FirstRefusal,
         alone: bool,
         denoted: &Option<Denoted>,
         list: &[Argument],
-    ) -> Result<Plan, NoMemory>
-        ensures { IfOk result (λ p. p ≡ plan_of (here_of self.entry.scope) alone (option_map denoted_of denoted.now) (source_lists.arguments_of list.now)) }
+    ) -> Result<Option<Plan>, NoMemory>
+        ensures { IfOk result (Reports (plan_of (here_of self.entry.scope) alone (option_map denoted_of denoted.now) (source_lists.arguments_of list.now)) sink.old sink.new) }
     {
         let Some(denoted) = denoted else {
-            return Ok(Plan::Silent);
+            return Ok(None);
         };
         let position = denoted.position;
         match &denoted.what {
-            Meant::Routine(id) => Ok(self.routine_plan(alone, position, *id, list)),
-            Meant::TypeName(of) => Ok(sole_plan(position, Applied::Cast(*of), list)),
-            Meant::BuiltIn(b) => self.built_in_plan(position, *b, list),
-            Meant::Value(_) => Ok(Plan::Wrong(16, position.place)),
-            Meant::Unit(_) => Ok(Plan::Wrong(16, position.place)),
+            Meant::Routine(id) => Ok(self.routine_plan(sink, alone, position, *id, list)),
+            Meant::TypeName(of) => Ok(sole_plan(sink, position, Applied::Cast(*of), list)),
+            Meant::BuiltIn(b) => self.built_in_plan(sink, position, *b, list),
+            Meant::Value(_) => Ok(refuse(sink, rules::WRONG_KIND_OF_NAME, position.place)),
+            Meant::Unit(_) => Ok(refuse(sink, rules::WRONG_KIND_OF_NAME, position.place)),
         }
     }
 
-    fn routine_plan(self, alone: bool, position: Position, id: RoutineId, list: &[Argument]) -> Plan
-        ensures { result ≡ routine_plan (here_of self.entry.scope) alone position id (slice_get (here_of self.entry.scope).core.routines id.0) (source_lists.arguments_of list.now) }
+    fn routine_plan(
+        self,
+        sink: &mut FirstRefusal,
+        alone: bool,
+        position: Position,
+        id: RoutineId,
+        list: &[Argument],
+    ) -> Option<Plan>
+        ensures { Reports (with_part (routine_plan (here_of self.entry.scope) alone position id (source_lists.arguments_of list.now)) (slice_get (here_of self.entry.scope).core.routines id.0)) sink.old sink.new result }
     {
         let core = self.scope.core;
         let Some(routine) = core.routines.as_slice().get(id.0 as usize) else {
-            return Plan::Silent;
+            return None;
         };
         if !alone && routine.result.is_none() {
-            return Plan::Wrong(16, position.place);
+            return refuse(sink, rules::WRONG_KIND_OF_NAME, position.place);
         }
         if are_given(core.parameters.rows(routine.parameters), list) {
-            Plan::Routine(id)
+            Some(Plan::Routine(id))
         } else {
-            Plan::Wrong(26, position.place)
+            refuse(sink, rules::WRONG_ARGUMENTS, position.place)
         }
     }
 
     fn built_in_plan(
         self,
+        sink: &mut FirstRefusal,
         position: Position,
         b: BuiltIn,
         list: &[Argument],
-    ) -> Result<Plan, NoMemory>
-        ensures { IfOk result (λ p. p ≡ built_in_plan (here_of self.entry.scope) position b (source_lists.arguments_of list.now)) }
+    ) -> Result<Option<Plan>, NoMemory>
+        ensures { IfOk result (Reports (built_in_plan (here_of self.entry.scope) position b (source_lists.arguments_of list.now)) sink.old sink.new) }
     {
         match b {
-            BuiltIn::Chr => Ok(sole_plan(position, Applied::Cast(TypeId::CHAR), list)),
-            BuiltIn::Function(function) => self.function_plan(position, function, list),
-            _ => Ok(Plan::Wrong(16, position.place)),
+            BuiltIn::Chr => Ok(sole_plan(sink, position, Applied::Cast(TypeId::CHAR), list)),
+            BuiltIn::Function(function) => self.function_plan(sink, position, function, list),
+            _ => Ok(refuse(sink, rules::WRONG_KIND_OF_NAME, position.place)),
         }
     }
 
     fn function_plan(
         self,
+        sink: &mut FirstRefusal,
         position: Position,
         function: Function,
         list: &[Argument],
-    ) -> Result<Plan, NoMemory>
-        ensures { IfOk result (λ p. p ≡ function_plan (here_of self.entry.scope) position function (source_lists.arguments_of list.now)) }
+    ) -> Result<Option<Plan>, NoMemory>
+        ensures { IfOk result (Reports (function_plan (here_of self.entry.scope) position function (source_lists.arguments_of list.now)) sink.old sink.new) }
     {
         match function {
             Function::Low | Function::High => match self.setting().type_named(list)? {
-                Some((of, at)) => Ok(Plan::Bound(function, of, at)),
-                None => Ok(sole_plan(position, Applied::Function(function), list)),
+                Some((of, at)) => Ok(Some(Plan::Bound(function, of, at))),
+                None => Ok(sole_plan(sink, position, Applied::Function(function), list)),
             },
-            _ => Ok(sole_plan(position, Applied::Function(function), list)),
+            _ => Ok(sole_plan(sink, position, Applied::Function(function), list)),
         }
     }
 
@@ -132,7 +139,7 @@ impl<'a> Checker<'a> {
         at: Position,
         value: Option<Value>,
     ) -> Result<Option<CoreArgument>, NoMemory>
-        ensures { IfOk result (λ a. Reports (passed (here_of self.entry.scope) (option_copied parameter.entry) at (option_map value_of value)) sink.old sink.new (option_map argument_of a)) }
+        ensures { IfOk result (λ a. Reports (with_part (passed (here_of self.entry.scope) (option_copied parameter.entry) at) (option_map value_of value)) sink.old sink.new (option_map argument_of a)) }
     {
         match (parameter, value) {
             (Some(parameter), Some(value)) => self.passed_value(sink, parameter, at, value),
@@ -147,7 +154,7 @@ impl<'a> Checker<'a> {
         at: Position,
         value: Value,
     ) -> Result<Option<CoreArgument>, NoMemory>
-        ensures { IfOk result (λ a. Reports (passed_value (here_of self.entry.scope) parameter.now at (value_of value)) sink.old sink.new (option_map argument_of a)) }
+        ensures { IfOk result (λ a. Reports (passed_value (here_of self.entry.scope) at (value_of value) parameter.now) sink.old sink.new (option_map argument_of a)) }
     {
         let to = parameter.of;
         if takes_place(parameter.mode) {
@@ -165,8 +172,8 @@ impl<'a> Checker<'a> {
     }
 
     /// A call of a routine that is no method.
-    pub fn call_tree(self, id: RoutineId, given: Vec<CoreArgument>) -> Option<Value>
-        ensures { option_map value_of result ≡ (call_tree id (slice_get (here_of self.entry.scope).core.routines id.0) (given_of given)).typed }
+    fn call_tree(self, id: RoutineId, given: Vec<CoreArgument>) -> Option<Value>
+        ensures { option_map value_of result ≡ option_map (call_tree id (given_of given)) (slice_get (here_of self.entry.scope).core.routines id.0) }
     {
         let routine = self.scope.core.routines.as_slice().get(id.0 as usize)?;
         let of = match routine.result {
@@ -174,6 +181,16 @@ impl<'a> Checker<'a> {
             None => TypeId::NOTHING,
         };
         Some(Value::Computed(call_expression(self.alloc, id, given, of)))
+    }
+
+    /// What a routine gives with these arguments.
+    pub fn call_of(self, plan: Option<Plan>, given: Given) -> Option<Value>
+        ensures { option_map value_of result ≡ call_of (here_of self.entry.scope) plan (option_map given_of given) }
+    {
+        match plan {
+            Some(Plan::Routine(id)) => self.call_tree(id, given?),
+            _ => None,
+        }
     }
 }
 
@@ -214,12 +231,17 @@ fn takes_place(mode: ParameterMode) -> bool
     matches!(mode, ParameterMode::Var | ParameterMode::Out)
 }
 
-fn sole_plan(position: Position, what: Applied, list: &[Argument]) -> Plan
-    ensures { result ≡ sole_plan position what (only_value (source_lists.arguments_of list.now)) }
+fn sole_plan(
+    sink: &mut FirstRefusal,
+    position: Position,
+    what: Applied,
+    list: &[Argument],
+) -> Option<Plan>
+    ensures { Reports (sole_plan position what (only_value (source_lists.arguments_of list.now))) sink.old sink.new result }
 {
     match only_value(list) {
-        Some(_) => Plan::Sole(what, position),
-        None => Plan::Wrong(26, position.place),
+        Some(_) => Some(Plan::Sole(what, position)),
+        None => refuse(sink, rules::WRONG_ARGUMENTS, position.place),
     }
 }
 

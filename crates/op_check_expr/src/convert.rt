@@ -5,16 +5,18 @@ ghost use Rattle.std.specs.Option.{option_map};
 ghost use Rattle.op_core.specs.Expression.{expr_of};
 ghost use Rattle.op_core.specs.Sizes.{type_at};
 ghost use Rattle.op_core.specs.Typing as typing;
+ghost use Rattle.op_judgement.specs.Judgement.{Reports};
 ghost use Rattle.op_check_expr.specs.Values.{are_in, as_type, conversion, index_at, is_in, is_integer, is_wider, ordinal_conversion, retyped, stored, value_of};
-ghost use Rattle.op_check_expr.specs.Words.{Reports};
 
-use crate::sink::refuse;
 use crate::tree::{constant_tree, type_of, with_conversion};
 use crate::value::Value;
 use op_base::{NoMemory, Place, Sequence};
-use op_core::{Const, Conversion, Core, CoreExpr, CoreType, FirstRefusal, TypeId, one_type};
+use op_core::{
+    Const, Conversion, Core, CoreExpr, CoreType, FirstRefusal, TypeId, one_type, range_of, type_at,
+};
+use op_judgement::{refuse, rules};
 use op_scan::CompactText;
-use op_types::{Constant, Sort, assignable, bytes_of, in_range, range_of, sort_of, type_at};
+use op_types::{Constant, Sort, assignable, bytes_of, in_range, sort_of};
 use std::alloc::Global;
 
 /// A value at a place, stored in what has a type. `checked` is whether ranges are.
@@ -32,7 +34,7 @@ pub fn stored(
     if assignable(core, value.type_of(), to) {
         Ok(Some(as_type(alloc, core, checked, to, value)?))
     } else {
-        Ok(refuse(sink, 20, place))
+        Ok(refuse(sink, rules::NOT_ASSIGNABLE, place))
     }
 }
 
@@ -54,7 +56,7 @@ pub fn index_at(
             _ => as_type(alloc, core, true, to, index)?,
         }))
     } else {
-        Ok(refuse(sink, 20, place))
+        Ok(refuse(sink, rules::NOT_ASSIGNABLE, place))
     }
 }
 

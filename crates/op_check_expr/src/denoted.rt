@@ -2,21 +2,22 @@
 ghost use Rattle.std.specs.Prelude.{◌≡◌, IfOk, position, slice_get};
 ghost use Rattle.std.specs.Option.{option_copied, option_map};
 ghost use Rattle.op_core.specs.Expression.{expr_of};
-ghost use Rattle.op_core.specs.Faults.{fine};
-ghost use Rattle.op_check_expr.specs.Naming.{denoted, denoted_of, feature_of, feature_of_type, field_at, field_named, field_of, is_named, meant_of, named, thing_named, variable_named, variable_tree};
+ghost use Rattle.op_judgement.specs.Judgement.{Reports, checked, fine};
+ghost use Rattle.op_check_expr.specs.Naming.{denoted, denoted_of, feature_of, feature_of_type, field_at, field_named, field_of, is_named, meant_of, named, variable_named, variable_tree};
 ghost use Rattle.op_check_expr.specs.Values.{value_of};
-ghost use Rattle.op_check_expr.specs.Words.{Reports, by_feature, number_at};
+ghost use Rattle.op_check_expr.specs.Parts.{by_feature};
+ghost use Rattle.op_check_expr.specs.Words.{number_at};
 
-use crate::sink::{leave_out, refuse};
 use crate::tree::then;
 use crate::value::Value;
 use op_base::{NoMemory, Place, Text};
 use op_core::{
     Action, Core, CoreExpr, CoreType, Field, FieldId, FirstRefusal, Function, Root, RoutineId, Run,
-    TypeId, VariableId,
+    TypeId, VariableId, type_at,
 };
+use op_judgement::{refuse, rules};
 use op_tree::{Name, Position};
-use op_types::{BuiltIn, Meaning, Setting, type_at};
+use op_types::{BuiltIn, Meaning, Setting};
 use std::alloc::Global;
 
 /// What a name stands for, or what is selected of it.
@@ -50,32 +51,17 @@ pub fn named(
 ) -> Found
     ensures { IfOk result (λ d. Reports (named setting.entry.core.now name.now position (option_copied meaning.entry)) sink.old sink.new (option_map denoted_of d)) }
 {
-    let before = *sink;
-    match setting.name(sink, position.place, meaning)? {
-        Some(None) => Ok(None),
-        Some(Some(constant)) => Ok(Some(Denoted {
-            position,
-            what: Meant::Value(Value::Constant(constant)),
-        })),
-        None => {
-            *sink = before;
-            thing_named(setting, sink, name, position, meaning)
-        }
-    }
-}
-
-/// What a name stands for that is no constant.
-fn thing_named(
-    setting: Setting,
-    sink: &mut FirstRefusal,
-    name: &[u8],
-    position: Position,
-    meaning: Option<&Meaning>,
-) -> Found
-    ensures { IfOk result (λ d. Reports (thing_named setting.entry.core.now name.now position (option_copied meaning.entry)) sink.old sink.new (option_map denoted_of d)) }
-{
     let place = position.place;
     match meaning {
+        None => Ok(refuse(sink, rules::UNKNOWN_NAME, place)),
+        Some(Meaning::Spoiled) => Ok(None),
+        Some(Meaning::Constant(_)) => match setting.name(sink, place, meaning)? {
+            Some(Some(constant)) => Ok(Some(Denoted {
+                position,
+                what: Meant::Value(Value::Constant(constant)),
+            })),
+            _ => Ok(None),
+        },
         Some(Meaning::Variable { id, .. }) => {
             Ok(variable_named(setting.alloc, setting.core, position, *id))
         }
@@ -94,7 +80,6 @@ fn thing_named(
         Some(Meaning::BuiltIn(b)) => {
             Ok(unless(sink, feature_of(*b), position, Meant::BuiltIn(*b)))
         }
-        _ => Ok(None),
     }
 }
 
@@ -108,13 +93,13 @@ fn unless(
     ensures { Reports (by_feature position.place feature (fine (denoted position (meant_of what)))) sink.old sink.new (option_map denoted_of result) }
 {
     match feature {
-        Some(feature) => leave_out(sink, feature, position.place),
+        Some(feature) => refuse(sink, rules::left_out(feature), position.place),
         None => Some(Denoted { position, what }),
     }
 }
 
 fn variable_named(alloc: Global, core: &Core, position: Position, id: VariableId) -> Option<Denoted>
-    ensures { option_map denoted_of result ≡ (variable_named position id (slice_get core.now.variables id.0)).typed }
+    ensures { option_map denoted_of result ≡ (checked (variable_named position id (slice_get core.now.variables id.0))).typed }
 {
     let variable = core.variables.as_slice().get(id.0 as usize)?;
     let e = variable_tree(alloc, id, variable.of);
@@ -182,7 +167,7 @@ pub fn field_of(
 {
     let of = type_at(core, value.type_of());
     let Some((id, of)) = field_named(core, name.text.as_slice(), of) else {
-        return Ok(refuse(sink, 25, name.position.place));
+        return Ok(refuse(sink, rules::NO_MEMBER, name.position.place));
     };
     let e = then(value.into_tree(alloc), Action::Field(id), of)?;
     Ok(Some(Denoted {

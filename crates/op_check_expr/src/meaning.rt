@@ -3,16 +3,15 @@ ghost use Rattle.std.specs.Prelude.{◌≡◌, IfOk, None, Some, position};
 ghost use Rattle.std.specs.Option.{option_map};
 ghost use Rattle.op_core.specs.Expression as typed;
 ghost use Rattle.op_tree.specs.Expression.{expr_of, selector_of};
-ghost use Rattle.op_core.specs.Faults.{with_part};
 ghost use Rattle.op_tree.specs.Lists.{arguments_of};
 ghost use Rattle.op_tree.specs.Statement.{designator_of, selectors_of};
-ghost use Rattle.op_check_expr.specs.Expressions.{as_value};
+ghost use Rattle.op_judgement.specs.Judgement.{Reports, checked, with_part};
+ghost use Rattle.op_check_expr.specs.Expressions.{settled};
 ghost use Rattle.op_check_expr.specs.Naming.{denoted_of};
-ghost use Rattle.op_check_expr.specs.Meanings as means;
-ghost use Rattle.op_check_expr.specs.Rules as rules;
+ghost use Rattle.op_check_expr.specs.Meanings as computed;
+ghost use Rattle.op_check_expr.specs.Phrases as means;
 ghost use Rattle.op_check_expr.specs.Scopes.{here_of};
 ghost use Rattle.op_check_expr.specs.Values.{tree_of, value_of};
-ghost use Rattle.op_check_expr.specs.Words.{Reports};
 
 use crate::call::Plan;
 use crate::convert::{as_type, stored};
@@ -21,13 +20,13 @@ use crate::operate::Valued;
 use crate::part::{given_first, position_of, position_of_designator};
 use crate::place::{is_writable_variable, target_value, variable_value};
 use crate::scope::{Checker, Scope};
-use crate::sink::refuse;
 use crate::value::Value;
 use op_base::{NoMemory, Place};
 use op_core::{
     CheckError, Core, CoreExpr, FirstRefusal, Role, Routine, RoutineId, Run, TypeId, Variable,
     VariableId,
 };
+use op_judgement::{refuse, rules};
 use op_tree::{Argument, Designator, Expr, Name, Position, Root, Selector};
 use op_types::{Meaning, assignable};
 use std::alloc::Global;
@@ -37,8 +36,8 @@ pub type Typed = Result<Option<CoreExpr>, NoMemory>;
 
 /// The typed expression, or the first rule that it breaks.
 pub fn expr(alloc: Global, scope: &Scope, e: &Expr) -> Result<CoreExpr, CheckError>
-    ensures exact { means.ExprIs (means.value_of (here_of scope.now) None (expr_of e.now)) result }
-    ensures law { rules.ExprMeans (rules.ValueIs (here_of scope.now) None (expr_of e.now)) (rules.ValueBreaks (here_of scope.now) None (expr_of e.now)) result }
+    ensures exact { means.ExprIs (checked (means.value (here_of scope.now) None (expr_of e.now))) result }
+    ensures law { means.ExprMeans (means.value (here_of scope.now) None (expr_of e.now)) result }
 {
     let mut sink = FirstRefusal::new();
     let checker = Checker {
@@ -63,15 +62,15 @@ fn failure(sink: FirstRefusal) -> CheckError
 
 impl<'a> Checker<'a> {
     /// What an expression means. `wanted` is the type that its use fixes: a set constructor takes its type from that.
-    #[tactic(auto, unfolding(crate::specs::Meanings::value_of))]
+    #[tactic(auto, unfolding(crate::specs::Phrases::value))]
     pub fn value(self, sink: &mut FirstRefusal, wanted: Option<TypeId>, e: &Expr) -> Valued
-        ensures { IfOk result (λ v. Reports (means.value_of (here_of self.entry.scope) wanted (expr_of e.now)) sink.old sink.new (option_map value_of v)) }
+        ensures { IfOk result (λ v. Reports (means.value (here_of self.entry.scope) wanted (expr_of e.now)) sink.old sink.new (option_map value_of v)) }
     {
         self.value_in(sink, wanted, e)
     }
 
     /// A value that is stored in what has a type; `checked` is whether ranges are. Rule 20 stands at its first token.
-    #[tactic(auto, unfolding(crate::specs::Meanings::given))]
+    #[tactic(auto, unfolding(crate::specs::Phrases::given))]
     pub fn given(self, sink: &mut FirstRefusal, to: TypeId, checked: bool, e: &Expr) -> Typed
         ensures { IfOk result (λ v. Reports (means.given (here_of self.entry.scope) to checked (expr_of e.now)) sink.old sink.new (option_map typed.expr_of v)) }
     {
@@ -86,7 +85,7 @@ impl<'a> Checker<'a> {
 
     /// An argument that must be a variable, of the very type where one is given, that may be written: rules 27, 28, 29, 37 at its
     /// first token.
-    #[tactic(auto, unfolding(crate::specs::Meanings::variable))]
+    #[tactic(auto, unfolding(crate::specs::Phrases::variable))]
     pub fn variable(self, sink: &mut FirstRefusal, of: Option<TypeId>, e: &Expr) -> Typed
         ensures { IfOk result (λ v. Reports (means.variable (here_of self.entry.scope) of (expr_of e.now)) sink.old sink.new (option_map typed.expr_of v)) }
     {
@@ -102,13 +101,13 @@ impl<'a> Checker<'a> {
     /// Whether a variable may be written here: its role, and the loops round the place.
     #[tactic(auto, unfolding(crate::specs::Meanings::is_writable_variable))]
     pub fn is_writable_variable(self, id: VariableId) -> bool
-        ensures { result ≡ means.is_writable_variable (here_of self.entry.scope) id }
+        ensures { result ≡ computed.is_writable_variable (here_of self.entry.scope) id }
     {
         is_writable_variable(self.scope, id)
     }
 
     /// One element for a set of a base: rules 20 and 34 at its first token.
-    #[tactic(auto, unfolding(crate::specs::Meanings::element))]
+    #[tactic(auto, unfolding(crate::specs::Phrases::element))]
     pub fn element(self, sink: &mut FirstRefusal, base: TypeId, e: &Expr) -> Typed
         ensures { IfOk result (λ v. Reports (means.element (here_of self.entry.scope) base (expr_of e.now)) sink.old sink.new (option_map typed.expr_of v)) }
     {
@@ -118,16 +117,16 @@ impl<'a> Checker<'a> {
         };
         let core = self.scope.core;
         if !assignable(core, value.type_of(), base) {
-            return Ok(refuse(sink, 20, at));
+            return Ok(refuse(sink, rules::NOT_ASSIGNABLE, at));
         }
         if !value.is_small() {
-            return Ok(refuse(sink, 34, at));
+            return Ok(refuse(sink, rules::NO_SET_ELEMENT, at));
         }
         Ok(Some(as_type(self.alloc, core, true, base, value)?))
     }
 
     /// What is assigned to: rule 29 at its first token. A function's own name is its result, of which a part may be selected.
-    #[tactic(auto, unfolding(crate::specs::Meanings::target))]
+    #[tactic(auto, unfolding(crate::specs::Phrases::target))]
     pub fn target(self, sink: &mut FirstRefusal, called: &Designator) -> Typed
         ensures { IfOk result (λ v. Reports (means.target (here_of self.entry.scope) (designator_of called.now)) sink.old sink.new (option_map typed.expr_of v)) }
     {
@@ -147,7 +146,7 @@ impl<'a> Checker<'a> {
     {
         let at = position_of_designator(called).place;
         match self.routine_alone(called)? {
-            Some(_) => Ok(refuse(sink, 29, at)),
+            Some(_) => Ok(refuse(sink, rules::NOT_WRITABLE, at)),
             None => {
                 let denoted = self.designator(sink, called)?;
                 self.target_denoted(sink, at, denoted)
@@ -157,7 +156,7 @@ impl<'a> Checker<'a> {
 
     /// What is assigned to, in a statement that begins at a place.
     fn target_denoted(self, sink: &mut FirstRefusal, at: Place, denoted: Option<Denoted>) -> Typed
-        ensures { IfOk result (λ v. Reports (means.target_means (here_of self.entry.scope) at (as_value (here_of self.entry.scope) (option_map denoted_of denoted))) sink.old sink.new (option_map typed.expr_of v)) }
+        ensures { IfOk result (λ v. Reports (means.target_means (here_of self.entry.scope) at (with_part (settled (here_of self.entry.scope)) (option_map denoted_of denoted))) sink.old sink.new (option_map typed.expr_of v)) }
     {
         match self.as_value(sink, denoted)? {
             Some(value) => Ok(target_value(self.scope, sink, at, value)),
@@ -225,16 +224,16 @@ impl<'a> Checker<'a> {
     }
 
     /// A call as a statement. Rule 35 stands at its first token where it is no call.
-    #[tactic(auto, unfolding(crate::specs::Meanings::called_alone))]
+    #[tactic(auto, unfolding(crate::specs::Phrases::call_alone))]
     pub fn alone(self, sink: &mut FirstRefusal, called: &Designator) -> Typed
-        ensures { IfOk result (λ v. Reports (means.called_alone (here_of self.entry.scope) (designator_of called.now)) sink.old sink.new (option_map typed.expr_of v)) }
+        ensures { IfOk result (λ v. Reports (means.call_alone (here_of self.entry.scope) (designator_of called.now)) sink.old sink.new (option_map typed.expr_of v)) }
     {
         let start = position_of_designator(called).place;
         let denoted = self.root(sink, &called.root)?;
         match last_call(&called.selectors) {
             Some((front, arguments)) => {
                 let denoted = self.selected(sink, denoted, front)?;
-                let plan = self.plan_of(true, &denoted, arguments)?;
+                let plan = self.plan_of(sink, true, &denoted, arguments)?;
                 self.alone_called(sink, start, plan, arguments)
             }
             None => {
@@ -248,14 +247,14 @@ impl<'a> Checker<'a> {
         self,
         sink: &mut FirstRefusal,
         start: Place,
-        plan: Plan,
+        plan: Option<Plan>,
         list: &[Argument],
     ) -> Typed
         ensures { IfOk result (λ v. Reports (means.alone_called (here_of self.entry.scope) start plan (arguments_of list.now)) sink.old sink.new (option_map typed.expr_of v)) }
     {
         let value = self.called(sink, plan, list)?;
         match plan {
-            Plan::Bound(..) | Plan::Sole(..) => Ok(refuse(sink, 35, start)),
+            Some(Plan::Bound(..) | Plan::Sole(..)) => Ok(refuse(sink, rules::NO_STATEMENT, start)),
             _ => Ok(into_tree(self.alloc, value)),
         }
     }
@@ -269,12 +268,12 @@ impl<'a> Checker<'a> {
         };
         let position = denoted.position;
         match denoted.what {
-            Meant::Value(_) => Ok(refuse(sink, 35, start)),
-            Meant::TypeName(_) => Ok(refuse(sink, 16, position.place)),
+            Meant::Value(_) => Ok(refuse(sink, rules::NO_STATEMENT, start)),
+            Meant::TypeName(_) => Ok(refuse(sink, rules::WRONG_KIND_OF_NAME, position.place)),
             what => {
                 let denoted = Some(Denoted { position, what });
-                let plan = self.plan_of(true, &denoted, &[])?;
-                let value = self.call_of(sink, plan, given_first(self.alloc, plan));
+                let plan = self.plan_of(sink, true, &denoted, &[])?;
+                let value = self.call_of(plan, given_first(self.alloc, plan));
                 Ok(into_tree(self.alloc, value))
             }
         }

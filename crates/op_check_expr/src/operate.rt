@@ -2,16 +2,16 @@
 ghost use Rattle.std.specs.Prelude.{◌≡◌, IfOk};
 ghost use Rattle.std.specs.Option.{option_map};
 ghost use Rattle.op_core.specs.Expression.{expr_of};
+ghost use Rattle.op_judgement.specs.Judgement.{Reports};
 ghost use Rattle.op_check_expr.specs.Operating.{computed_operation, feature_of_operands, left_type, makes_strings, operand_by, operated, operation_of, operation_tree, prefix_of, right_type, type_of_kind};
 ghost use Rattle.op_check_expr.specs.Values.{value_of};
-ghost use Rattle.op_check_expr.specs.Words.{Reports};
 
 use crate::convert::as_type;
-use crate::sink::{leave_out, refuse};
 use crate::tree::{then, type_of};
 use crate::value::{Value, constant_value};
 use op_base::{NoMemory, Place};
 use op_core::{Action, Core, CoreExpr, FirstRefusal, TypeId};
+use op_judgement::{refuse, rules};
 use op_tree::{Operator, Position, PrefixOperator};
 use op_types::{
     OrdinalKind, Setting, Sort, common_set, is_folded, operation, prefixed, set_over, sort_of,
@@ -61,7 +61,13 @@ fn operated(
                 computed_operation(setting, sink, operator, position, a, b)
             }
         }
-        (a, b) => computed_operation(setting, sink, operator, position, a, b),
+        (Value::Constant(a), Value::Computed(b)) => {
+            let (a, b) = (Value::Constant(a), Value::Computed(b));
+            computed_operation(setting, sink, operator, position, a, b)
+        }
+        (Value::Computed(a), b) => {
+            computed_operation(setting, sink, operator, position, Value::Computed(a), b)
+        }
     }
 }
 
@@ -80,10 +86,10 @@ fn computed_operation(
     let sorts = (sort_of(core, a.type_of()), sort_of(core, b.type_of()));
     let sets = common_set(core, a.type_of(), b.type_of());
     let Some(of) = operation(operator, sorts.0, sorts.1, sets) else {
-        return Ok(refuse(sink, 21, position.place));
+        return Ok(refuse(sink, rules::NO_OPERATOR, position.place));
     };
     if makes_strings(operator, sorts.0, sorts.1) {
-        return Ok(leave_out(sink, 40, position.place));
+        return Ok(refuse(sink, rules::STRINGS, position.place));
     }
     let e = operation_tree(setting.alloc, core, operator, position.switches.q, a, b, of)?;
     Ok(Some(Value::Computed(e)))
@@ -181,7 +187,7 @@ pub fn prefix_of(
         }
         Value::Computed(e) => {
             let Some(of) = prefixed(operator, sort_of(setting.core, type_of(&e))) else {
-                return Ok(refuse(sink, 21, position.place));
+                return Ok(refuse(sink, rules::NO_OPERATOR, position.place));
             };
             let checked = position.switches.q;
             let e = as_type(setting.alloc, setting.core, true, of, Value::Computed(e))?;

@@ -1,17 +1,17 @@
 //! What parts of an expression mean, once their own parts have a meaning.
-ghost use Rattle.std.specs.Prelude.{◌≡◌, IfOk};
+ghost use Rattle.std.specs.Prelude.{◌≡◌, IfOk, Some};
 ghost use Rattle.std.specs.Option.{option_copied, option_map};
-ghost use Rattle.op_core.specs.Faults.{with_part};
-ghost use Rattle.op_tree.specs.Expression.{expr_of, no_selectors};
+ghost use Rattle.op_tree.specs.Expression.{expr_of};
 ghost use Rattle.op_tree.specs.Statement.{designator_of};
-ghost use Rattle.op_check_expr.specs.Calling.{first_of, given_of, others_of, type_wanted};
+ghost use Rattle.op_judgement.specs.Judgement.{Reports, both_typed, changed, with_part};
+ghost use Rattle.op_check_expr.specs.Calling.{first_of, given_first, given_of, others_of, parameters_for, type_wanted};
 ghost use Rattle.op_check_expr.specs.Constructors.{member_of as member_in_view, members_of};
-ghost use Rattle.op_check_expr.specs.Expressions.{as_value, call_of, given_first, index_types, indexed, literal_value, member_of, name_denoted, parameters_for, position_of, position_of_denoted, position_of_designator, ranged, settled, still_at_position, text_denoted, with_member};
+ghost use Rattle.op_check_expr.specs.Expressions.{index_types, indexed, member_of, name_denoted, position_of, position_of_denoted, position_of_designator, ranged, settled, still_at_position, text_denoted, with_member};
 ghost use Rattle.op_check_expr.specs.Naming.{denoted_of};
 ghost use Rattle.op_check_expr.specs.Scopes.{here_of};
-ghost use Rattle.op_check_expr.specs.Values.{value_of};
-ghost use Rattle.op_check_expr.specs.Words.{Reports};
-ghost use Rattle.op_types.specs.Constants.{literal_means};
+ghost use Rattle.op_check_expr.specs.Values.{constant, value_of};
+ghost use Rattle.op_types.specs.Constants.{text_constant};
+ghost use Rattle.op_types.specs.Folding.{bound_means};
 ghost use Rattle.op_types.specs.Names.{lower};
 
 use crate::call::{Given, Plan};
@@ -20,14 +20,14 @@ use crate::denoted::{Denoted, Found, Meant, field_of, named};
 use crate::operate::Valued;
 use crate::scope::Checker;
 use crate::set::Member;
-use crate::sink::refuse;
 use crate::tree::then;
-use crate::value::Value;
+use crate::value::{Value, constant_value};
 use op_base::{NoMemory, Place};
-use op_core::{Action, Const, Core, CoreType, FirstRefusal, Parameter, TypeId};
+use op_core::{Action, Const, Core, CoreType, FirstRefusal, Function, Parameter, TypeId, type_at};
+use op_judgement::{refuse, rules};
 use op_scan::CompactText;
 use op_tree::{Designator, Expr, Name, Position, Root};
-use op_types::{made, nodes, type_at};
+use op_types::{made, nodes};
 use std::alloc::Global;
 
 /// The first token of an expression.
@@ -92,11 +92,11 @@ pub fn still_at(position: Option<Position>, value: Option<Value>) -> Option<Deno
     Some(Denoted { position, what })
 }
 
-pub fn given_first(alloc: Global, plan: Plan) -> Given
+pub fn given_first(alloc: Global, plan: Option<Plan>) -> Given
     ensures { option_map given_of result ≡ given_first plan }
 {
     match plan {
-        Plan::Routine(_) => Some(Vec::new(alloc)),
+        Some(Plan::Routine(_)) => Some(Vec::new(alloc)),
         _ => None,
     }
 }
@@ -122,7 +122,7 @@ pub fn first_of(parameters: &[Parameter]) -> (Option<&Parameter>, &[Parameter])
 }
 
 pub fn ranged(at: Place, end: Place, a: Option<Value>, b: Option<Value>) -> Option<Member>
-    ensures { option_map member_in_view result ≡ ranged at end (option_map value_of a) (option_map value_of b) }
+    ensures { option_map member_in_view result ≡ both_typed (ranged at end) (option_map value_of a) (option_map value_of b) }
 {
     match (a, b) {
         (Some(a), Some(b)) => Some(Member::Range(at, a, end, b)),
@@ -157,13 +157,26 @@ pub fn text_denoted(alloc: Global, position: Position, text: &[u8]) -> Result<De
 impl<'a> Checker<'a> {
     /// A text of which nothing is selected.
     pub fn text_alone(self, text: &[u8]) -> Valued
-        ensures { IfOk result (λ v. option_map value_of v ≡ (literal_value (literal_means text.now no_selectors)).typed) }
+        ensures { IfOk result (λ v. option_map value_of v ≡ Some (constant (text_constant text.now))) }
     {
         match self.setting().literal(text, &[])? {
             Some(Some(c)) => Ok(Some(Value::Constant(c))),
             Some(None) => Ok(None),
             None => Ok(None),
         }
+    }
+
+    /// Low or High of a type that is named at a place.
+    pub fn bound_value(
+        self,
+        sink: &mut FirstRefusal,
+        function: Function,
+        of: TypeId,
+        at: Place,
+    ) -> Option<Value>
+        ensures { Reports (changed constant (bound_means (here_of self.entry.scope).core function (of, at))) sink.old sink.new (option_map value_of result) }
+    {
+        constant_value(self.setting().bound(sink, function, of, at))
     }
 
     /// What a name stands for, spelled so, which is looked up as `key`.
@@ -182,7 +195,7 @@ impl<'a> Checker<'a> {
 
     /// What a name stands for as a value: a function alone is called.
     pub fn as_value(self, sink: &mut FirstRefusal, denoted: Option<Denoted>) -> Valued
-        ensures { IfOk result (λ v. Reports (as_value (here_of self.entry.scope) (option_map denoted_of denoted)) sink.old sink.new (option_map value_of v)) }
+        ensures { IfOk result (λ v. Reports (with_part (settled (here_of self.entry.scope)) (option_map denoted_of denoted)) sink.old sink.new (option_map value_of v)) }
     {
         match denoted {
             Some(denoted) => self.settled(sink, denoted),
@@ -196,31 +209,20 @@ impl<'a> Checker<'a> {
         let position = denoted.position;
         match denoted.what {
             Meant::Value(v) => Ok(Some(v)),
-            Meant::TypeName(_) => Ok(refuse(sink, 16, position.place)),
+            Meant::TypeName(_) => Ok(refuse(sink, rules::WRONG_KIND_OF_NAME, position.place)),
             what => {
                 let denoted = Some(Denoted { position, what });
-                let plan = self.plan_of(false, &denoted, &[])?;
-                Ok(self.call_of(sink, plan, given_first(self.alloc, plan)))
+                let plan = self.plan_of(sink, false, &denoted, &[])?;
+                Ok(self.call_of(plan, given_first(self.alloc, plan)))
             }
         }
     }
 
-    /// What arguments give, once they have types.
-    pub fn call_of(self, sink: &mut FirstRefusal, plan: Plan, given: Given) -> Option<Value>
-        ensures { Reports (call_of (here_of self.entry.scope) plan (option_map given_of given)) sink.old sink.new (option_map value_of result) }
-    {
-        match plan {
-            Plan::Routine(id) => self.call_tree(id, given?),
-            Plan::Wrong(rule, place) => refuse(sink, rule, place),
-            _ => None,
-        }
-    }
-
-    pub fn parameters_for(self, plan: Plan) -> &'a [Parameter]
+    pub fn parameters_for(self, plan: Option<Plan>) -> &'a [Parameter]
         ensures { result.now ≡ parameters_for (here_of self.entry.scope) plan }
     {
         match plan {
-            Plan::Routine(id) => self.parameters_of(id),
+            Some(Plan::Routine(id)) => self.parameters_of(id),
             _ => &[],
         }
     }
@@ -267,7 +269,7 @@ impl<'a> Checker<'a> {
         let core = self.scope.core;
         let indexed = type_at(core, a.type_of());
         let Some(of) = index_types(indexed) else {
-            return Ok(refuse(sink, 24, bracket));
+            return Ok(refuse(sink, rules::NOT_INDEXED, bracket));
         };
         let Some(index) = index else {
             return Ok(None);

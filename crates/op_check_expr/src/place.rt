@@ -3,18 +3,19 @@ ghost use Rattle.std.specs.Prelude.{◌≡◌, slice_get};
 ghost use Rattle.std.specs.Option.{option_map};
 ghost use Rattle.op_core.specs.Expression.{action_of, expr_of, root_of as core_root_of};
 ghost use Rattle.op_core.specs.Typing.{is_place, is_variable, leads_on};
+ghost use Rattle.op_judgement.specs.Judgement.{Reports};
 ghost use Rattle.op_check_expr.specs.Places.{is_counted, is_very, is_writable, is_writable_root, is_writable_row, leads, target_value, variable_tree, variable_value};
 ghost use Rattle.op_check_expr.specs.Scopes.{here_of};
 ghost use Rattle.op_check_expr.specs.Values.{value_of};
-ghost use Rattle.op_check_expr.specs.Words.{Reports};
 
 use crate::scope::{Around, Scope};
-use crate::sink::refuse;
 use crate::tree::type_of;
 use crate::value::Value;
 use op_base::Place;
-use op_core::{Action, Core, CoreExpr, CoreType, FirstRefusal, Root, TypeId, VariableId, one_type};
-use op_types::type_at;
+use op_core::{
+    Action, Core, CoreExpr, CoreType, FirstRefusal, Root, TypeId, VariableId, one_type, type_at,
+};
+use op_judgement::{refuse, rules};
 
 /// An argument at a place that must be a variable, of the very type where one is given, that may be written.
 pub fn variable_value(
@@ -28,7 +29,7 @@ pub fn variable_value(
 {
     match value {
         Value::Computed(e) => variable_tree(scope, sink, at, to, e),
-        Value::Constant(_) => refuse(sink, 27, at),
+        Value::Constant(_) => refuse(sink, rules::NO_VARIABLE, at),
     }
 }
 
@@ -42,16 +43,16 @@ fn variable_tree(
     ensures { Reports (variable_tree (here_of scope.entry) at to (expr_of e)) sink.old sink.new (option_map expr_of result) }
 {
     if !is_place(true, scope.core, &e) {
-        return refuse(sink, 27, at);
+        return refuse(sink, rules::NO_VARIABLE, at);
     }
     if !is_very(scope.core, type_of(&e), to) {
-        return refuse(sink, 28, at);
+        return refuse(sink, rules::VARIABLE_OF_ANOTHER_TYPE, at);
     }
     if !is_writable(scope, true, &e) {
-        return refuse(sink, 29, at);
+        return refuse(sink, rules::NOT_WRITABLE, at);
     }
     if !is_place(false, scope.core, &e) {
-        return refuse(sink, 37, at);
+        return refuse(sink, rules::CHARACTER_OF_STRING, at);
     }
     Some(e)
 }
@@ -66,12 +67,12 @@ pub fn target_value(
     ensures { Reports (target_value (here_of scope.entry) at (value_of value)) sink.old sink.new (option_map expr_of result) }
 {
     match value {
-        Value::Constant(_) => refuse(sink, 29, at),
+        Value::Constant(_) => refuse(sink, rules::NOT_WRITABLE, at),
         Value::Computed(e) => {
             if is_writable(scope, true, &e) {
                 Some(e)
             } else {
-                refuse(sink, 29, at)
+                refuse(sink, rules::NOT_WRITABLE, at)
             }
         }
     }

@@ -6,18 +6,18 @@ ghost use Rattle.op_core.specs.Expression.{element_of, expr_of, expression, no_s
 ghost use Rattle.op_core.specs.Nodes.{elements_of};
 ghost use Rattle.op_core.specs.Sizes.{type_at};
 ghost use Rattle.op_core.specs.Typing as typing;
+ghost use Rattle.op_judgement.specs.Judgement.{Reports};
 ghost use Rattle.op_check_expr.specs.Constructors.{are_constants, both_in_set, computed_set, constant_member, constant_members, constant_of, element_tree, is_constant, is_small, member_in_set, member_of, or_own, place_of, set_by, set_of, set_tree, type_of_set, value_in_set, wanted_or};
 ghost use Rattle.op_check_expr.specs.Values.{value_of};
-ghost use Rattle.op_check_expr.specs.Words.{Reports};
-ghost use Rattle.op_types.specs.Constants.{in_brackets, no_members};
+ghost use Rattle.op_types.specs.Constants.{no_members};
 ghost use Rattle.op_types.specs.Operators as table;
 
 use crate::convert::{as_type, base_of};
 use crate::operate::Valued;
-use crate::sink::refuse;
 use crate::value::{Value, constant_value};
 use op_base::{NoMemory, Place};
 use op_core::{Const, Core, CoreElement, CoreExpr, FirstRefusal, Root, TypeId};
+use op_judgement::{refuse, rules};
 use op_types::{
     Constant, Setting, Sort, assignable, common_set, in_brackets, no_members, set_over, sort_of,
 };
@@ -139,7 +139,7 @@ fn member_in_set(core: &Core, sink: &mut FirstRefusal, member: &Member) -> Optio
             if assignable(core, w.type_of(), v.type_of()) {
                 Some(common_set(core, a, b))
             } else {
-                refuse(sink, 20, *end)
+                refuse(sink, rules::NOT_ASSIGNABLE, *end)
             }
         }
     }
@@ -155,10 +155,10 @@ fn value_in_set(core: &Core, sink: &mut FirstRefusal, at: Place, value: &Value) 
             if value.is_small() {
                 Some(set_over(core, of))
             } else {
-                refuse(sink, 34, at)
+                refuse(sink, rules::NO_SET_ELEMENT, at)
             }
         }
-        _ => refuse(sink, 23, at),
+        _ => refuse(sink, rules::NOT_ORDINAL, at),
     }
 }
 
@@ -178,7 +178,7 @@ fn both_in_set(
     if sort_of(core, a).is_set_as(sort_of(core, b)) {
         Some(common_set(core, a, b))
     } else {
-        refuse(sink, 20, at)
+        refuse(sink, rules::NOT_ASSIGNABLE, at)
     }
 }
 

@@ -1,4 +1,4 @@
-//! Rules that are broken, reported.
+//! Rules that are broken, reported for the checkers above.
 ghost use Rattle.op_core.specs.Faults.{refused};
 ghost use Rattle.op_check_expr.specs.Words.{Reports, left_out};
 

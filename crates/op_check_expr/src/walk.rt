@@ -8,12 +8,12 @@ ghost use Rattle.op_core.specs.Expression as tree;
 ghost use Rattle.op_tree.specs.Expression.{argument_of, arguments, element_of, expr_of, literal, no_arguments, prefixed, root_of, selector_of};
 ghost use Rattle.op_tree.specs.Lists.{arguments_of, expressions_of, operations_of};
 ghost use Rattle.op_tree.specs.Statement.{designator_of, elements_of, selectors_of};
+ghost use Rattle.op_judgement.specs.Judgement.{Reports};
 ghost use Rattle.op_check_expr.specs.Constructors.{member_of};
-ghost use Rattle.op_check_expr.specs.Expressions.{argument, called, designator_of as designator_means, elements_at, member_in, operations, root_of as root_means, select, selected, set_in, sole_value, used_by, value_in};
+ghost use Rattle.op_check_expr.specs.Expressions.{argument, called, designator_of as designator_means, elements_at, given_to, member_in, operations, root_of as root_means, select, selected, set_in, sole, value_in};
 ghost use Rattle.op_check_expr.specs.Naming.{denoted_of};
 ghost use Rattle.op_check_expr.specs.Scopes.{here_of};
 ghost use Rattle.op_check_expr.specs.Values.{value_of};
-ghost use Rattle.op_check_expr.specs.Words.{Reports};
 
 use crate::apply::used;
 use crate::call::{Plan, given_behind};
@@ -25,10 +25,10 @@ use crate::part::{
 };
 use crate::scope::Checker;
 use crate::set::{Member, set_of};
-use crate::sink::leave_out;
 use crate::value::{Value, constant_value};
 use op_base::{NoMemory, Place};
 use op_core::{CoreArgument, FirstRefusal, Parameter, TypeId};
+use op_judgement::{refuse, rules};
 use op_tree::{
     Argument, Designator, Element, Expr, Operation, Position, PrefixOperator, Root, Selector,
 };
@@ -56,7 +56,7 @@ impl<'a> Checker<'a> {
                     .numeral(sink, position.place, 1, *value as i64);
                 Ok(constant_value(c))
             }
-            Expr::Nil { position } => Ok(leave_out(sink, 41, position.place)),
+            Expr::Nil { position } => Ok(refuse(sink, rules::DYNAMIC_ARRAYS, position.place)),
             Expr::Set { elements, .. } => self.set(sink, wanted, elements),
             Expr::Literal {
                 text,
@@ -67,7 +67,7 @@ impl<'a> Checker<'a> {
                 let denoted = self.designator(sink, called)?;
                 self.as_value(sink, denoted)
             }
-            Expr::Inherited { position, .. } => Ok(leave_out(sink, 42, position.place)),
+            Expr::Inherited { position, .. } => Ok(refuse(sink, rules::CLASSES, position.place)),
         }
     }
 
@@ -185,7 +185,7 @@ impl<'a> Checker<'a> {
                 let text = name.text.as_slice();
                 self.name_denoted(sink, text, text, name.position)
             }
-            Root::String { position } => Ok(leave_out(sink, 40, position.place)),
+            Root::String { position } => Ok(refuse(sink, rules::STRINGS, position.place)),
             Root::Bracketed { position, inside } => {
                 match self.value_in(sink, None, inside)? {
                     Some(v) => {
@@ -234,7 +234,7 @@ impl<'a> Checker<'a> {
                 Ok(still_at(at, v))
             }
             Selector::Call { arguments } => {
-                let plan = self.plan_of(false, &denoted, arguments)?;
+                let plan = self.plan_of(sink, false, &denoted, arguments)?;
                 let v = self.called(sink, plan, arguments)?;
                 Ok(still_at(position_of_denoted(&denoted), v))
             }
@@ -261,33 +261,39 @@ impl<'a> Checker<'a> {
     }
 
     #[cycle(walk)]
-    pub fn called(self, sink: &mut FirstRefusal, plan: Plan, list: &[Argument]) -> Valued
+    pub fn called(self, sink: &mut FirstRefusal, plan: Option<Plan>, list: &[Argument]) -> Valued
         ensures { IfOk result (λ v. Reports (called (here_of self.entry.scope) plan (arguments_of list.now)) sink.old sink.new (option_map value_of v)) }
     {
-        match plan {
-            Plan::Bound(function, of, at) => {
-                Ok(constant_value(self.setting().bound(sink, function, of, at)))
-            }
-            Plan::Sole(what, position) => match list.split_first() {
+        let Some(what) = plan else {
+            return self.given_to(sink, None, list);
+        };
+        match what {
+            Plan::Bound(function, of, at) => Ok(self.bound_value(sink, function, of, at)),
+            Plan::Sole(applied, position) => match list.split_first() {
                 None => Ok(None),
                 Some((first, others)) => match others.split_first() {
-                    None => self.sole(sink, what, position, first),
+                    None => self.sole(sink, applied, position, first),
                     Some(_) => Ok(None),
                 },
             },
-            _ => {
-                let parameters = self.parameters_for(plan);
-                let mut given = given_first(self.alloc, plan);
-                let mut rest = parameters;
-                for argument in list {
-                    let (parameter, others) = first_of(rest);
-                    let more = self.argument(sink, parameter, argument)?;
-                    given = given_behind(given, more)?;
-                    rest = others;
-                }
-                Ok(self.call_of(sink, plan, given))
-            }
+            Plan::Routine(id) => self.given_to(sink, Some(Plan::Routine(id)), list),
         }
+    }
+
+    /// Arguments for the parameters of a routine; for none where nothing is called.
+    #[cycle(walk)]
+    fn given_to(self, sink: &mut FirstRefusal, plan: Option<Plan>, list: &[Argument]) -> Valued
+        ensures { IfOk result (λ v. Reports (given_to (here_of self.entry.scope) plan (arguments_of list.now)) sink.old sink.new (option_map value_of v)) }
+    {
+        let mut given = given_first(self.alloc, plan);
+        let mut rest = self.parameters_for(plan);
+        for argument in list {
+            let (parameter, others) = first_of(rest);
+            let more = self.argument(sink, parameter, argument)?;
+            given = given_behind(given, more)?;
+            rest = others;
+        }
+        Ok(self.call_of(plan, given))
     }
 
     /// A cast or a function at a position, of the one argument.
@@ -299,7 +305,7 @@ impl<'a> Checker<'a> {
         position: Position,
         first: &Argument,
     ) -> Valued
-        ensures { IfOk result (λ v. Reports (used_by (here_of self.entry.scope) what position (sole_value (here_of self.entry.scope) (arguments (argument_of first.now) no_arguments))) sink.old sink.new (option_map value_of v)) }
+        ensures { IfOk result (λ v. Reports (sole (here_of self.entry.scope) what position (arguments (argument_of first.now) no_arguments)) sink.old sink.new (option_map value_of v)) }
     {
         match first {
             Argument::Value(e) => match self.value_in(sink, None, e)? {

@@ -8,7 +8,7 @@ use Rattle.std.specs.Ordering.{int_cmp, is_gt, is_lt}
 use Rattle.std.proofs.lemmas.Int.{ints, by_lt_z}
 use Rattle.std.proofs.lemmas.List.Folds.{list_any-append}
 use Rattle.op_core.specs.declared.statement.Label.{Label}
-use Rattle.op_check_stmt.specs.Cases.{overlap, repeated, repeated_after}
+use Rattle.op_check_stmt.specs.Labels.{overlap, repeated, repeated_after}
 use Rattle.op_check_stmt.specs.Seen.{Apart, IsKept, Met, from_to}
 use Rattle.op_check_stmt.specs.declared.case.Spot.{Spot}
 

@@ -3,8 +3,8 @@ use Rattle.std.proofs.Common.{◌≡◌, inl, inr, ◌⊎◌, ℤ, Bool, true, f
 use Rattle.std.proofs.lemmas.Bool.{eq-eqb, false≢true, or_cases, or_right}
 use Rattle.std.specs.Option.{IsSomeAnd}
 use Rattle.op_check_expr.proofs.Trees.{no_range, one_exact}
-use Rattle.op_check_stmt.specs.Procedures.{is_text}
-use Rattle.op_check_stmt.specs.Variables.{host_by, host_of, is_ordinal}
+use Rattle.op_check_stmt.specs.Procedure.{is_text}
+use Rattle.op_check_stmt.specs.Variable.{host_by, host_of, is_ordinal}
 use Rattle.op_core.specs.Expression.{Expression, expression, Action, field, index, Steps, no_steps, steps}
 use Rattle.op_core.specs.Sizes.{range_of, type_at}
 use Rattle.op_core.specs.Sound.{IsFounded, is_whole}

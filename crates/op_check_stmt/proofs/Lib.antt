@@ -1,10 +1,6 @@
 pub mod Apart
-pub mod CaseLaw
-pub mod Combining
 pub mod Hosts
 pub mod Law
-pub mod LeavingLaw
 pub mod Parts
-pub mod ProcedureLaw
 pub mod Rows
 pub mod Whole

@@ -6,7 +6,7 @@ use Rattle.std.specs.declared.alloc.Global.{Global}
 use Rattle.op_base.specs.declared.memory_error.NoMemory.{NoMemory}
 use Rattle.op_check_expr.specs.Words.{Reports, changed, followed}
 use Rattle.op_base.specs.declared.place.Place.{Place}
-use Rattle.op_check_stmt.specs.Cases.{distinct, once, repeated}
+use Rattle.op_check_stmt.specs.Labels.{once, repeated}
 use Rattle.op_check_stmt.specs.declared.case.Spot.{Spot}
 use Rattle.op_check_stmt.specs.Parts.{both_typed, items_of, joined, of_two, paired, with_last}
 use Rattle.op_core.specs.Faults.{Checked, fine, kept}
@@ -143,6 +143,6 @@ once_viewed : {A B : Type 0} (v : A → B) (a t : Option A) (place : Option Plac
 once_viewed v a t None old new h = (ap (option_map v) h.0, h.1)
 once_viewed v a t (Some place) old new h = (ap (option_map v) h.0, h.1)
 
-pub distinct_viewed : {A B E : Type 0} (v : A → B) (a : Option A) (ss : List Spot) (c : Checked B) (old mid new : FirstRefusal) (r : Result (Option A) E) → Reports c old mid (option_map v a) → IfOk r (λ t. Reports (distinct a ss) mid new t) → IfOk r (λ t. Reports (followed c (λ b. distinct b ss)) old new (option_map v t))
-distinct_viewed v a ss c old mid new (Ok t) h k = then c (λ b. distinct b ss) old mid new (option_map v a) (option_map v t) h (once_viewed v a t (repeated ss) mid new k)
+pub distinct_viewed : {A B E : Type 0} (v : A → B) (a : Option A) (ss : List Spot) (c : Checked B) (old mid new : FirstRefusal) (r : Result (Option A) E) → Reports c old mid (option_map v a) → IfOk r (λ t. Reports (once a (repeated ss)) mid new t) → IfOk r (λ t. Reports (followed c (λ b. once b (repeated ss))) old new (option_map v t))
+distinct_viewed v a ss c old mid new (Ok t) h k = then c (λ b. once b (repeated ss)) old mid new (option_map v a) (option_map v t) h (once_viewed v a t (repeated ss) mid new k)
 distinct_viewed v a ss c old mid new (Err n) h k = k

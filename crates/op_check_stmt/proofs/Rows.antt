@@ -3,7 +3,7 @@ use Rattle.std.proofs.Common.{◌≡◌, ℕ, suc, ◌<◌, ◌+◌, ◌≤◌, 
 use Rattle.std.proofs.lemmas.List.{at_drop_all}
 use Rattle.op_check_stmt.proofs.Parts.{in_front}
 use Rattle.op_check_stmt.specs.Parts.{branch_of}
-use Rattle.op_check_stmt.specs.Statements.{with_branch}
+use Rattle.op_check_stmt.specs.Statement.{with_branch}
 use Rattle.op_core.specs.Nodes.{branches_of as typed_branches_of}
 use Rattle.op_core.specs.Statement.{item_of, no_statements, statements as typed_statements, no_branches as no_typed_branches, stmt_of as typed_statement, stmts_of as typed_statements_of}
 use Rattle.op_core.specs.declared.statement.CoreBranch.{CoreBranch}

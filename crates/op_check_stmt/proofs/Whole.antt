@@ -1,5 +1,5 @@
 -- Where every name stands for what is there, each statement is a sound one or breaks a rule.
-use Rattle.std.proofs.Common.{◌≡◌, ℕ, zero, suc, ◌<◌, ℤ, ◌≤ℤ◌, not, Bool, true, false, is_some, List, [], ◌∷◌, ◌++◌, slice_get, IsTrue, Option, Some, None, refl, sym, ap, subst, ◌∙◌, arith}
+use Rattle.std.proofs.Common.{◌≡◌, ℕ, zero, suc, ℤ, ◌≤ℤ◌, not, Bool, true, false, is_some, List, [], ◌∷◌, ◌++◌, slice_get, IsTrue, Option, Some, None, refl, sym, ap, subst, ◌∙◌, arith}
 use Rattle.std.proofs.lemmas.Bool.{false≢true, not-true, or_parts, true≢false}
 use Rattle.std.proofs.lemmas.Int.{ints}
 use Rattle.std.proofs.lemmas.List.Elements.{All-cons, All-nil}
@@ -19,14 +19,15 @@ use Rattle.op_check_expr.specs.Values.{Value, as_type, constant, computed, tree_
 use Rattle.op_check_expr.specs.declared.scope.Around.{Around}
 use Rattle.op_check_expr.specs.declared.scope.Around.TheVariants.{Loop, Finally}
 use Rattle.op_check_stmt.proofs.Hosts.{goes_to_host, hosted, kind_of_whole, number_within, one_ordinal, ordinal_sort, place_with_characters, text_of}
-use Rattle.op_check_stmt.specs.Cases.{both_bounds, bound, bound_means, branch_labels, label, labels, once, repeated, selected_by, selector, spot}
-use Rattle.op_check_stmt.specs.Leaving.{entered, in_finally, is_finally, jump_of, leaving_means, reach_of}
-use Rattle.op_check_stmt.specs.Parts.{both_typed, of_two, paired}
-use Rattle.op_check_stmt.specs.Procedures as procedures
-use Rattle.op_check_stmt.specs.Procedures.{Called, Values, base_by, base_in, called, called_means, change, change_means, count_means, exit_means, exits, halt_means, is_text, item, items, jump_means, member, plain_call, procedure, result_of, set, text, unwritten, values, written}
-use Rattle.op_check_stmt.specs.Statements.{all_spots, bound_of, branches, case_statement, condition, first_class, for_statement, head_means, looped, statement, statements, stored, tried, type_in, with_branch, within}
+use Rattle.op_check_stmt.specs.Case.{both_bounds, bound, bound_means, branch_labels, label, labels, selected_by, selector, spot}
+use Rattle.op_check_stmt.specs.Labels.{once, repeated}
+use Rattle.op_check_stmt.specs.Leaving.{by_reach, entered, in_finally, is_finally, jump_of, reach_of}
+use Rattle.op_check_stmt.specs.Parts.{of_two}
+use Rattle.op_check_stmt.specs.Procedure as procedures
+use Rattle.op_check_stmt.specs.Procedure.{Called, Values, base_by, base_in, called, called_means, change, change_means, count_means, exit_means, halt_means, is_text, item, items, jump_means, member, plain_call, procedure, result_of, set, text, unwritten, values, written}
+use Rattle.op_check_stmt.specs.Statement.{all_spots, bound_of, branches, case_head, case_statement, condition, first_class, for_statement, looped, paired, statement, statements, stored, tried, type_in, with_branch, within}
 use Rattle.op_check_stmt.specs.Surrounding.{Surrounds}
-use Rattle.op_check_stmt.specs.Variables.{counter, counter_named, counter_row, host_of, is_ordinal}
+use Rattle.op_check_stmt.specs.Variable.{counter, counter_named, counter_row, host_of, is_ordinal}
 use Rattle.op_check_stmt.specs.declared.case.Bound.{Bound}
 use Rattle.op_check_stmt.specs.declared.leaving.Jump.{Jump}
 use Rattle.op_check_stmt.specs.declared.leaving.Jump.TheVariants.{Break, Continue}
@@ -35,12 +36,12 @@ use Rattle.op_check_stmt.specs.declared.leaving.Reach.TheVariants.{Nowhere, Insi
 use Rattle.op_check_stmt.specs.declared.variable.Counter.{Counter}
 use Rattle.op_core.proofs.Completing.{whole_after, whole_as, whole_behind, whole_changed_so, whole_entered, whole_followed, whole_gives, whole_refused, whole_rule, whole_standing, whole_test, whole_tested}
 use Rattle.op_core.specs.Expression.{Expression as Tree}
-use Rattle.op_core.specs.Faults.{Checked, Faults, behind, both, front}
+use Rattle.op_core.specs.Faults.{Checked, Faults, behind, both, by_test, front}
 use Rattle.op_core.specs.Members.{Kind}
 use Rattle.op_core.specs.Relations.{Filled, Whole, filled, typed, faulty}
 use Rattle.op_core.specs.Sizes.{range_of, type_at}
 use Rattle.op_core.specs.Sound.{IsFounded, Row, is_whole}
-use Rattle.op_core.specs.Statement.{plain, padded, write, count, Statement, block, if_then, if_else, while_do, repeat_until, try_finally, assign, call as call_statement, exit, exit_with, halt, built_in, Branches, no_branches, Statements, no_statements, statements as core_statements}
+use Rattle.op_core.specs.Statement.{plain, padded, write, count, Statement, block, if_then, if_else, while_do, repeat_until, try_finally, assign, call as call_statement, exit_with, halt, built_in, Branches, Statements, statements as core_statements}
 use Rattle.op_core.specs.StatementTyping as place
 use Rattle.op_core.specs.StatementTyping.{AreBranches, AreStatements, Bounds, Has, IsElementOf, IsItem, IsLabel, IsStatement, IsTarget, IsTargetOf, IsText, IsVariable}
 use Rattle.op_core.specs.Typing as typing
@@ -53,6 +54,7 @@ use Rattle.op_core.specs.declared.statement.Label.{Label}
 use Rattle.op_core.specs.declared.types.CoreType.{CoreType}
 use Rattle.op_core.specs.declared.types.CoreType.TheVariants as type
 use Rattle.op_core.specs.declared.types.IntegerKind.TheVariants.{Signed32}
+use Rattle.op_judgement.specs.Judgement.{Judgement, both_typed, changed, checked, given}
 use Rattle.op_tree.specs.Expression.{Expression, Argument, value as value_argument, padded as padded_argument, rounded, Arguments, no_arguments, arguments, Designator, Element, one, range, Elements, no_elements, elements}
 use Rattle.op_tree.specs.Statement as tree
 use Rattle.op_tree.specs.declared.position.Name.{Name}
@@ -61,7 +63,7 @@ use Rattle.op_tree.specs.declared.statement.Direction.TheVariants.{To, Downto}
 use Rattle.op_types.proofs.Sorting.{stands_as}
 use Rattle.op_types.proofs.TypeFacts.{boolean_kind, integer_kind, stands_for}
 use Rattle.op_types.specs.Assignable.{assignable}
-use Rattle.op_types.specs.Constants.{start_of}
+use Rattle.op_types.specs.ConstantParts.{start_of}
 use Rattle.op_types.specs.Names.{lower, meaning_of}
 use Rattle.op_types.specs.Operators as table
 use Rattle.op_types.specs.Sorts.{sort_of}
@@ -131,7 +133,7 @@ boolean_ordinal f = rw (boolean_kind f) tt
 has_integer : {core : Core} (sees : Sees) → IsFounded core → (e : Tree) → IsValue core sees table.integer e → Has IsInteger core sees e
 has_integer {core} sees f e h = has_kind core sees table.integer (type.Integer Signed32) (integer_kind f) (rw (integer_kind f) tt) e h
 
-condition_whole : {sees : Sees} {here : Here} → IsSettled sees here → (e : Expression) → Whole (Has IsBoolean here.core sees) (condition here e)
+condition_whole : {sees : Sees} {here : Here} → IsSettled sees here → (e : Expression) → Whole (Has IsBoolean here.core sees) (checked (condition here e))
 condition_whole {sees} {here} s e =
     whole_behind (value_of_whole s None e) (λ v h. whole_tested 22 (start_of e) (assignable here.core (type_of v) table.boolean) (λ a.
     whole_gives (has_kind here.core sees table.boolean type.Boolean (boolean_kind s.founded) (boolean_ordinal s.founded) (as_type here.core false table.boolean v) (as_type_value here.core sees false table.boolean v h a))))
@@ -141,7 +143,7 @@ condition_whole {sees} {here} s e =
 abbrev IsSelector : Core → Sees → Tree → Type 0
 IsSelector core sees e = IsTyped core sees e × IsTrue (is_whole (type_at core (typing.type_of e)))
 
-selected_whole : {core : Core} {sees : Sees} → IsFounded core → (at : Place) (v : Value) → IsSoundValue core sees v → (s : Sort) → sort_of core (type_of v) ≡ s → Whole (IsSelector core sees) (selected_by core at v s)
+selected_whole : {core : Core} {sees : Sees} → IsFounded core → (at : Place) (v : Value) → IsSoundValue core sees v → (s : Sort) → sort_of core (type_of v) ≡ s → Whole (IsSelector core sees) (checked (selected_by core at v s))
 selected_whole {core} {sees} f at v h (Ordinal kind) e =
     let of = host_of core (type_of v) in
     let tree = as_type core false of v in
@@ -151,17 +153,17 @@ selected_whole {core} {sees} f at v h (Ordinal kind) e =
 selected_whole f at v h String e = whole_rule
 selected_whole f at v h s e = whole_refused
 
-selector_whole : {sees : Sees} {here : Here} → IsSettled sees here → (e : Expression) → Whole (IsSelector here.core sees) (selector here e)
+selector_whole : {sees : Sees} {here : Here} → IsSettled sees here → (e : Expression) → Whole (IsSelector here.core sees) (checked (selector here e))
 selector_whole {sees} {here} s e = whole_behind (value_of_whole s None e) (λ v h. selected_whole {sees = sees} s.founded (start_of e) v h (sort_of here.core (type_of v)) refl)
 
 abbrev IsIn : Core → TypeId → ℤ → Type 0
 IsIn core of n = IsSomeAnd (range_of (type_at core of)) (λ r. Within r n)
 
-bound_means_whole : {core : Core} (sees : Sees) → IsFounded core → (at : Place) (of : TypeId) → IsTrue (is_whole (type_at core of)) → (v : Value) → IsSoundValue core sees v → Whole (λ b. IsIn core of b.number) (bound_means core at (Some of) v)
+bound_means_whole : {core : Core} (sees : Sees) → IsFounded core → (at : Place) (of : TypeId) → IsTrue (is_whole (type_at core of)) → (v : Value) → IsSoundValue core sees v → Whole (λ b. IsIn core of b.number) (checked (bound_means core at (Some of) v))
 bound_means_whole {core} sees f at of w (constant c) h = whole_tested 20 at (assignable core c.of of) (λ a. whole_gives (number_within of f w c h a))
 bound_means_whole {core} sees f at of w (computed e) h = whole_test 20 at (assignable core (typing.type_of e) of) whole_refused
 
-bound_whole : {sees : Sees} {here : Here} → IsSettled sees here → (of : TypeId) → IsTrue (is_whole (type_at here.core of)) → (e : Expression) → Whole (λ b. IsIn here.core of b.number) (bound here (Some of) e)
+bound_whole : {sees : Sees} {here : Here} → IsSettled sees here → (of : TypeId) → IsTrue (is_whole (type_at here.core of)) → (e : Expression) → Whole (λ b. IsIn here.core of b.number) (checked (bound here (Some of) e))
 bound_whole {sees} s of w e = whole_behind (value_of_whole s None e) (λ v h. bound_means_whole sees s.founded (start_of e) of w v h)
 
 both_in : (o : Option (ℤ × ℤ)) (low high : ℤ) → IsSomeAnd o (λ r. Within r low) → IsSomeAnd o (λ r. Within r high) → IsSomeAnd o (λ r. Within r low × Within r high)
@@ -174,19 +176,19 @@ in_order a b e = grind (arith, ints)
 below_itself : (a : ℤ) → a ≤ℤ a
 below_itself a = omega (arith, ints)
 
-both_bounds_whole : (core : Core) (of : TypeId) (at : Place) {low high : Option Bound} → Filled (λ b. IsIn core of b.number) low → Filled (λ b. IsIn core of b.number) high → Whole (λ s. IsLabel core of s.label) (both_bounds at low high)
+both_bounds_whole : (core : Core) (of : TypeId) (at : Place) {low high : Option Bound} → Filled (λ b. IsIn core of b.number) low → Filled (λ b. IsIn core of b.number) high → Whole (λ s. IsLabel core of s.label) (checked (both_bounds at low high))
 both_bounds_whole core of at (filled low h) (filled high k) = whole_tested 31 at (int_le low.number high.number) (λ e. whole_gives (both_in (range_of (type_at core of)) low.number high.number h k, in_order low.number high.number e))
 
-label_whole : {sees : Sees} {here : Here} → IsSettled sees here → (of : TypeId) → IsTrue (is_whole (type_at here.core of)) → (e : Element) → Whole (λ s. IsLabel here.core of s.label) (label here (Some of) e)
+label_whole : {sees : Sees} {here : Here} → IsSettled sees here → (of : TypeId) → IsTrue (is_whole (type_at here.core of)) → (e : Element) → Whole (λ s. IsLabel here.core of s.label) (checked (label here (Some of) e))
 label_whole {sees} {here} s of w (one e) = whole_changed_so (λ b. spot (start_of e) b b b.weight) (bound_whole s of w e) (λ b h. (both_in (range_of (type_at here.core of)) b.number b.number h h, below_itself b.number))
 label_whole {sees} {here} s of w (range e f) = whole_followed (bound_whole s of w e) (λ low h. whole_followed (bound_whole s of w f) (λ high k. both_bounds_whole here.core of (start_of e) h k))
 
-labels_whole : {sees : Sees} {here : Here} → IsSettled sees here → (of : TypeId) → IsTrue (is_whole (type_at here.core of)) → (es : Elements) → Whole (All (IsLabel here.core of)) (labels here (Some of) es)
+labels_whole : {sees : Sees} {here : Here} → IsSettled sees here → (of : TypeId) → IsTrue (is_whole (type_at here.core of)) → (es : Elements) → Whole (All (IsLabel here.core of)) (checked (labels here (Some of) es))
 labels_whole {sees} {here} s of w no_elements = whole_gives (All-nil (IsLabel here.core of))
 labels_whole {sees} {here} s of w (elements e es) =
     whole_two (λ l others. l ∷ others) (whole_changed_so (λ s. s.label) (label_whole s of w e) (λ x h. h)) (labels_whole s of w es) (λ l ls h k. All-cons (IsLabel here.core of) l ls h k)
 
-branch_labels_whole : {sees : Sees} {here : Here} → IsSettled sees here → (of : TypeId) → IsTrue (is_whole (type_at here.core of)) → (es : Elements) → Whole (All (IsLabel here.core of)) (branch_labels here (Some of) es)
+branch_labels_whole : {sees : Sees} {here : Here} → IsSettled sees here → (of : TypeId) → IsTrue (is_whole (type_at here.core of)) → (es : Elements) → Whole (All (IsLabel here.core of)) (checked (branch_labels here (Some of) es))
 branch_labels_whole s of w no_elements = whole_refused
 branch_labels_whole s of w (elements e es) = labels_whole s of w (elements e es)
 
@@ -204,7 +206,7 @@ row_is [] n l e = absurd (omega (arith, l))
 row_is (a ∷ table) zero l e = absurd (cc)
 row_is (a ∷ table) (suc n) l e = row_is table n (omega (arith, l)) e
 
-counter_row_whole : (sees : Sees) (here : Here) → IsFounded here.core → (at : Place) (id : VariableId) → sees.variable id → Row here.core.variables id.0 → (o : Option VariableRow) → slice_get here.core.variables id.0 ≡ o → Whole (IsCounter here.core sees) (counter_row here at id o)
+counter_row_whole : (sees : Sees) (here : Here) → IsFounded here.core → (at : Place) (id : VariableId) → sees.variable id → Row here.core.variables id.0 → (o : Option VariableRow) → slice_get here.core.variables id.0 ≡ o → Whole (IsCounter here.core sees) (checked (counter_row here at id o))
 counter_row_whole sees here f at id seen row None e = absurd (row_is here.core.variables id.0 row e)
 counter_row_whole sees here f at id seen row (Some v) e =
     whole_tested 23 at (is_ordinal (sort_of here.core v.of)) (λ a.
@@ -212,13 +214,13 @@ counter_row_whole sees here f at id seen row (Some v) e =
     let to = hosted v.of f k.1 in
     whole_test 29 at (is_writable_variable here id) (whole_gives ((kind_of_whole here.core (host_of here.core v.of) to.whole).ordinal, (seen, rw e to.bounds))))
 
-counter_named_whole : (sees : Sees) (here : Here) → IsFounded here.core → (at : Place) (m : Option Meaning) → ((x : Meaning) → m ≡ Some x → StandsFor here.core sees x) → Whole (IsCounter here.core sees) (counter_named here at m)
+counter_named_whole : (sees : Sees) (here : Here) → IsFounded here.core → (at : Place) (m : Option Meaning) → ((x : Meaning) → m ≡ Some x → StandsFor here.core sees x) → Whole (IsCounter here.core sees) (checked (counter_named here at m))
 counter_named_whole sees here f at None h = whole_refused
 counter_named_whole sees here f at (Some Spoiled) h = absurd (h Spoiled refl)
 counter_named_whole sees here f at (Some (Variable id w)) h = let k = h (Variable id w) refl in counter_row_whole sees here f at id k.0 k.1 (slice_get here.core.variables id.0) refl
 counter_named_whole sees here f at (Some m) h = whole_refused
 
-counter_whole : {sees : Sees} {here : Here} → IsSettled sees here → (n : Name) → Whole (IsCounter here.core sees) (counter here n)
+counter_whole : {sees : Sees} {here : Here} → IsSettled sees here → (n : Name) → Whole (IsCounter here.core sees) (checked (counter here n))
 counter_whole {sees} {here} s n = counter_named_whole sees here s.founded n.position.place (meaning_of here.visible (lower n.text)) (λ m e. stands_for here.core sees here.visible s.names (lower n.text) m e)
 
 -- ---- built-in procedures
@@ -227,15 +229,15 @@ has_text : (core : Core) (sees : Sees) (v : Value) → IsSoundValue core sees v 
 has_text core sees (constant c) h a = (tree_typed core sees (constant c) h, text_of core c.of a)
 has_text core sees (computed e) h a = (h, text_of core (typing.type_of e) a)
 
-text_whole : {sees : Sees} {here : Here} → IsSettled sees here → (e : Expression) → Whole (Has IsText here.core sees) (text here e)
+text_whole : {sees : Sees} {here : Here} → IsSettled sees here → (e : Expression) → Whole (Has IsText here.core sees) (checked (text here e))
 text_whole {sees} {here} s e = whole_behind (value_of_whole s None e) (λ v h. whole_tested 60 (start_of e) (is_text (sort_of here.core (type_of v))) (λ a. whole_gives (has_text here.core sees v h a)))
 
-item_whole : {sees : Sees} {here : Here} → IsSettled sees here → (a : Argument) → Whole (IsItem here.core sees) (item here a)
+item_whole : {sees : Sees} {here : Here} → IsSettled sees here → (a : Argument) → Whole (IsItem here.core sees) (checked (item here a))
 item_whole s (value_argument e) = whole_changed_so plain (text_whole s e) (λ t h. h)
 item_whole {sees} s (padded_argument e width) = whole_two padded (text_whole s e) (given_to_whole s table.integer false width) (λ t w h k. (h, has_integer sees s.founded w k))
 item_whole s (rounded e width digits) = whole_rule
 
-items_whole : {sees : Sees} {here : Here} → IsSettled sees here → (args : Arguments) → Whole (All (IsItem here.core sees)) (items here args)
+items_whole : {sees : Sees} {here : Here} → IsSettled sees here → (args : Arguments) → Whole (All (IsItem here.core sees)) (checked (items here args))
 items_whole {sees} {here} s no_arguments = whole_gives (All-nil (IsItem here.core sees))
 items_whole {sees} {here} s (arguments a rest) = whole_two (λ x xs. x ∷ xs) (item_whole s a) (items_whole s rest) (λ x xs h k. All-cons (IsItem here.core sees) x xs h k)
 
@@ -243,11 +245,11 @@ items_whole {sees} {here} s (arguments a rest) = whole_two (λ x xs. x ∷ xs) (
 abbrev Is : Sees → Here → place.Here → Statement → Type 0
 Is sees here at = IsStatement here.core sees at
 
-written_whole : {sees : Sees} {here : Here} (at : place.Here) → IsSettled sees here → (ends_line : Bool) (args : Arguments) → Whole (Is sees here at) (written here ends_line args)
+written_whole : {sees : Sees} {here : Here} (at : place.Here) → IsSettled sees here → (ends_line : Bool) (args : Arguments) → Whole (Is sees here at) (checked (written here ends_line args))
 written_whole at s ends_line args = whole_changed_so (λ xs. built_in (write xs ends_line)) (items_whole s args) (λ xs h. h)
 
-counted_whole : {sees : Sees} {here : Here} → IsSettled sees here → (checked : Bool) (e : Expression) → Whole (IsTarget IsOrdinal here.core sees) (procedures.counted here checked e)
-counted_whole {sees} {here} s checked e =
+counted_whole : {sees : Sees} {here : Here} → IsSettled sees here → (ranges : Bool) (e : Expression) → Whole (IsTarget IsOrdinal here.core sees) (checked (procedures.counted here ranges e))
+counted_whole {sees} {here} s ranges e =
     whole_behind (variable_whole s None e) (λ t h. whole_tested 23 (start_of e) (is_ordinal (sort_of here.core (typing.type_of t))) (λ a.
     let k = ordinal_sort (sort_of here.core (typing.type_of t)) a in
     whole_gives ((h.0, (stands_as here.core (typing.type_of t) (Ordinal k.0) k.1).0), place_with_characters here.core t h.1)))
@@ -258,7 +260,7 @@ unit_integer sees f = ((rw (integer_kind f) (omega (arith, ints), omega (arith, 
 zero_integer : {core : Core} (sees : Sees) → IsFounded core → Has IsInteger core sees (unwritten (pos 0))
 zero_integer sees f = ((rw (integer_kind f) (omega (arith, ints), omega (arith, ints)), tt), integer_kind f)
 
-count_whole : {sees : Sees} {here : Here} (at : place.Here) → IsSettled sees here → (direction : Direction) (n : Name) (given : Values) → Whole (Is sees here at) (count_means here direction n given)
+count_whole : {sees : Sees} {here : Here} (at : place.Here) → IsSettled sees here → (direction : Direction) (n : Name) (given : Values) → Whole (Is sees here at) (checked (count_means here direction n given))
 count_whole {sees} {here} at s direction n (procedures.one e) =
     whole_two (λ t m. built_in (count direction t m n.position.switches.q)) (counted_whole s (position_of e).switches.r e) (whole_gives {P = Has IsInteger here.core sees} {a = unwritten (pos 1)} (unit_integer sees s.founded)) (λ t m h k. (h, k))
 count_whole {sees} at s direction n (procedures.two e f) =
@@ -270,7 +272,7 @@ set_by : (t : Option CoreType) → is_some (base_by t) ≡ true → IsSomeAnd (t
 set_by (Some (type.Set base)) e = tt
 set_by t e = absurd (false≢true e)
 
-set_whole : {sees : Sees} {here : Here} → IsSettled sees here → (e : Expression) → Whole (IsTargetOf false IsSet here.core sees) (set here e)
+set_whole : {sees : Sees} {here : Here} → IsSettled sees here → (e : Expression) → Whole (IsTargetOf false IsSet here.core sees) (checked (set here e))
 set_whole {sees} {here} s e =
     whole_behind (variable_whole s None e) (λ t h. whole_tested 28 (start_of e) (is_some (base_by (type_at here.core (typing.type_of t)))) (λ a.
     whole_gives ((h.0, set_by (type_at here.core (typing.type_of t)) a), h.1)))
@@ -278,7 +280,7 @@ set_whole {sees} {here} s e =
 abbrev IsMember : Core → Sees → Option CoreType → Tree → Type 0
 IsMember core sees t e = IsTyped core sees e × IsSomeAnd (typing.base_of t) (λ base. OneType core (typing.type_of e) base)
 
-member_whole : {sees : Sees} {here : Here} → IsSettled sees here → (t : Option CoreType) → IsSomeAnd (typing.base_of t) (λ base. Unit {0}) → (e : Expression) → Whole (IsMember here.core sees t) (member here (base_by t) e)
+member_whole : {sees : Sees} {here : Here} → IsSettled sees here → (t : Option CoreType) → IsSomeAnd (typing.base_of t) (λ base. Unit {0}) → (e : Expression) → Whole (IsMember here.core sees t) (checked (member here (base_by t) e))
 member_whole {sees} {here} s (Some (type.Set base)) h e = whole_as (element_whole s base e) (λ m k. as_typed here.core sees base m k)
 member_whole s t h e = absurd h
 
@@ -286,17 +288,17 @@ changes : (core : Core) (sees : Sees) (at : place.Here) (includes : Bool) (set e
 changes core sees at true set e h = h
 changes core sees at false set e h = h
 
-change_whole : {sees : Sees} {here : Here} (at : place.Here) → IsSettled sees here → (includes : Bool) (n : Name) (given : Values) → Whole (Is sees here at) (change_means here includes n given)
+change_whole : {sees : Sees} {here : Here} (at : place.Here) → IsSettled sees here → (includes : Bool) (n : Name) (given : Values) → Whole (Is sees here at) (checked (change_means here includes n given))
 change_whole {sees} {here} at s includes n (procedures.two e f) =
-    whole_upon (change includes) (λ o. member here (base_in here.core o) f) (set_whole s e) (λ t h. member_whole s (type_at here.core (typing.type_of t)) h.0.1 f) (λ t m h k. changes here.core sees at includes t m (h, k.0, k.1))
+    whole_upon (change includes) (λ o. checked (member here (base_in here.core o) f)) (set_whole s e) (λ t h. member_whole s (type_at here.core (typing.type_of t)) h.0.1 f) (λ t m h k. changes here.core sees at includes t m (h, k.0, k.1))
 change_whole at s includes n procedures.none = whole_refused
 change_whole at s includes n (procedures.one e) = whole_refused
 change_whole at s includes n procedures.others = whole_refused
 
-exits_whole : (here : Here) {P : Statement → Type 0} {c : Checked Statement} (at : Place) → (in_finally here.around ≡ false → Whole P c) → Whole P (exits here at c)
+exits_whole : (here : Here) {P : Statement → Type 0} {c : Checked Statement} (at : Place) → (in_finally here.around ≡ false → Whole P c) → Whole P (by_test 59 at c (not (in_finally here.around)))
 exits_whole here at h = whole_tested 59 at (not (in_finally here.around)) (λ a. h (not-true (in_finally here.around) a))
 
-exit_whole : {sees : Sees} {here : Here} {at : place.Here} → IsSettled sees here → Surrounds here at → (n : Name) (given : Values) → Whole (Is sees here at) (exit_means here n given)
+exit_whole : {sees : Sees} {here : Here} {at : place.Here} → IsSettled sees here → Surrounds here at → (n : Name) (given : Values) → Whole (Is sees here at) (checked (exit_means here n given))
 exit_whole {sees} {here} s r n procedures.none = exits_whole here n.position.place (λ a. whole_gives (r.routine a))
 exit_whole {sees} {here} s r n (procedures.one e) =
     whole_entered 26 n.position.place (result_of here) (λ of is. exits_whole here n.position.place (λ a.
@@ -304,13 +306,13 @@ exit_whole {sees} {here} s r n (procedures.one e) =
 exit_whole s r n (procedures.two e f) = whole_refused
 exit_whole s r n procedures.others = whole_refused
 
-halt_whole : {sees : Sees} {here : Here} (at : place.Here) → IsSettled sees here → (n : Name) (given : Values) → Whole (Is sees here at) (halt_means here n given)
+halt_whole : {sees : Sees} {here : Here} (at : place.Here) → IsSettled sees here → (n : Name) (given : Values) → Whole (Is sees here at) (checked (halt_means here n given))
 halt_whole {sees} at s n procedures.none = whole_gives (zero_integer sees s.founded)
 halt_whole {sees} at s n (procedures.one e) = whole_changed_so halt (given_to_whole s table.integer false e) (λ t h. has_integer sees s.founded t h)
 halt_whole at s n (procedures.two e f) = whole_refused
 halt_whole at s n procedures.others = whole_refused
 
-leaving_whole : {P : Statement → Type 0} (at : Place) (s : Statement) (reach : Reach) → (reach ≡ Inside → P s) → Whole P (leaving_means at s reach)
+leaving_whole : {P : Statement → Type 0} (at : Place) (s : Statement) (reach : Reach) → (reach ≡ Inside → P s) → Whole P (checked (by_reach at s reach))
 leaving_whole at s Nowhere h = whole_refused
 leaving_whole at s Inside h = whole_gives (h refl)
 leaving_whole at s Beyond h = whole_refused
@@ -319,16 +321,16 @@ jumps : (core : Core) (sees : Sees) (at : place.Here) (jump : Jump) → at.loop 
 jumps core sees at Break h = h
 jumps core sees at Continue h = h
 
-jump_whole : {sees : Sees} {here : Here} {at : place.Here} → Surrounds here at → (jump : Jump) (n : Name) (given : Values) → Whole (Is sees here at) (jump_means here jump n given)
+jump_whole : {sees : Sees} {here : Here} {at : place.Here} → Surrounds here at → (jump : Jump) (n : Name) (given : Values) → Whole (Is sees here at) (checked (jump_means here jump n given))
 jump_whole {sees} {here} {at} r jump n procedures.none = leaving_whole n.position.place (jump_of jump) (reach_of here.around) (λ e. jumps here.core sees at jump (r.loop e))
 jump_whole r jump n (procedures.one e) = whole_refused
 jump_whole r jump n (procedures.two e f) = whole_refused
 jump_whole r jump n procedures.others = whole_refused
 
-plain_whole : {sees : Sees} {here : Here} (at : place.Here) → IsSettled sees here → (d : Designator) → Whole (Is sees here at) (plain_call here d)
+plain_whole : {sees : Sees} {here : Here} (at : place.Here) → IsSettled sees here → (d : Designator) → Whole (Is sees here at) (checked (plain_call here d))
 plain_whole at s d = whole_changed_so call_statement (called_alone_whole s d) (λ t h. h)
 
-procedure_whole : {sees : Sees} {here : Here} (at : place.Here) → IsSettled sees here → Surrounds here at → (d : Designator) (b : types.BuiltIn) (c : Called) → Whole (Is sees here at) (procedure here d b c)
+procedure_whole : {sees : Sees} {here : Here} (at : place.Here) → IsSettled sees here → Surrounds here at → (d : Designator) (b : types.BuiltIn) (c : Called) → Whole (Is sees here at) (checked (procedure here d b c))
 procedure_whole at s r d name.Write c = written_whole at s false c.given
 procedure_whole at s r d name.WriteLn c = written_whole at s true c.given
 procedure_whole at s r d name.Inc c = count_whole at s To c.name (values c.given)
@@ -341,15 +343,15 @@ procedure_whole at s r d name.Break c = jump_whole r Break c.name (values c.give
 procedure_whole at s r d name.Continue c = jump_whole r Continue c.name (values c.given)
 procedure_whole at s r d b c = plain_whole at s d
 
-called_whole : {sees : Sees} {here : Here} (at : place.Here) → IsSettled sees here → Surrounds here at → (d : Designator) (c : Option Called) → Whole (Is sees here at) (called_means here d c)
+called_whole : {sees : Sees} {here : Here} (at : place.Here) → IsSettled sees here → Surrounds here at → (d : Designator) (c : Option Called) → Whole (Is sees here at) (checked (called_means here d c))
 called_whole at s r d None = plain_whole at s d
 called_whole at s r d (Some c) = procedure_whole at s r d c.which c
 
 -- ---- statements
 
-tried_whole : {P : Statement → Type 0} {whole : Checked Statement} (at : Option Place) (body : Checked Statements) → Whole P whole → Whole P (tried at body whole)
-tried_whole None body h = h
-tried_whole (Some at) body h = whole_after whole_rule
+tried_whole : {P : Statement → Type 0} (at : Option Place) (body : Judgement Statements) (whole : Judgement Statement) → Whole P (checked whole) → Whole P (checked (tried at body whole))
+tried_whole None body whole h = h
+tried_whole (Some at) body whole h = whole_after whole_rule
 
 abbrev AreBounds : Core → Sees → TypeId → Tree × Tree → Type 0
 AreBounds core sees of bounds = IsValue core sees of bounds.0 × IsValue core sees of bounds.1
@@ -367,9 +369,9 @@ counts sees here at direction head body h k =
       k,
     )
 
-bounds_whole : {sees : Sees} {here : Here} → IsSettled sees here → (n : Name) (e f : Expression) → Whole (Counts sees here) (paired (counter here n) (paired (bound_of here (counter here n).typed e) (bound_of here (counter here n).typed f)))
+bounds_whole : {sees : Sees} {here : Here} → IsSettled sees here → (n : Name) (e f : Expression) → Whole (Counts sees here) (checked (paired (counter here n) (given (counter here n) (λ c. paired (bound_of here c e) (bound_of here c f)))))
 bounds_whole {sees} {here} s n e f =
-    whole_upon {R = Counts sees here} (λ c bounds. (c, bounds)) (λ c. paired (bound_of here c e) (bound_of here c f)) (counter_whole s n)
+    whole_upon {R = Counts sees here} (λ c bounds. (c, bounds)) (λ c. checked (paired (bound_of here c e) (bound_of here c f))) (counter_whole s n)
     (λ c h. whole_two {R = AreBounds here.core sees c.bounds} (λ a b. (a, b)) (given_to_whole s c.bounds false e) (given_to_whole s c.bounds false f) (λ x y p q. (p, q)))
     (λ c bounds h k. (h, k))
 
@@ -377,13 +379,13 @@ abbrev Selects : Sees → Here → place.Here → Tree × Branches → Type 0
 Selects sees here at head = Has IsOrdinal here.core sees head.0 × AreBranches here.core sees at (typing.type_of head.0) head.1
 
 -- the selector of a case, with its branches
-head_whole : {sees : Sees} {here : Here} (at : place.Here) → IsSettled sees here → (e : Expression) (bs : tree.Branches) → ((of : TypeId) → IsTrue (is_whole (type_at here.core of)) → Whole (AreBranches here.core sees at of) (branches here (Some of) bs)) → Whole (Selects sees here at) (head_means here bs (selector here e) (branches here (type_in (selector here e).typed) bs))
+head_whole : {sees : Sees} {here : Here} (at : place.Here) → IsSettled sees here → (e : Expression) (bs : tree.Branches) → ((of : TypeId) → IsTrue (is_whole (type_at here.core of)) → Whole (AreBranches here.core sees at of) (checked (branches here (Some of) bs))) → Whole (Selects sees here at) (checked (case_head here e bs (λ of. branches here of bs)))
 head_whole {sees} {here} at s e bs g =
-    whole_followed (whole_upon {R = Selects sees here at} (λ e bs. (e, bs)) (λ o. branches here (type_in o) bs) (selector_whole s e) (λ t h. g (typing.type_of t) h.1) (λ t bs h k. ((h.0, (kind_of_whole here.core (typing.type_of t) h.1).ordinal), k)))
-    (λ head h. once_whole h (repeated (all_spots here (type_in (selector here e).typed) bs)))
+    whole_followed (whole_upon {R = Selects sees here at} (λ e bs. (e, bs)) (λ o. checked (branches here (type_in o) bs)) (selector_whole s e) (λ t h. g (typing.type_of t) h.1) (λ t bs h k. ((h.0, (kind_of_whole here.core (typing.type_of t) h.1).ordinal), k)))
+    (λ head h. once_whole h (repeated (all_spots here (type_in (checked (selector here e)).typed) bs)))
 
 mutual
-  pub statement_whole : {sees : Sees} {here : Here} (at : place.Here) → IsSettled sees here → Surrounds here at → (x : tree.Statement) → Whole (Is sees here at) (statement here x)
+  pub statement_whole : {sees : Sees} {here : Here} (at : place.Here) → IsSettled sees here → Surrounds here at → (x : tree.Statement) → Whole (Is sees here at) (checked (statement here x))
   statement_whole at s r tree.empty = whole_gives tt
   statement_whole at s r (tree.block ss) = whole_changed_so block (statements_whole at s r ss) (λ x h. h)
   statement_whole at s r (tree.if_then e x) = whole_two if_then (condition_whole s e) (statement_whole at s r x) (λ e x h k. (h, k))
@@ -398,14 +400,14 @@ mutual
   statement_whole at s r (tree.repeat_until ss e) =
       whole_two repeat_until (statements_whole (place.in_loop at) (settled_within (Loop None) s) (looped_within None r) ss) (condition_whole s e) (λ ss e h k. (h, k))
   statement_whole {sees} {here} at s r (tree.for_to n e direction f x) =
-      let id = option_map (λ c. c.variable) (counter here n).typed in
+      let id = option_map (λ c. c.variable) (checked (counter here n)).typed in
       whole_two (λ (head : Counter × (Tree × Tree)) x. for_statement direction head.0 head.1 x) (bounds_whole s n e f)
       (statement_whole (place.in_loop at) (settled_within (Loop id) s) (looped_within id r) x) (λ head x h k. counts sees here at direction head x h k)
   statement_whole at s r (tree.for_in n e x) = whole_rule
   statement_whole at s r (tree.try_finally ss ts) =
       whole_two try_finally (statements_whole at s r ss) (statements_whole (place.in_finally at) (settled_within Finally s) (finally_part r) ts) (λ ss ts h k. (h, k))
   statement_whole at s r (tree.try_except ss ts) = whole_after whole_rule
-  statement_whole {sees} {here} at s r (tree.try_on ss hs) = tried_whole (first_class hs) (statements here ss) (whole_changed_so block (statements_whole at s r ss) (λ x h. h))
+  statement_whole {sees} {here} at s r (tree.try_on ss hs) = tried_whole (first_class hs) (statements here ss) (changed block (statements here ss)) (whole_changed_so block (statements_whole at s r ss) (λ x h. h))
   statement_whole at s r (tree.try_on_else ss hs ts) = whole_after whole_rule
   statement_whole at s r (tree.raise p e) = whole_rule
   statement_whole at s r (tree.reraise p) = whole_rule
@@ -413,15 +415,15 @@ mutual
   statement_whole at s r (tree.inherited_call p d) = whole_rule
   statement_whole {sees} {here} at s r (tree.call d) = called_whole at s r d (called here.visible d)
   statement_whole {sees} {here} at s r (tree.assign d p e) =
-      whole_upon assign (λ t. stored here (option_map typing.type_of t) p.switches.r e) (target_whole s d) (λ t h. given_to_whole s (typing.type_of t) p.switches.r e) (λ t e h k. (h.0, h.1, k))
+      whole_upon assign (λ t. checked (stored here (option_map typing.type_of t) p.switches.r e)) (target_whole s d) (λ t h. given_to_whole s (typing.type_of t) p.switches.r e) (λ t e h k. (h.0, h.1, k))
 
-  branches_whole : {sees : Sees} {here : Here} (at : place.Here) → IsSettled sees here → Surrounds here at → (of : TypeId) → IsTrue (is_whole (type_at here.core of)) → (bs : tree.Branches) → Whole (AreBranches here.core sees at of) (branches here (Some of) bs)
+  branches_whole : {sees : Sees} {here : Here} (at : place.Here) → IsSettled sees here → Surrounds here at → (of : TypeId) → IsTrue (is_whole (type_at here.core of)) → (bs : tree.Branches) → Whole (AreBranches here.core sees at of) (checked (branches here (Some of) bs))
   branches_whole at s r of w tree.no_branches = whole_gives tt
   branches_whole {sees} {here} at s r of w (tree.branches es x bs) =
       whole_two with_branch
       (whole_two {R = λ (b : List Label × Statement). All (IsLabel here.core of) b.0 × Is sees here at b.1} (λ ls x. (ls, x)) (branch_labels_whole s of w es) (statement_whole at s r x) (λ ls x h k. (h, k)))
       (branches_whole at s r of w bs) (λ b bs h k. (h.0, h.1, k))
 
-  pub statements_whole : {sees : Sees} {here : Here} (at : place.Here) → IsSettled sees here → Surrounds here at → (xs : tree.Statements) → Whole (AreStatements here.core sees at) (statements here xs)
+  pub statements_whole : {sees : Sees} {here : Here} (at : place.Here) → IsSettled sees here → Surrounds here at → (xs : tree.Statements) → Whole (AreStatements here.core sees at) (checked (statements here xs))
   statements_whole at s r tree.no_statements = whole_gives tt
   statements_whole at s r (tree.statements x xs) = whole_two core_statements (statement_whole at s r x) (statements_whole at s r xs) (λ x xs h k. (h, k))

@@ -1,121 +1,43 @@
--- The selector of a case and its labels (Free Pascal Reference Guide, "The Case statement").
-use Rattle.std.specs.Prelude.{int_le, Bool, true, false, ◌&&◌, List, [], ◌∷◌, ◌++◌, Option, Some, None, if◌then◌else◌}
-use Rattle.std.specs.List.{list_any}
-use Rattle.std.specs.Option.{option_to_list}
+-- What is computed of the selector of a case and its labels, as the crates above read it.
+use Rattle.std.specs.Prelude.{List, Option}
 use Rattle.op_base.specs.declared.place.Place.{Place}
-use Rattle.op_check_expr.specs.Meanings.{value_of}
 use Rattle.op_check_expr.specs.Scopes.{Here}
-use Rattle.op_check_expr.specs.Values.{Value, constant, computed, as_type, type_of}
-use Rattle.op_check_expr.specs.Words.{changed, followed, left_out, standing}
+use Rattle.op_check_expr.specs.Values.{Value}
 use Rattle.op_core.specs.Expression.{Expression as Tree}
-use Rattle.op_core.specs.Faults.{Checked, by_entry, by_test, fine, refused, untyped, with_part}
+use Rattle.op_core.specs.Faults.{Checked}
 use Rattle.op_core.specs.declared.ids.TypeId.{TypeId}
 use Rattle.op_core.specs.declared.program.Core.{Core}
 use Rattle.op_core.specs.declared.statement.Label.{Label}
-use Rattle.op_tree.specs.Expression.{Expression, Element, one, range, Elements, no_elements, elements}
-use Rattle.op_types.specs.Assignable.{assignable}
-use Rattle.op_types.specs.Constants.{plus, start_of}
-use Rattle.op_types.specs.Sorts.{sort_of}
-use Rattle.op_types.specs.Values.{number_of}
+use Rattle.op_judgement.specs.Judgement.{checked}
+use Rattle.op_tree.specs.Expression.{Expression, Element, Elements}
 use Rattle.op_types.specs.declared.constant.Constant.{Constant}
-use Rattle.op_types.specs.declared.constant.Weight.{Weight}
 use Rattle.op_types.specs.declared.sort.Sort.{Sort}
-use Rattle.op_types.specs.declared.sort.Sort.TheVariants.{Ordinal, String}
-use Rattle.op_check_stmt.specs.Parts.{of_two}
-use Rattle.op_check_stmt.specs.Unplaced.{place_of_body}
-use Rattle.op_check_stmt.specs.Variables.{host_of}
+use Rattle.op_check_stmt.specs.Case as judged
 use Rattle.op_check_stmt.specs.declared.case.Bound.{Bound}
 use Rattle.op_check_stmt.specs.declared.case.Spot.{Spot}
+pub use Rattle.op_check_stmt.specs.Case.{constant_in, fits, spot}
+pub use Rattle.op_check_stmt.specs.Labels.{once, repeated}
 
--- ---- the selector
-
--- a value at a place, as one of its type's host
 abbrev pub selected_by : Core → Place → Value → Sort → Checked Tree
-selected_by core place v (Ordinal kind) = fine (as_type core false (host_of core (type_of v)) v)
-selected_by core place v String = left_out 25 place
-selected_by core place v _ = refused 23 place
-
-abbrev pub selected : Core → Place → Value → Checked Tree
-selected core place v = selected_by core place v (sort_of core (type_of v))
+selected_by core place v s = checked (judged.selected_by core place v s)
 
 abbrev pub selector : Here → Expression → Checked Tree
-selector here e = followed (value_of here None e) (with_part (selected here.core (start_of e)))
+selector here e = checked (judged.selector here e)
 
--- ---- labels
-
-abbrev pub constant_in : Value → Option Constant
-constant_in (constant c) = Some c
-constant_in (computed e) = None
-
-abbrev pub number : Constant → Bound
-number c = record { number = number_of c.value; weight = c.weight }
-
-abbrev pub fits : Core → TypeId → Option TypeId → Bool
-fits core from None = true
-fits core from (Some to) = assignable core from to
-
--- of a selector that has no type too, where the bound is then silent
 abbrev pub of_type : Option TypeId → Constant → Checked Bound
-of_type None c = untyped
-of_type (Some of) c = fine (number c)
-
--- a value at a place as a bound of a label, where the selector has this type
-abbrev pub bound_means : Core → Place → Option TypeId → Value → Checked Bound
-bound_means core place of v = by_test 20 place (by_entry 30 place (of_type of) (constant_in v)) (fits core (type_of v) of)
+of_type of c = checked (judged.of_type of c)
 
 abbrev pub bound : Here → Option TypeId → Expression → Checked Bound
-bound here of e = followed (value_of here None e) (with_part (bound_means here.core (start_of e) of))
-
-abbrev pub spot : Place → Bound → Bound → Weight → Spot
-spot place low high w = record { label = record { first = low.number; last = high.number; nodes = w.nodes; words = w.words }; place = place }
-
--- from one bound to another, which is not below it
-abbrev pub range_means : Place → Bound → Bound → Checked Spot
-range_means place low high = by_test 31 place (fine (spot place low high (plus low.weight high.weight))) (int_le low.number high.number)
+bound here of e = checked (judged.bound here of e)
 
 abbrev pub both_bounds : Place → Option Bound → Option Bound → Checked Spot
-both_bounds place low high = with_part (λ low. with_part (range_means place low) high) low
+both_bounds place low high = checked (judged.both_bounds place low high)
 
 abbrev pub label : Here → Option TypeId → Element → Checked Spot
-label here of (one e) = changed (λ b. spot (start_of e) b b b.weight) (bound here of e)
-label here of (range e f) = followed (bound here of e) (λ low. followed (bound here of f) (both_bounds (start_of e) low))
+label here of e = checked (judged.label here of e)
 
 abbrev pub labels : Here → Option TypeId → Elements → Checked (List Label)
-labels here of no_elements = fine []
-labels here of (elements e es) = of_two (λ l others. l ∷ others) (changed (λ s. s.label) (label here of e)) (labels here of es)
+labels here of es = checked (judged.labels here of es)
 
--- those of a branch: the grammar has one at least
 abbrev pub branch_labels : Here → Option TypeId → Elements → Checked (List Label)
-branch_labels here of no_elements = refused 9 (place_of_body here)
-branch_labels here of (elements e es) = labels here of (elements e es)
-
--- the labels that have values, with their places
-abbrev pub spots : Here → Option TypeId → Elements → List Spot
-spots here of no_elements = []
-spots here of (elements e es) = option_to_list (label here of e).typed ++ spots here of es
-
--- ---- labels that are there twice
-
--- both have a value, and neither ends before the other begins
-abbrev pub overlap : Label → Label → Bool
-overlap a b = int_le a.first a.last && int_le b.first b.last && int_le a.first b.last && int_le b.first a.last
-
--- a label has a value of one in front of it
-abbrev pub is_repeated : List Spot → Spot → Bool
-is_repeated before s = list_any (λ b. overlap b.label s.label) before
-
--- the first of the labels, in the order of the text, that has a value of one in front of it
-abbrev pub repeated_after : List Spot → List Spot → Option Place
-repeated_after before [] = None
-repeated_after before (s ∷ ss) = if is_repeated before s then Some s.place else repeated_after (before ++ s ∷ []) ss
-
-abbrev pub repeated : List Spot → Option Place
-repeated ss = repeated_after [] ss
-
-abbrev pub once : {A : Type 0} → Option A → Option Place → Checked A
-once a None = standing a
-once a (Some place) = refused 32 place
-
--- what has these labels, where no value has two of them
-abbrev pub distinct : {A : Type 0} → Option A → List Spot → Checked A
-distinct a ss = once a (repeated ss)
+branch_labels here of es = checked (judged.branch_labels here of es)

@@ -1,5 +1,5 @@
--- Parts that are made of parts: typed where all of these are, with the faults of each.
-use Rattle.std.specs.Prelude.{List, [], ◌∷◌, ◌++◌, Option, Some, None, Result, Ok, Err, Vec}
+-- Typed parts that are made of parts, and lists of such.
+use Rattle.std.specs.Prelude.{List, [], ◌∷◌, ◌++◌, Option, Result, Ok, Err, Vec}
 use Rattle.std.specs.Option.{option_map}
 use Rattle.std.specs.declared.alloc.Global.{Global}
 use Rattle.op_base.specs.declared.memory_error.NoMemory.{NoMemory}
@@ -11,20 +11,15 @@ use Rattle.op_core.specs.declared.expression.CoreExpr.{CoreExpr}
 use Rattle.op_core.specs.declared.statement.CoreBranch.{CoreBranch}
 use Rattle.op_core.specs.declared.statement.CoreStmt.{CoreStmt}
 use Rattle.op_core.specs.declared.statement.Label.{Label}
+use Rattle.op_judgement.specs.Judgement.{both_typed}
+pub use Rattle.op_judgement.specs.Judgement.{both_typed}
 
-abbrev pub both_typed : {A B C : Type 0} → (A → B → C) → Option A → Option B → Option C
-both_typed f None b = None
-both_typed f (Some a) None = None
-both_typed f (Some a) (Some b) = Some (f a b)
-
+-- as the crates above read it
 abbrev pub of_two : {A B C : Type 0} → (A → B → C) → Checked A → Checked B → Checked C
 of_two f a b = record { typed = both_typed f a.typed b.typed; faults = both a.faults b.faults }
 
 abbrev pub paired : {A B : Type 0} → Checked A → Checked B → Checked (A × B)
 paired a b = of_two (λ a b. (a, b)) a b
-
-abbrev pub of_three : {A B C D : Type 0} → (A → B → C → D) → Checked A → Checked B → Checked C → Checked D
-of_three f a b c = of_two (λ p c. f p.0 p.1 c) (paired a b) c
 
 -- ---- lists
 

@@ -3,7 +3,7 @@ use Rattle.std.specs.Prelude.{◌≡◌, ℤ, ◌<ℤ◌, ◌≤ℤ◌, true, So
 use Rattle.std.specs.BTreeMap.{BTreeMap, Updates, get}
 use Rattle.std.specs.Ordering.{int_cmp}
 use Rattle.op_core.specs.declared.statement.Label.{Label}
-use Rattle.op_check_stmt.specs.Cases.{overlap}
+use Rattle.op_check_stmt.specs.Labels.{overlap}
 
 abbrev pub from_to : ℤ → ℤ → Label
 from_to first last = record { first = first; last = last; nodes = 0; words = 0 }

@@ -3,7 +3,7 @@ use Rattle.std.specs.Prelude.{◌≡◌, true, false}
 use Rattle.op_check_expr.specs.Scopes.{Here}
 use Rattle.op_core.specs.StatementTyping as typing
 use Rattle.op_check_stmt.specs.Leaving.{in_finally, reach_of}
-use Rattle.op_check_stmt.specs.Procedures.{result_of}
+use Rattle.op_check_stmt.specs.Procedure.{result_of}
 use Rattle.op_check_stmt.specs.declared.leaving.Reach.TheVariants.{Inside}
 
 pub record Surrounds (here : Here) (place : typing.Here) : Type 0 where

@@ -1,6 +1,6 @@
 -- Where a part of a body is refused that has no place in the tree. The tokens of a file are looked through before its trees are checked, and
 -- the grammar is asked, so that nobody is told such a place.
-use Rattle.std.specs.Prelude.{List, Option, Some, None, slice_get}
+use Rattle.std.specs.Prelude.{Option, Some, None, slice_get}
 use Rattle.std.specs.Option.{option_and_then}
 use Rattle.op_base.specs.declared.place.Place.{Place}
 use Rattle.op_check_expr.specs.Scopes.{Here}

@@ -3,9 +3,9 @@ ghost use Rattle.std.specs.Prelude.{◌≡◌, IfOk, map};
 ghost use Rattle.std.specs.Option.{option_map};
 ghost use Rattle.op_check_expr.specs.Scopes.{here_of};
 ghost use Rattle.op_check_expr.specs.Values.{value_of};
-ghost use Rattle.op_check_expr.specs.Words.{Reports};
+ghost use Rattle.op_judgement.specs.Judgement.{Reports};
 ghost use Rattle.op_check_stmt.specs.Parts.{items_of};
-ghost use Rattle.op_check_stmt.specs.Procedures.{base_in, change, base_of, change_means, count_means, counted, counted_means, is_text, item, items, member, place_counted, set, set_means, text, text_means, unwritten, values_of, written};
+ghost use Rattle.op_check_stmt.specs.Procedure.{base_in, change, base_of, change_means, count_means, counted, counted_means, is_text, item, items, member, place_counted, set, set_means, text, text_means, unwritten, values_of, written};
 ghost use Rattle.op_core.specs.Expression.{expr_of as typed_of};
 ghost use Rattle.op_core.specs.Statement.{built_in, count, item_of, padded, stmt_of, target_of};
 ghost use Rattle.op_tree.specs.Expression.{argument_of, expr_of};
@@ -16,13 +16,14 @@ use crate::list::{collect, fitted};
 use crate::node::{Typed, pair};
 use crate::variable::is_ordinal;
 use op_base::{NoMemory, Place};
-use op_check_expr::{Checker, Value, conversion, leave_out, position_of, refuse, type_of};
+use op_check_expr::{Checker, Value, conversion, position_of, type_of};
 use op_core::{
     Const, Conversion, Core, CoreAction, CoreExpr, CoreItem, CoreStmt, CoreTarget, CoreType,
-    FirstRefusal, Root, TypeId,
+    FirstRefusal, Root, TypeId, type_at,
 };
+use op_judgement::{refuse, rules};
 use op_tree::{Argument, Direction, Expr, Name};
-use op_types::{OrdinalKind, Sort, sort_of, start_of, type_at};
+use op_types::{OrdinalKind, Sort, sort_of, start_of};
 use std::alloc::Global;
 
 /// Write and WriteLn, which ends the line.
@@ -76,7 +77,11 @@ fn item(
             let width = here.given(sink, TypeId::INTEGER, false, width)?;
             padded(here.alloc, pair(e, width))
         }
-        Argument::Rounded(_, _, digits) => Ok(leave_out(sink, 35, start_of(digits))),
+        Argument::Rounded(_, _, digits) => Ok(refuse(
+            sink,
+            rules::FRACTION_WIDTH,
+            start_of(digits),
+        )),
     }
 }
 
@@ -111,7 +116,7 @@ fn text_of(
     if is_text(sort_of(core, value.type_of())) {
         Some(value.into_tree(alloc))
     } else {
-        refuse(sink, 60, place)
+        refuse(sink, rules::NOT_WRITTEN, place)
     }
 }
 
@@ -148,7 +153,7 @@ pub fn count(
             let amount = here.given(sink, TypeId::INTEGER, false, by)?;
             count_by(here.alloc, direction, checked, pair(target, amount))
         }
-        _ => Ok(refuse(sink, 26, name.position.place)),
+        _ => Ok(refuse(sink, rules::WRONG_ARGUMENTS, name.position.place)),
     }
 }
 
@@ -212,7 +217,7 @@ fn counted_of(
 {
     let of = type_of(&place);
     if !is_ordinal(sort_of(core, of)) {
-        return refuse(sink, 23, at);
+        return refuse(sink, rules::NOT_ORDINAL, at);
     }
     let store = conversion(core, checked, TypeId::INTEGER, of).unwrap_or(Conversion::Keep);
     Some(CoreTarget { place, store })
@@ -235,7 +240,7 @@ pub fn change(
             let element = member(here, sink, base, element)?;
             changed(here.alloc, includes, pair(set, element))
         }
-        _ => Ok(refuse(sink, 26, name.position.place)),
+        _ => Ok(refuse(sink, rules::WRONG_ARGUMENTS, name.position.place)),
     }
 }
 
@@ -269,7 +274,7 @@ fn set_of(core: &Core, sink: &mut FirstRefusal, at: Place, place: CoreExpr) -> O
     ensures { Reports (set_means core.now at (typed_of place)) sink.old sink.new (option_map typed_of result) }
 {
     match base_of(core, type_of(&place)) {
-        None => refuse(sink, 28, at),
+        None => refuse(sink, rules::VARIABLE_OF_ANOTHER_TYPE, at),
         Some(_) => Some(place),
     }
 }

@@ -3,8 +3,8 @@ ghost use Rattle.std.specs.Prelude.{◌≡◌, [], ◌++◌, IfOk};
 ghost use Rattle.std.specs.Option.{option_map, option_to_list};
 ghost use Rattle.op_check_expr.specs.Scopes.{here_of};
 ghost use Rattle.op_check_expr.specs.Values.{value_of};
-ghost use Rattle.op_check_expr.specs.Words.{Reports};
-ghost use Rattle.op_check_stmt.specs.Cases.{bound, bound_means, both_bounds, branch_labels, distinct, fits, label, labels, number, of_type, range_means, selected, selector, spot, spots};
+ghost use Rattle.op_judgement.specs.Judgement.{Reports, checked};
+ghost use Rattle.op_check_stmt.specs.Case.{bound, bound_means, both_bounds, branch_labels, distinct, fits, label, labels, number, of_type, range_means, selected, selector, spot, spots};
 ghost use Rattle.op_check_stmt.specs.Parts.{items_of};
 ghost use Rattle.op_core.specs.Expression.{expr_of as typed_of};
 ghost use Rattle.op_tree.specs.Expression.{element_of, expr_of, range};
@@ -15,8 +15,9 @@ use crate::repeated::repeated;
 use crate::unplaced::place_of_body;
 use crate::variable::host_of;
 use op_base::{NoMemory, Place};
-use op_check_expr::{Checker, Value, as_type, leave_out, refuse};
+use op_check_expr::{Checker, Value, as_type};
 use op_core::{Const, Core, CoreExpr, FirstRefusal, Label, TypeId};
+use op_judgement::{refuse, rules};
 use op_tree::{Element, Expr};
 use op_types::{Constant, Sort, Weight, assignable, plus, sort_of, start_of};
 use std::alloc::Global;
@@ -61,8 +62,8 @@ fn selected(
     let of = value.type_of();
     match sort_of(core, of) {
         Sort::Ordinal(_) => Ok(Some(as_type(alloc, core, false, host_of(core, of), value)?)),
-        Sort::String => Ok(leave_out(sink, 25, place)),
-        _ => Ok(refuse(sink, 23, place)),
+        Sort::String => Ok(refuse(sink, rules::CASE_ON_STRINGS, place)),
+        _ => Ok(refuse(sink, rules::NOT_ORDINAL, place)),
     }
 }
 
@@ -79,7 +80,7 @@ pub fn branch_labels(
     ensures notes { IfOk result (λ l. others.new.items ≡ others.old.items ++ spots (here_of here.entry.scope) of (elements_of elements.now)) }
 {
     match elements.split_first() {
-        None => Ok(refuse(sink, 9, place_of_body(here))),
+        None => Ok(refuse(sink, rules::SYNTAX, place_of_body(here))),
         Some(_) => labels(here, sink, others, of, elements),
     }
 }
@@ -174,7 +175,7 @@ fn range_of(
     if low.number <= high.number {
         Some(make_spot(place, low, high, plus(low.weight, high.weight)))
     } else {
-        refuse(sink, 31, place)
+        refuse(sink, rules::EMPTY_RANGE, place)
     }
 }
 
@@ -203,17 +204,17 @@ fn bound_of(
     ensures { Reports (bound_means core.now place of (value_of value)) sink.old sink.new result }
 {
     if !fits(core, value.type_of(), of) {
-        return refuse(sink, 20, place);
+        return refuse(sink, rules::NOT_ASSIGNABLE, place);
     }
     match &value {
-        Value::Computed(_) => refuse(sink, 30, place),
+        Value::Computed(_) => refuse(sink, rules::NO_CONSTANT, place),
         Value::Constant(c) => of_type(of, c),
     }
 }
 
 /// A bound, where the selector has a type.
 fn of_type(of: Option<TypeId>, c: &Constant) -> Option<Bound>
-    ensures { result ≡ (of_type of c.now).typed }
+    ensures { result ≡ (checked (of_type of c.now)).typed }
 {
     match of {
         None => None,
@@ -252,6 +253,6 @@ pub fn distinct<T: Drop>(
 {
     match repeated(alloc, labels)? {
         None => Ok(typed),
-        Some(place) => Ok(refuse(sink, 32, place)),
+        Some(place) => Ok(refuse(sink, rules::LABEL_TWICE, place)),
     }
 }

@@ -1,6 +1,6 @@
 //! What a built-in procedure is given.
 ghost use Rattle.std.specs.Prelude.{◌≡◌};
-ghost use Rattle.op_check_stmt.specs.Procedures.{values, values_of};
+ghost use Rattle.op_check_stmt.specs.Procedure.{values, values_of};
 ghost use Rattle.op_tree.specs.Lists.{arguments_of};
 
 use op_tree::{Argument, Expr};

@@ -2,12 +2,14 @@
 ghost use Rattle.std.specs.Prelude.{◌≡◌, [], ◌∷◌, ◌++◌, IfOk};
 ghost use Rattle.std.specs.Option.{option_map};
 ghost use Rattle.op_core.specs.Statement.{stmt_of};
-ghost use Rattle.op_check_expr.specs.Words.{Reports};
-ghost use Rattle.op_check_stmt.specs.Leaving.{entered, in_finally, is_finally, jump_of, leaving_means, reach_of};
+ghost use Rattle.op_judgement.specs.Judgement.{Reports};
+ghost use Rattle.op_check_stmt.specs.Leaving.{entered, in_finally, is_finally, jump_of, reach_of};
+ghost use Rattle.op_check_stmt.specs.Procedure.{leaving};
 
 use op_base::{NoMemory, Place};
-use op_check_expr::{Around, refuse};
+use op_check_expr::Around;
 use op_core::{CoreStmt, FirstRefusal};
+use op_judgement::{refuse, rules};
 use std::alloc::Global;
 
 /// How far the innermost loop is from a place.
@@ -44,12 +46,12 @@ pub fn leaving(
     place: Place,
     jump: Jump,
 ) -> Option<CoreStmt>
-    ensures { Reports (leaving_means place (jump_of jump) (reach_of around.now)) sink.old sink.new (option_map stmt_of result) }
+    ensures { Reports (leaving place (jump_of jump) around.now) sink.old sink.new (option_map stmt_of result) }
 {
     match reach_of(around) {
-        Reach::Nowhere => refuse(sink, 58, place),
+        Reach::Nowhere => refuse(sink, rules::NO_LOOP, place),
         Reach::Inside => Some(jump_of(jump)),
-        Reach::Beyond => refuse(sink, 59, place),
+        Reach::Beyond => refuse(sink, rules::LEAVES_FINALLY, place),
     }
 }
 

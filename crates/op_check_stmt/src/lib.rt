@@ -1,5 +1,5 @@
 //! The checker of statements: from the tree of a statement and the place where it stands to the typed statement, or to the
-//! first rule that it breaks. `specs/Statements.antt` says what each statement means.
+//! first rule that it breaks. `specs/Statement.antt` says what each statement means.
 #![tactic(auto)]
 
 mod action;

@@ -2,7 +2,7 @@
 ghost use Rattle.std.specs.Prelude.{◌≡◌, IfOk, Some};
 ghost use Rattle.std.specs.Option.{option_map};
 ghost use Rattle.op_check_stmt.specs.Parts.{both_typed, bounds_of, branch_of, head_of, joined, statements_in};
-ghost use Rattle.op_check_stmt.specs.Statements.{case_statement, for_statement};
+ghost use Rattle.op_check_stmt.specs.Statement.{case_statement, for_statement};
 ghost use Rattle.op_core.specs.Expression.{expr_of};
 ghost use Rattle.op_core.specs.Nodes.{branches_of};
 ghost use Rattle.op_core.specs.Statement.{assign, block, case_of, for_to, if_else, if_then, repeat_until, stmt_of, stmts_of, try_finally, while_do};

@@ -2,21 +2,22 @@
 ghost use Rattle.std.specs.Prelude.{◌≡◌, IfOk};
 ghost use Rattle.std.specs.Option.{option_and_then, option_copied, option_map};
 ghost use Rattle.op_check_expr.specs.Scopes.{here_of};
-ghost use Rattle.op_check_expr.specs.Words.{Reports};
-ghost use Rattle.op_check_stmt.specs.Procedures.{arguments_behind, call_means, called, called_behind, called_of, exit_means, halt_means, jump_means, plain_call, procedure, result_at, values_of};
+ghost use Rattle.op_judgement.specs.Judgement.{Reports};
+ghost use Rattle.op_check_stmt.specs.Procedure.{arguments_behind, call_means, called, called_behind, called_of, exit_means, halt_means, jump_means, plain_call, procedure, result_at, values_of};
 ghost use Rattle.op_core.specs.Statement.{stmt_of};
 ghost use Rattle.op_tree.specs.Expression.{selector_of, selectors};
 ghost use Rattle.op_tree.specs.Lists.{arguments_of};
 ghost use Rattle.op_tree.specs.Statement.{designator_of, selectors_of};
-ghost use Rattle.op_types.specs.Constants.{joined_name};
+ghost use Rattle.op_types.specs.ConstantParts.{joined_name};
 ghost use Rattle.op_types.specs.Names.{lower};
 
 use crate::action::{change, count, unwritten, write};
 use crate::given::{Given, values};
 use crate::leaving::{Jump, in_finally, leaving};
 use op_base::NoMemory;
-use op_check_expr::{Checker, position_of, refuse};
+use op_check_expr::{Checker, position_of};
 use op_core::{Core, CoreStmt, FirstRefusal, RoutineId, TypeId};
+use op_judgement::{refuse, rules};
 use op_tree::{Argument, Designator, Direction, Name, Root, Selector};
 use op_types::{BuiltIn, Meaning, Visible};
 use std::alloc::Global;
@@ -169,23 +170,23 @@ fn exit(
     match values {
         Given::Nothing => {
             if stays {
-                return Ok(refuse(sink, 59, place));
+                return Ok(refuse(sink, rules::LEAVES_FINALLY, place));
             }
             Ok(Some(CoreStmt::Exit))
         }
         Given::One(e) => {
             let Some(of) = result_of(here.scope.core, here.scope.routine) else {
-                return Ok(refuse(sink, 26, place));
+                return Ok(refuse(sink, rules::WRONG_ARGUMENTS, place));
             };
             if stays {
-                return Ok(refuse(sink, 59, place));
+                return Ok(refuse(sink, rules::LEAVES_FINALLY, place));
             }
             match here.given(sink, of, position_of(e).switches.r, e)? {
                 None => Ok(None),
                 Some(result) => Ok(Some(CoreStmt::ExitWith(result))),
             }
         }
-        _ => Ok(refuse(sink, 26, place)),
+        _ => Ok(refuse(sink, rules::WRONG_ARGUMENTS, place)),
     }
 }
 
@@ -212,7 +213,7 @@ fn halt(
             None => Ok(None),
             Some(status) => Ok(Some(CoreStmt::Halt(status))),
         },
-        _ => Ok(refuse(sink, 26, name.position.place)),
+        _ => Ok(refuse(sink, rules::WRONG_ARGUMENTS, name.position.place)),
     }
 }
 
@@ -228,6 +229,6 @@ fn check_jump(
 {
     match values {
         Given::Nothing => leaving(sink, here.scope.around, name.position.place, jump),
-        _ => refuse(sink, 26, name.position.place),
+        _ => refuse(sink, rules::WRONG_ARGUMENTS, name.position.place),
     }
 }

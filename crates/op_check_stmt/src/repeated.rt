@@ -2,7 +2,7 @@
 ghost use Rattle.std.specs.Prelude.{◌≡◌, ◌&&◌, ℤ, int_le, true, false, Some, IfOk};
 ghost use Rattle.std.specs.BTreeMap.{get};
 ghost use Rattle.std.specs.Ordering.{int_cmp};
-ghost use Rattle.op_check_stmt.specs.Cases.{overlap, repeated};
+ghost use Rattle.op_check_stmt.specs.Labels.{overlap, repeated};
 ghost use Rattle.op_check_stmt.specs.Seen.{Apart, IsKept, Met, from_to};
 
 use crate::case::Spot;

@@ -2,15 +2,16 @@
 ghost use Rattle.std.specs.Prelude.{◌≡◌, IfOk};
 ghost use Rattle.std.specs.Option.{option_copied};
 ghost use Rattle.op_check_expr.specs.Scopes.{here_of};
-ghost use Rattle.op_check_expr.specs.Words.{Reports};
-ghost use Rattle.op_check_stmt.specs.Variables.{counter, counter_means, counter_named, host_of, is_ordinal};
+ghost use Rattle.op_judgement.specs.Judgement.{Reports};
+ghost use Rattle.op_check_stmt.specs.Variable.{counter, counter_means, counter_named, host_of, is_ordinal};
 ghost use Rattle.op_types.specs.Sorts.{sort_of};
 
 use op_base::{NoMemory, Place};
-use op_check_expr::{Checker, refuse};
-use op_core::{Core, CoreType, FirstRefusal, TypeId, VariableId};
+use op_check_expr::Checker;
+use op_core::{Core, CoreType, FirstRefusal, TypeId, VariableId, type_at};
+use op_judgement::{refuse, rules};
 use op_tree::Name;
-use op_types::{Meaning, Sort, sort_of, type_at};
+use op_types::{Meaning, Sort, sort_of};
 
 /// The variable of a `for`, and the type of its bounds.
 #[derive(Clone, Copy)]
@@ -41,7 +42,7 @@ fn counter_named(
     ensures { Reports (counter_named (here_of here.entry.scope) place (option_copied meaning.entry)) sink.old sink.new result }
 {
     match meaning {
-        None => refuse(sink, 15, place),
+        None => refuse(sink, rules::UNKNOWN_NAME, place),
         Some(Meaning::Spoiled) => None,
         Some(Meaning::Variable { id, .. }) => {
             let variable = here.scope.core.variables.as_slice().get(id.0 as usize)?;
@@ -54,7 +55,7 @@ fn counter_named(
                 here.is_writable_variable(*id),
             )
         }
-        Some(_) => refuse(sink, 16, place),
+        Some(_) => refuse(sink, rules::WRONG_KIND_OF_NAME, place),
     }
 }
 
@@ -70,10 +71,10 @@ fn counter_of(
     ensures { Reports (counter_means core.now place variable of is_writable) sink.old sink.new result }
 {
     if !is_ordinal(sort_of(core, of)) {
-        return refuse(sink, 23, place);
+        return refuse(sink, rules::NOT_ORDINAL, place);
     }
     if !is_writable {
-        return refuse(sink, 29, place);
+        return refuse(sink, rules::NOT_WRITABLE, place);
     }
     let bounds = host_of(core, of);
     Some(Counter { variable, bounds })

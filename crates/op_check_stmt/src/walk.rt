@@ -3,11 +3,9 @@ ghost use Rattle.std.specs.Prelude.{◌≡◌, [], ◌∷◌, ◌++◌, IfOk};
 ghost use Rattle.std.specs.Option.{option_map};
 ghost use Rattle.op_check_expr.specs.Scopes.{here_of};
 ghost use Rattle.op_check_expr.specs.Values.{value_of};
-ghost use Rattle.op_check_expr.specs.Words.{Reports};
-ghost use Rattle.op_check_stmt.specs.Cases.{selector};
-ghost use Rattle.op_check_stmt.specs.Parts.{bounds_of, branches_in, head_of, paired, statements_in};
-ghost use Rattle.op_check_stmt.specs.Rules.{StatementBreaks, StatementIs, StmtMeans};
-ghost use Rattle.op_check_stmt.specs.Statements.{StmtIs, all_spots, assign_means, bound_of, branches, condition, condition_means, first_class, head_means, place_of_handlers, statement, statements, stored, type_in};
+ghost use Rattle.op_judgement.specs.Judgement.{Reports};
+ghost use Rattle.op_check_stmt.specs.Parts.{bounds_of, branches_in, head_of, statements_in};
+ghost use Rattle.op_check_stmt.specs.Statement.{StmtIs, StmtMeans, all_spots, assign_means, bound_of, branches, case_head, condition, condition_means, first_class, paired, place_of_handlers, statement, statements, stored, type_in};
 ghost use Rattle.op_core.specs.Expression.{expr_of as typed_of};
 ghost use Rattle.op_core.specs.Statement.{stmt_of as typed_statement};
 ghost use Rattle.op_tree.specs.Expression.{expr_of};
@@ -22,8 +20,9 @@ use crate::procedure::call;
 use crate::unplaced::place_of_body;
 use crate::variable::{Counter, check_counter};
 use op_base::{NoMemory, Place};
-use op_check_expr::{Around, Checker, Scope, Value, as_type, leave_out, refuse, type_of};
+use op_check_expr::{Around, Checker, Scope, Value, as_type, type_of};
 use op_core::{CheckError, CoreBranch, CoreExpr, CoreStmt, FirstRefusal, TypeId, VariableId};
+use op_judgement::{refuse, rules};
 use op_tree::{Branch, Designator, Expr, Handler, Position, Stmt};
 use op_types::{assignable, start_of};
 use std::alloc::Global;
@@ -32,7 +31,7 @@ use std::alloc::Global;
 /// rule was broken for: its answer is want of memory, which a checker of whole units never passes on.
 pub fn stmt(alloc: Global, scope: &Scope, s: &Stmt) -> Result<CoreStmt, CheckError>
     ensures exact { StmtIs (statement (here_of scope.now) (stmt_of s.now)) result }
-    ensures law { StmtMeans (StatementIs (here_of scope.now) (stmt_of s.now)) (StatementBreaks (here_of scope.now) (stmt_of s.now)) result }
+    ensures law { StmtMeans (statement (here_of scope.now) (stmt_of s.now)) result }
 {
     let mut sink = FirstRefusal::new();
     let here = Checker {
@@ -113,7 +112,11 @@ pub fn statement(here: Checker, sink: &mut FirstRefusal, s: &Stmt) -> Typed
             let parts = joined(head, statement(inside(here, around.as_slice()), sink, body))?;
             node::for_to(here.alloc, *direction, parts)
         }
-        Stmt::ForIn { variable, .. } => Ok(leave_out(sink, 41, variable.position.place)),
+        Stmt::ForIn { variable, .. } => Ok(refuse(
+            sink,
+            rules::DYNAMIC_ARRAYS,
+            variable.position.place,
+        )),
         Stmt::TryFinally { body, finalization } => {
             let around = within(here.alloc, here.scope.around, Around::Finally)?;
             let body = statements(here, sink, body)?;
@@ -122,24 +125,24 @@ pub fn statement(here: Checker, sink: &mut FirstRefusal, s: &Stmt) -> Typed
         }
         Stmt::TryExcept { body, .. } => {
             statements(here, sink, body)?;
-            Ok(leave_out(sink, 44, place_of_body(here)))
+            Ok(refuse(sink, rules::EXCEPTIONS, place_of_body(here)))
         }
         Stmt::TryOn { body, handlers } => {
             let body = statements(here, sink, body)?;
             match first_class(handlers) {
                 None => Ok(node::block(body)),
-                Some(place) => Ok(leave_out(sink, 44, place)),
+                Some(place) => Ok(refuse(sink, rules::EXCEPTIONS, place)),
             }
         }
         Stmt::TryOnElse { body, handlers, .. } => {
             statements(here, sink, body)?;
-            Ok(leave_out(sink, 44, place_of_handlers(here, handlers)))
+            Ok(refuse(sink, rules::EXCEPTIONS, place_of_handlers(here, handlers)))
         }
         Stmt::Raise { position, .. } | Stmt::Reraise { position } => {
-            Ok(leave_out(sink, 44, position.place))
+            Ok(refuse(sink, rules::EXCEPTIONS, position.place))
         }
         Stmt::Inherited { position } | Stmt::InheritedCall { position, .. } => {
-            Ok(leave_out(sink, 42, position.place))
+            Ok(refuse(sink, rules::CLASSES, position.place))
         }
         Stmt::Call(called) => call(here, sink, called),
         Stmt::Assign {
@@ -175,7 +178,7 @@ fn case_head(
     list: &[Branch],
     e: &Expr,
 ) -> Result<Option<(CoreExpr, Vec<CoreBranch>)>, NoMemory>
-    ensures { IfOk result (λ t. Reports (head_means (here_of here.entry.scope) (branches_of list.now) (selector (here_of here.entry.scope) (expr_of e.now)) (branches (here_of here.entry.scope) (type_in (selector (here_of here.entry.scope) (expr_of e.now)).typed) (branches_of list.now))) sink.old sink.new (option_map head_of t)) }
+    ensures { IfOk result (λ t. Reports (case_head (here_of here.entry.scope) (expr_of e.now) (branches_of list.now) (λ of. branches (here_of here.entry.scope) of (branches_of list.now))) sink.old sink.new (option_map head_of t)) }
 {
     let selector = selector(here, sink, e)?;
     let of = type_in(&selector);
@@ -284,7 +287,7 @@ fn tested(
     if assignable(core, value.type_of(), TypeId::BOOLEAN) {
         Ok(Some(as_type(here.alloc, core, false, TypeId::BOOLEAN, value)?))
     } else {
-        Ok(refuse(sink, 22, place))
+        Ok(refuse(sink, rules::NOT_BOOLEAN, place))
     }
 }
 

@@ -7,9 +7,11 @@ use Rattle.op_base.specs.declared.place.Place.{Place}
 use Rattle.op_check_expr.specs.Words.{Reports, changed, followed}
 use Rattle.op_check_stmt.proofs.Parts.{Completes, gathered, in_front, then as behind}
 use Rattle.op_check_stmt.specs.Parts.{of_two}
-use Rattle.op_check_unit.specs.Initials.{by_brackets, counted, fields, first, first_expression, is_bracketed, one_value, shape_of, single, start_of_initial, starts, unless_wrong, wrong_count}
+use Rattle.op_check_unit.specs.Initials as judged
+use Rattle.op_check_unit.specs.Initials.{is_bracketed, one_value, shape_of, start_of_initial, starts, wrong_count}
 use Rattle.op_check_unit.specs.Naming.{is_name}
-use Rattle.op_core.specs.Faults.{Checked, broken, earlier, refused}
+use Rattle.op_check_unit.specs.Readings.{by_brackets, constant_part, fields, first, first_expression, of_type, single, unless_wrong}
+use Rattle.op_core.specs.Faults.{Checked, broken, earlier, refused, with_part}
 use Rattle.op_core.specs.Initial.{FirstValue, first_value_of, no_values, values}
 use Rattle.op_core.specs.Nodes.{first_values_of}
 use Rattle.op_core.specs.declared.constant.Initial.{Initial as TypedInitial}
@@ -17,6 +19,7 @@ use Rattle.op_core.specs.declared.first_refusal.FirstRefusal.{FirstRefusal}
 use Rattle.op_core.specs.declared.ids.TypeId.{TypeId}
 use Rattle.op_core.specs.declared.program.Core.{Core}
 use Rattle.op_core.specs.declared.types.Field.{Field}
+use Rattle.op_judgement.specs.Judgement as judgement
 use Rattle.op_tree.specs.Expression.{Expression, chain, prefixed, number, nil, set, literal, designated, inherited, designator, named, string, bracketed, Selectors, no_selectors, selectors}
 use Rattle.op_tree.specs.Initial.{Initial, FieldInitials, field_initials, initial_of}
 use Rattle.op_tree.specs.Lists.{initials_of}
@@ -25,6 +28,7 @@ use Rattle.op_tree.specs.declared.position.Name.{Name}
 use Rattle.op_tree.specs.declared.position.Position.{Position}
 use Rattle.op_types.specs.Constants.{start_of}
 use Rattle.op_types.specs.Names.{Named}
+use Rattle.op_types.specs.declared.constant.Constant.{Constant}
 
 pub all_values : (xs : List TypedInitial) → in_front first_value_of values xs no_values ≡ first_values_of xs
 all_values [] = refl
@@ -69,9 +73,16 @@ alone core names of (designated (designator (string p) ss)) h = refl
 alone core names of (designated (designator (bracketed p e) (selectors s ss))) h = refl
 alone core names of (designated (designator (bracketed p e) no_selectors)) h = absurd (cc)
 
-pub bracketed_means : (core : Core) (names : List Named) (of : TypeId) (p : Position) (e : Expression) (ss : Selectors) → is_bracketed (designated (designator (bracketed p e) ss)) ≡ true → first_expression core names of (designated (designator (bracketed p e) ss)) ≡ by_brackets p.place (single core names of (designated (designator (bracketed p e) ss))) (λ count element. counted p.place count (start_of e ∷ []) (changed one_value (first_expression core names element e))) (shape_of core of)
+pub bracketed_means : (core : Core) (names : List Named) (of : TypeId) (p : Position) (e : Expression) (ss : Selectors) → is_bracketed (designated (designator (bracketed p e) ss)) ≡ true → first_expression core names of (designated (designator (bracketed p e) ss)) ≡ by_brackets p.place (judged.single core names of (designated (designator (bracketed p e) ss))) (λ count element. judged.counted p.place count (start_of e ∷ []) (judgement.changed one_value (judged.first_expression core names element e))) (shape_of core of)
 bracketed_means core names of p e no_selectors h = refl
 bracketed_means core names of p e (selectors s ss) h = absurd (cc)
+
+-- a constant, and what is made of it
+pub single_behind : (r : Result (Option TypedInitial) NoMemory) (core : Core) (names : List Named) (of : TypeId) (e : Expression) (x : Constant) (place : Place) (typed : Option Constant) (old mid new : FirstRefusal) → Reports (constant_part core names e) old mid typed → typed ≡ Some x → place ≡ start_of e → IfOk r (λ v. Reports (of_type core place of x) mid new (option_map first_value_of v)) → IfOk r (λ v. Reports (single core names of e) old new (option_map first_value_of v))
+single_behind (Ok v) core names of e x place typed old mid new h is s k =
+    behind (constant_part core names e) (with_part (of_type core (start_of e) of)) old mid new (Some x) (option_map first_value_of v) (subst (Reports (constant_part core names e) old mid) is h)
+    (subst (λ place. Reports (of_type core place of x) mid new (option_map first_value_of v)) s k)
+single_behind (Err z) core names of e x place typed old mid new h is s k = k
 
 -- what is made of the one part of a list
 pub one_listed : (r : Result (Option TypedInitial) NoMemory) (c : Checked FirstValue) (wrong : Option Place) (old mid new : FirstRefusal) (part : Option TypedInitial) → Reports c old mid (option_map first_value_of part) → IfOk r (λ v. Reports (unless_wrong wrong (option_map one_value (option_map first_value_of part))) mid new (option_map first_value_of v)) → IfOk r (λ v. Reports (followed (changed one_value c) (unless_wrong wrong)) old new (option_map first_value_of v))

@@ -1,29 +1,13 @@
 -- Parts that break no rule, and what comes behind them.
-use Rattle.std.proofs.Common.{◌≡◌, inl, inr, ◌&&◌, Bool, true, false, Option, Some, None, is_some, refl, sym, ap, ◌∙◌}
+use Rattle.std.proofs.Common.{◌≡◌, Bool, true, false, Option, Some, None, is_some, refl, sym, ap, ◌∙◌}
 use Rattle.std.proofs.lemmas.Bool.{and_parts}
 use Rattle.op_base.specs.declared.rule.Refusal.{Refusal}
-use Rattle.op_check_unit.proofs.LawSteps.{lists_also}
 use Rattle.op_check_unit.proofs.WholeSteps.{from_then}
 use Rattle.op_check_unit.specs.Complete.{From, faulty}
 use Rattle.op_check_unit.specs.Steps.{Given, Here, is_clear, unless, unless_faulty}
-use Rattle.op_core.specs.Faults.{Faults, none, one, both, kept, IsIn, here, front, behind}
-use Rattle.op_core.specs.Relations.{Either, Lists, NoneBroken, Where}
-
-pub no_fault : (f : Faults) → is_clear f ≡ true → (r : Refusal) → IsIn r f → ⊥
-no_fault none e r i = elim i [ ]
-no_fault (one q) e r i = absurd (cc)
-no_fault (both a b) e r (front i) = no_fault a (and_parts _ _ e).0 r i
-no_fault (both a b) e r (behind i) = no_fault b (and_parts _ _ e).1 r i
-
--- by the first part, and where that is clear by the others
-by_first : {A : Type 0} (a b : Faults) (x : Bool) → is_clear a ≡ x → is_clear (both a b) ≡ false → (is_clear a ≡ false → A) → (is_clear b ≡ false → A) → A
-by_first a b false h e f g = f h
-by_first a b true h e f g = g (sym (ap (λ x. x && is_clear b) h) ∙ e)
-
-pub some_fault : (f : Faults) → is_clear f ≡ false → (r : Refusal) × IsIn r f
-some_fault none e = absurd (cc)
-some_fault (one q) e = (q, here)
-some_fault (both a b) e = by_first a b (is_clear a) refl e (λ h. let s = some_fault a h in (s.0, front s.1)) (λ h. let s = some_fault b h in (s.0, behind s.1))
+use Rattle.op_core.specs.Faults.{Faults, none, one, both, kept}
+pub use Rattle.op_judgement.proofs.Clear.{lists_unless, no_fault, some_fault}
+use Rattle.op_judgement.proofs.Clear.{by_first}
 
 -- ---- what is kept
 
@@ -74,25 +58,6 @@ not_clear_is f q e = by_test (is_clear f) refl
     by_test true h = absurd (no (sym (kept_clear f None h) ∙ e))
 
 -- ---- what comes behind such a part
-
-pub lists_unless : {A B : Type 0} (g : Given A) (f : Here → Given B) {P Q : Refusal → Type 0} → Lists g.faults P → Lists (f g.here).faults Q → Lists (unless_faulty g f).faults (Either P (Where (NoneBroken P) Q))
-lists_unless g f {P} {Q} l k = by_test (is_clear g.faults) refl
-  where
-    fine : is_clear g.faults ≡ true → (r : Refusal) → Either P Q r → Either P (Where (NoneBroken P) Q) r
-    fine e r (inl p) = inl p
-    fine e r (inr q) = inr (λ x b. no_fault g.faults e x ((l x).1 b), q)
-
-    plain : (r : Refusal) → Either P (Where (NoneBroken P) Q) r → Either P Q r
-    plain r (inl p) = inl p
-    plain r (inr q) = inr q.1
-
-    first : is_clear g.faults ≡ false → (r : Refusal) → Either P (Where (NoneBroken P) Q) r → IsIn r g.faults
-    first e r (inl p) = (l r).1 p
-    first e r (inr q) = let s = some_fault g.faults e in absurd (q.0 s.0 ((l s.0).0 s.1))
-
-    by_test : (b : Bool) → is_clear g.faults ≡ b → Lists (unless b g f).faults (Either P (Where (NoneBroken P) Q))
-    by_test true e r = let a = lists_also l k r in (λ i. fine e r (a.0 i), λ s. a.1 (plain r s))
-    by_test false e r = (λ i. inl ((l r).0 i), λ s. first e r s)
 
 pub from_unless : {A B : Type 0} {R : A → Here → Type 0} {Q : B → Here → Type 0} (g : Given A) (f : Here → Given B) → From R g → ((a : A) (h : Here) → R a h → From Q (f h)) → From Q (unless_faulty g f)
 from_unless {A} {B} {R} {Q} g f d k = by_test (is_clear g.faults) refl

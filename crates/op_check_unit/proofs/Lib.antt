@@ -2,16 +2,6 @@ pub mod Going
 pub mod Beginning
 pub mod Placing
 pub mod Rows
-pub mod LawSteps
-pub mod LawNames
-pub mod LawConstants
-pub mod LawTypes
-pub mod LawRecords
-pub mod LawDenoting
-pub mod LawInitials
-pub mod LawDeclaring
-pub mod LawHeadings
-pub mod LawRoutines
 pub mod Clear
 pub mod Visiting
 pub mod UnitSteps

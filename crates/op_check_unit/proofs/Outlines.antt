@@ -7,9 +7,10 @@ use Rattle.op_check_unit.proofs.WholeUnits.{all_same_count}
 use Rattle.op_check_unit.proofs.WholeDeclaring.{row_at}
 use Rattle.op_check_unit.proofs.WholeRoutines.{set_apart, set_there, some_eq}
 use Rattle.op_check_unit.specs.Interfaces.{interface_order, unit_at}
-use Rattle.op_check_unit.specs.Outlines.{AllTell, Tells, outline_of}
-use Rattle.op_check_unit.specs.Programs.{Outline, all_outlined, blank_outline, faults_among, files_mean, in_unit, interface_faults_by, interface_means, outline, outline_faults, outlined, outlined_by, parts_of_program, with_units}
-use Rattle.op_check_unit.specs.Steps.{Declares, Given, Here, here_of}
+use Rattle.op_check_unit.specs.Outlines.{AllTell, Tells, is_blank, outline_of}
+use Rattle.op_check_unit.specs.Programs.{Outline, all_outlined, blank_outline, faults_among, files_mean, in_unit, interface_faults_by, outline, outline_faults, outlined, outlined_by, parts_of_program, with_interface, with_units}
+use Rattle.op_check_unit.specs.Readings.{interface_means}
+use Rattle.op_check_unit.specs.Steps.{Declared, Given, Here, here_of}
 use Rattle.op_check_unit.specs.Uses.{exported}
 use Rattle.op_check_unit.specs.declared.declarer.Declarer.{Declarer}
 use Rattle.op_check_unit.specs.declared.uses.Export.{Export}
@@ -69,12 +70,23 @@ all_told order fs h k e is =
     let x = row_at o.exports k (omega (arith, lt, count)) in
     tells_same e (both none (faults_among order fs ks o k)) (faults_among order fs ks o k) refl (tells_among order fs ks o k x.0 e none x.1 is (subst (λ x. Tells x none) (none_there (length order) k x.0 x.1) refl))
 
+-- ---- the interface part of one unit
+
+one_unit : (k : ℕ) (s : Option (Option Export)) (u : UnitFile) (o : Outline) → is_blank s ≡ true → outlined_by k s (Some u) o ≡ with_interface k u o
+one_unit k None u o e = absurd (cc)
+one_unit k (Some None) u o e = refl
+one_unit k (Some (Some x)) u o e = absurd (cc)
+
+pub outlined_now : (order : List (List ℕ)) (fs : List File) (k : ℕ) (u : UnitFile) (o new : Outline) → is_blank (slice_get o.exports k) ≡ true → Some u ≡ unit_at order fs k → new ≡ with_interface k u o → new ≡ outlined order fs k o
+outlined_now order fs k u o new blank e is =
+    is ∙ sym (one_unit k (slice_get o.exports k) u o blank) ∙ ap (λ u. outlined_by k (slice_get o.exports k) u o) e
+
 -- ---- a program behind its interface parts
 
-kept_same : (g : Given (Unit {0})) (old mid new : Declarer) → old.sink.kept ≡ None → mid.sink.kept ≡ None → Declares g mid new → Declares g old new
+kept_same : (g : Given (Unit {0})) (old mid new : Declarer) → old.sink.kept ≡ None → mid.sink.kept ≡ None → Declared g mid new → Declared g old new
 kept_same g old mid new a b d = (d.0, d.1 ∙ ap (λ k. kept k g.faults) (b ∙ sym a))
 
-pub program_outlined : (p : Program) (order : List (List ℕ)) (fs : List File) (ks : List ℕ) (blank es seen : List (Option Export)) (old begun mid new : Declarer) (r : Result (Unit {0}) NoMemory) → old.sink.kept ≡ None → here_of begun ≡ with_units order (here_of old) → blank ≡ replicate (length order) None → ks ≡ interface_order order fs → outline_of es mid ≡ all_outlined order fs ks (outline_of blank begun) → mid.sink.kept ≡ None → seen ≡ es → ((faults : ℕ → Faults) → AllTell seen faults → IfOk r (λ t. Declares (parts_of_program p order fs faults (outline_of seen mid)) mid new)) → IfOk r (λ t. Declares (files_mean (program p ∷ fs) order (here_of old)) old new)
+pub program_outlined : (p : Program) (order : List (List ℕ)) (fs : List File) (ks : List ℕ) (blank es seen : List (Option Export)) (old begun mid new : Declarer) (r : Result (Unit {0}) NoMemory) → old.sink.kept ≡ None → here_of begun ≡ with_units order (here_of old) → blank ≡ replicate (length order) None → ks ≡ interface_order order fs → outline_of es mid ≡ all_outlined order fs ks (outline_of blank begun) → mid.sink.kept ≡ None → seen ≡ es → ((faults : ℕ → Faults) → AllTell seen faults → IfOk r (λ t. Declared (parts_of_program p order fs faults (outline_of seen mid)) mid new)) → IfOk r (λ t. Declared (files_mean (program p ∷ fs) order (here_of old)) old new)
 program_outlined p order fs ks blank es seen old begun mid new (Err e) clear begins none_yet order_is is still same parts = tt
 program_outlined p order fs ks blank es seen old begun mid new (Ok t) clear begins none_yet order_is is still same parts =
     let h = here_of old in
@@ -83,4 +95,4 @@ program_outlined p order fs ks blank es seen old begun mid new (Ok t) clear begi
     let start : outline_of blank begun ≡ blank_outline order h = ap₂ (λ es i. record { exports = es; here = i }) none_yet begins in
     let all : outline_of seen mid ≡ o = ap (λ es. outline_of es mid) same ∙ is ∙ ap₂ (all_outlined order fs) order_is start in
     let told : AllTell seen faults = subst (λ es. AllTell es faults) (sym (ap (λ o. o.exports) all)) (all_told order fs h) in
-    kept_same (parts_of_program p order fs faults o) old mid new clear still (subst (λ o. Declares (parts_of_program p order fs faults o) mid new) all (parts faults told))
+    kept_same (parts_of_program p order fs faults o) old mid new clear still (subst (λ o. Declared (parts_of_program p order fs faults o) mid new) all (parts faults told))

@@ -6,7 +6,7 @@ use Rattle.op_base.specs.declared.rule.Refusal.{Refusal}
 use Rattle.op_check_unit.specs.Bodies.{said}
 use Rattle.op_check_unit.specs.Checking.{CheckIs, Fills, Finishes, Places, bare, body_in, placed, without_bodies}
 use Rattle.op_check_unit.specs.FirstValues.{Begins, begins_so, begins_with, begun, without_first_values}
-use Rattle.op_check_unit.specs.Steps.{Declares, Given}
+use Rattle.op_check_unit.specs.Steps.{Declared, Given}
 use Rattle.op_check_unit.specs.declared.body.Owned.{Owned}
 use Rattle.op_check_unit.specs.declared.declarer.Declarer.{Declarer}
 use Rattle.op_core.proofs.First.{first_is}
@@ -54,7 +54,7 @@ fills bs vs old mid new p b = record {
 }
 
 -- the answer of a declarer that has declared what was meant
-pub checks : (g : Given (Unit {0})) (start d : Declarer) (r : Result Core CheckError) → start.sink.kept ≡ None → Declares g start d → Finishes d r → CheckIs g r
+pub checks : (g : Given (Unit {0})) (start d : Declarer) (r : Result Core CheckError) → start.sink.kept ≡ None → Declared g start d → Finishes d r → CheckIs g r
 checks g start d (Ok core) s x f =
     (subst (λ h. Fills h.bodies h.first_values h.core core) x.0 f.0, subst (FirstIs g.faults) (sym (ap (λ k. kept k g.faults) s) ∙ sym x.1 ∙ f.1) (first_is g.faults))
 checks g start d (Err (Refused r)) s x f = subst (FirstIs g.faults) (sym (ap (λ k. kept k g.faults) s) ∙ sym x.1 ∙ f) (first_is g.faults)

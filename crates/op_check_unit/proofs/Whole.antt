@@ -16,13 +16,14 @@ use Rattle.op_check_unit.proofs.WholeSteps.{from_breaks, from_gives, from_so, fr
 use Rattle.op_check_unit.proofs.WholeTypes.{entered_is, first_behind, wide, with_name_settled}
 use Rattle.op_check_unit.specs.Complete.{Around, From, IsAwaited, IsBareVariable, IsBareRoutine, IsOpen, IsPeopled, IsTypedBody, IsTypedFirst, Settled, faulty, outside, scope, scope_of, settled, IsDone, IsDonePart, IsExported, IsShown}
 use Rattle.op_check_unit.specs.Naming.{with_name}
-use Rattle.op_check_unit.specs.Programs.{all_completed, all_declared, blank_unit, declaration_means, main_head, missing, part_means, with_heading, with_units}
+use Rattle.op_check_unit.specs.Programs.{blank_unit, main_head, with_heading, with_units}
+use Rattle.op_check_unit.specs.Readings.{all_completed, all_declared, declaration_means, missing, part_means, used, used_by, uses_mean}
 use Rattle.op_check_unit.specs.Routines.{next_routine, no_rows, routine_row, with_routine}
 use Rattle.op_check_unit.specs.Steps.{Here, gives}
 use Rattle.op_check_unit.specs.System as system
 use Rattle.op_check_unit.specs.System.{beginning, character_names, class_names, empty, floating_names, function_names, integer_names, meaning_of_known, native_names, other_names, pointer_names, rest_names, short_names, sized_names, statement_names, string_names, system_core, system_names, system_unit, text_names, type_names, value_names, with_classes, with_known, with_left_out, with_table}
 use Rattle.op_check_unit.specs.Tables.{IsTabled}
-use Rattle.op_check_unit.specs.Uses.{exports_of, is_system, used, used_by, uses_mean, with_own, with_used}
+use Rattle.op_check_unit.specs.Uses.{exports_of, is_system, with_own, with_used}
 use Rattle.op_check_unit.specs.declared.uses.Export.{Export}
 use Rattle.op_check_unit.specs.declared.system.Known.{Known}
 use Rattle.op_check_unit.specs.declared.system.Known.TheVariants.{Named as Type_, Form, Value}

@@ -4,17 +4,20 @@ use Rattle.std.proofs.lemmas.Bool.{ltb-false, ltb-true}
 use Rattle.std.proofs.lemmas.Option.{slice_get-get_or, slice_get_within}
 use Rattle.std.specs.List.{All}
 use Rattle.op_base.specs.declared.place.Place.{Place}
-use Rattle.op_check_expr.proofs.LeafWhole.{whole_feature}
 use Rattle.op_check_expr.proofs.Trees.{retyped_fits}
 use Rattle.op_check_expr.proofs.Whole.{value_of_whole}
+use Rattle.op_check_expr.specs.Parts.{by_feature}
 use Rattle.op_check_expr.specs.Settled.{IsSettled}
 use Rattle.op_check_expr.specs.Values.{retyped}
 use Rattle.op_check_stmt.specs.Parts.{both_typed, of_two}
-use Rattle.op_check_unit.specs.Initials.{by_brackets, by_elements, by_fields, counted, elements, fields, first, first_designated, first_expression, of_type, one_value, shape_by, shape_of, single, starts, unless_wrong, wrong_count}
+use Rattle.op_check_unit.specs.Initials as judged
+use Rattle.op_check_unit.specs.Initials.{one_value, shape_by, shape_of, starts, wrong_count}
 use Rattle.op_check_unit.specs.Naming.{is_name}
-use Rattle.op_check_unit.specs.Types.{constant_part, feature_of_constant, needed, no_constant, scope_outside}
+use Rattle.op_check_unit.specs.Readings.{by_brackets, by_elements, by_fields, constant_part, counted, elements, fields, first, first_designated, first_expression, needed, no_constant, of_type, single, unless_wrong}
+use Rattle.op_check_unit.specs.Types as types
+use Rattle.op_check_unit.specs.Types.{feature_of_constant, scope_outside}
 use Rattle.op_check_unit.specs.declared.initial.Shape.{Shape}
-use Rattle.op_core.proofs.Completing.{whole_behind, whole_changed_so, whole_entered, whole_followed, whole_gives, whole_if, whole_refused, whole_tested}
+use Rattle.op_core.proofs.Completing.{whole_behind, whole_changed_so, whole_entered, whole_followed, whole_gives, whole_if, whole_refused, whole_rule, whole_tested}
 use Rattle.op_core.specs.Faults.{Checked, behind, front}
 use Rattle.op_core.specs.Initial.{FirstValue, FirstValues, constant as constant_value, parts, values}
 use Rattle.op_core.specs.Members.{Kind}
@@ -30,12 +33,14 @@ use Rattle.op_core.specs.declared.program.Core.{Core}
 use Rattle.op_core.specs.declared.types.CoreType.{CoreType}
 use Rattle.op_core.specs.declared.types.CoreType.TheVariants as type
 use Rattle.op_core.specs.declared.types.Field.{Field}
+use Rattle.op_judgement.specs.Judgement.{Judgement, changed, checked, fine}
 use Rattle.op_tree.specs.Expression.{Designator, Expression, bracketed, designated, designator, no_selectors}
 use Rattle.op_tree.specs.Initial.{FieldInitials, Initial, Initials, field_initials, initials, list, no_field_initials, no_initials, record_, value}
-use Rattle.op_types.proofs.ConstantWhole.{constant_whole as constant_sound}
+use Rattle.op_types.proofs.ConstantWhole.{folded_whole}
 use Rattle.op_types.proofs.Sorting.{stands}
 use Rattle.op_types.specs.Assignable.{assignable}
-use Rattle.op_types.specs.Constants.{constant, start_of}
+use Rattle.op_types.specs.Constants.{start_of}
+use Rattle.op_types.specs.Folding as folding
 use Rattle.op_types.specs.Names.{Named}
 use Rattle.op_types.specs.Sorts.{sort_of}
 use Rattle.op_types.specs.Standing.{AllStand, IsSoundConstant}
@@ -43,19 +48,23 @@ use Rattle.op_types.specs.declared.constant.Constant.{Constant}
 
 -- ---- constants
 
-needed_whole : (core : Core) (sees : Sees) (names : List Named) → IsFounded core → AllStand core sees names → (e : Expression) → Whole (IsSoundConstant core) (needed (no_constant core names e) (constant core names e))
-needed_whole core sees names f all e = go (constant core names e) refl
+pub whole_feature : {A : Type 0} {P : A → Type 0} (j : Judgement A) (place : Place) (o : Option ℕ) → Whole P (checked j) → Whole P (checked (by_feature place o j))
+whole_feature j place None h = h
+whole_feature j place (Some feature) h = whole_rule
+
+needed_whole : (core : Core) (sees : Sees) (names : List Named) → IsFounded core → AllStand core sees names → (e : Expression) → Whole (IsSoundConstant core) (needed core names e)
+needed_whole core sees names f all e = go (folding.is_constant core names e) refl
   where
     there : IsSettled sees (scope_outside core names)
     there = record { founded = f; names = all; own = λ id r e. absurd (cc) }
 
-    go : (o : Option (Checked Constant)) → constant core names e ≡ o → Whole (IsSoundConstant core) (needed (no_constant core names e) o)
-    go None h = whole_behind (value_of_whole there None e) (λ v k. whole_refused)
-    go (Some c) h = constant_sound sees names f all e c h
+    go : (b : Bool) → folding.is_constant core names e ≡ b → Whole (IsSoundConstant core) (if b then checked (folding.constant core names e) else no_constant core names e)
+    go true h = folded_whole sees names f all e h
+    go false h = whole_behind (value_of_whole there None e) (λ v k. whole_refused)
 
 pub constant_whole : (core : Core) (sees : Sees) (names : List Named) → IsFounded core → AllStand core sees names → (e : Expression) → Whole (IsSoundConstant core) (constant_part core names e)
-unfolding constant_part
-constant_whole core sees names f all e = whole_behind (needed_whole core sees names f all e) (λ c h. whole_feature (start_of e) (feature_of_constant c.value) (whole_gives h))
+unfolding types.constant_part
+constant_whole core sees names f all e = whole_behind (needed_whole core sees names f all e) (λ c h. whole_feature (fine c) (start_of e) (feature_of_constant c.value) (whole_gives h))
 
 -- ---- single values
 
@@ -89,8 +98,8 @@ unless_whole None g (filled v a) = whole_gives (g refl v a)
 unless_whole (Some place) g h = whole_refused
 
 -- as many parts as an array has
-counted_whole : (core : Core) (of index element : TypeId) (bracket : Place) (begin : List Place) {vs : Checked FirstValues} → Whole (AreFirst core (replicate (length begin) element)) vs → Whole (IsFirst core (type.Array index element) of) (counted bracket (values_of (range_of (type_at core index))) begin vs)
-counted_whole core of index element bracket begin h =
+counted_whole : (core : Core) (of index element : TypeId) (bracket : Place) (begin : List Place) (vs : Judgement FirstValues) → Whole (AreFirst core (replicate (length begin) element)) (checked vs) → Whole (IsFirst core (type.Array index element) of) (counted bracket (values_of (range_of (type_at core index))) begin vs)
+counted_whole core of index element bracket begin vs h =
     let count = values_of (range_of (type_at core index)) in
     whole_followed h (λ o k. unless_whole (wrong_count bracket count begin) (λ e v a. subst (λ n. AreFirst core (replicate n element) v) (wrong_is bracket count begin e) a) k)
 
@@ -119,22 +128,22 @@ element_row {core} of index element f e =
 by_shape : (core : Core) (of : TypeId) (t : CoreType) (g : Shape → Checked FirstValue) → Kind core of t → Whole (IsFirst core t of) (g (shape_by core (Some t))) → Whole (IsFirst core t of) (g (shape_of core of))
 by_shape core of t g e h = subst (λ o. Whole (IsFirst core t of) (g (shape_by core o))) (sym e) h
 
-brackets_whole : (core : Core) (of : TypeId) (t : CoreType) → IsFounded core → Kind core of t → (bracket : Place) (c : Checked FirstValue) (g : ℕ → TypeId → Checked FirstValue) → Whole (IsFirst core t of) c → ((index element : TypeId) (u : CoreType) → Kind core element u → Whole (IsFirst core (type.Array index element) of) (g (values_of (range_of (type_at core index))) element)) → Whole (IsFirst core t of) (by_brackets bracket c g (shape_of core of))
+brackets_whole : (core : Core) (of : TypeId) (t : CoreType) → IsFounded core → Kind core of t → (bracket : Place) (c : Judgement FirstValue) (g : ℕ → TypeId → Judgement FirstValue) → Whole (IsFirst core t of) (checked c) → ((index element : TypeId) (u : CoreType) → Kind core element u → Whole (IsFirst core (type.Array index element) of) (checked (g (values_of (range_of (type_at core index))) element))) → Whole (IsFirst core t of) (by_brackets bracket c g (shape_of core of))
 brackets_whole core of t f e bracket c g h k = by_shape core of t (by_brackets bracket c g) e (go t e h)
   where
-    go : (t : CoreType) → Kind core of t → Whole (IsFirst core t of) c → Whole (IsFirst core t of) (by_brackets bracket c g (shape_by core (Some t)))
+    go : (t : CoreType) → Kind core of t → Whole (IsFirst core t of) (checked c) → Whole (IsFirst core t of) (by_brackets bracket c g (shape_by core (Some t)))
     go (type.Array index element) e h = let u = element_row of index element f e in k index element u.0 u.1
     go (type.DynamicArray element) e h = whole_refused
     go t e h = h
 
-elements_by_whole : (core : Core) (of : TypeId) (t : CoreType) → IsFounded core → Kind core of t → (bracket : Place) (g : ℕ → TypeId → Checked FirstValue) → ((index element : TypeId) (u : CoreType) → Kind core element u → Whole (IsFirst core (type.Array index element) of) (g (values_of (range_of (type_at core index))) element)) → Whole (IsFirst core t of) (by_elements bracket g (shape_of core of))
+elements_by_whole : (core : Core) (of : TypeId) (t : CoreType) → IsFounded core → Kind core of t → (bracket : Place) (g : ℕ → TypeId → Judgement FirstValue) → ((index element : TypeId) (u : CoreType) → Kind core element u → Whole (IsFirst core (type.Array index element) of) (checked (g (values_of (range_of (type_at core index))) element))) → Whole (IsFirst core t of) (by_elements bracket g (shape_of core of))
 elements_by_whole core of t f e bracket g k = by_shape core of t (by_elements bracket g) e (go t e)
   where
     go : (t : CoreType) → Kind core of t → Whole (IsFirst core t of) (by_elements bracket g (shape_by core (Some t)))
     go (type.Array index element) e = let u = element_row of index element f e in k index element u.0 u.1
     go t e = whole_refused
 
-fields_by_whole : (core : Core) (of : TypeId) (t : CoreType) → IsFounded core → Kind core of t → (bracket : Place) (g : Run → Checked FirstValue) → ((run : Run) → All (λ f. Row core.types f.of.0) (rows core.fields run) → Whole (IsFirst core (type.Record run) of) (g run)) → Whole (IsFirst core t of) (by_fields bracket g (shape_of core of))
+fields_by_whole : (core : Core) (of : TypeId) (t : CoreType) → IsFounded core → Kind core of t → (bracket : Place) (g : Run → Judgement FirstValue) → ((run : Run) → All (λ f. Row core.types f.of.0) (rows core.fields run) → Whole (IsFirst core (type.Record run) of) (checked (g run))) → Whole (IsFirst core t of) (by_fields bracket g (shape_of core of))
 fields_by_whole core of t f e bracket g k = by_shape core of t (by_fields bracket g) e (go t e)
   where
     go : (t : CoreType) → Kind core of t → Whole (IsFirst core t of) (by_fields bracket g (shape_by core (Some t)))
@@ -156,8 +165,9 @@ mutual
 
   designated_whole : (core : Core) (sees : Sees) (names : List Named) → IsFounded core → AllStand core sees names → (of : TypeId) (t : CoreType) → Kind core of t → (d : Designator) → Whole (IsFirst core t of) (first_designated core names of d)
   designated_whole core sees names f all of t k (designator (bracketed p e) no_selectors) =
-      brackets_whole core of t f k p.place _ _ (single_whole core sees names f all of t (designated (designator (bracketed p e) no_selectors)))
-      (λ index element u g. counted_whole core of index element p.place (start_of e ∷ []) (whole_changed_so one_value (expression_whole core sees names f all element u g e) (one_first core element u g)))
+      brackets_whole core of t f k p.place (judged.single core names of (designated (designator (bracketed p e) no_selectors)))
+      (λ count element. judged.counted p.place count (start_of e ∷ []) (changed one_value (judged.first_expression core names element e))) (single_whole core sees names f all of t (designated (designator (bracketed p e) no_selectors)))
+      (λ index element u g. counted_whole core of index element p.place (start_of e ∷ []) (changed one_value (judged.first_expression core names element e)) (whole_changed_so one_value (expression_whole core sees names f all element u g e) (one_first core element u g)))
   designated_whole core sees names f all of t k d = single_whole core sees names f all of t (designated d)
 
 -- ---- first values
@@ -165,8 +175,8 @@ mutual
 mutual
   pub first_whole : (core : Core) (sees : Sees) (names : List Named) → IsFounded core → AllStand core sees names → (of : TypeId) (i : Initial) (t : CoreType) → Kind core of t → Whole (IsFirst core t of) (first core names of i)
   first_whole core sees names f all of (value e) t k = expression_whole core sees names f all of t k e
-  first_whole core sees names f all of (list p items) t k = elements_by_whole core of t f k p.place _ (λ index element u g. counted_whole core of index element p.place (starts items) (elements_whole core sees names f all element items u g))
-  first_whole core sees names f all of (record_ p items) t k = fields_by_whole core of t f k p.place _ (λ run h. whole_changed_so parts (fields_whole core sees names f all p.place (rows core.fields run) h items) (λ v a. a))
+  first_whole core sees names f all of (list p items) t k = elements_by_whole core of t f k p.place (λ count element. judged.counted p.place count (starts items) (judged.elements core names element items)) (λ index element u g. counted_whole core of index element p.place (starts items) (judged.elements core names element items) (elements_whole core sees names f all element items u g))
+  first_whole core sees names f all of (record_ p items) t k = fields_by_whole core of t f k p.place (λ run. changed parts (judged.fields core names p.place (rows core.fields run) items)) (λ run h. whole_changed_so parts (fields_whole core sees names f all p.place (rows core.fields run) h items) (λ v a. a))
 
   elements_whole : (core : Core) (sees : Sees) (names : List Named) → IsFounded core → AllStand core sees names → (of : TypeId) (is : Initials) (t : CoreType) → Kind core of t → Whole (AreFirst core (replicate (length (starts is)) of)) (elements core names of is)
   elements_whole core sees names f all of no_initials t k = whole_gives tt

@@ -9,8 +9,9 @@ use Rattle.op_check_unit.proofs.WholeSteps.{Moves, founded, from_after, from_bre
 use Rattle.op_check_unit.proofs.WholeTypes.{Denotes, IsType, behind_front, declared_settled, denoted_settled, entered_from, first_behind, with_declared_core, with_declared_settled}
 use Rattle.op_check_unit.proofs.Tables.{tabled_beside}
 use Rattle.op_check_unit.specs.Complete.{Counts, From, Inside, IsBareVariable, Later, Leads, Settled, Stage, WithBlockRows, declared_in, scope}
-use Rattle.op_check_unit.specs.Declaring.{constant_by, constant_declared, constant_meaning, constants_declared, defined, globals_fit, most_global_bytes, names_declared, next_variable, one_type_declared, row_entered, type_declared, type_meaning, typed_declared, types_declared, value_means, variable_meaning, variables_declared, variables_named, with_first, with_row}
-use Rattle.op_check_unit.specs.Naming.{all_ahead, declared, ended, is_declared, with_ahead}
+use Rattle.op_check_unit.specs.Declaring.{constant_meaning, most_global_bytes, next_variable, type_meaning, variable_meaning, with_first, with_row}
+use Rattle.op_check_unit.specs.Naming.{all_ahead, ended, is_declared, with_ahead}
+use Rattle.op_check_unit.specs.Readings.{constant_by, constant_declared, constants_declared, declared, defined, globals_fit, names_declared, one_type_declared, row_entered, type_declared, typed_declared, types_declared, value_means, variables_declared, variables_named}
 use Rattle.op_check_unit.specs.Steps.{Here, each}
 use Rattle.op_core.proofs.Completing.{whole_rule}
 use Rattle.op_core.proofs.Growing.{front_itself, front_row, grows_behind, some_and}

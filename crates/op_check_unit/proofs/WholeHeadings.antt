@@ -6,7 +6,8 @@ use Rattle.op_check_unit.proofs.Tables.{tabled_beside}
 use Rattle.op_check_unit.proofs.WholeSteps.{from_behind, from_checked, from_followed, from_gives, later_itself, lead_behind, leads, leads_on, same_variables, settled_typed, wider}
 use Rattle.op_check_unit.proofs.WholeTypes.{IsType, behind_front, denoted_settled, from_if, type_named_whole}
 use Rattle.op_check_unit.specs.Complete.{From, Later, Leads, Settled, Stage, faulty, scope}
-use Rattle.op_check_unit.specs.Headings.{form_means, head_by, head_means, is_overload, is_plain, is_taken, most_parameters, no_parameters, one_parameter, own_name, parameter_group, parameter_type, result_means, some_parameters, with_parameter}
+use Rattle.op_check_unit.specs.Headings.{is_overload, is_plain, is_taken, most_parameters, no_parameters, own_name, with_parameter}
+use Rattle.op_check_unit.specs.Readings.{form_means, head_by, head_means, one_parameter, parameter_group, parameter_type, result_means, some_parameters}
 use Rattle.op_check_unit.specs.Steps.{Given, Here, by, followed, gather, gives}
 use Rattle.op_check_unit.specs.Types.{in_core}
 use Rattle.op_check_unit.specs.declared.heading.Head.{Head}

@@ -7,29 +7,31 @@ use Rattle.std.proofs.lemmas.Bool.{and_from, and_parts}
 use Rattle.std.proofs.lemmas.Option.{slice_get_within}
 use Rattle.op_base.specs.declared.place.Place.{Place}
 use Rattle.op_check_expr.specs.Naming.{feature_of_type}
+use Rattle.op_check_expr.specs.Parts.{by_feature}
 use Rattle.op_check_expr.specs.Settled.{IsSettled}
-use Rattle.op_check_expr.specs.Words.{by_feature}
 use Rattle.op_check_stmt.proofs.Whole.{statements_whole}
 use Rattle.op_check_stmt.specs.Statements.{statements}
 use Rattle.op_check_stmt.specs.Surrounding.{Surrounds}
 use Rattle.op_check_unit.proofs.Tables.{tabled_beside}
 use Rattle.op_check_unit.proofs.WholeDeclaring.{beside, constants_settled, locals_more, settled_local, types_settled, variables_settled}
+use Rattle.op_judgement.specs.Judgement.{checked, refused}
+use Rattle.op_judgement.specs.Rules.{wrong_kind_of_name}
 use Rattle.op_types.proofs.Extents.{front}
 use Rattle.op_check_unit.proofs.WholeGrowth.{Wider, bare_routines_on, bare_variable_on, body_on, exports_on, names_on, some_is, units_on, value_on}
 use Rattle.op_check_unit.proofs.WholeHeadings.{IsHead, form_whole, head_settled}
 use Rattle.op_check_unit.proofs.WholeSteps.{Moves, founded, from_breaks, from_checked, from_followed, from_gives, from_so, from_then, later_itself, lead_followed, leads, leads_on, settled_ahead, settled_named, wider}
 use Rattle.op_check_unit.proofs.WholeTypes.{behind_front, declared_settled, entered_from, first_behind, found, with_declared_core, with_declared_settled, with_name_settled}
 use Rattle.op_check_unit.specs.Complete.{Around, From, HasBody, Inside, IsAwaited, IsBareRoutine, IsBareVariable, IsOpen, IsTypedBody, IsTypedFirst, Later, Settled, Stage, declared_in, faulty, outside, scope, scope_of, settled}
-use Rattle.op_check_unit.specs.Headings.{head_means}
 use Rattle.op_check_unit.specs.Naming.{ended, is_declared, told_by, with_ahead}
-use Rattle.op_check_unit.specs.Routines.{ahead_declared, awaited_by, awaited_named, awaited_of, awaits, block_means, both_typed, by_standing, class_meant, completed, entered, first_declared, headed, if_same, inner, is_heading_of, left, local_declared, locals_declared, locals_fit, most_bytes, next_routine, no_rows, parameter_names, parameter_variable, plain_declared, result_name, routine_by, routine_declared, routine_row, same_means, statements_mean, with_body, with_local, with_parameters, with_result, with_routine, with_variables}
+use Rattle.op_check_unit.specs.Readings.{ahead_declared, block_means, by_standing, class_meant, first_declared, head_means, headed, if_same, inner, local_declared, locals_declared, locals_fit, plain_declared, routine_by, routine_declared, statements_mean}
+use Rattle.op_check_unit.specs.Routines.{awaited_by, awaited_named, awaited_of, awaits, both_typed, completed, entered, is_heading_of, left, most_bytes, next_routine, no_rows, parameter_names, parameter_variable, result_name, routine_row, with_body, with_local, with_parameters, with_result, with_routine, with_variables}
 use Rattle.op_check_unit.specs.Routines as spec
 use Rattle.op_check_unit.specs.Steps.{Here, followed, gives}
 use Rattle.op_check_unit.specs.Types.{in_core}
 use Rattle.op_check_unit.specs.declared.heading.Head.{Head}
 use Rattle.op_core.proofs.Completing.{whole_gives, whole_refused, whole_rule, whole_tested}
 use Rattle.op_core.proofs.Growing.{all_at, front_fit, front_itself, front_row, front_rows, grows_heading, heading_itself, parameters_on, result_on, some_and}
-use Rattle.op_core.specs.Faults.{Checked, broken, by_test, fine, here, refused}
+use Rattle.op_core.specs.Faults.{Checked, broken, by_test, fine, here}
 use Rattle.op_core.specs.Growing.{IsFrontOf}
 use Rattle.op_core.specs.Heading.{is_same_heading, same_parameters}
 use Rattle.op_core.specs.Members.{InRun}
@@ -707,7 +709,7 @@ plain_settled {around} x ds b h y =
         (lead_followed {h = with_ahead x.name h} {P = IsHead} {f = λ u h. headed x.name (both_typed (Some t) u) b (ended h)} (head_settled x (with_ahead x.name h) (settled_ahead _ y))
         (λ u j z l g. standing_settled (awaited_named (ended j) x.name) x.name b (ended j) g (found_awaited (ended j) x.name) (settled_ahead [] z)))
 
-class_fault : {P : Unit {0} → Type 0} (place : Place) (o : Option ℕ) → Whole P (record { typed = None; faults = (by_feature {A = TypeId} place o (refused 16 place)).faults })
+class_fault : {P : Unit {0} → Type 0} (place : Place) (o : Option ℕ) → Whole P (checked (by_feature place o (refused wrong_kind_of_name place)))
 class_fault place None = rule_broken (broken 16 place) here
 class_fault place (Some f) = rule_broken _ here
 

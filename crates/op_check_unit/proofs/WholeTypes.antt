@@ -6,19 +6,18 @@ use Rattle.std.proofs.lemmas.List.Elements.{All-cons, All-nil, All-push, All-wea
 use Rattle.std.proofs.lemmas.Option.{slice_get_within}
 use Rattle.op_base.specs.declared.place.Place.{Place}
 use Rattle.op_base.specs.declared.rule.Refusal.{Refusal}
-use Rattle.op_check_expr.proofs.LeafWhole.{whole_feature}
 use Rattle.op_check_expr.specs.Naming.{feature_of_type}
 use Rattle.op_check_unit.proofs.Tables.{plain_size, subrange_row, tabled_fields, tabled_row}
-use Rattle.op_check_unit.proofs.WholeConstants.{constant_whole}
+use Rattle.op_check_unit.proofs.WholeConstants.{constant_whole, whole_feature}
 use Rattle.op_check_unit.proofs.WholeGrowth.{some_is}
 use Rattle.op_check_unit.proofs.WholeSteps.{Moves, filled_so, founded, from_after, from_behind, from_checked, from_gives, from_so, from_then, from_where, later_itself, lead_behind, lead_followed, leads, leads_on, same_variables, settled_named, settled_typed, wider}
 use Rattle.op_check_unit.specs.Complete.{From, Later, Leads, Settled, Stage, faulty, scope, settled}
-use Rattle.op_check_unit.specs.Denoting.{denoted, field_lists, indices}
-use Rattle.op_check_unit.specs.Naming.{declared, entered_name, has_room, is_ahead, is_declared, is_name, most_names, own_type, told_by, type_alone, type_meant, type_named, type_of_unit, qualified, with_declared, with_name}
-use Rattle.op_check_unit.specs.Records.{is_seen, no_rows, record_of, some_fields, with_field}
+use Rattle.op_check_unit.specs.Naming.{has_room, is_ahead, is_declared, is_name, most_names, told_by, qualified, with_declared, with_name}
+use Rattle.op_check_unit.specs.Readings.{array_of, arrays, bounds, bounds_of, declared, denoted, entered_name, enumerated, field_lists, index_over, indices, lower_of, one_array, own_type, record_of, row, set_over, sized_row, some_fields, subrange_of, type_alone, type_meant, type_named, type_of_unit, values}
+use Rattle.op_check_unit.specs.Records.{is_seen, no_rows, with_field}
 use Rattle.op_check_unit.specs.Steps.{Given, Here, by, checked, followed, gives}
 use Rattle.op_check_unit.specs.Tables.{IsBelow, IsPlain, IsTabled}
-use Rattle.op_check_unit.specs.Types.{array_of, arrays, bounds, enumerated, enumeration_of, in_core, index_over, is_kind, is_small, is_within_set, lower_of, most_bytes, number_of_next, one_array, row, set_over, sized_row, start_of_denoter, subrange_of, value_of, values}
+use Rattle.op_check_unit.specs.Types.{enumeration_of, in_core, is_kind, is_small, is_within_set, most_bytes, number_of_next, pair, start_of_denoter, value_of}
 use Rattle.op_check_unit.specs.declared.record.FieldRows.{FieldRows}
 use Rattle.op_core.proofs.Completing.{whole_behind, whole_both, whole_entered, whole_gives, whole_if, whole_refused, whole_rule, whole_tested, whole_with}
 use Rattle.op_core.proofs.Growing.{front_itself, front_row, front_there}
@@ -40,6 +39,8 @@ use Rattle.op_core.specs.declared.types.CoreType.TheVariants.{Array, Enumeration
 use Rattle.op_core.specs.declared.types.Extent.{Extent}
 use Rattle.op_core.specs.declared.types.Field.{Field}
 use Rattle.op_tree.specs.Denoter.{Denoter, named, string, subrange, enumeration, set, array, record_, Denoters, no_denoters, denoters, FieldLists, no_fields, fields}
+use Rattle.op_judgement.specs.Judgement.{both_typed, fine, refused}
+use Rattle.op_judgement.specs.Rules.{wrong_kind_of_name}
 use Rattle.op_tree.specs.Expression.{Expression}
 use Rattle.op_tree.specs.declared.position.Name.{Name}
 use Rattle.op_tree.specs.declared.position.QualifiedName.{QualifiedName}
@@ -65,7 +66,7 @@ IsType of core = Row core.types of.0
 meant_whole : (core : Core) (sees : Sees) (place : Place) (m : Option Meaning) → IfSome m (StandsFor core sees) → Whole (λ of. IsType of core) (type_meant core place (told_by m))
 meant_whole core sees place None u = whole_refused
 meant_whole core sees place (Some meaning.Spoiled) u = absurd u
-meant_whole core sees place (Some (meaning.TypeName of)) u = whole_feature place (feature_of_type (type_at core of)) (whole_gives u)
+meant_whole core sees place (Some (meaning.TypeName of)) u = whole_feature (fine of) place (feature_of_type (type_at core of)) (whole_gives u)
 meant_whole core sees place (Some (meaning.BuiltIn (LeftOut feature))) u = whole_rule
 meant_whole core sees place (Some (meaning.BuiltIn b)) u = whole_refused
 meant_whole core sees place (Some m) u = whole_refused
@@ -80,7 +81,7 @@ found core sees names u key = if_some (meaning_of names key) (λ m e. stands_for
 unit_whole : (core : Core) (sees : Sees) (names : List Named) → AllStand core sees names → (q n : Name) (m : Option Meaning) → IfSome m (StandsFor core sees) → Whole (λ of. IsType of core) (type_of_unit core names q n (told_by m))
 unit_whole core sees names u q n None v = whole_refused
 unit_whole core sees names u q n (Some meaning.Spoiled) v = absurd v
-unit_whole core sees names u q n (Some (meaning.TypeName of)) v = whole_feature q.position.place (feature_of_type (type_at core of)) whole_refused
+unit_whole core sees names u q n (Some (meaning.TypeName of)) v = whole_feature (refused wrong_kind_of_name q.position.place) q.position.place (feature_of_type (type_at core of)) whole_refused
 unit_whole core sees names u q n (Some (meaning.Unit id)) v = meant_whole core sees n.position.place (meaning_of names (joined_name q.text n.text)) (found core sees names u (joined_name q.text n.text))
 unit_whole core sees names u q n (Some (meaning.BuiltIn (LeftOut feature))) v = whole_rule
 unit_whole core sees names u q n (Some (meaning.BuiltIn b)) v = whole_refused
@@ -209,10 +210,13 @@ bounds_whole h first last low c x b d =
 lower_whole : {s : Stage} (h : Here) → Settled s h → (e : Expression) → Whole (IsBound h.core) (lower_of h.core h.names e)
 lower_whole h x e = whole_behind (constant_whole h.core (scope _ _ h.core) h.names (founded x) x.names e) (λ c d. whole_entered 23 (start_of e) (kind_of h.core c.of) (λ kind k. whole_gives {a = (kind, number_of c.value)} (c.of, k, number_within h.core c.of c.value kind k d)))
 
+both_filled : {A B : Type 0} {P : A → Type 0} {Q : B → Type 0} {o : Option A} {q : Option B} → Filled P o → Filled Q q → Filled {A = A × B} (λ both. P both.0 × Q both.1) (both_typed pair o q)
+both_filled (filled a p) (filled b q) = filled (a, b) (p, q)
+
 subrange_whole : {s : Stage} (h : Here) → Settled s h → (first last : Expression) → Whole (NewRow h.core) (subrange_of h.core h.names first last)
 subrange_whole h x first last =
-    whole_both {f = λ low high. with_part (λ l. with_part (bounds h.core (start_of first) (start_of last) l) high) low} (lower_whole h x first) (constant_whole h.core (scope _ _ h.core) h.names (founded x) x.names last)
-    (λ o q f g. whole_with f (λ l b. whole_with g (λ c d. bounds_whole h (start_of first) (start_of last) l c x b d)))
+    whole_both {f = λ low high. with_part (bounds_of h.core (start_of first) (start_of last)) (both_typed pair low high)} (lower_whole h x first) (constant_whole h.core (scope _ _ h.core) h.names (founded x) x.names last)
+    (λ o q f g. whole_with (both_filled f g) (λ both r. bounds_whole h (start_of first) (start_of last) both.0 both.1 x r.0 r.1))
 
 -- ---- enumerations
 

@@ -16,10 +16,11 @@ use Rattle.op_check_unit.proofs.WholeSteps.{from_behind, from_breaks, from_gives
 use Rattle.op_check_unit.specs.Complete.{Around, Counts, From, HasBody, IsBareRoutine, IsOpen, IsTypedBody, IsTypedFirst, Settled, faulty, outside, scope, settled, IsDone, IsDonePart, IsExported, IsGlobalOf, IsShown}
 use Rattle.op_check_unit.specs.Declaring.{most_global_bytes, with_bytes}
 use Rattle.op_check_unit.specs.Interfaces.{interface_order, unit_at, unit_named}
-use Rattle.op_check_unit.specs.Programs.{Outline, all_declared, all_outlined, blank_outline, counted_global, faulted, faults_among, files_mean, global_counted, globals_counted, implementation_means, in_unit, interface_faults, interface_faults_by, interface_means, main_tail, name_of, outline, outline_faults, outlined, outlined_by, own_globals, part_means, parts_mean, parts_of_program, program_declared, program_ends, reopened, unit_completed, unit_completes, unit_ends, unit_left, unit_means, units_mean, with_heading, with_interface, with_unit, with_units}
+use Rattle.op_check_unit.specs.Programs.{Outline, all_outlined, blank_outline, faulted, faults_among, files_mean, in_unit, interface_faults, interface_faults_by, main_tail, name_of, outline, outline_faults, outlined, outlined_by, own_globals, parts_of_program, unit_left, units_mean, with_heading, with_interface, with_unit, with_units}
+use Rattle.op_check_unit.specs.Readings.{all_declared, counted_global, global_counted, globals_counted, implementation_means, interface_means, part_means, parts_mean, program_declared, program_ends, reopened, unit_completed, unit_completes, unit_ends, unit_means, uses_mean}
 use Rattle.op_check_unit.specs.Steps.{Given, Here, by, followed, gives, is_clear, unless, unless_faulty}
 use Rattle.op_check_unit.specs.System.{beginning}
-use Rattle.op_check_unit.specs.Uses.{exported, put_apart, put_back, uses_mean, with_own}
+use Rattle.op_check_unit.specs.Uses.{exported, put_apart, put_back, with_own}
 use Rattle.op_check_unit.specs.declared.uses.Export.{Export}
 use Rattle.op_core.proofs.Growing.{all_at, front_itself, grows_behind}
 use Rattle.op_core.specs.Faults.{Faults, IsIn, behind, front, none}

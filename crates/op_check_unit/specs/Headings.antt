@@ -1,18 +1,19 @@
 -- Headings of routines (Free Pascal Reference Guide, "Procedures and functions").
-use Rattle.std.specs.Prelude.{ℕ, Bool, true, false, not, ◌||◌, nat_lt, List, [], ◌∷◌, ◌++◌, length, is_some, codes, Option, Some, None, if◌then◌else◌}
+use Rattle.std.specs.Prelude.{ℕ, Bool, true, false, not, ◌||◌, nat_lt, List, [], ◌∷◌, ◌++◌, length, is_some, codes, Option, Some, None}
 use Rattle.std.specs.List.{list_any}
 use Rattle.std.specs.Str.{str_eq_ignore_ascii_case}
 use Rattle.op_base.specs.declared.place.Place.{Place}
-use Rattle.op_check_expr.specs.Words.{left_out}
 use Rattle.op_check_unit.specs.Denoting.{denoted}
 use Rattle.op_check_unit.specs.Naming.{is_name, type_named}
-use Rattle.op_check_unit.specs.Records.{seen_too, unchanged}
-use Rattle.op_check_unit.specs.Steps.{Here, Given, gives, silent, checked, followed, by, gather}
+use Rattle.op_check_unit.specs.Records.{seen_too}
+use Rattle.op_check_unit.specs.Steps.{Here}
 use Rattle.op_check_unit.specs.Types.{in_core, string_means}
 use Rattle.op_check_unit.specs.declared.heading.Head.{Head}
 use Rattle.op_check_unit.specs.declared.heading.ParameterRows.{ParameterRows}
-use Rattle.op_core.specs.Faults.{Checked, by_test, fine}
 use Rattle.op_core.specs.declared.ids.TypeId.{TypeId}
+use Rattle.op_judgement.specs.Judgement.{Judgement, by_test, fine, refused, when as judged_when}
+use Rattle.op_judgement.specs.Rules.{declared_twice, dynamic_arrays, overloads, too_many_parameters, wrong_kind_of_name}
+use Rattle.op_judgement.specs.Steps.{Step, followed, gather, gives, judged, onward, silent, unchanged, when}
 use Rattle.op_tree.specs.Declaration.{Heading}
 use Rattle.op_tree.specs.Denoter.{Denoter}
 use Rattle.op_tree.specs.declared.heading.Directive.{Directive}
@@ -39,10 +40,10 @@ is_plain Function result = result
 is_plain _ result = false
 
 -- at its name
-abbrev pub form_means : Heading → List Directive → Checked (Unit {0})
+abbrev pub form_means : Heading → List Directive → Judgement (Unit {0})
 form_means x ds =
-    if list_any is_overload ds then left_out 12 x.name.position.place else
-    by_test 16 x.name.position.place (fine tt) (is_plain x.kind (is_some x.result))
+    judged_when (list_any is_overload ds) (refused overloads x.name.position.place)
+    (by_test wrong_kind_of_name x.name.position.place (fine tt) (is_plain x.kind (is_some x.result)))
 
 -- ---- parameters
 
@@ -71,13 +72,12 @@ with_parameter mode (Some of) n r = record { rows = r.rows ++ record { name = n;
 abbrev pub most_parameters : ℕ
 most_parameters = 64
 
-abbrev pub one_parameter : Option Name → ParameterMode → Option TypeId → Name → ParameterRows → Here → Given ParameterRows
+abbrev pub one_parameter : Option Name → ParameterMode → Option TypeId → Name → ParameterRows → Here → Step Here ParameterRows
 one_parameter own mode t n r h =
-    if is_taken own r n then unchanged 14 n.position.place r h else
-    if nat_lt (length r.seen) most_parameters then gives (with_parameter mode t n r) h else
-    unchanged 68 n.position.place r h
+    when (is_taken own r n) (unchanged declared_twice n.position.place r h)
+    (when (nat_lt (length r.seen) most_parameters) (gives (with_parameter mode t n r) h) (unchanged too_many_parameters n.position.place r h))
 
-abbrev pub some_parameters : Option Name → ParameterMode → Option TypeId → List Name → ParameterRows → Here → Given ParameterRows
+abbrev pub some_parameters : Option Name → ParameterMode → Option TypeId → List Name → ParameterRows → Here → Step Here ParameterRows
 some_parameters own mode t ns r h = gather (one_parameter own mode t) ns r h
 
 abbrev start_of_name : Name → Option Name → Place
@@ -88,27 +88,27 @@ abbrev pub start_of_type : ParameterType → Place
 start_of_type (Named q) = start_of_name q.name q.unit
 start_of_type (String p) = p.place
 
-abbrev type_by : Bool → ParameterType → Here → Given TypeId
-type_by true t h = checked h (left_out 41 (start_of_type t))
-type_by false (String p) h = checked h (string_means p)
-type_by false (Named q) h = checked h (type_named h.core h.names None false q)
+abbrev type_by : Bool → ParameterType → Here → Step Here TypeId
+type_by true t h = judged h (refused dynamic_arrays (start_of_type t))
+type_by false (String p) h = judged h (string_means p)
+type_by false (Named q) h = judged h (type_named h.core h.names None false q)
 
 -- open arrays and strings are left out
-abbrev pub parameter_type : Parameter → Here → Given TypeId
+abbrev pub parameter_type : Parameter → Here → Step Here TypeId
 parameter_type p h = type_by p.open_array p.of h
 
 -- parameters of one mode and type
-abbrev pub parameter_group : Option Name → Parameter → ParameterRows → Here → Given ParameterRows
+abbrev pub parameter_group : Option Name → Parameter → ParameterRows → Here → Step Here ParameterRows
 parameter_group own p r h = followed (parameter_type p h) (λ t h. some_parameters own p.mode t p.names r h)
 
-abbrev pub parameter_groups : Option Name → List Parameter → ParameterRows → Here → Given ParameterRows
+abbrev pub parameter_groups : Option Name → List Parameter → ParameterRows → Here → Step Here ParameterRows
 parameter_groups own ps r h = gather (parameter_group own) ps r h
 
 -- ---- headings
 
-abbrev pub result_means : Option Denoter → Here → Given (Option TypeId)
+abbrev pub result_means : Option Denoter → Here → Step Here (Option TypeId)
 result_means None h = gives None h
-result_means (Some d) h = followed (denoted None false d h) (by (λ t h. gives (Some t) h))
+result_means (Some d) h = onward (denoted None false d h) (λ t h. gives (Some t) h)
 
 abbrev with_parameters : ParameterRows → Here → Here
 with_parameters r h = in_core (record h.core { parameters = h.core.parameters ++ r.rows }) h
@@ -117,9 +117,9 @@ abbrev pub head_of : RoutineKind → Option TypeId → ParameterRows → Here �
 head_of kind of r h = record { kind = kind; parameters = record { first = length h.core.parameters; count = length r.rows }; result = of }
 
 -- the heading with these parameters and this result
-abbrev pub head_by : RoutineKind → Option TypeId → ParameterRows → Here → Given Head
-head_by kind of r h = if r.whole then gives (head_of kind of r h) (with_parameters r h) else silent h
+abbrev pub head_by : RoutineKind → Option TypeId → ParameterRows → Here → Step Here Head
+head_by kind of r h = when r.whole (gives (head_of kind of r h) (with_parameters r h)) (silent h)
 
-abbrev pub head_means : Heading → Here → Given Head
+abbrev pub head_means : Heading → Here → Step Here Head
 head_means x h =
-    followed (parameter_groups (own_name x.kind x.name) x.parameters no_parameters h) (by (λ r h. followed (result_means x.result h) (by (λ t h. head_by x.kind t r h))))
+    onward (parameter_groups (own_name x.kind x.name) x.parameters no_parameters h) (λ r h. onward (result_means x.result h) (λ t h. head_by x.kind t r h))

@@ -3,14 +3,12 @@ use Rattle.std.specs.Prelude.{ℕ, nat_lt, Bool, true, false, List, [], ◌∷�
 use Rattle.std.specs.Option.{option_map}
 use Rattle.std.specs.declared.alloc.Global.{Global}
 use Rattle.op_base.specs.declared.place.Place.{Place}
+use Rattle.op_check_expr.specs.Parts.{standing}
 use Rattle.op_check_expr.specs.Values.{retyped}
-use Rattle.op_check_expr.specs.Words.{changed, followed, standing}
-use Rattle.op_check_stmt.specs.Parts.{of_two}
 use Rattle.op_check_unit.specs.Naming.{is_name}
 use Rattle.op_check_unit.specs.Types.{constant_part}
 use Rattle.op_check_unit.specs.declared.initial.Shape.{Shape}
 use Rattle.op_check_unit.specs.declared.initial.Shape.TheVariants.{Single, Elements, Unbounded, Fields}
-use Rattle.op_core.specs.Faults.{Checked, by_entry, by_test, fine, refused, with_part}
 use Rattle.op_core.specs.Initial.{FirstValue, constant, parts, FirstValues, no_values, values}
 use Rattle.op_core.specs.Nodes.{first_values_of}
 use Rattle.op_core.specs.Rows.{rows}
@@ -22,6 +20,8 @@ use Rattle.op_core.specs.declared.program.Core.{Core}
 use Rattle.op_core.specs.declared.types.CoreType.{CoreType}
 use Rattle.op_core.specs.declared.types.CoreType.TheVariants as type
 use Rattle.op_core.specs.declared.types.Field.{Field}
+use Rattle.op_judgement.specs.Judgement.{Judgement, by_entry, by_test, changed, fine, followed, of_two, refused, through, when}
+use Rattle.op_judgement.specs.Rules.{no_member, not_assignable, out_of_range}
 use Rattle.op_tree.specs.Expression.{Expression, designated, Designator, designator, bracketed, no_selectors}
 use Rattle.op_tree.specs.Initial.{Initial, value, list, record_, Initials, no_initials, initials, FieldInitials, no_field_initials, field_initials}
 use Rattle.op_types.specs.Assignable.{assignable}
@@ -32,11 +32,11 @@ use Rattle.op_types.specs.declared.constant.Constant.{Constant}
 -- ---- single values
 
 -- a constant that has to be assignable to the type, and in its range
-abbrev pub of_type : Core → Place → TypeId → Constant → Checked FirstValue
-of_type core place of c = by_test 20 place (by_entry 33 place (λ v. fine (constant v)) (retyped core of c.value)) (assignable core c.of of)
+abbrev pub of_type : Core → Place → TypeId → Constant → Judgement FirstValue
+of_type core place of c = by_test not_assignable place (by_entry out_of_range place (λ v. fine (constant v)) (retyped core of c.value)) (assignable core c.of of)
 
-abbrev pub single : Core → List Named → TypeId → Expression → Checked FirstValue
-single core names of e = followed (constant_part core names e) (with_part (of_type core (start_of e) of))
+abbrev pub single : Core → List Named → TypeId → Expression → Judgement FirstValue
+single core names of e = through (constant_part core names e) (of_type core (start_of e) of)
 
 -- ---- what a first value is made of
 
@@ -55,12 +55,12 @@ shape_of core of = shape_by core (type_at core of)
 abbrev pub wrong_count : Place → ℕ → List Place → Option Place
 wrong_count bracket count starts = if nat_lt (length starts) count then Some bracket else slice_get starts count
 
-abbrev pub unless_wrong : Option Place → Option FirstValues → Checked FirstValue
+abbrev pub unless_wrong : Option Place → Option FirstValues → Judgement FirstValue
 unless_wrong None vs = standing (option_map parts vs)
-unless_wrong (Some place) vs = refused 20 place
+unless_wrong (Some place) vs = refused not_assignable place
 
 -- parts that begin at these places, where so many are needed
-abbrev pub counted : Place → ℕ → List Place → Checked FirstValues → Checked FirstValue
+abbrev pub counted : Place → ℕ → List Place → Judgement FirstValues → Judgement FirstValue
 counted bracket count starts vs = followed vs (unless_wrong (wrong_count bracket count starts))
 
 abbrev pub start_of_initial : Initial → Place
@@ -82,17 +82,17 @@ abbrev pub one_value : FirstValue → FirstValues
 one_value v = values v no_values
 
 -- an expression in brackets is a list of one where the type is an array, and an array without bounds has no list
-abbrev pub by_brackets : Place → Checked FirstValue → (ℕ → TypeId → Checked FirstValue) → Shape → Checked FirstValue
+abbrev pub by_brackets : Place → Judgement FirstValue → (ℕ → TypeId → Judgement FirstValue) → Shape → Judgement FirstValue
 by_brackets bracket c f (Elements count of) = f count of
-by_brackets bracket c f Unbounded = refused 20 bracket
+by_brackets bracket c f Unbounded = refused not_assignable bracket
 by_brackets bracket c f _ = c
 
 abbrev mutual
-  pub first_expression : Core → List Named → TypeId → Expression → Checked FirstValue
+  pub first_expression : Core → List Named → TypeId → Expression → Judgement FirstValue
   first_expression core names of (designated d) = first_designated core names of d
   first_expression core names of e = single core names of e
 
-  pub first_designated : Core → List Named → TypeId → Designator → Checked FirstValue
+  pub first_designated : Core → List Named → TypeId → Designator → Judgement FirstValue
   first_designated core names of (designator (bracketed p e) no_selectors) =
       by_brackets p.place (single core names of (designated (designator (bracketed p e) no_selectors)))
       (λ count element. counted p.place count (start_of e ∷ []) (changed one_value (first_expression core names element e))) (shape_of core of)
@@ -105,29 +105,29 @@ is_bracketed _ = false
 -- ---- first values
 
 -- only an array that has bounds has a list
-abbrev pub by_elements : Place → (ℕ → TypeId → Checked FirstValue) → Shape → Checked FirstValue
+abbrev pub by_elements : Place → (ℕ → TypeId → Judgement FirstValue) → Shape → Judgement FirstValue
 by_elements bracket f (Elements count of) = f count of
-by_elements bracket f _ = refused 20 bracket
+by_elements bracket f _ = refused not_assignable bracket
 
-abbrev pub by_fields : Place → (Run → Checked FirstValue) → Shape → Checked FirstValue
+abbrev pub by_fields : Place → (Run → Judgement FirstValue) → Shape → Judgement FirstValue
 by_fields bracket f (Fields run) = f run
-by_fields bracket f _ = refused 20 bracket
+by_fields bracket f _ = refused not_assignable bracket
 
 -- the first value of a variable of a type
 abbrev mutual
-  pub first : Core → List Named → TypeId → Initial → Checked FirstValue
+  pub first : Core → List Named → TypeId → Initial → Judgement FirstValue
   first core names of (value e) = first_expression core names of e
   first core names of (list p items) = by_elements p.place (λ count element. counted p.place count (starts items) (elements core names element items)) (shape_of core of)
   first core names of (record_ p items) = by_fields p.place (λ run. changed parts (fields core names p.place (rows core.fields run) items)) (shape_of core of)
 
-  pub elements : Core → List Named → TypeId → Initials → Checked FirstValues
+  pub elements : Core → List Named → TypeId → Initials → Judgement FirstValues
   elements core names of no_initials = fine no_values
   elements core names of (initials i is) = of_two values (first core names of i) (elements core names of is)
 
   -- every field, in order of declaration
-  pub fields : Core → List Named → Place → List Field → FieldInitials → Checked FirstValues
+  pub fields : Core → List Named → Place → List Field → FieldInitials → Judgement FirstValues
   fields core names bracket [] no_field_initials = fine no_values
-  fields core names bracket (f ∷ fs) no_field_initials = refused 20 bracket
-  fields core names bracket [] (field_initials n i is) = refused 25 n.position.place
+  fields core names bracket (f ∷ fs) no_field_initials = refused not_assignable bracket
+  fields core names bracket [] (field_initials n i is) = refused no_member n.position.place
   fields core names bracket (f ∷ fs) (field_initials n i is) =
-      if is_name (Some f.name) n then of_two values (first core names f.of i) (fields core names bracket fs is) else refused 25 n.position.place
+      when (is_name (Some f.name) n) (of_two values (first core names f.of i) (fields core names bracket fs is)) (refused no_member n.position.place)

@@ -14,16 +14,8 @@ pub mod System
 pub mod Tables
 pub mod Interfaces
 pub mod Programs
+pub mod Readings
 pub mod Outlines
 pub mod Checking
-pub mod RulesSteps
-pub mod RulesNames
-pub mod RulesTypes
-pub mod RulesRecords
-pub mod RulesDenoting
-pub mod RulesInitials
-pub mod RulesDeclaring
-pub mod RulesHeadings
-pub mod RulesRoutines
 pub mod Rules
 pub mod Complete

@@ -1,16 +1,18 @@
 -- Names: what they stand for, and how they are declared (Free Pascal Reference Guide, "Scope").
-use Rattle.std.specs.Prelude.{ℕ, ◌+◌, Bool, false, not, ◌||◌, nat_lt, List, [], ◌∷◌, ◌++◌, length, drop, is_some, Option, Some, None, if◌then◌else◌}
+use Rattle.std.specs.Prelude.{ℕ, ◌+◌, Bool, false, not, ◌||◌, nat_lt, List, [], ◌∷◌, ◌++◌, length, drop, is_some, Option, Some, None}
 use Rattle.std.specs.Str.{str_eq_ignore_ascii_case}
 use Rattle.op_base.specs.declared.place.Place.{Place}
 use Rattle.op_check_expr.specs.Naming.{feature_of_type}
-use Rattle.op_check_expr.specs.Words.{by_feature, left_out}
+use Rattle.op_check_expr.specs.Parts.{by_feature}
 use Rattle.op_check_unit.specs.declared.naming.Told.{Told}
 use Rattle.op_check_unit.specs.declared.naming.Told.TheVariants.{Unknown, Spoiled, Known, LeftOutType, Unit as Unit', Other}
-use Rattle.op_check_unit.specs.Steps.{Here, Given, gives, where_true}
-use Rattle.op_core.specs.Faults.{Checked, fine, refused, untyped}
+use Rattle.op_check_unit.specs.Steps.{Here}
 use Rattle.op_core.specs.Sizes.{type_at}
 use Rattle.op_core.specs.declared.ids.TypeId.{TypeId}
 use Rattle.op_core.specs.declared.program.Core.{Core}
+use Rattle.op_judgement.specs.Judgement.{Judgement, fine, refused, untyped, when}
+use Rattle.op_judgement.specs.Rules.{contains_itself, declared_twice, left_out, too_many_names, unknown_name, wrong_kind_of_name}
+use Rattle.op_judgement.specs.Steps.{Step, gives, where_true}
 use Rattle.op_tree.specs.declared.position.Name.{Name}
 use Rattle.op_tree.specs.declared.position.QualifiedName.{QualifiedName}
 use Rattle.op_types.specs.Constants.{joined_name}
@@ -34,21 +36,21 @@ abbrev pub told_in : List Named → List ℕ → Told
 told_in names name = told_by (meaning_of names name)
 
 -- unless the type shows a feature that is left out, as AnsiString and TObject do
-abbrev pub by_type : Core → Place → TypeId → Checked TypeId → Checked TypeId
-by_type core place of c = by_feature place (feature_of_type (type_at core of)) c
+abbrev pub by_type : {A : Type 0} → Core → Place → TypeId → Judgement A → Judgement A
+by_type core place of j = by_feature place (feature_of_type (type_at core of)) j
 
 -- the name is unknown, its declaration breaks a rule, the type is left out, or it is of another kind
-abbrev pub type_meant : Core → Place → Told → Checked TypeId
-type_meant core place Unknown = refused 15 place
+abbrev pub type_meant : Core → Place → Told → Judgement TypeId
+type_meant core place Unknown = refused unknown_name place
 type_meant core place Spoiled = untyped
 type_meant core place (Known of) = by_type core place of (fine of)
-type_meant core place (LeftOutType feature) = left_out feature place
-type_meant core place _ = refused 16 place
+type_meant core place (LeftOutType feature) = refused (left_out feature) place
+type_meant core place _ = refused wrong_kind_of_name place
 
 -- a name of a unit
-abbrev pub type_of_unit : Core → List Named → Name → Name → Told → Checked TypeId
+abbrev pub type_of_unit : Core → List Named → Name → Name → Told → Judgement TypeId
 type_of_unit core names u n Unit' = type_meant core n.position.place (told_in names (joined_name u.text n.text))
-type_of_unit core names u n (Known of) = by_type core u.position.place of (refused 16 u.position.place)
+type_of_unit core names u n (Known of) = by_type core u.position.place of (refused wrong_kind_of_name u.position.place)
 type_of_unit core names u n t = type_meant core u.position.place t
 
 abbrev pub is_name : Option Name → Name → Bool
@@ -60,19 +62,19 @@ place_of place None = place
 place_of place (Some own) = own.position.place
 
 -- A type that is named in its own declaration: within a record or an array it would contain itself, elsewhere it is not known yet.
-abbrev pub own_type : Option Name → Bool → Place → Checked TypeId
-own_type own inside place = if inside then refused 38 (place_of place own) else refused 15 place
+abbrev pub own_type : Option Name → Bool → Place → Judgement TypeId
+own_type own inside place = when inside (refused contains_itself (place_of place own)) (refused unknown_name place)
 
-abbrev pub type_alone : Core → List Named → Option Name → Bool → Name → Checked TypeId
+abbrev pub type_alone : Core → List Named → Option Name → Bool → Name → Judgement TypeId
 type_alone core names own inside n =
-    if is_name own n then own_type own inside n.position.place else type_meant core n.position.place (told_in names (lower n.text))
+    when (is_name own n) (own_type own inside n.position.place) (type_meant core n.position.place (told_in names (lower n.text)))
 
-abbrev named_by : Core → List Named → Option Name → Bool → Name → Option Name → Checked TypeId
+abbrev named_by : Core → List Named → Option Name → Bool → Name → Option Name → Judgement TypeId
 named_by core names own inside n None = type_alone core names own inside n
 named_by core names own inside n (Some u) = type_of_unit core names u n (told_in names (lower u.text))
 
 -- a name, maybe in the declaration of a type
-abbrev pub type_named : Core → List Named → Option Name → Bool → QualifiedName → Checked TypeId
+abbrev pub type_named : Core → List Named → Option Name → Bool → QualifiedName → Judgement TypeId
 type_named core names own inside q = named_by core names own inside q.name q.unit
 
 -- ---- names that are declared
@@ -101,11 +103,11 @@ abbrev pub with_declared : Name → Meaning → Here → Here
 with_declared n m h = qualified h.own n m (with_name n m h)
 
 -- A name, unless it is taken in this scope or too many are. So many stand in front of it and are declared later.
-abbrev pub entered_name : Bool → ℕ → Name → Meaning → Here → Given (Unit {0})
+abbrev pub entered_name : Bool → ℕ → Name → Meaning → Here → Step Here (Unit {0})
 entered_name taken more n m h =
-    where_true (not taken) 14 n.position.place h (where_true (has_room more h) 64 n.position.place h (gives tt (with_declared n m h)))
+    where_true (not taken) declared_twice n.position.place h (where_true (has_room more h) too_many_names n.position.place h (gives tt (with_declared n m h)))
 
-abbrev pub declared : Name → Meaning → Here → Given (Unit {0})
+abbrev pub declared : Name → Meaning → Here → Step Here (Unit {0})
 declared n m h = entered_name (is_declared h n) 0 n m h
 
 -- the name is one of those of the declaration that is under way
@@ -113,7 +115,7 @@ abbrev pub is_ahead : Here → Name → Bool
 is_ahead h n = is_some (meaning_of h.ahead (lower n.text))
 
 -- a name within the declaration of others
-abbrev pub declared_within : Name → Meaning → Here → Given (Unit {0})
+abbrev pub declared_within : Name → Meaning → Here → Step Here (Unit {0})
 declared_within n m h = entered_name (is_ahead h n || is_declared h n) (length h.ahead) n m h
 
 -- a name of a declaration that begins, and none of one that has ended

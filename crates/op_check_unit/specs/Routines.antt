@@ -3,17 +3,15 @@ use Rattle.std.specs.Prelude.{ℕ, ◌+◌, ◌-◌, nat_le, Bool, true, false, 
 use Rattle.std.specs.Option.{option_flatten, option_map}
 use Rattle.op_base.specs.declared.place.Place.{Place}
 use Rattle.op_check_expr.specs.Scopes.{Here as Scope}
-use Rattle.op_check_expr.specs.Words.{left_out}
-use Rattle.op_check_stmt.specs.Statements.{statements}
+use Rattle.op_check_stmt.specs.Statement.{statements}
 use Rattle.op_check_unit.specs.Declaring.{constants_declared, types_declared, variables_declared}
 use Rattle.op_check_unit.specs.Headings.{form_means, head_means}
 use Rattle.op_check_unit.specs.Naming.{by_type, declared, ended, is_declared, told_in, with_ahead, with_name}
-use Rattle.op_check_unit.specs.Steps.{Here, Given, breaks, checked, each_declaration, followed, gives, silent}
+use Rattle.op_check_unit.specs.Steps.{Here}
 use Rattle.op_check_unit.specs.Types.{in_core}
 use Rattle.op_check_unit.specs.declared.heading.Head.{Head}
 use Rattle.op_check_unit.specs.declared.naming.Told.{Told}
 use Rattle.op_check_unit.specs.declared.naming.Told.TheVariants as told
-use Rattle.op_core.specs.Faults.{Checked, by_test, fine, refused, untyped}
 use Rattle.op_core.specs.Heading.{is_same_heading}
 use Rattle.op_core.specs.Rows.{rows}
 use Rattle.op_core.specs.Statement.{Statements as Typed}
@@ -28,6 +26,9 @@ use Rattle.op_core.specs.declared.routine.Role.{Role}
 use Rattle.op_core.specs.declared.routine.Role.TheVariants.{Parameter as ParameterRole, Result}
 use Rattle.op_core.specs.declared.routine.Routine.{Routine}
 use Rattle.op_core.specs.declared.routine.Variable.{Variable as VariableRow}
+use Rattle.op_judgement.specs.Judgement.{Judgement, by_test, fine, refused, untyped}
+use Rattle.op_judgement.specs.Rules.{declared_twice, heading_differs, left_out, locals_too_large, nested_routines, unknown_name, wrong_kind_of_name}
+use Rattle.op_judgement.specs.Steps.{Step, breaks, changes, each_declaration, followed, gives, judged, next, onward, silent}
 use Rattle.op_tree.specs.Declaration.{Body, forward, body, Declaration, constants, types, variables, heading, routine, Declarations, Heading}
 use Rattle.op_tree.specs.Statement.{Statements}
 use Rattle.op_tree.specs.declared.heading.Directive.{Directive}
@@ -103,22 +104,22 @@ entered id n x h =
 -- ---- bodies
 
 -- a routine in a routine is left out
-abbrev pub local_declared : Declaration → Here → Given (Unit {0})
+abbrev pub local_declared : Declaration → Here → Step Here (Unit {0})
 local_declared (constants cs) h = constants_declared cs h
 local_declared (types ts) h = types_declared ts h
 local_declared (variables vs) h = variables_declared vs h
 local_declared (heading m) h = gives tt h
-local_declared (routine x ds b) h = checked h (left_out 28 x.name.position.place)
+local_declared (routine x ds b) h = judged h (refused nested_routines x.name.position.place)
 
-abbrev pub locals_declared : Declarations → Here → Given (Unit {0})
+abbrev pub locals_declared : Declarations → Here → Step Here (Unit {0})
 locals_declared ds h = each_declaration local_declared ds h
 
 -- the most bytes of a routine's locals
 abbrev pub most_bytes : ℕ
 most_bytes = 1048576
 
-abbrev pub locals_fit : Name → Here → Given (Unit {0})
-locals_fit n h = checked h (by_test 69 n.position.place (fine tt) (nat_le h.bytes most_bytes))
+abbrev pub locals_fit : Name → Here → Step Here (Unit {0})
+locals_fit n h = judged h (by_test locals_too_large n.position.place (fine tt) (nat_le h.bytes most_bytes))
 
 -- the row, with all variables from the first one on
 abbrev pub with_variables : RoutineId → Name → Head → ℕ → Here → Here
@@ -132,28 +133,25 @@ abbrev pub with_body : RoutineId → Option Typed → Here → Here
 with_body id None h = h
 with_body id (Some ss) h = record h { bodies = h.bodies ++ (id, ss) ∷ [] }
 
-abbrev statements_by : RoutineId → Checked Typed → Here → Given (Unit {0})
-statements_by id c h = record { typed = Some tt; here = with_body id c.typed h; faults = c.faults }
-
 -- the statements of a routine
-abbrev pub statements_mean : RoutineId → Statements → Here → Given (Unit {0})
-statements_mean id ss h = statements_by id (statements (scope_of id h) ss) h
+abbrev pub statements_mean : RoutineId → Statements → Here → Step Here (Unit {0})
+statements_mean id ss h = changes (judged h (statements (scope_of id h) ss)) (with_body id)
 
 -- as it was before, but for what was put into tables
 abbrev pub left : Here → Here → Here
 left old h = record h { names = take (length old.names) h.names; first = old.first; count = old.count; own = old.own; bytes = old.bytes; routine = old.routine }
 
-abbrev pub inner : RoutineId → Name → Head → ℕ → Declarations → Statements → Here → Given (Unit {0})
+abbrev pub inner : RoutineId → Name → Head → ℕ → Declarations → Statements → Here → Step Here (Unit {0})
 inner id n x first ds ss h =
-    followed (locals_declared ds h) (λ t h. followed (locals_fit n h) (λ t h. statements_mean id ss (with_variables id n x first h)))
+    next (locals_declared ds h) (λ h. next (locals_fit n h) (λ h. statements_mean id ss (with_variables id n x first h)))
 
 -- the locals and the statements
-abbrev pub block_means : RoutineId → Name → Head → Declarations → Statements → Here → Given (Unit {0})
-block_means id n x ds ss h = followed (inner id n x (length h.core.variables) ds ss (entered id n x h)) (λ t i. gives tt (left h i))
+abbrev pub block_means : RoutineId → Name → Head → Declarations → Statements → Here → Step Here (Unit {0})
+block_means id n x ds ss h = next (inner id n x (length h.core.variables) ds ss (entered id n x h)) (λ i. gives tt (left h i))
 
 -- ---- declarations
 
-abbrev pub body_means : RoutineId → Name → Head → Body → Here → Given (Unit {0})
+abbrev pub body_means : RoutineId → Name → Head → Body → Here → Step Here (Unit {0})
 body_means id n x forward h = gives tt h
 body_means id n x (body ds ss) h = block_means id n x ds ss h
 
@@ -163,10 +161,10 @@ awaits forward n = Some n.position.place
 awaits (body ds ss) n = None
 
 -- a routine that is not declared ahead
-abbrev pub first_declared : Name → Head → Body → Here → Given (Unit {0})
+abbrev pub first_declared : Name → Head → Body → Here → Step Here (Unit {0})
 first_declared n x b h =
     let id = next_routine h in
-    followed (declared n (RoutineName id) (with_routine n x (awaits b n) h)) (λ t h. body_means id n x b h)
+    next (declared n (RoutineName id) (with_routine n x (awaits b n) h)) (body_means id n x b)
 
 -- the routine has its body
 abbrev pub completed : RoutineId → Here → Here
@@ -177,18 +175,14 @@ is_heading_of core a None = false
 is_heading_of core a (Some b) = is_same_heading core b a
 
 -- the body of a routine that is declared ahead has the same heading
-abbrev pub same_means : RoutineId → Name → Head → Here → Checked (Unit {0})
-same_means id n x h = by_test 19 n.position.place (fine tt) (is_heading_of h.core (routine_row h.unit n x no_rows) (slice_get h.core.routines id.0))
-
-abbrev pub if_same : RoutineId → Name → Head → Declarations → Statements → Option (Unit {0}) → Here → Given (Unit {0})
-if_same id n x ds ss None h = silent h
-if_same id n x ds ss (Some t) h = block_means id n x ds ss h
+abbrev pub same_means : RoutineId → Name → Head → Here → Judgement (Unit {0})
+same_means id n x h = by_test heading_differs n.position.place (fine tt) (is_heading_of h.core (routine_row h.unit n x no_rows) (slice_get h.core.routines id.0))
 
 -- The body of a routine that is declared ahead. A second declaration ahead breaks rule 14.
-abbrev pub ahead_declared : RoutineId → Name → Option Head → Body → Here → Given (Unit {0})
-ahead_declared id n x forward h = breaks 14 n.position.place h
+abbrev pub ahead_declared : RoutineId → Name → Option Head → Body → Here → Step Here (Unit {0})
+ahead_declared id n x forward h = breaks declared_twice n.position.place h
 ahead_declared id n None (body ds ss) h = silent (completed id h)
-ahead_declared id n (Some x) (body ds ss) h = followed (checked (completed id h) (same_means id n x h)) (if_same id n x ds ss)
+ahead_declared id n (Some x) (body ds ss) h = onward (judged (completed id h) (same_means id n x h)) (λ t h. block_means id n x ds ss h)
 
 -- the routine, if its body is awaited
 abbrev pub awaited_of : List (Option Place) → RoutineId → Option RoutineId
@@ -202,7 +196,7 @@ awaited_by places _ = None
 abbrev pub awaited_named : Here → Name → Option RoutineId
 awaited_named h n = if is_declared h n then awaited_by h.awaited (meaning_of h.names (lower n.text)) else None
 
-abbrev pub by_standing : Option RoutineId → Name → Option Head → Body → Here → Given (Unit {0})
+abbrev pub by_standing : Option RoutineId → Name → Option Head → Body → Here → Step Here (Unit {0})
 by_standing (Some id) n x b h = ahead_declared id n x b h
 by_standing None n None b h = declared n Spoiled h
 by_standing None n (Some x) b h = first_declared n x b h
@@ -212,24 +206,24 @@ both_typed None x = None
 both_typed (Some t) x = x
 
 -- a routine by what its heading says, none where that is broken
-abbrev pub headed : Name → Option Head → Body → Here → Given (Unit {0})
+abbrev pub headed : Name → Option Head → Body → Here → Step Here (Unit {0})
 headed n x b h = by_standing (awaited_named h n) n x b h
 
-abbrev pub plain_declared : Heading → List Directive → Body → Here → Given (Unit {0})
+abbrev pub plain_declared : Heading → List Directive → Body → Here → Step Here (Unit {0})
 plain_declared x ds b h =
-    followed (checked (with_ahead x.name h) (form_means x ds)) (λ t h. followed (head_means x h) (λ u h. headed x.name (both_typed t u) b (ended h)))
+    followed (judged (with_ahead x.name h) (form_means x ds)) (λ t h. followed (head_means x h) (λ u h. headed x.name (both_typed t u) b (ended h)))
 
 -- a method, whose class is no class here
-abbrev pub class_meant : Core → Place → Told → Checked (Unit {0})
-class_meant core place told.Unknown = refused 15 place
+abbrev pub class_meant : Core → Place → Told → Judgement (Unit {0})
+class_meant core place told.Unknown = refused unknown_name place
 class_meant core place told.Spoiled = untyped
-class_meant core place (told.Known of) = record { typed = None; faults = (by_type core place of (refused 16 place)).faults }
-class_meant core place (told.LeftOutType feature) = left_out feature place
-class_meant core place _ = refused 16 place
+class_meant core place (told.Known of) = by_type core place of (refused wrong_kind_of_name place)
+class_meant core place (told.LeftOutType feature) = refused (left_out feature) place
+class_meant core place _ = refused wrong_kind_of_name place
 
-abbrev pub routine_by : Option Name → Heading → List Directive → Body → Here → Given (Unit {0})
+abbrev pub routine_by : Option Name → Heading → List Directive → Body → Here → Step Here (Unit {0})
 routine_by None x ds b h = plain_declared x ds b h
-routine_by (Some c) x ds b h = checked h (class_meant h.core c.position.place (told_in h.names (lower c.text)))
+routine_by (Some c) x ds b h = judged h (class_meant h.core c.position.place (told_in h.names (lower c.text)))
 
-abbrev pub routine_declared : Heading → List Directive → Body → Here → Given (Unit {0})
+abbrev pub routine_declared : Heading → List Directive → Body → Here → Step Here (Unit {0})
 routine_declared x ds b h = routine_by x.class x ds b h

@@ -1,12 +1,11 @@
 -- What types denote: rows of the table of types (Free Pascal Reference Guide, "Types").
 use Rattle.std.specs.Prelude.{ℕ, ◌+◌, ◌^◌, ℤ, pos, int_le, max, nat_le, nat_lt, Bool, true, false, ◌&&◌, List, [], ◌∷◌, length, is_some, Option, Some, None, if◌then◌else◌}
 use Rattle.op_base.specs.declared.place.Place.{Place}
-use Rattle.op_check_expr.specs.Meanings.{value_of as value_meant}
+use Rattle.op_check_expr.specs.Parts.{by_feature, standing}
+use Rattle.op_check_expr.specs.Phrases.{value}
 use Rattle.op_check_expr.specs.Scopes.{Here as Scope}
-use Rattle.op_check_expr.specs.Words.{by_feature, followed as followed_by, left_out}
 use Rattle.op_check_unit.specs.Naming.{declared_within}
-use Rattle.op_check_unit.specs.Steps.{Here, Given, checked, gives, silent, where_true, followed, by}
-use Rattle.op_core.specs.Faults.{Checked, after, both, by_entry, by_test, fine, none, refused, with_part}
+use Rattle.op_check_unit.specs.Steps.{Here}
 use Rattle.op_core.specs.Sizes.{extent_of, range_of, type_at, values_of}
 use Rattle.op_core.specs.declared.constant.Const.{Const}
 use Rattle.op_core.specs.declared.constant.Const.TheVariants.{Ordinal, Nil}
@@ -14,12 +13,16 @@ use Rattle.op_core.specs.declared.ids.TypeId.{TypeId}
 use Rattle.op_core.specs.declared.program.Core.{Core}
 use Rattle.op_core.specs.declared.types.CoreType.{CoreType}
 use Rattle.op_core.specs.declared.types.CoreType.TheVariants.{Enumeration, Subrange, Set, Array}
+use Rattle.op_judgement.specs.Judgement.{Judgement, by_entry, by_test, fine, of_two, refused, through, when}
+use Rattle.op_judgement.specs.Rules.{dynamic_arrays, empty_range, left_out, no_constant as not_constant, no_set_element, not_assignable, not_ordinal, type_too_large}
+use Rattle.op_judgement.specs.Steps.{Step, followed, gives, judged, next, onward, silent, where_true}
 use Rattle.op_tree.specs.Denoter.{Denoter, named, string, subrange, enumeration, set, array, record_}
 use Rattle.op_tree.specs.Expression.{Expression}
 use Rattle.op_tree.specs.declared.position.Name.{Name}
 use Rattle.op_tree.specs.declared.position.Position.{Position}
-use Rattle.op_types.specs.Constants.{constant, made, nodes, start_of}
+use Rattle.op_types.specs.Constants.{made, nodes, start_of}
 use Rattle.op_types.specs.Entering.{entered}
+use Rattle.op_types.specs.Folding.{constant, is_constant}
 use Rattle.op_types.specs.Names.{Named}
 use Rattle.op_types.specs.Operators as table
 use Rattle.op_types.specs.Sorts.{kind_of, same_kind}
@@ -53,8 +56,8 @@ abbrev pub feature_of_string : Position → ℕ
 feature_of_string p = if p.switches.h then 40 else 3
 
 -- `string` as a type is left out
-abbrev pub string_means : Position → Checked TypeId
-string_means p = left_out (feature_of_string p) p.place
+abbrev pub string_means : Position → Judgement TypeId
+string_means p = refused (left_out (feature_of_string p)) p.place
 
 -- ---- rows
 
@@ -66,7 +69,7 @@ abbrev pub in_core : Core → Here → Here
 in_core core h = record h { core = core }
 
 -- a type more
-abbrev pub row : CoreType → Here → Given TypeId
+abbrev pub row : CoreType → Here → Step Here TypeId
 row t h = gives (number_of_next h.core) (in_core (entered h.core t) h)
 
 -- the most bytes that a value of a type may have
@@ -82,11 +85,11 @@ abbrev pub is_small : Core → TypeId → CoreType → Bool
 is_small core of t = nat_le (extent_of core of).size most_bytes && has_few_elements core t
 
 -- the same of a type that may be too large
-abbrev pub sized_row : Place → CoreType → Here → Given TypeId
+abbrev pub sized_row : Place → CoreType → Here → Step Here TypeId
 sized_row place t h =
     let core = entered h.core t in
     let of = number_of_next h.core in
-    where_true (is_small core of t) 67 place (in_core core h) (gives of (in_core core h))
+    where_true (is_small core of t) type_too_large place (in_core core h) (gives of (in_core core h))
 
 -- ---- constants
 
@@ -95,12 +98,12 @@ abbrev pub scope_outside : Core → List Named → Scope
 scope_outside core names = record { core = core; visible = names; routine = None; around = [] }
 
 -- what is no constant expression, where no rule is broken in it
-abbrev pub no_constant : Core → List Named → Expression → Checked Constant
-no_constant core names e = followed_by (value_meant (scope_outside core names) None e) (with_part (λ v. refused 30 (start_of e)))
+abbrev pub no_constant : Core → List Named → Expression → Judgement Constant
+no_constant core names e = through (value (scope_outside core names) None e) (λ v. refused not_constant (start_of e))
 
-abbrev pub needed : Checked Constant → Option (Checked Constant) → Checked Constant
-needed others None = others
-needed others (Some c) = c
+-- the value of an expression that has to be constant, `nil` among others
+abbrev pub needed : Core → List Named → Expression → Judgement Constant
+needed core names e = when (is_constant core names e) (constant core names e) (no_constant core names e)
 
 -- the feature that a constant shows: `nil` is left out
 abbrev pub feature_of_constant : Const → Option ℕ
@@ -108,12 +111,12 @@ feature_of_constant Nil = Some 41
 feature_of_constant v = None
 
 -- a constant that begins at a place, unless it shows a feature that is left out
-abbrev pub built : Place → Constant → Checked Constant
+abbrev pub built : Place → Constant → Judgement Constant
 built place c = by_feature place (feature_of_constant c.value) (fine c)
 
--- the value of an expression that has to be constant
-unfoldable pub constant_part : Core → List Named → Expression → Checked Constant
-constant_part core names e = followed_by (needed (no_constant core names e) (constant core names e)) (with_part (built (start_of e)))
+-- the same, without `nil`
+unfoldable pub constant_part : Core → List Named → Expression → Judgement Constant
+constant_part core names e = through (needed core names e) (built (start_of e))
 
 -- ---- subranges
 
@@ -125,26 +128,31 @@ whole_type kind.Char = table.char
 whole_type (kind.Enumeration of) = of
 
 -- a lower bound: its kind, and its number
-abbrev pub lower_bound : Core → Place → Constant → Checked (OrdinalKind × ℤ)
-lower_bound core place c = by_entry 23 place (λ kind. fine (kind, number_of c.value)) (kind_of core c.of)
+abbrev pub lower_bound : Core → Place → Constant → Judgement (OrdinalKind × ℤ)
+lower_bound core place c = by_entry not_ordinal place (λ kind. fine (kind, number_of c.value)) (kind_of core c.of)
 
 abbrev pub is_kind : OrdinalKind → Option OrdinalKind → Bool
 is_kind kind None = false
 is_kind kind (Some other) = same_kind kind other
 
 -- the upper bound is of the same kind, and not below the lower one
-abbrev pub bounds : Core → Place → Place → OrdinalKind × ℤ → Constant → Checked CoreType
+abbrev pub bounds : Core → Place → Place → OrdinalKind × ℤ → Constant → Judgement CoreType
 bounds core first last low c =
-    by_test 20 last (by_test 31 first (fine (Subrange (whole_type low.0) low.1 (number_of c.value))) (int_le low.1 (number_of c.value))) (is_kind low.0 (kind_of core c.of))
+    by_test not_assignable last (by_test empty_range first (fine (Subrange (whole_type low.0) low.1 (number_of c.value))) (int_le low.1 (number_of c.value))) (is_kind low.0 (kind_of core c.of))
 
-abbrev pub lower_of : Core → List Named → Expression → Checked (OrdinalKind × ℤ)
-lower_of core names e = let c = constant_part core names e in after c.faults (with_part (lower_bound core (start_of e)) c.typed)
+abbrev pub lower_of : Core → List Named → Expression → Judgement (OrdinalKind × ℤ)
+lower_of core names e = through (constant_part core names e) (lower_bound core (start_of e))
 
-abbrev pub subrange_of : Core → List Named → Expression → Expression → Checked CoreType
+abbrev pub bounds_of : Core → Place → Place → (OrdinalKind × ℤ) × Constant → Judgement CoreType
+bounds_of core first last both = bounds core first last both.0 both.1
+
+abbrev pub pair : {A B : Type 0} → A → B → A × B
+pair a b = (a, b)
+
+abbrev pub subrange_of : Core → List Named → Expression → Expression → Judgement CoreType
 subrange_of core names first last =
-    let low = lower_of core names first in
-    let high = constant_part core names last in
-    after (both low.faults high.faults) (with_part (λ l. with_part (bounds core (start_of first) (start_of last) l) high.typed) low.typed)
+    through (of_two pair (lower_of core names first) (constant_part core names last))
+    (bounds_of core (start_of first) (start_of last))
 
 -- ---- enumerations
 
@@ -152,17 +160,17 @@ abbrev pub value_of : TypeId → ℤ → Meaning
 value_of of n = ConstantNamed (made (Ordinal n) of (nodes 1))
 
 -- the values of an enumeration, numbered from n on
-abbrev pub values : TypeId → ℕ → List Name → Here → Given (Unit {0})
+abbrev pub values : TypeId → ℕ → List Name → Here → Step Here (Unit {0})
 values of n [] h = gives tt h
-values of n (x ∷ xs) h = followed (declared_within x (value_of of (pos n)) h) (λ t h. values of (n + 1) xs h)
+values of n (x ∷ xs) h = next (declared_within x (value_of of (pos n)) h) (values of (n + 1) xs)
 
 -- with one value at least, as each has that is parsed
 abbrev pub enumeration_of : List Name → CoreType
 enumeration_of ns = Enumeration (max (length ns) 1)
 
 -- An enumeration. Its names are in the scope around it, which has no room for more of them than an enumeration may have values.
-abbrev pub enumerated : List Name → Here → Given TypeId
-enumerated ns h = followed (row (enumeration_of ns) h) (by (λ of h. followed (values of 0 ns h) (λ t h. gives of h)))
+abbrev pub enumerated : List Name → Here → Step Here TypeId
+enumerated ns h = onward (row (enumeration_of ns) h) (λ of h. next (values of 0 ns h) (gives of))
 
 -- ---- sets and arrays
 
@@ -170,23 +178,23 @@ abbrev pub is_within_set : ℤ × ℤ → Bool
 is_within_set r = int_le (pos 0) r.0 && int_le r.1 (pos 31)
 
 -- the base is ordinal, with numbers from 0 to 31
-abbrev pub set_over : Core → Place → TypeId → Checked CoreType
-set_over core place of = by_entry 23 place (λ r. by_test 34 place (fine (Set of)) (is_within_set r)) (range_of (type_at core of))
+abbrev pub set_over : Core → Place → TypeId → Judgement CoreType
+set_over core place of = by_entry not_ordinal place (λ r. by_test no_set_element place (fine (Set of)) (is_within_set r)) (range_of (type_at core of))
 
 -- the type of an index is ordinal
-abbrev pub index_over : Core → Place → TypeId → Checked TypeId
-index_over core place of = by_test 23 place (fine of) (is_some (range_of (type_at core of)))
+abbrev pub index_over : Core → Place → TypeId → Judgement TypeId
+index_over core place of = by_test not_ordinal place (fine of) (is_some (range_of (type_at core of)))
 
-abbrev pub one_array : Place → Option TypeId → Option TypeId → Here → Given TypeId
+abbrev pub one_array : Place → Option TypeId → Option TypeId → Here → Step Here TypeId
 one_array place (Some index) (Some element) h = sized_row place (Array index element) h
 one_array place _ _ h = silent h
 
 -- an array with several indices is an array of arrays: of the last index first
-abbrev pub arrays : Place → Option TypeId → List (Option TypeId) → Here → Given TypeId
-arrays place element [] h = record { typed = element; here = h; faults = none }
+abbrev pub arrays : Place → Option TypeId → List (Option TypeId) → Here → Step Here TypeId
+arrays place element [] h = judged h (standing element)
 arrays place element (index ∷ indices) h = followed (one_array place index element h) (λ t h. arrays place t indices h)
 
 -- one without indices is dynamic, which is left out
-abbrev pub array_of : Place → List (Option TypeId) → Option TypeId → Here → Given TypeId
-array_of place [] element h = checked h (left_out 41 place)
+abbrev pub array_of : Place → List (Option TypeId) → Option TypeId → Here → Step Here TypeId
+array_of place [] element h = judged h (refused dynamic_arrays place)
 array_of place (index ∷ indices) element h = arrays place element (index ∷ indices) h

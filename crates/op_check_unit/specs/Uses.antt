@@ -2,9 +2,11 @@
 use Rattle.std.specs.Prelude.{Bool, List, [], ◌∷◌, ◌++◌, codes, drop, length, Option, Some, None, if◌then◌else◌}
 use Rattle.std.specs.Str.{str_eq_ignore_ascii_case}
 use Rattle.op_check_unit.specs.Naming.{with_name}
-use Rattle.op_check_unit.specs.Steps.{Here, Given, breaks, each, gives}
+use Rattle.op_check_unit.specs.Steps.{Given, Here}
 use Rattle.op_check_unit.specs.declared.uses.Export.{Export}
 use Rattle.op_core.specs.Faults.{kept}
+use Rattle.op_judgement.specs.Rules.{missing_file}
+use Rattle.op_judgement.specs.Steps.{Step, breaks, each, gives, when}
 use Rattle.op_tree.specs.declared.position.Name.{Name}
 use Rattle.op_types.specs.Names.{lower}
 use Rattle.op_types.specs.declared.visible.Meaning.TheVariants.{Unit as UnitName}
@@ -45,16 +47,16 @@ abbrev pub with_used : Export → Here → Here
 with_used e h = record h { names = (h.names ++ record { name = lower e.unit; meaning = UnitName e.id } ∷ []) ++ e.names }
 
 -- there is such a unit; it is so where the program was loaded
-abbrev pub used_by : Name → Option Export → Here → Given (Unit {0})
-used_by n None h = breaks 10 n.position.place h
+abbrev pub used_by : Name → Option Export → Here → Step Here (Unit {0})
+used_by n None h = breaks missing_file n.position.place h
 used_by n (Some e) h = gives tt (with_used e h)
 
 -- the names of System are there without its use
-abbrev pub used : List (Option Export) → Name → Here → Given (Unit {0})
-used es n h = if is_system n then gives tt h else used_by n (exports_of es n) h
+abbrev pub used : List (Option Export) → Name → Here → Step Here (Unit {0})
+used es n h = when (is_system n) (gives tt h) (used_by n (exports_of es n) h)
 
 -- what is used later hides what is used earlier
-abbrev pub uses_mean : List (Option Export) → List Name → Here → Given (Unit {0})
+abbrev pub uses_mean : List (Option Export) → List Name → Here → Step Here (Unit {0})
 uses_mean es ns h = each (used es) ns h
 
 -- ---- the implementation part

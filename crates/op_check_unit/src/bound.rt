@@ -1,16 +1,16 @@
 //! Constants that types and declarations need, and the bounds of subranges.
+ghost use Rattle.op_judgement.specs.Judgement.{Reports, both_typed, with_part};
+ghost use Rattle.op_judgement.specs.Steps.{judged};
 ghost use Rattle.std.specs.Prelude.{◌≡◌, IfOk};
-ghost use Rattle.op_check_expr.specs.Words.{Reports};
-ghost use Rattle.op_check_unit.specs.Steps.{Leaves, checked, here_of};
-ghost use Rattle.op_check_unit.specs.Types.{bounds, built, constant_part, is_kind, lower_of, needed, no_constant, subrange_of, whole_type};
-ghost use Rattle.op_core.specs.Faults.{with_part};
+ghost use Rattle.op_check_unit.specs.Steps.{Leaves, here_of};
+ghost use Rattle.op_check_unit.specs.Types.{bounds_of, built, constant_part, is_kind, lower_of, needed, no_constant, pair, subrange_of, whole_type};
 ghost use Rattle.op_tree.specs.Expression.{expr_of};
-ghost use Rattle.op_types.specs.Constants.{constant};
 
 use crate::Declarer;
 use op_base::{NoMemory, Place};
-use op_check_expr::{Checker, Scope, leave_out, refuse};
+use op_check_expr::{Checker, Scope};
 use op_core::{Const, CoreType, FirstRefusal, TypeId};
+use op_judgement::{refuse, rules};
 use op_tree::Expr;
 use op_types::{Constant, OrdinalKind, Setting, kind_of, number_of, start_of};
 
@@ -34,14 +34,14 @@ fn built(sink: &mut FirstRefusal, place: Place, constant: Constant) -> Option<Co
     ensures { Reports (built place constant) sink.old sink.new result }
 {
     match constant.value {
-        Const::Nil => leave_out(sink, 41, place),
+        Const::Nil => refuse(sink, rules::DYNAMIC_ARRAYS, place),
         _ => Some(constant),
     }
 }
 
 /// The value of an expression that has to be constant, `nil` among others.
 fn needed(setting: Setting, sink: &mut FirstRefusal, e: &Expr) -> Result<Option<Constant>, NoMemory>
-    ensures { IfOk result (Reports (needed (no_constant setting.entry.core.now setting.entry.visible.now (expr_of e.now)) (constant setting.entry.core.now setting.entry.visible.now (expr_of e.now))) sink.old sink.new) }
+    ensures { IfOk result (Reports (needed setting.entry.core.now setting.entry.visible.now (expr_of e.now)) sink.old sink.new) }
 {
     let before = *sink;
     match setting.constant(sink, e)? {
@@ -72,7 +72,7 @@ fn no_constant(
         scope,
     };
     match checker.value(sink, None, e)? {
-        Some(_) => Ok(refuse(sink, 30, start_of(e))),
+        Some(_) => Ok(refuse(sink, rules::NO_CONSTANT, start_of(e))),
         None => Ok(None),
     }
 }
@@ -80,7 +80,7 @@ fn no_constant(
 impl Declarer {
     /// The value of an expression that has to be constant.
     pub fn constant_part(&mut self, e: &Expr) -> Result<Option<Constant>, NoMemory>
-        ensures { IfOk result (Leaves (checked (here_of self.old) (constant_part self.old.core self.old.visible (expr_of e.now))) self.old self.new) }
+        ensures { IfOk result (Leaves (judged (here_of self.old) (constant_part self.old.core self.old.visible (expr_of e.now))) self.old self.new) }
     {
         let setting = Setting {
             alloc: self.alloc,
@@ -93,7 +93,7 @@ impl Declarer {
     /// The subrange between two constants: rule 23 at a lower one that is not ordinal, 20 at an upper one of another kind, 31 at
     /// the lower one where it is above the upper one.
     pub fn subrange(&mut self, first: &Expr, last: &Expr) -> Result<Option<CoreType>, NoMemory>
-        ensures { IfOk result (Leaves (checked (here_of self.old) (subrange_of self.old.core self.old.visible (expr_of first.now) (expr_of last.now))) self.old self.new) }
+        ensures { IfOk result (Leaves (judged (here_of self.old) (subrange_of self.old.core self.old.visible (expr_of first.now) (expr_of last.now))) self.old self.new) }
     {
         let low = self.lower_bound(first)?;
         let high = self.constant_part(last)?;
@@ -102,7 +102,7 @@ impl Declarer {
 
     /// The kind and the number of a lower bound.
     fn lower_bound(&mut self, e: &Expr) -> Result<Option<(OrdinalKind, i32)>, NoMemory>
-        ensures { IfOk result (Leaves (checked (here_of self.old) (lower_of self.old.core self.old.visible (expr_of e.now))) self.old self.new) }
+        ensures { IfOk result (Leaves (judged (here_of self.old) (lower_of self.old.core self.old.visible (expr_of e.now))) self.old self.new) }
     {
         let Some(constant) = self.constant_part(e)? else {
             return Ok(None);
@@ -110,7 +110,7 @@ impl Declarer {
         match kind_of(&self.core, constant.of) {
             Some(kind) => Ok(Some((kind, number_of(&constant.value)))),
             None => {
-                self.refuse(23, start_of(e));
+                self.refuse(rules::NOT_ORDINAL, start_of(e));
                 Ok(None)
             }
         }
@@ -124,17 +124,17 @@ impl Declarer {
         low: Option<(OrdinalKind, i32)>,
         high: Option<Constant>,
     ) -> Option<CoreType>
-        ensures { Leaves (checked (here_of self.old) (with_part (λ l. with_part (bounds self.old.core first last l) high) low)) self.old self.new result }
+        ensures { Leaves (judged (here_of self.old) (with_part (bounds_of self.old.core first last) (both_typed pair low high))) self.old self.new result }
     {
         let (kind, low) = low?;
         let high = high?;
         if !is_kind(kind, kind_of(&self.core, high.of)) {
-            self.refuse(20, last);
+            self.refuse(rules::NOT_ASSIGNABLE, last);
             return None;
         }
         let high = number_of(&high.value);
         if high < low {
-            self.refuse(31, first);
+            self.refuse(rules::EMPTY_RANGE, first);
             return None;
         }
         let base = whole_type(kind);

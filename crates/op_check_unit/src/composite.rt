@@ -1,13 +1,14 @@
 //! Sets and arrays.
+ghost use Rattle.op_judgement.specs.Judgement.{with_part};
+ghost use Rattle.op_judgement.specs.Steps.{by, judged};
 ghost use Rattle.std.specs.Prelude.{◌≡◌, Some, IfOk, reverse};
-ghost use Rattle.op_check_unit.specs.Steps.{Leaves, by, checked, here_of};
+ghost use Rattle.op_check_unit.specs.Steps.{Leaves, here_of};
 ghost use Rattle.op_check_unit.specs.Types.{array_of, index_over, one_array, row, set_over};
-ghost use Rattle.op_core.specs.Faults.{with_part};
 
 use crate::Declarer;
 use op_base::{NoMemory, Place};
-use op_core::{CoreType, TypeId};
-use op_types::range_of;
+use op_core::{CoreType, TypeId, range_of};
+use op_judgement::rules;
 
 impl Declarer {
     /// A row of a type, if there is one.
@@ -22,29 +23,29 @@ impl Declarer {
 
     /// The set over a base that begins at the place: rule 23 where that is not ordinal, 34 where it has numbers outside of 0 to 31.
     pub fn set_over(&mut self, place: Place, base: Option<TypeId>) -> Option<CoreType>
-        ensures { Leaves (checked (here_of self.old) (with_part (set_over self.old.core place) base)) self.old self.new result }
+        ensures { Leaves (judged (here_of self.old) (with_part (set_over self.old.core place) base)) self.old self.new result }
     {
         let base = base?;
         let Some((low, high)) = range_of(&self.core, base) else {
-            self.refuse(23, place);
+            self.refuse(rules::NOT_ORDINAL, place);
             return None;
         };
         if 0 <= low && high <= 31 {
             return Some(CoreType::Set { base });
         }
-        self.refuse(34, place);
+        self.refuse(rules::NO_SET_ELEMENT, place);
         None
     }
 
     /// The type of an index, which begins at the place: rule 23 where it is not ordinal.
     pub fn index_over(&mut self, place: Place, index: Option<TypeId>) -> Option<TypeId>
-        ensures { Leaves (checked (here_of self.old) (with_part (index_over self.old.core place) index)) self.old self.new result }
+        ensures { Leaves (judged (here_of self.old) (with_part (index_over self.old.core place) index)) self.old self.new result }
     {
         let index = index?;
         match range_of(&self.core, index) {
             Some(_) => Some(index),
             None => {
-                self.refuse(23, place);
+                self.refuse(rules::NOT_ORDINAL, place);
                 None
             }
         }
@@ -61,7 +62,7 @@ impl Declarer {
     {
         let mut indices = indices;
         if indices.is_empty() {
-            self.leave_out(41, place);
+            self.refuse(rules::DYNAMIC_ARRAYS, place);
             return Ok(None);
         }
         let mut of = element;

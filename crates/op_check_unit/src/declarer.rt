@@ -1,15 +1,16 @@
 //! What is declared so far.
+ghost use Rattle.op_judgement.specs.Judgement.{fault};
 ghost use Rattle.std.specs.Prelude.{◌≡◌, ◌+◌, IfOk};
 ghost use Rattle.op_check_unit.specs.Naming.{all_ahead, declared, declared_within, ended, entered_name, has_room, is_declared, is_name, with_ahead, with_declared, with_name};
 ghost use Rattle.std.specs.Option.{option_copied};
 ghost use Rattle.op_check_unit.specs.Steps.{Declares, here_of};
-ghost use Rattle.op_check_expr.specs.Words.{left_out};
-ghost use Rattle.op_core.specs.Faults.{broken, earlier, kept};
+ghost use Rattle.op_core.specs.Faults.{earlier};
 
 use crate::body::Owned;
 use crate::first_value::Begun;
 use op_base::{NoMemory, Place, Refusal, Rule};
 use op_core::{Core, FirstRefusal, RoutineId, Table, UnitId};
+use op_judgement::rules;
 use op_scan::CompactText;
 use op_tree::Name;
 use op_types::{Meaning, Visible};
@@ -51,23 +52,10 @@ pub struct Declarer {
 
 impl Declarer {
     /// Reports a rule at a place.
-    pub fn refuse(&mut self, number: u8, place: Place)
+    pub fn refuse(&mut self, rule: Rule, place: Place)
         ensures stays { here_of self.new ≡ here_of self.old }
-        ensures kept { self.new.sink.kept ≡ earlier self.old.sink.kept (broken number place) }
+        ensures kept { self.new.sink.kept ≡ earlier self.old.sink.kept (fault rule place) }
     {
-        let rule = Rule { number, feature: 0 };
-        self.sink.report(Refusal { rule, place });
-    }
-
-    /// Reports a feature that is not in this profile.
-    pub fn leave_out(&mut self, feature: u8, place: Place)
-        ensures stays { here_of self.new ≡ here_of self.old }
-        ensures kept { self.new.sink.kept ≡ kept self.old.sink.kept (left_out {A = Unit {0}} feature place).faults }
-    {
-        let rule = Rule {
-            number: 13,
-            feature,
-        };
         self.sink.report(Refusal { rule, place });
     }
 
@@ -135,11 +123,11 @@ impl Declarer {
     {
         let place = name.position.place;
         if taken {
-            self.refuse(14, place);
+            self.refuse(rules::DECLARED_TWICE, place);
             return Ok(());
         }
         if !self.has_room(more) {
-            self.refuse(64, place);
+            self.refuse(rules::TOO_MANY_NAMES, place);
             return Ok(());
         }
         self.enter_declared(name, meaning)

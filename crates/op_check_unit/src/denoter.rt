@@ -1,8 +1,9 @@
 //! Types, as they are written (Free Pascal Reference Guide, "Types").
+ghost use Rattle.op_judgement.specs.Steps.{judged};
 ghost use Rattle.std.specs.Prelude.{◌≡◌, [], Some, IfOk, reverse};
 ghost use Rattle.std.specs.Option.{option_copied};
 ghost use Rattle.op_check_unit.specs.Denoting.{denoted, field_lists, indices};
-ghost use Rattle.op_check_unit.specs.Steps.{Leaves, checked, here_of};
+ghost use Rattle.op_check_unit.specs.Steps.{Leaves, here_of};
 ghost use Rattle.op_check_unit.specs.Types.{feature_of_string, start_of_denoter, string_means};
 ghost use Rattle.op_tree.specs.Denoter.{denoter_of};
 ghost use Rattle.op_tree.specs.Lists.{denoters_of, field_lists_of};
@@ -11,6 +12,7 @@ use crate::Declarer;
 use crate::record::FieldRows;
 use op_base::{NoMemory, Place};
 use op_core::TypeId;
+use op_judgement::rules;
 use op_tree::{Fields, Name, Position, TypeDenoter};
 use op_types::start_of;
 
@@ -63,9 +65,9 @@ impl Declarer {
 
     /// `string` as a type is left out.
     pub fn string(&mut self, position: Position) -> Option<TypeId>
-        ensures { Leaves (checked (here_of self.old) (string_means position)) self.old self.new result }
+        ensures { Leaves (judged (here_of self.old) (string_means position)) self.old self.new result }
     {
-        self.leave_out(feature_of_string(position), position.place);
+        self.refuse(rules::left_out(feature_of_string(position)), position.place);
         None
     }
 

@@ -1,9 +1,10 @@
 //! Headings of routines.
+ghost use Rattle.op_judgement.specs.Steps.{judged};
 ghost use Rattle.std.specs.Prelude.{◌≡◌, IfOk, Some};
 ghost use Rattle.std.specs.List.{list_any};
 ghost use Rattle.std.specs.Option.{option_copied, option_map};
 ghost use Rattle.op_check_unit.specs.Headings.{form_means, head_by, head_means, is_overload, is_plain, is_result, is_taken, no_parameters, one_parameter, own_name, parameter_group, parameter_groups, parameter_type, result_means, some_parameters, start_of_type, with_parameter};
-ghost use Rattle.op_check_unit.specs.Steps.{Leaves, checked, here_of};
+ghost use Rattle.op_check_unit.specs.Steps.{Leaves, here_of};
 ghost use Rattle.op_core.specs.Heading.{is_same_heading, same_parameters, same_result};
 ghost use Rattle.op_tree.specs.Declaration.{heading_of};
 ghost use Rattle.op_tree.specs.Denoter.{denoter_of};
@@ -13,6 +14,7 @@ use crate::declarer::is_name;
 use crate::variable::copy_of;
 use op_base::{NoMemory, Place};
 use op_core::{Core, CoreType, Parameter, Routine, Run, Table, TypeId, one_type};
+use op_judgement::rules;
 use op_tree::{
     Directive, Heading, Name, Parameter as ParameterTree, ParameterMode, ParameterType,
     RoutineKind, TypeDenoter,
@@ -97,17 +99,17 @@ impl Declarer {
 
     /// Whether a routine outside of classes may have such a heading: rule 16 at its name where it may not. Overloading is left out.
     pub fn check_form(&mut self, heading: &Heading, directives: &[Directive]) -> Option<()>
-        ensures { Leaves (checked (here_of self.old) (form_means (heading_of heading.now) directives.now)) self.old self.new result }
+        ensures { Leaves (judged (here_of self.old) (form_means (heading_of heading.now) directives.now)) self.old self.new result }
     {
         let place = heading.name.position.place;
         if overloads(directives) {
-            self.leave_out(12, place);
+            self.refuse(rules::OVERLOADS, place);
             return None;
         }
         if is_plain(heading.kind, heading.result.is_some()) {
             return Some(());
         }
-        self.refuse(16, place);
+        self.refuse(rules::WRONG_KIND_OF_NAME, place);
         None
     }
 
@@ -141,7 +143,7 @@ impl Declarer {
         ensures { IfOk result (Leaves (parameter_type group.now (here_of self.old)) self.old self.new) }
     {
         if group.open_array {
-            self.leave_out(41, start_of_type(&group.of));
+            self.refuse(rules::DYNAMIC_ARRAYS, start_of_type(&group.of));
             return Ok(None);
         }
         match &group.of {
@@ -179,13 +181,13 @@ impl Declarer {
     {
         let place = name.position.place;
         if rows.is_taken(own, name)? {
-            self.refuse(14, place);
+            self.refuse(rules::DECLARED_TWICE, place);
             return Ok(());
         }
         if rows.seen.len() < MOST_PARAMETERS {
             return rows.push(self.alloc, mode, of, name);
         }
-        self.refuse(68, place);
+        self.refuse(rules::TOO_MANY_PARAMETERS, place);
         Ok(())
     }
 

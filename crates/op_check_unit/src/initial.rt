@@ -1,9 +1,10 @@
 //! First values of typed constants and variables (Free Pascal Reference Guide, "Typed constants" and "Initialized variables").
+ghost use Rattle.op_judgement.specs.Judgement.{Reports, changed};
+ghost use Rattle.op_judgement.specs.Steps.{judged};
 ghost use Rattle.std.specs.Prelude.{◌≡◌, ◌∷◌, [], true, IfOk};
 ghost use Rattle.std.specs.Option.{option_map};
-ghost use Rattle.op_check_expr.specs.Words.{Reports, changed};
 ghost use Rattle.op_check_unit.specs.Initials.{by_elements, by_fields, counted, elements, fields, first, first_expression, is_bracketed, of_type, one_value, shape_of, single, starts, start_of_initial, unless_wrong, values_in, wrong_count};
-ghost use Rattle.op_check_unit.specs.Steps.{Leaves, checked, here_of};
+ghost use Rattle.op_check_unit.specs.Steps.{Leaves, here_of};
 ghost use Rattle.op_core.specs.Initial.{first_value_of, parts};
 ghost use Rattle.op_core.specs.Rows.{rows};
 ghost use Rattle.op_tree.specs.Expression.{expr_of};
@@ -16,10 +17,10 @@ use crate::bound::needed_constant;
 use crate::declarer::is_name;
 use crate::shared::{collect, retyped};
 use op_base::{NoMemory, Place};
-use op_check_expr::refuse;
-use op_core::{Core, CoreType, Field, FirstRefusal, Initial, Run, TypeId};
+use op_core::{Core, CoreType, Field, FirstRefusal, Initial, Run, TypeId, type_at, values_of};
+use op_judgement::{refuse, rules};
 use op_tree::{Expr, FieldInitializer, Initializer, Root};
-use op_types::{Constant, Setting, assignable, start_of, type_at, values_of};
+use op_types::{Constant, Setting, assignable, start_of};
 use std::alloc::Global;
 
 /// A first value; None where a rule is broken in it.
@@ -57,7 +58,7 @@ fn shape_of(core: &Core, of: TypeId) -> Shape
 impl Declarer {
     /// The first value of a variable of a type.
     pub fn first_value(&mut self, of: TypeId, value: &Initializer) -> First
-        ensures { IfOk result (λ v. Leaves (checked (here_of self.old) (first self.old.core self.old.visible of (initial_of value.now))) self.old self.new (option_map first_value_of v)) }
+        ensures { IfOk result (λ v. Leaves (judged (here_of self.old) (first self.old.core self.old.visible of (initial_of value.now))) self.old self.new (option_map first_value_of v)) }
     {
         let setting = Setting {
             alloc: self.alloc,
@@ -93,7 +94,7 @@ fn list(
     ensures { IfOk result (λ v. Reports (by_elements bracket (λ count element. counted bracket count (starts (initials_of items.now)) (elements setting.entry.core.now setting.entry.visible.now element (initials_of items.now))) (shape_of setting.entry.core.now of)) sink.old sink.new (option_map first_value_of v)) }
 {
     let Shape::Elements(count, element) = shape_of(setting.core, of) else {
-        return Ok(refuse(sink, 20, bracket));
+        return Ok(refuse(sink, rules::NOT_ASSIGNABLE, bracket));
     };
     let typed = elements(setting, sink, element, items)?;
     Ok(unless_wrong(sink, wrong_count(bracket, count, items), typed))
@@ -123,7 +124,7 @@ fn record(
     ensures { IfOk result (λ v. Reports (by_fields bracket (λ run. changed parts (fields setting.entry.core.now setting.entry.visible.now bracket (rows setting.entry.core.now.fields run) (field_initials_of items.now))) (shape_of setting.entry.core.now of)) sink.old sink.new (option_map first_value_of v)) }
 {
     let Shape::Fields(run) = shape_of(setting.core, of) else {
-        return Ok(refuse(sink, 20, bracket));
+        return Ok(refuse(sink, rules::NOT_ASSIGNABLE, bracket));
     };
     let typed = fields(setting, sink, bracket, setting.core.fields.rows(run), items)?;
     Ok(joined(typed))
@@ -144,10 +145,10 @@ fn fields(
     let mut left = declared;
     for item in items {
         let Some((field, others)) = left.split_first() else {
-            return Ok(refuse(sink, 25, item.name.position.place));
+            return Ok(refuse(sink, rules::NO_MEMBER, item.name.position.place));
         };
         if !is_name(Some(&field.name), &item.name) {
-            return Ok(refuse(sink, 25, item.name.position.place));
+            return Ok(refuse(sink, rules::NO_MEMBER, item.name.position.place));
         }
         let part = first(setting, sink, field.of, &item.value)?;
         collect(&mut typed, part)?;
@@ -155,7 +156,7 @@ fn fields(
     }
     match left.split_first() {
         None => Ok(typed),
-        Some(_) => Ok(refuse(sink, 20, bracket)),
+        Some(_) => Ok(refuse(sink, rules::NOT_ASSIGNABLE, bracket)),
     }
 }
 
@@ -189,7 +190,7 @@ fn in_brackets(setting: Setting, sink: &mut FirstRefusal, of: TypeId, e: &Expr) 
             let wrong = wrong_one(position.place, count, start_of(inside));
             one_part(setting.alloc, sink, wrong, part)
         }
-        Shape::Unbounded => Ok(refuse(sink, 20, position.place)),
+        Shape::Unbounded => Ok(refuse(sink, rules::NOT_ASSIGNABLE, position.place)),
         Shape::Single | Shape::Fields(_) => single(setting, sink, of, e),
     }
 }
@@ -227,10 +228,10 @@ fn of_type(
     ensures { IfOk result (λ v. Reports (of_type setting.entry.core.now place of constant) sink.old sink.new (option_map first_value_of v)) }
 {
     if !assignable(setting.core, constant.of, of) {
-        return Ok(refuse(sink, 20, place));
+        return Ok(refuse(sink, rules::NOT_ASSIGNABLE, place));
     }
     match retyped(setting.alloc, setting.core, of, &constant.value)? {
-        None => Ok(refuse(sink, 33, place)),
+        None => Ok(refuse(sink, rules::OUT_OF_RANGE, place)),
         Some(value) => Ok(Some(Initial::Value(value))),
     }
 }
@@ -269,7 +270,7 @@ fn unless_wrong(
 {
     match wrong {
         None => joined(typed),
-        Some(place) => refuse(sink, 20, place),
+        Some(place) => refuse(sink, rules::NOT_ASSIGNABLE, place),
     }
 }
 
@@ -283,7 +284,7 @@ fn one_part(
     ensures { IfOk result (λ v. Reports (unless_wrong wrong (option_map one_value (option_map first_value_of part))) sink.old sink.new (option_map first_value_of v)) }
 {
     match (wrong, part) {
-        (Some(place), _) => Ok(refuse(sink, 20, place)),
+        (Some(place), _) => Ok(refuse(sink, rules::NOT_ASSIGNABLE, place)),
         (None, None) => Ok(None),
         (None, Some(value)) => {
             let mut list = Vec::new(alloc);

@@ -1,18 +1,22 @@
 //! Types that are named.
+ghost use Rattle.op_core.specs.declared.ids.TypeId.{TypeId as TypeId'};
+ghost use Rattle.op_judgement.specs.Judgement.{fine, refused};
+ghost use Rattle.op_judgement.specs.Rules.{wrong_kind_of_name};
+ghost use Rattle.op_judgement.specs.Steps.{judged};
 ghost use Rattle.std.specs.Prelude.{◌≡◌, IfOk};
 ghost use Rattle.op_check_expr.specs.Naming.{feature_of_type};
-ghost use Rattle.op_core.specs.Faults.{fine, refused};
 ghost use Rattle.std.specs.Option.{option_copied};
 ghost use Rattle.op_check_unit.specs.Naming.{by_type, own_type, place_of, told_by, told_in, type_alone, type_meant, type_named, type_of_unit};
-ghost use Rattle.op_check_unit.specs.Steps.{Declares, Leaves, checked, here_of};
+ghost use Rattle.op_check_unit.specs.Steps.{Declares, Leaves, here_of};
 ghost use Rattle.op_types.specs.Names.{lower};
 
 use crate::Declarer;
 use crate::declarer::is_name;
 use op_base::{NoMemory, Place};
-use op_core::{CoreType, TypeId};
+use op_core::{CoreType, TypeId, type_at};
+use op_judgement::rules;
 use op_tree::{Name, QualifiedName};
-use op_types::{BuiltIn, Meaning, type_at};
+use op_types::{BuiltIn, Meaning};
 
 /// What a name stands for, as far as types ask.
 #[derive(Clone, Copy)]
@@ -50,7 +54,7 @@ impl Declarer {
         inside: bool,
         q: &QualifiedName,
     ) -> Result<Option<TypeId>, NoMemory>
-        ensures { IfOk result (Leaves (checked (here_of self.old) (type_named self.old.core self.old.visible (option_copied own.entry) inside q.now)) self.old self.new) }
+        ensures { IfOk result (Leaves (judged (here_of self.old) (type_named self.old.core self.old.visible (option_copied own.entry) inside q.now)) self.old self.new) }
     {
         match &q.unit {
             Some(unit) => self.type_of_unit(unit, &q.name),
@@ -65,7 +69,7 @@ impl Declarer {
         inside: bool,
         name: &Name,
     ) -> Result<Option<TypeId>, NoMemory>
-        ensures { IfOk result (Leaves (checked (here_of self.old) (type_alone self.old.core self.old.visible (option_copied own.entry) inside name.now)) self.old self.new) }
+        ensures { IfOk result (Leaves (judged (here_of self.old) (type_alone self.old.core self.old.visible (option_copied own.entry) inside name.now)) self.old self.new) }
     {
         let place = name.position.place;
         if is_name(own, name) {
@@ -77,7 +81,7 @@ impl Declarer {
 
     /// A name of a unit.
     fn type_of_unit(&mut self, unit: &Name, name: &Name) -> Result<Option<TypeId>, NoMemory>
-        ensures { IfOk result (Leaves (checked (here_of self.old) (type_of_unit self.old.core self.old.visible unit.now name.now (told_in self.old.visible (lower unit.now.text)))) self.old self.new) }
+        ensures { IfOk result (Leaves (judged (here_of self.old) (type_of_unit self.old.core self.old.visible unit.now name.now (told_in self.old.visible (lower unit.now.text)))) self.old self.new) }
     {
         let place = unit.position.place;
         match told_by(self.visible.look_up(unit.text.as_slice())?) {
@@ -98,21 +102,21 @@ impl Declarer {
 
     /// The type of a name of this meaning.
     fn type_meant(&mut self, place: Place, meaning: Told) -> Option<TypeId>
-        ensures { Leaves (checked (here_of self.old) (type_meant self.old.core place meaning)) self.old self.new result }
+        ensures { Leaves (judged (here_of self.old) (type_meant self.old.core place meaning)) self.old self.new result }
     {
         match meaning {
             Told::Unknown => {
-                self.refuse(15, place);
+                self.refuse(rules::UNKNOWN_NAME, place);
                 None
             }
             Told::Spoiled => None,
             Told::Known(of) => self.built(place, of),
             Told::LeftOutType(feature) => {
-                self.leave_out(feature, place);
+                self.refuse(rules::left_out(feature), place);
                 None
             }
             Told::Unit | Told::Other => {
-                self.refuse(16, place);
+                self.refuse(rules::WRONG_KIND_OF_NAME, place);
                 None
             }
         }
@@ -120,12 +124,12 @@ impl Declarer {
 
     /// The type, unless its name shows a feature that is left out.
     fn built(&mut self, place: Place, of: TypeId) -> Option<TypeId>
-        ensures { Leaves (checked (here_of self.old) (by_type self.old.core place of (fine of))) self.old self.new result }
+        ensures { Leaves (judged (here_of self.old) (by_type self.old.core place of (fine of))) self.old self.new result }
     {
         match feature_of_type(type_at(&self.core, of)) {
             None => Some(of),
             Some(feature) => {
-                self.leave_out(feature, place);
+                self.refuse(rules::left_out(feature), place);
                 None
             }
         }
@@ -133,22 +137,23 @@ impl Declarer {
 
     /// A type where something else is needed.
     pub fn no_type(&mut self, place: Place, of: TypeId)
-        ensures { Declares (checked (here_of self.old) (by_type self.old.core place of (refused 16 place))) self.old self.new }
+        ensures as_type { Leaves (judged (here_of self.old) (by_type {A = TypeId'} self.old.core place of (refused wrong_kind_of_name place))) self.old self.new None }
+        ensures as_class { Declares (judged (here_of self.old) (by_type {A = Unit {0}} self.old.core place of (refused wrong_kind_of_name place))) self.old self.new }
     {
         match feature_of_type(type_at(&self.core, of)) {
-            None => self.refuse(16, place),
-            Some(feature) => self.leave_out(feature, place),
+            None => self.refuse(rules::WRONG_KIND_OF_NAME, place),
+            Some(feature) => self.refuse(rules::left_out(feature), place),
         }
     }
 
     /// The type that is being declared.
     fn own_type(&mut self, own: Option<&Name>, inside: bool, place: Place) -> Option<TypeId>
-        ensures { Leaves (checked (here_of self.old) (own_type (option_copied own.entry) inside place)) self.old self.new result }
+        ensures { Leaves (judged (here_of self.old) (own_type (option_copied own.entry) inside place)) self.old self.new result }
     {
         if inside {
-            self.refuse(38, place_of(place, own));
+            self.refuse(rules::CONTAINS_ITSELF, place_of(place, own));
         } else {
-            self.refuse(15, place);
+            self.refuse(rules::UNKNOWN_NAME, place);
         }
         None
     }

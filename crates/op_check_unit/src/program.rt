@@ -1,14 +1,15 @@
 //! Whole programs.
+ghost use Rattle.op_check_unit.specs.Readings.{missing, missing_in, missing_one};
 ghost use Rattle.std.specs.Prelude.{◌≡◌, ◌∷◌, ℕ, IfOk, None, Some, if◌then◌else◌, map, slice_get};
 ghost use Rattle.std.specs.Option.{option_map};
 ghost use Rattle.op_check_unit.specs.Bodies.{said};
 ghost use Rattle.op_check_unit.specs.Checking.{CheckIs, Fills, Finishes};
 ghost use Rattle.op_check_unit.specs.FirstValues.{begins_so};
 ghost use Rattle.op_check_unit.specs.Outlines.{AllTell, outline_of};
-ghost use Rattle.op_check_unit.specs.Programs.{all_completed, all_declared, declaration_means, files_mean, is_of, missing, missing_in, missing_one, name_of, part_means, parts_of_program, program_declared, program_means, unit_completed, with_heading, with_unit};
+ghost use Rattle.op_check_unit.specs.Programs.{all_completed, all_declared, declaration_means, files_mean, is_of, name_of, part_means, parts_of_program, program_declared, program_means, unit_completed, with_heading, with_unit};
 ghost use Rattle.op_check_unit.specs.Rules.{Obeys, ProgramBreaks};
-ghost use Rattle.op_check_unit.specs.Steps.{Declares, Leaves, here_of};
-ghost use Rattle.op_core.specs.Faults.{Faults, kept, none};
+ghost use Rattle.op_check_unit.specs.Steps.{Declared, Declares, Leaves, here_of};
+ghost use Rattle.op_core.specs.Faults.{Faults, kept};
 ghost use Rattle.op_core.specs.Sound.{IsSound, IsSoundNesting};
 ghost use Rattle.op_tree.specs.Declaration.{declaration_of, declarations_of};
 ghost use Rattle.op_tree.specs.File.{file_of, program as program_tree, program_of};
@@ -24,6 +25,7 @@ use crate::uses::Export;
 use crate::variable::copy_of;
 use op_base::{NoMemory, Place, Refusal, Rule, Text};
 use op_core::{CheckError, Core, FirstRefusal, Routine, RoutineId, Run, Unit as UnitRow, UnitId};
+use op_judgement::rules;
 use op_scan::CompactText;
 use op_tree::{
     Body, Declaration, Name, Position, Program, ProgramHeading, RoutineKind, Stmt, Tree,
@@ -49,12 +51,12 @@ impl Declarer {
     /// The files of a program, the main one first.
     fn files(&mut self, trees: &[Tree], order: &[Text]) -> Result<(), NoMemory>
         requires { self.old.sink.kept ≡ None }
-        ensures { IfOk result (λ _. Declares (files_mean (map file_of trees.now) order.now (here_of self.old)) self.old self.new) }
+        ensures { IfOk result (λ _. Declared (files_mean (map file_of trees.now) order.now (here_of self.old)) self.old self.new) }
     {
         match trees.split_first() {
             Some((Tree::Program(program), others)) => self.program_of(program, others, order),
             _ => {
-                self.refuse(12, START);
+                self.refuse(rules::OTHER_FILE, START);
                 Ok(())
             }
         }
@@ -68,7 +70,7 @@ impl Declarer {
         order: &[Text],
     ) -> Result<(), NoMemory>
         requires { self.old.sink.kept ≡ None }
-        ensures { IfOk result (λ _. Declares (files_mean (program_tree (program_of program.now) ∷ map file_of files.now) order.now (here_of self.old)) self.old self.new) }
+        ensures { IfOk result (λ _. Declared (files_mean (program_tree (program_of program.now) ∷ map file_of files.now) order.now (here_of self.old)) self.old self.new) }
     {
         self.blank_units(order)?;
         let mut exports = no_exports(self.alloc, order.len())?;
@@ -86,7 +88,7 @@ impl Declarer {
         exports: &[Option<Export>],
     ) -> Result<(), NoMemory>
         requires { self.old.sink.kept ≡ None }
-        ensures { (faults : ℕ → Faults) → AllTell exports.now faults → IfOk result (λ _. Declares (parts_of_program (program_of program.now) order.now (map file_of files.now) faults (outline_of exports.now self.old)) self.old self.new) }
+        ensures { (faults : ℕ → Faults) → AllTell exports.now faults → IfOk result (λ _. Declared (parts_of_program (program_of program.now) order.now (map file_of files.now) faults (outline_of exports.now self.old)) self.old self.new) }
     {
         self.units(files, exports)?;
         if self.sink.kept.is_some() {
@@ -301,7 +303,7 @@ fn report_missing_in(
 }
 
 fn report_missing_if(sink: &mut FirstRefusal, asked: bool, place: Option<Place>)
-    ensures { sink.new.kept ≡ kept sink.old.kept (if asked then missing_one place else none) }
+    ensures { sink.new.kept ≡ kept sink.old.kept (missing_one (if asked then place else None)) }
 {
     if asked {
         report_missing_one(sink, place);
@@ -323,10 +325,7 @@ fn report_missing_one(sink: &mut FirstRefusal, place: Option<Place>)
     ensures { sink.new.kept ≡ kept sink.old.kept (missing_one place) }
 {
     if let Some(place) = place {
-        let rule = Rule {
-            number: 18,
-            feature: 0,
-        };
+        let rule = rules::NO_BODY;
         sink.report(Refusal { rule, place });
     }
 }

@@ -1,8 +1,9 @@
 //! Routines and their bodies.
+ghost use Rattle.op_judgement.specs.Steps.{judged};
 ghost use Rattle.std.specs.Prelude.{◌≡◌, ◌++◌, IfOk, map, slice_get};
 ghost use Rattle.op_check_unit.specs.Naming.{told_in};
 ghost use Rattle.op_check_unit.specs.Routines.{ahead_declared, awaited_named, awaited_of, awaits, block_means, body_means, both_typed, class_meant, completed, entered, first_declared, headed, inner, is_heading_of, local_declared, locals_declared, locals_fit, next_routine, parameter_names, parameter_variable, plain_declared, result_name, routine_declared, routine_row, same_means, statements_mean, with_local, with_parameters, with_result, with_routine, with_variables};
-ghost use Rattle.op_check_unit.specs.Steps.{Declares, Leaves, checked, here_of};
+ghost use Rattle.op_check_unit.specs.Steps.{Declares, Leaves, here_of};
 ghost use Rattle.op_tree.specs.Declaration.{body_of, declaration_of, declarations_of, heading_of};
 ghost use Rattle.op_tree.specs.Statement.{stmts_of};
 ghost use Rattle.op_types.specs.Names.{lower};
@@ -18,6 +19,7 @@ use op_core::{
     Core, Owner, Parameter, Role, Routine, RoutineId, Run, Table, TypeId, UnitId, Variable,
     VariableId,
 };
+use op_judgement::rules;
 use op_scan::CompactText;
 use op_tree::{Body, Declaration, Directive, Heading, Name, Stmt};
 use op_types::{Meaning, Visible};
@@ -47,15 +49,15 @@ impl Declarer {
 
     /// A name that should be that of a class, and is none here.
     fn class_named(&mut self, class: &Name) -> Result<(), NoMemory>
-        ensures { IfOk result (λ _. Declares (checked (here_of self.old) (class_meant self.old.core class.now.position.place (told_in self.old.visible (lower class.now.text)))) self.old self.new) }
+        ensures { IfOk result (λ _. Declares (judged (here_of self.old) (class_meant self.old.core class.now.position.place (told_in self.old.visible (lower class.now.text)))) self.old self.new) }
     {
         let place = class.position.place;
         match told_by(self.visible.look_up(class.text.as_slice())?) {
-            Told::Unknown => self.refuse(15, place),
+            Told::Unknown => self.refuse(rules::UNKNOWN_NAME, place),
             Told::Spoiled => {}
             Told::Known(of) => self.no_type(place, of),
-            Told::LeftOutType(feature) => self.leave_out(feature, place),
-            Told::Unit | Told::Other => self.refuse(16, place),
+            Told::LeftOutType(feature) => self.refuse(rules::left_out(feature), place),
+            Told::Unit | Told::Other => self.refuse(rules::WRONG_KIND_OF_NAME, place),
         }
         Ok(())
     }
@@ -141,7 +143,7 @@ impl Declarer {
         ensures { IfOk result (λ _. Declares (ahead_declared id name.now head (body_of body.now) (here_of self.old)) self.old self.new) }
     {
         if matches!(body, Body::Forward) {
-            self.refuse(14, name.position.place);
+            self.refuse(rules::DECLARED_TWICE, name.position.place);
             return Ok(());
         }
         self.complete(id);
@@ -165,13 +167,13 @@ impl Declarer {
 
     /// Whether a routine has the heading that it was declared ahead with.
     fn same(&mut self, id: RoutineId, name: &Name, head: Head) -> Result<Option<()>, NoMemory>
-        ensures { IfOk result (Leaves (checked (here_of self.old) (same_means id name.now head (here_of self.old))) self.old self.new) }
+        ensures { IfOk result (Leaves (judged (here_of self.old) (same_means id name.now head (here_of self.old))) self.old self.new) }
     {
         let row = routine_row(self.alloc, self.unit, name, head, NO_ROWS)?;
         if has_heading(&self.core, id, &row) {
             return Ok(Some(()));
         }
-        self.refuse(19, name.position.place);
+        self.refuse(rules::HEADING_DIFFERS, name.position.place);
         Ok(None)
     }
 
@@ -299,7 +301,7 @@ impl Declarer {
             Declaration::Variables(list) => self.variables(list),
             Declaration::Heading(_) => Ok(()),
             Declaration::Routine(routine) => {
-                self.leave_out(28, routine.heading.name.position.place);
+                self.refuse(rules::NESTED_ROUTINES, routine.heading.name.position.place);
                 Ok(())
             }
         }
@@ -310,7 +312,7 @@ impl Declarer {
         ensures { Declares (locals_fit name.now (here_of self.old)) self.old self.new }
     {
         if self.bytes > MOST_BYTES {
-            self.refuse(69, name.position.place);
+            self.refuse(rules::LOCALS_TOO_LARGE, name.position.place);
         }
     }
 

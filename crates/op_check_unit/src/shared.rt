@@ -7,9 +7,9 @@ ghost use Rattle.op_core.specs.Sizes.{type_at};
 ghost use Rattle.op_core.specs.Typing as typing;
 
 use op_base::{NoMemory, Sequence};
-use op_core::{Const, Core, CoreType, TypeId};
+use op_core::{Const, Core, CoreType, TypeId, type_at};
 use op_scan::CompactText;
-use op_types::{Sort, bytes_of, in_range, sort_of, type_at};
+use op_types::{Sort, bytes_of, in_range, sort_of};
 use std::alloc::Global;
 
 /// The same constant as one of another type, where it is one.

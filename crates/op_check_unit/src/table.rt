@@ -5,8 +5,9 @@ ghost use Rattle.op_check_unit.specs.Types.{has_few_elements, is_small, row, siz
 
 use crate::Declarer;
 use op_base::{NoMemory, Place};
-use op_core::{Core, CoreType, TypeId};
-use op_types::{enter_type, size_of, values_of};
+use op_core::{Core, CoreType, TypeId, size_of, values_of};
+use op_judgement::rules;
+use op_types::enter_type;
 
 /// The most bytes that a value of a type may have.
 const MOST_BYTES: u32 = 1_048_576;
@@ -30,7 +31,7 @@ impl Declarer {
         if is_small(&self.core, id, of) {
             return Ok(Some(id));
         }
-        self.refuse(67, place);
+        self.refuse(rules::TYPE_TOO_LARGE, place);
         Ok(None)
     }
 }

@@ -1,9 +1,10 @@
 //! Units: first the interface parts of all of them, and then the rest of each in their order.
+ghost use Rattle.op_judgement.specs.Steps.{done};
 ghost use Rattle.std.specs.Prelude.{◌≡◌, ◌++◌, [], ◌∷◌, ℕ, IfOk, None, Some, map, replicate, slice_get, slice_set};
 ghost use Rattle.std.specs.Option.{option_copied, option_map};
 ghost use Rattle.op_check_unit.specs.Outlines.{AllTell, Tells, is_blank, outline_of};
 ghost use Rattle.op_check_unit.specs.Programs.{all_outlined, blank_unit, faulted, global_counted, globals_counted, implementation_means, in_unit, interface_means, outer, outlined, reopened, unit_completes, unit_declared, unit_means, units_mean, with_interface, with_units};
-ghost use Rattle.op_check_unit.specs.Steps.{Declares, here_of};
+ghost use Rattle.op_check_unit.specs.Steps.{Declared, Declares, here_of};
 ghost use Rattle.op_core.specs.Faults.{Faults};
 ghost use Rattle.op_tree.specs.File.{file_of, unit_of};
 
@@ -11,9 +12,8 @@ use crate::Declarer;
 use crate::interfaces::{unit_at, unit_named};
 use crate::uses::Export;
 use op_base::{NoMemory, Place, Text};
-use op_core::{Core, Run, Table, TypeId, Unit as UnitRow, UnitId, VariableId};
+use op_core::{Core, Run, Table, TypeId, Unit as UnitRow, UnitId, VariableId, size_of};
 use op_tree::{Tree, Unit};
-use op_types::size_of;
 use std::alloc::Global;
 
 impl Declarer {
@@ -119,7 +119,7 @@ impl Declarer {
     /// The units in their order, up to the first one that breaks a rule.
     pub fn units(&mut self, files: &[Tree], exports: &[Option<Export>]) -> Result<(), NoMemory>
         requires { self.old.sink.kept ≡ None }
-        ensures { (faults : ℕ → Faults) → AllTell exports.now faults → IfOk result (λ _. Declares (units_mean (map file_of files.now) exports.now faults 0 exports.now (here_of self.old)) self.old self.new) }
+        ensures { (faults : ℕ → Faults) → AllTell exports.now faults → IfOk result (λ _. Declared (units_mean (map file_of files.now) exports.now faults 0 exports.now (here_of self.old)) self.old self.new) }
     {
         for export in exports {
             self.unit_if_any(files, exports, export)?;
@@ -138,7 +138,7 @@ impl Declarer {
         export: &Option<Export>,
     ) -> Result<(), NoMemory>
         requires { self.old.sink.kept ≡ None }
-        ensures { (f : Faults) → Tells export.now f → IfOk result (λ _. Declares (faulted f (unit_completes (map file_of files.now) exports.now export.now (here_of self.old))) self.old self.new) }
+        ensures { (f : Faults) → Tells export.now f → IfOk result (λ _. Declared (faulted f (done (unit_completes (map file_of files.now) exports.now export.now (here_of self.old)))) self.old self.new) }
     {
         match export {
             None => Ok(()),

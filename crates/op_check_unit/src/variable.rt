@@ -1,8 +1,9 @@
 //! Declarations of variables, and the rows of variables and typed constants.
+ghost use Rattle.op_judgement.specs.Steps.{each};
 ghost use Rattle.std.specs.Prelude.{◌≡◌, IfOk, map};
 ghost use Rattle.std.specs.Option.{option_copied, option_map};
 ghost use Rattle.op_check_unit.specs.Declaring.{first_means, globals_fit, names_declared, next_variable, one_type_declared, row_entered, rows_entered, variable_meaning, variables_declared, variables_named, with_first, with_row};
-ghost use Rattle.op_check_unit.specs.Steps.{Declares, Leaves, each, here_of};
+ghost use Rattle.op_check_unit.specs.Steps.{Declares, Leaves, here_of};
 ghost use Rattle.op_core.specs.Initial.{first_value_of};
 ghost use Rattle.op_tree.specs.Declaration.{variables_of};
 ghost use Rattle.op_tree.specs.Initial.{initial_of};
@@ -10,10 +11,11 @@ ghost use Rattle.op_tree.specs.Initial.{initial_of};
 use crate::Declarer;
 use crate::first_value::Begun;
 use op_base::{NoMemory, Place};
-use op_core::{Initial, Role, TypeId, Variable, VariableId};
+use op_core::{Initial, Role, TypeId, Variable, VariableId, size_of};
+use op_judgement::rules;
 use op_scan::CompactText;
 use op_tree::{Initializer, Name, Variables};
-use op_types::{Meaning, size_of};
+use op_types::Meaning;
 use std::alloc::Global;
 
 /// The most bytes that all globals may have.
@@ -184,7 +186,7 @@ impl Declarer {
         ensures { Declares (globals_fit place (here_of self.old)) self.old self.new }
     {
         if self.routine.is_none() && self.bytes > MOST_GLOBAL_BYTES {
-            self.refuse(72, place);
+            self.refuse(rules::GLOBALS_TOO_LARGE, place);
         }
     }
 }

@@ -9,9 +9,9 @@ ghost use Rattle.op_meaning.specs.Shapes.{shape_of};
 ghost use Rattle.op_constants.specs.FirstBytes.{content, elements_bytes, fields_bytes, first_bytes, first_number, fitted, number_by, number_bytes, number_of_constant, parts_bytes};
 
 use crate::shape::single_kind;
-use crate::size::{begin_behind, end_behind, extent_of, size_of, type_at};
+use crate::size::{begin_behind, end_behind, size_of};
 use op_base::NoMemory;
-use op_core::{Const, Core, CoreType, Field, Initial, IntegerKind, TypeId};
+use op_core::{Const, Core, CoreType, Field, Initial, IntegerKind, TypeId, extent_of, type_at};
 use std::alloc::Global;
 
 /// The bytes of a first value of the type in memory, as many as a value of the type takes.

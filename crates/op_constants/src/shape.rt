@@ -3,8 +3,7 @@ ghost use Rattle.std.specs.Prelude.{◌≡◌};
 ghost use Rattle.op_meaning.specs.Shapes.{shape_of};
 ghost use Rattle.op_constants.specs.Shapes.{is_composite, kind_of};
 
-use crate::size::type_at;
-use op_core::{Core, CoreType, IntegerKind, TypeId};
+use op_core::{Core, CoreType, IntegerKind, TypeId, type_at};
 
 /// Of which a store of the type keeps the low bits, where its values are single numbers.
 pub fn single_kind(core: &Core, of: TypeId) -> Option<IntegerKind>

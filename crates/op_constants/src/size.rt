@@ -3,7 +3,7 @@ ghost use Rattle.std.specs.Prelude.{◌≡◌};
 ghost use Rattle.op_core.specs.Sizes.{extent_of, type_at};
 ghost use Rattle.op_constants.specs.Offsets.{alignment_in, begin_behind, element_size, end_behind, field_offset, fields_in, size_in};
 
-use op_core::{Core, CoreType, Extent, Field, TypeId};
+use op_core::{Core, CoreType, Extent, Field, TypeId, extent_of, type_at};
 
 /// The bytes of a value of the type.
 pub fn size_of(core: &Core, of: TypeId) -> u32
@@ -54,26 +54,6 @@ pub(crate) fn fields_in(core: &Core, of: TypeId) -> &[Field]
     match type_at(core, of) {
         Some(CoreType::Record { fields }) => core.fields.rows(fields),
         _ => &[],
-    }
-}
-
-pub(crate) fn type_at(core: &Core, of: TypeId) -> Option<CoreType>
-    ensures { result ≡ type_at core.now of }
-{
-    core.types.as_slice().get(of.0 as usize).copied()
-}
-
-/// What is kept for a type; what is none takes a word.
-pub(crate) fn extent_of(core: &Core, of: TypeId) -> Extent
-    ensures { result ≡ extent_of core.now of }
-{
-    match core.extents.as_slice().get(of.0 as usize) {
-        None => Extent {
-            size: 4,
-            alignment: 4,
-            managed: false,
-        },
-        Some(extent) => *extent,
     }
 }
 

@@ -1,5 +1,5 @@
 -- What ordinal types range over, how large values are, and which are managed.
-use Rattle.std.specs.Prelude.{◌≡◌, ◌<◌, ◌≤◌, ℕ, ℤ, pos, negsuc, ◌+◌, ◌-◌, ◌*◌, ◌^◌, ◌-ℤ◌, nat_abs, max, min, Bool, true, false, ◌||◌, List, length, Option, Some, None, unwrap_or, slice_get, map}
+use Rattle.std.specs.Prelude.{◌≡◌, ◌<◌, ◌≤◌, ℕ, ℤ, pos, negsuc, ◌+◌, ◌-◌, ◌*◌, ◌^◌, ◌-ℤ◌, ◌≤ℤ◌, nat_abs, max, min, Bool, true, false, ◌||◌, List, length, Option, Some, None, unwrap_or, slice_get, map}
 use Rattle.std.specs.Int.{div_ceil}
 use Rattle.std.specs.List.{All, fold}
 use Rattle.op_core.specs.Rows.{rows}
@@ -35,6 +35,10 @@ range_of (Some Char) = Some (pos 0, pos 255)
 range_of (Some (Enumeration values)) = Some (pos 0, pos values -ℤ pos 1)
 range_of (Some (Subrange base low high)) = Some (low, high)
 range_of _ = None
+
+-- ordinal types range so
+abbrev pub IsOrdinalRange : ℤ × ℤ → Type 0
+IsOrdinalRange r = (negsuc 2147483647 ≤ℤ r.0) × (r.0 ≤ℤ pos 4294967295) × (negsuc 4294967295 ≤ℤ r.1) × (r.1 ≤ℤ pos 4294967295)
 
 -- how many values that are
 abbrev pub values_of : Option (ℤ × ℤ) → ℕ

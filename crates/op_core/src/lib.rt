@@ -17,6 +17,7 @@ mod law;
 mod operation;
 mod program;
 mod routine;
+mod size;
 mod statement;
 mod table;
 mod types;
@@ -32,6 +33,9 @@ pub use law::list_nodes;
 pub use operation::{Conversion, Dispatch, Function, Origin};
 pub use program::{Core, ExceptionClasses, Unit};
 pub use routine::{Body, Owner, Parameter, Role, Routine, Variable};
+pub use size::{
+    extent_by, extent_of, integer_range, is_managed, range_of, size_of, type_at, values_of,
+};
 pub use statement::{CoreAction, CoreBranch, CoreHandler, CoreItem, CoreStmt, CoreTarget, Label};
 pub use table::Table;
 pub use types::{CoreType, Extent, Field, IntegerKind};

@@ -21,6 +21,24 @@ impl<T> Model for Table<T> {
     ghost view = { λ t. t.rows.items };
 }
 
+impl<T> Table<T> {
+    pub fn as_slice(&self) -> &[T]
+        ensures { result.now ≡ self.now }
+    {
+        self.rows.as_slice()
+    }
+
+    /// Those of the rows that lie together and are there.
+    pub fn rows(&self, run: Run) -> &[T]
+        ensures { result.now ≡ rows self.now run }
+    {
+        let rows = self.rows.as_slice();
+        let (_, behind) = rows.split_at(rows.len().min(run.first as usize));
+        let (front, _) = behind.split_at(behind.len().min(run.count as usize));
+        front
+    }
+}
+
 impl<T: Drop> Table<T> {
     pub fn new(alloc: Global) -> Table<T>
         ensures { result ≡ [] }
@@ -53,21 +71,5 @@ impl<T: Drop> Table<T> {
         ensures { self.new ≡ slice_set self.old at row }
     {
         self.rows[at] = row;
-    }
-
-    pub fn as_slice(&self) -> &[T]
-        ensures { result.now ≡ self.now }
-    {
-        self.rows.as_slice()
-    }
-
-    /// Those of the rows that lie together and are there.
-    pub fn rows(&self, run: Run) -> &[T]
-        ensures { result.now ≡ rows self.now run }
-    {
-        let rows = self.rows.as_slice();
-        let (_, behind) = rows.split_at(rows.len().min(run.first as usize));
-        let (front, _) = behind.split_at(behind.len().min(run.count as usize));
-        front
     }
 }

@@ -17,10 +17,9 @@ use crate::operation::goes_on_at;
 use crate::setting::{Here, Setting};
 use crate::shape::type_of;
 use op_base::NoMemory;
-use op_core::{Action, CoreArgument, CoreElement, CoreExpr, Root, TypeId};
+use op_core::{Action, CoreArgument, CoreElement, CoreExpr, Root, TypeId, type_at};
 use op_mir::{Computation, Given};
 use op_tree::Operator;
-use op_types::type_at;
 
 /// What an argument gives to its parameter, and how many temporaries it keeps until the call.
 #[derive(Drop)]

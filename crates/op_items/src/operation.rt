@@ -1,7 +1,7 @@
 //! Operators, conversions and functions ("Operators" and "Value typecasts" of the Free Pascal Reference Guide; reference of the unit
 //! System, "Succ", "Pred", "Abs", "Sqr", "Odd", "UpCase", "Low", "High" and "Length").
 ghost use Rattle.std.specs.Prelude.{◌≡◌, ◌+◌, IfOk, IfSome};
-ghost use Rattle.op_core.specs.Sizes.{type_at};
+ghost use Rattle.op_core.specs.Sizes.{IsOrdinalRange, type_at};
 ghost use Rattle.op_items.specs.Adding.{Adds, Gives, env_view, found_view, now_view};
 ghost use Rattle.op_items.specs.Setting.{here_view};
 ghost use Rattle.op_meaning.specs.Actions.{arithmetic, check};
@@ -9,7 +9,6 @@ ghost use Rattle.op_meaning.specs.Expressions.{applied, applied_by, converted, g
 ghost use Rattle.op_meaning.specs.Items.{act, acts, only};
 ghost use Rattle.op_mir.specs.View.{view_computation};
 ghost use Rattle.op_tree.specs.declared.operator.Operator.TheVariants.{Multiply};
-ghost use Rattle.op_types.specs.Values.{IsRange};
 
 use crate::found::{Found, Now};
 use crate::item::Item;
@@ -17,10 +16,9 @@ use crate::set::set_of_type;
 use crate::setting::{Here, Setting, next};
 use crate::shape::{counted_of, high_in, low_in, number};
 use op_base::NoMemory;
-use op_core::{Conversion, Core, CoreType, Function, IntegerKind, TypeId};
+use op_core::{Conversion, Core, CoreType, Function, IntegerKind, TypeId, range_of, type_at};
 use op_mir::{Computation, TemporaryId};
 use op_tree::{Operator, PrefixOperator};
-use op_types::{range_of, type_at};
 
 /// The truth value of the left operand with which the right one is evaluated, where that decides anything.
 pub fn goes_on_at(operator: Operator, of: Option<CoreType>) -> Option<bool>
@@ -93,7 +91,7 @@ fn on_two(
 
 /// How many values a range has, or its first or its last one.
 fn measured_by(function: Function, range: Option<(i64, i64)>) -> Result<Option<i32>, NoMemory>
-    requires { IfSome range IsRange }
+    requires { IfSome range IsOrdinalRange }
     ensures { IfOk result (λ m. m ≡ measured_by function range) }
 {
     let Some((low, high)) = range else {

@@ -10,8 +10,10 @@ ghost use Rattle.op_meaning.specs.Shapes.{field_number, shape_of, type_of_variab
 ghost use Rattle.op_meaning.specs.Statements.{kind_of};
 
 use op_base::NoMemory;
-use op_core::{Core, CoreExpr, CoreType, FieldId, IntegerKind, InterfaceKind, TypeId, VariableId};
-use op_types::{range_of, type_at};
+use op_core::{
+    Core, CoreExpr, CoreType, FieldId, IntegerKind, InterfaceKind, TypeId, VariableId, range_of,
+    type_at,
+};
 
 /// How a value of a type is kept: as one number, of which a store keeps the low bits of an integer type; as parts; as a string; as the
 /// name of an array; or as the name of an instance, which an interface holds.

@@ -20,10 +20,9 @@ use crate::path::{whole_path, with_step};
 use crate::setting::{Here, Setting, behind, next};
 use crate::shape::{counted_of, high_in, low_in, type_of_variable};
 use op_base::NoMemory;
-use op_core::{Conversion, CoreType, TypeId, VariableId};
+use op_core::{Conversion, CoreType, TypeId, VariableId, type_at};
 use op_mir::{Computation, Path, TemporaryId};
 use op_tree::{Direction, Operator};
-use op_types::type_at;
 
 fn has_turn(direction: Direction) -> Operator
     ensures { result ≡ has_turn direction }

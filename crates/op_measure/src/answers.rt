@@ -12,11 +12,11 @@ use crate::words::{row, word_of};
 use op_base::NoMemory;
 use op_image::{build, buildable};
 use op_layout::Layout;
-use op_link::{Settings, link, linkable};
+use op_link::{LinkError, Settings, link, linkable};
 use op_low::{Low, valid};
-use op_rv::Objects;
+use op_rv::{Item, ObjectRoutine, Objects};
 use op_select::select;
-use std::alloc::Global;
+use std::alloc::{AllocError, Global};
 
 /// What low code gets to run.
 const FOR_LOW_CODE: Settings = Settings {
@@ -31,17 +31,20 @@ const FOR_OBJECTS: Settings = Settings {
 };
 
 /// The answer that a command asks for.
-pub fn answer(alloc: Global, command: &str, lines: &[&str]) -> Result<String, NoMemory> {
+pub fn answer(alloc: Global, command: &str, text: &str) -> Result<String, NoMemory> {
     match command {
-        "decode" | "header" | "lines" | "run" => of_image(alloc, command, lines),
-        "linkable" | "link" | "segments" => of_objects(alloc, command, lines),
-        _ => of_low_code(alloc, command, lines),
+        "decode" | "header" | "lines" | "run" => of_image(alloc, command, text),
+        "linkable" | "link" | "segments" => of_objects(alloc, command, text),
+        _ => of_low_code(alloc, command, text),
     }
 }
 
-fn of_image(alloc: Global, command: &str, lines: &[&str]) -> Result<String, NoMemory> {
-    let bytes = image(alloc, lines)?;
-    let bytes = bytes.as_slice();
+fn of_image(alloc: Global, command: &str, text: &str) -> Result<String, NoMemory> {
+    let image = image(alloc, text)?;
+    of_bytes(alloc, command, image.as_slice())
+}
+
+fn of_bytes(alloc: Global, command: &str, bytes: &[u8]) -> Result<String, NoMemory> {
     match command {
         "decode" => Ok(row(alloc, word_of(bytes))?),
         "header" => Ok(header(alloc, bytes)?),
@@ -50,28 +53,40 @@ fn of_image(alloc: Global, command: &str, lines: &[&str]) -> Result<String, NoMe
     }
 }
 
-fn of_low_code(alloc: Global, command: &str, lines: &[&str]) -> Result<String, NoMemory> {
-    let mut parts = Parts::read(alloc, lines)?;
-    let layout = parts.layout(alloc)?;
-    let Some(low) = low_code(alloc, &mut parts)? else {
-        return Ok(format!(in alloc; "no low code")?);
-    };
+fn said(alloc: Global, text: &str) -> Result<String, NoMemory> {
+    Ok(text.to_string(alloc)?)
+}
+
+fn of_low_code(alloc: Global, command: &str, text: &str) -> Result<String, NoMemory> {
+    let mut parts = Parts::read(alloc, text)?;
+    match low_code(alloc, &mut parts)? {
+        Some(low) => of_low(alloc, command, low, &parts),
+        None => said(alloc, "no low code"),
+    }
+}
+
+fn of_low(alloc: Global, command: &str, low: Low, parts: &Parts<'_>) -> Result<String, NoMemory> {
     if !valid(&low) {
-        return Ok(format!(in alloc; "not valid")?);
+        return said(alloc, "not valid");
     }
     match command {
-        "execute" => executed(alloc, low, &layout),
+        "execute" => executed(alloc, low, parts),
         "select" | "frame" => selected(alloc, low, command == "frame"),
-        _ => Ok(format!(in alloc; "valid")?),
+        _ => said(alloc, "valid"),
     }
 }
 
 /// How the image of low code ends, and what it writes.
-fn executed(alloc: Global, low: Low, layout: &Layout) -> Result<String, NoMemory> {
-    if !buildable(&low, layout) {
-        return Ok(format!(in alloc; "not buildable")?);
+fn executed(alloc: Global, low: Low, parts: &Parts<'_>) -> Result<String, NoMemory> {
+    let layout = parts.layout(alloc)?;
+    if !buildable(&low, &layout) {
+        return said(alloc, "not buildable");
     }
-    match build(alloc, low, layout, &FOR_LOW_CODE) {
+    ran(alloc, build(alloc, low, &layout, &FOR_LOW_CODE))
+}
+
+fn ran(alloc: Global, image: Result<Vec<u8>, LinkError>) -> Result<String, NoMemory> {
+    match image {
         Ok(image) => run(alloc, image.as_slice(), false),
         Err(error) => Ok(format!(in alloc; "{error:?}")?),
     }
@@ -79,17 +94,19 @@ fn executed(alloc: Global, low: Low, layout: &Layout) -> Result<String, NoMemory
 
 /// The image of low code, which is a text of its own. It is empty where it is not asked for, and where there is none.
 pub fn built(alloc: Global, text: &str, builds: bool) -> Result<Vec<u8>, NoMemory> {
-    let lines: Vec<&str> = text.lines().collect(alloc)?;
-    let mut parts = Parts::read(alloc, lines.as_slice())?;
-    let layout = parts.layout(alloc)?;
-    let none = Vec::new(alloc);
-    let Some(low) = low_code(alloc, &mut parts)? else {
-        return Ok(none);
-    };
-    if !buildable(&low, &layout) || !builds {
-        return Ok(none);
+    let mut parts = Parts::read(alloc, text)?;
+    match low_code(alloc, &mut parts)? {
+        Some(low) => image_of(alloc, low, &parts, builds),
+        None => Ok(Vec::new(alloc)),
     }
-    Ok(build(alloc, low, &layout, &FOR_LOW_CODE).unwrap_or(none))
+}
+
+fn image_of(alloc: Global, low: Low, parts: &Parts<'_>, builds: bool) -> Result<Vec<u8>, NoMemory> {
+    let layout = parts.layout(alloc)?;
+    if !buildable(&low, &layout) || !builds {
+        return Ok(Vec::new(alloc));
+    }
+    Ok(build(alloc, low, &layout, &FOR_LOW_CODE).unwrap_or(Vec::new(alloc)))
 }
 
 /// The items of the last routine: those of its first block, or its head and its last block.
@@ -97,33 +114,54 @@ fn selected(alloc: Global, low: Low, frame: bool) -> Result<String, NoMemory>
     requires { IsTrue (is_valid low) }
 {
     let objects = select(alloc, low)?;
-    let Some(routine) = objects.routines.as_slice().last() else {
-        return Ok(format!(in alloc; "no routine")?);
-    };
-    let blocks = routine.blocks.as_slice();
-    match (blocks.first(), blocks.last()) {
-        (Some(_), Some(raising)) if frame => {
-            let head = lines_of(alloc, routine.head.as_slice())?;
-            let raising = lines_of(alloc, raising.items.as_slice())?;
-            Ok(format!(in alloc; "{head} | {raising}")?)
-        }
-        (Some(first), _) => Ok(lines_of(alloc, first.items.as_slice())?),
-        _ => Ok(format!(in alloc; "no block")?),
+    match objects.routines.as_slice().last() {
+        Some(routine) => Ok(routine_lines(alloc, routine, frame)?),
+        None => said(alloc, "no routine"),
     }
 }
 
-fn of_objects(alloc: Global, command: &str, lines: &[&str]) -> Result<String, NoMemory> {
-    let mut parts = Parts::read(alloc, lines)?;
+fn routine_lines(
+    alloc: Global,
+    routine: &ObjectRoutine,
+    frame: bool,
+) -> Result<String, AllocError> {
+    let blocks = routine.blocks.as_slice();
+    match (blocks.first(), blocks.last()) {
+        (Some(_), Some(raising)) if frame => {
+            frame_lines(alloc, routine.head.as_slice(), raising.items.as_slice())
+        }
+        (Some(first), _) => lines_of(alloc, first.items.as_slice()),
+        _ => Ok("no block".to_string(alloc)?),
+    }
+}
+
+fn frame_lines(alloc: Global, head: &[Item], raising: &[Item]) -> Result<String, AllocError> {
+    let head = lines_of(alloc, head)?;
+    let raising = lines_of(alloc, raising)?;
+    format!(in alloc; "{head} | {raising}")
+}
+
+fn of_objects(alloc: Global, command: &str, text: &str) -> Result<String, NoMemory> {
+    let mut parts = Parts::read(alloc, text)?;
+    match objects(alloc, &mut parts)? {
+        Some(objects) => laid_out(alloc, command, &objects, &parts),
+        None => said(alloc, "no objects"),
+    }
+}
+
+fn laid_out(
+    alloc: Global,
+    command: &str,
+    objects: &Objects,
+    parts: &Parts<'_>,
+) -> Result<String, NoMemory> {
     let layout = parts.layout(alloc)?;
-    let Some(objects) = objects(alloc, &mut parts)? else {
-        return Ok(format!(in alloc; "no objects")?);
-    };
-    if !linkable(&objects, &layout) {
-        return Ok(format!(in alloc; "not linkable")?);
+    if !linkable(objects, &layout) {
+        return said(alloc, "not linkable");
     }
     match command {
-        "link" | "segments" => linked(alloc, &objects, &layout, command == "segments"),
-        _ => Ok(format!(in alloc; "linkable")?),
+        "link" | "segments" => linked(alloc, objects, &layout, command == "segments"),
+        _ => said(alloc, "linkable"),
     }
 }
 

@@ -6,24 +6,44 @@
 
 use crate::answers::answer;
 use op_base::NoMemory;
-use std::alloc::Global;
+use std::alloc::{AllocError, Global};
 use std::io;
 
-/// The frame with a case in it.
-fn framed<'a>(alloc: Global, frame: &'a str, case: &[&'a str]) -> Result<Vec<&'a str>, NoMemory> {
-    let mut lines = Vec::new(alloc);
-    for line in frame.lines() {
-        if line == "..." {
-            for own in case {
-                if !own.ends_with(':') {
-                    lines.push(own.trim())?;
-                }
-            }
-        } else if !(line.is_empty() || line.starts_with('#')) {
-            lines.push(line.trim())?;
+fn push_line(text: &mut String, line: &str) -> Result<(), AllocError> {
+    text.push_str(line.trim())?;
+    text.push('\n')
+}
+
+/// Puts the lines of a case behind a text, but for its name.
+fn push_case(text: &mut String, case: &[&str]) -> Result<(), AllocError> {
+    for line in case {
+        if !line.ends_with(':') {
+            push_line(text, *line)?;
         }
     }
-    Ok(lines)
+    Ok(())
+}
+
+fn is_left_out(line: &str) -> bool {
+    line.is_empty() || line.starts_with('#')
+}
+
+/// The frame with a case in it.
+fn framed(alloc: Global, frame: &str, case: &[&str]) -> Result<String, AllocError> {
+    let mut text = String::new(alloc);
+    for line in frame.lines() {
+        if line == "..." {
+            push_case(&mut text, case)?;
+        } else if !is_left_out(line) {
+            push_line(&mut text, line)?;
+        }
+    }
+    Ok(text)
+}
+
+fn told(alloc: Global, command: &str, frame: &str, case: &[&str]) -> Result<String, NoMemory> {
+    let text = framed(alloc, frame, case)?;
+    answer(alloc, command, text.as_str())
 }
 
 /// Writes the first line of a case, and behind it the answer.
@@ -32,11 +52,7 @@ fn tell_case(rt: &HostRuntime, command: &str, frame: &str, case: &[&str]) -> io:
         return Ok(());
     };
     let name = name.trim_end_matches(':');
-    let told = match framed(rt.alloc(), frame, case) {
-        Ok(lines) => answer(rt.alloc(), command, lines.as_slice()),
-        Err(error) => Err(error),
-    };
-    match told {
+    match told(rt.alloc(), command, frame, case) {
         Ok(told) => println!(rt; "{name}: {told}"),
         Err(error) => println!(rt; "{name}: {error}"),
     }
@@ -47,7 +63,7 @@ pub fn tell(rt: &HostRuntime, command: &str, text: &str) -> io::Result<()> {
     let (frame, cases) = text.split_once("----\n").unwrap_or(("...\n", text));
     let mut case = Vec::new(rt.alloc());
     for line in cases.lines() {
-        if line.is_empty() || line.starts_with('#') {
+        if is_left_out(line) {
             continue;
         }
         if !line.starts_with(' ') {

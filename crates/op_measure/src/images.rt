@@ -1,11 +1,10 @@
 //! Images as text, what their headers say, and how they run.
 
-use crate::operands::Operands;
-use crate::parts::words_of;
+use crate::operands::{Operands, first_word};
 use crate::tokens::characters;
 use crate::words::word_of;
 use op_base::{MemSink, MemSource, NoMemory};
-use op_emu::{Stop, load};
+use op_emu::{Machine, Stop, load};
 use op_link::{read_header, segment};
 use op_listing::listing;
 use std::alloc::{AllocError, Global};
@@ -17,37 +16,52 @@ const ROOM: usize = 64;
 
 /// The bytes of a text of words in hexadecimal digits. `times N` stands before a word that is meant so often; behind `at` stand
 /// the place of a word and what it is changed to; and `cut` tells how many bytes are kept.
-pub fn image(alloc: Global, lines: &[&str]) -> Result<Vec<u8>, NoMemory> {
+pub fn image(alloc: Global, text: &str) -> Result<Vec<u8>, AllocError> {
     let mut bytes = Vec::new(alloc);
-    for line in lines {
-        let words = words_of(alloc, *line)?;
-        let operands = Operands(words.as_slice());
-        let number = operands.natural(1);
-        match operands.word(0) {
-            "cut" => bytes.truncate(number as usize),
-            "at" => {
-                let changed = u32::from_str_radix(operands.word(2), 16).unwrap_or(0);
-                for (byte, new) in bytes
-                    .iter_mut()
-                    .skip(number as usize)
-                    .zip(changed.to_le_bytes())
-                {
-                    *byte = new;
-                }
-            }
-            "times" => {
-                for _turn in 0..number {
-                    push_word(&mut bytes, operands.word(2))?;
-                }
-            }
-            _ => {
-                for word in words {
-                    push_word(&mut bytes, word)?;
-                }
-            }
-        }
+    for line in text.lines() {
+        take(&mut bytes, line)?;
     }
     Ok(bytes)
+}
+
+/// Takes one line more.
+fn take(bytes: &mut Vec<u8>, line: &str) -> Result<(), AllocError> {
+    let (word, rest) = first_word(line);
+    let operands = Operands(rest);
+    let number = operands.natural(0);
+    match word {
+        "cut" => {
+            bytes.truncate(number as usize);
+            Ok(())
+        }
+        "at" => {
+            change_word(bytes, number as usize, operands.word(1));
+            Ok(())
+        }
+        "times" => push_times(bytes, number, operands.word(1)),
+        _ => push_all(bytes, line),
+    }
+}
+
+fn change_word(bytes: &mut Vec<u8>, place: usize, digits: &str) {
+    let word = u32::from_str_radix(digits, 16).unwrap_or(0).to_le_bytes();
+    for (byte, new) in bytes.iter_mut().skip(place).zip(word.iter()) {
+        *byte = *new;
+    }
+}
+
+fn push_times(bytes: &mut Vec<u8>, number: u32, digits: &str) -> Result<(), AllocError> {
+    for _turn in 0..number {
+        push_word(bytes, digits)?;
+    }
+    Ok(())
+}
+
+fn push_all(bytes: &mut Vec<u8>, line: &str) -> Result<(), AllocError> {
+    for digits in line.split_ascii_whitespace() {
+        push_word(bytes, digits)?;
+    }
+    Ok(())
 }
 
 fn push_word(bytes: &mut Vec<u8>, digits: &str) -> Result<(), AllocError> {
@@ -99,33 +113,39 @@ fn push_words(told: &mut String, bytes: &[u8]) -> Result<(), AllocError> {
     push_row(told, last, count)
 }
 
+/// The bytes that an image has for a segment.
+fn bytes_of<'a>(image: &'a [u8], place: u32, size: u32) -> &'a [u8] {
+    let behind = image.get(place as usize..).unwrap_or(&[]);
+    behind.get(..size as usize).unwrap_or(&[])
+}
+
+/// Writes the address of a segment and its words, behind those of others, if there are any.
+fn push_contents(told: &mut String, address: u32, bytes: &[u8]) -> Result<(), AllocError> {
+    if bytes.is_empty() {
+        return Ok(());
+    }
+    if !told.is_empty() {
+        told.push_str("; ")?;
+    }
+    write!(told, "{address:08x}:")?;
+    push_words(told, bytes)
+}
+
 /// The words that an image has for each segment.
 pub fn contents(alloc: Global, image: &[u8]) -> Result<String, AllocError> {
     let mut told = String::new(alloc);
     if let Ok(header) = read_header(image) {
         for k in 0..header.number {
             let s = segment(image, &header, k);
-            let behind = image.get(s.offset as usize..).unwrap_or(&[]);
-            let bytes = behind.get(..s.file_size as usize).unwrap_or(&[]);
-            if !bytes.is_empty() {
-                if !told.is_empty() {
-                    told.push_str("; ")?;
-                }
-                write!(told, "{:08x}:", s.address)?;
-                push_words(&mut told, bytes)?;
-            }
+            let bytes = bytes_of(image, s.offset, s.file_size);
+            push_contents(&mut told, s.address, bytes)?;
         }
     }
     Ok(told)
 }
 
-/// The lines of an image's listing.
-pub fn listed(alloc: Global, image: &[u8]) -> Result<String, NoMemory> {
-    let listing = listing(alloc, image)?;
-    let text = str::from_utf8(listing.as_slice()).unwrap_or("no text");
-    if text.is_empty() {
-        return Ok(format!(in alloc; "no lines")?);
-    }
+/// The lines of a text in one line.
+fn joined(alloc: Global, text: &str) -> Result<String, AllocError> {
     let mut told = String::new(alloc);
     for line in text.lines() {
         if !told.is_empty() {
@@ -136,24 +156,51 @@ pub fn listed(alloc: Global, image: &[u8]) -> Result<String, NoMemory> {
     Ok(told)
 }
 
-/// How the image stops that runs over the input `abcdef`, after how many steps if that is asked, and else what it writes.
-pub fn run(alloc: Global, image: &[u8], counts: bool) -> Result<String, NoMemory> {
-    let mut machine = match load(alloc, image) {
-        Ok(machine) => machine,
-        Err(error) => return Ok(format!(in alloc; "{error}")?),
-    };
+/// The lines of an image's listing.
+pub fn listed(alloc: Global, image: &[u8]) -> Result<String, NoMemory> {
+    let listing = listing(alloc, image)?;
+    match str::from_utf8(listing.as_slice()).unwrap_or("no text") {
+        "" => Ok("no lines".to_string(alloc)?),
+        text => Ok(joined(alloc, text)?),
+    }
+}
+
+/// Runs a machine over the input `abcdef`, and keeps what it writes to the output.
+fn stop_of(alloc: Global, machine: &mut Machine, out: &mut MemSink) -> Result<Stop, NoMemory> {
     let mut input = MemSource::new(b"abcdef".to_vec(alloc)?, Vec::new(alloc));
-    let mut out = MemSink::new(alloc, ROOM, Vec::new(alloc))?;
     let mut err = MemSink::new(alloc, ROOM, Vec::new(alloc))?;
-    let mut told = match machine.run(STEPS, &mut input, &mut out, &mut err) {
-        Stop::Fault(kind, pc) => format!(in alloc; "{kind:?} at {pc:08x}")?,
-        stop => format!(in alloc; "{stop:?}")?,
-    };
+    Ok(machine.run(STEPS, &mut input, out, &mut err))
+}
+
+fn stop_text(alloc: Global, stop: Stop) -> Result<String, AllocError> {
+    match stop {
+        Stop::Fault(kind, pc) => format!(in alloc; "{kind:?} at {pc:08x}"),
+        stop => format!(in alloc; "{stop:?}"),
+    }
+}
+
+fn push_written(told: &mut String, alloc: Global, bytes: &[u8]) -> Result<(), AllocError> {
+    let written = characters(alloc, bytes)?;
+    write!(told, ", {written:?}")
+}
+
+/// How a machine stops, and the text that it writes, or its steps.
+fn run_of(alloc: Global, machine: &mut Machine, counts: bool) -> Result<String, NoMemory> {
+    let mut out = MemSink::new(alloc, ROOM, Vec::new(alloc))?;
+    let stop = stop_of(alloc, machine, &mut out)?;
+    let mut told = stop_text(alloc, stop)?;
     if counts {
         write!(told, ", steps: {}", machine.steps())?;
     } else {
-        let written = characters(alloc, out.bytes())?;
-        write!(told, ", {written:?}")?;
+        push_written(&mut told, alloc, out.bytes())?;
     }
     Ok(told)
+}
+
+/// How the image stops that runs over the input `abcdef`, after how many steps if that is asked, and else what it writes.
+pub fn run(alloc: Global, image: &[u8], counts: bool) -> Result<String, NoMemory> {
+    match load(alloc, image) {
+        Ok(mut machine) => run_of(alloc, &mut machine, counts),
+        Err(error) => Ok(format!(in alloc; "{error}")?),
+    }
 }

@@ -1,11 +1,11 @@
 //! Low code as text: an instruction a line, whose registers, blocks and routines are their numbers.
 
-use crate::operands::{Operands, find};
-use crate::parts::{Parts, RoutineLines, first_word, words_of};
-use op_base::{NoMemory, Sequence};
+use crate::operands::{Operands, find, first_word, natural_of};
+use crate::parts::{Parts, RoutineLines};
+use op_base::Sequence;
 use op_low::{Block, Call, Counts, Instruction, Low, Output, Routine, VirtualRegister};
 use op_rv::{AluOp, BlockId, BranchOp, ImmOp, LoadOp, RoutineId, ShiftOp, StoreOp};
-use std::alloc::Global;
+use std::alloc::{AllocError, Global};
 use std::mem;
 
 const OPERATIONS: [(&str, AluOp); 18] = [
@@ -173,49 +173,50 @@ fn going(name: &str, operands: Operands) -> Option<Instruction> {
     }
 }
 
-/// `call R T L A..` calls the routine R with the arguments A, puts its value in T, and lands at the block L; `callat` calls the
-/// one at the address in R.
-fn calling(alloc: Global, name: &str, operands: Operands) -> Result<Option<Instruction>, NoMemory> {
-    let mut arguments = Vec::new(alloc);
-    for number in operands.naturals(alloc, 3)? {
-        arguments.push(VirtualRegister(number))?;
+/// An instruction that calls no routine.
+fn plain(name: &str, operands: Operands) -> Option<Instruction> {
+    match computing(name, operands) {
+        Some(found) => Some(found),
+        None => match moving(name, operands) {
+            Some(found) => Some(found),
+            None => going(name, operands),
+        },
     }
-    let call = Call {
+}
+
+/// The arguments, the value's register and the landing of a call, behind what is called.
+fn call(alloc: Global, operands: Operands) -> Result<Call, AllocError> {
+    let mut arguments = Vec::new(alloc);
+    for word in operands.0.split_ascii_whitespace().skip(3) {
+        arguments.push(VirtualRegister(natural_of(word)))?;
+    }
+    Ok(Call {
         arguments: Sequence::from(arguments),
         to: operands.register(1),
         landing: operands.landing(2),
-    };
-    Ok(match name {
-        "call" => Some(Instruction::Call {
-            routine: RoutineId(operands.natural(0)),
-            call,
-        }),
-        "callat" => Some(Instruction::CallAt {
-            address: operands.register(0),
-            call,
-        }),
-        _ => None,
     })
 }
 
-fn instruction(alloc: Global, line: &str) -> Result<Option<Instruction>, NoMemory> {
+/// `call R T L A..` calls the routine R with the arguments A, puts its value in T, and lands at the block L; `callat` calls the
+/// one at the address in R.
+fn instruction(alloc: Global, line: &str) -> Result<Option<Instruction>, AllocError> {
     let (name, rest) = first_word(line);
-    let words = words_of(alloc, rest)?;
-    let operands = Operands(words.as_slice());
-    if let Some(found) = computing(name, operands) {
-        return Ok(Some(found));
-    }
-    if let Some(found) = moving(name, operands) {
-        return Ok(Some(found));
-    }
-    match going(name, operands) {
-        Some(found) => Ok(Some(found)),
-        None => calling(alloc, name, operands),
+    let operands = Operands(rest);
+    match name {
+        "call" => Ok(Some(Instruction::Call {
+            routine: RoutineId(operands.natural(0)),
+            call: call(alloc, operands)?,
+        })),
+        "callat" => Ok(Some(Instruction::CallAt {
+            address: operands.register(0),
+            call: call(alloc, operands)?,
+        })),
+        _ => Ok(plain(name, operands)),
     }
 }
 
 /// `None` where a line is no instruction.
-fn block(alloc: Global, lines: &[&str]) -> Result<Option<Block>, NoMemory> {
+fn block(alloc: Global, lines: &[&str]) -> Result<Option<Block>, AllocError> {
     let mut code = Vec::new(alloc);
     for line in lines {
         match instruction(alloc, *line)? {
@@ -229,7 +230,7 @@ fn block(alloc: Global, lines: &[&str]) -> Result<Option<Block>, NoMemory> {
 }
 
 /// A routine of so many parameters, registers and bytes of locals.
-fn routine(alloc: Global, lines: &RoutineLines) -> Result<Option<Routine>, NoMemory> {
+fn routine(alloc: Global, lines: &RoutineLines) -> Result<Option<Routine>, AllocError> {
     let mut blocks = Vec::new(alloc);
     for lines in lines.blocks.as_slice() {
         match block(alloc, lines.as_slice())? {
@@ -237,8 +238,7 @@ fn routine(alloc: Global, lines: &RoutineLines) -> Result<Option<Routine>, NoMem
             None => return Ok(None),
         }
     }
-    let words = words_of(alloc, lines.numbers)?;
-    let numbers = Operands(words.as_slice());
+    let numbers = Operands(lines.numbers);
     Ok(Some(Routine {
         parameters: numbers.natural(0),
         registers: numbers.natural(1),
@@ -248,7 +248,7 @@ fn routine(alloc: Global, lines: &RoutineLines) -> Result<Option<Routine>, NoMem
 }
 
 /// The low code of a text; `None` where a line of a block is no instruction.
-pub fn low_code(alloc: Global, parts: &mut Parts) -> Result<Option<Low>, NoMemory> {
+pub fn low_code(alloc: Global, parts: &mut Parts) -> Result<Option<Low>, AllocError> {
     let mut routines = Vec::new(alloc);
     for lines in parts.routines.as_slice() {
         match routine(alloc, lines)? {

@@ -7,6 +7,8 @@
 //! of objects.
 #![tactic(auto)]
 
+ghost use Rattle.std.specs.Prelude.{◌≤◌, length};
+
 mod answers;
 mod cases;
 mod images;
@@ -32,27 +34,37 @@ const COMMANDS: [&str; 19] = [
 /// The most bytes that are read.
 const MOST_BYTES: usize = 1 << 26;
 
+fn say(rt: &HostRuntime, line: &str) -> io::Result<()> {
+    println!(rt; "{line}")
+}
+
 fn tell_file(rt: &HostRuntime, command: &str, name: &str) -> io::Result<()> {
     let mut files = StdFiles::new(rt);
     match files.read(rt.alloc(), name, MOST_BYTES) {
-        Ok(FileAnswer::Found(text)) => match command {
-            "words" => words::tell(rt, text.as_slice()),
-            "listing" => tell_listing(rt, text.as_slice()),
-            "parse" | "print" => trees::tell(rt, name, text.as_slice(), command == "print"),
-            "count" | "list" => tokens::tell(rt, name, text.as_slice(), command == "list"),
-            _ => match str::from_utf8(text.as_slice()) {
-                Ok(text) => tell_text(rt, command, text),
-                Err(_) => println!(rt; "no text"),
-            },
+        Ok(FileAnswer::Found(text)) => tell_bytes(rt, command, name, text.as_slice()),
+        _ => say(rt, "not read"),
+    }
+}
+
+fn tell_bytes(rt: &HostRuntime, command: &str, name: &str, text: &[u8]) -> io::Result<()>
+    requires { length text.now ≤ 2147483648 }
+{
+    match command {
+        "words" => words::tell(rt, text),
+        "listing" => tell_listing(rt, text),
+        "parse" | "print" => trees::tell(rt, name, text, command == "print"),
+        "count" | "list" => tokens::tell(rt, name, text, command == "list"),
+        _ => match str::from_utf8(text) {
+            Ok(text) => tell_text(rt, command, text),
+            Err(_) => say(rt, "no text"),
         },
-        _ => println!(rt; "not read"),
     }
 }
 
 fn tell_listing(rt: &HostRuntime, image: &[u8]) -> io::Result<()> {
     match listing(rt.alloc(), image) {
         Ok(listing) => rt.stdout().write_all(listing.as_slice()),
-        Err(error) => println!(rt; "{error}"),
+        Err(_) => say(rt, "out of memory"),
     }
 }
 
@@ -60,7 +72,7 @@ fn tell_text(rt: &HostRuntime, command: &str, text: &str) -> io::Result<()> {
     match command {
         "make" | "build" => match built(rt.alloc(), text, command == "build") {
             Ok(image) => rt.stdout().write_all(image.as_slice()),
-            Err(error) => println!(rt; "{error}"),
+            Err(_) => say(rt, "out of memory"),
         },
         _ => cases::tell(rt, command, text),
     }
@@ -72,9 +84,9 @@ fn is_command(word: &str) -> bool {
 }
 
 fn main(rt: HostRuntime) -> io::Result<()> {
-    let words: Vec<String> = std::env::args(&rt)?.skip(1).collect(rt.alloc())?;
+    let words: Vec<String> = std::env::args(&rt)?.collect(rt.alloc())?;
     let mut command = "";
-    for word in words.as_slice() {
+    for word in words.as_slice().iter().skip(1) {
         let word = word.as_str();
         if is_command(word) {
             command = word;

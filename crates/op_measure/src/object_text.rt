@@ -1,11 +1,11 @@
 //! Objects as text: an item a line. What stands in front of a routine's first `block` is its head.
 
 use crate::low_text::BRANCHES;
-use crate::operands::{Operands, find};
-use crate::parts::{Parts, first_word, words_of};
-use op_base::{NoMemory, Sequence};
+use crate::operands::{Operands, find, first_word};
+use crate::parts::Parts;
+use op_base::Sequence;
 use op_rv::{BlockId, Instr, Item, ObjectBlock, ObjectRoutine, Objects, RoutineId, decode};
-use std::alloc::Global;
+use std::alloc::{AllocError, Global};
 use std::mem;
 
 /// A branch, a jump, a call, an address, or the word of an instruction.
@@ -42,12 +42,11 @@ fn item(name: &str, operands: Operands) -> Option<Item> {
 }
 
 /// `None` where a line is no item.
-fn items(alloc: Global, lines: &[&str]) -> Result<Option<Sequence<Item>>, NoMemory> {
+fn items(alloc: Global, lines: &[&str]) -> Result<Option<Sequence<Item>>, AllocError> {
     let mut items = Vec::new(alloc);
     for line in lines {
         let (name, rest) = first_word(*line);
-        let words = words_of(alloc, rest)?;
-        match item(name, Operands(words.as_slice())) {
+        match item(name, Operands(rest)) {
             Some(found) => items.push(found)?,
             None => return Ok(None),
         }
@@ -55,7 +54,7 @@ fn items(alloc: Global, lines: &[&str]) -> Result<Option<Sequence<Item>>, NoMemo
     Ok(Some(Sequence::from(items)))
 }
 
-fn routine(alloc: Global, lines: &[Vec<&str>]) -> Result<Option<ObjectRoutine>, NoMemory> {
+fn routine(alloc: Global, lines: &[Vec<&str>]) -> Result<Option<ObjectRoutine>, AllocError> {
     let mut head = Sequence::from(Vec::new(alloc));
     let mut blocks = Vec::new(alloc);
     for (number, lines) in lines.iter().enumerate() {
@@ -70,7 +69,7 @@ fn routine(alloc: Global, lines: &[Vec<&str>]) -> Result<Option<ObjectRoutine>, 
 }
 
 /// The objects of a text; `None` where a line of a block is no item.
-pub fn objects(alloc: Global, parts: &mut Parts) -> Result<Option<Objects>, NoMemory> {
+pub fn objects(alloc: Global, parts: &mut Parts) -> Result<Option<Objects>, AllocError> {
     let mut routines = Vec::new(alloc);
     for lines in parts.routines.as_slice() {
         match routine(alloc, lines.blocks.as_slice())? {

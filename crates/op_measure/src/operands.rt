@@ -4,22 +4,30 @@ use op_low::VirtualRegister;
 use op_rv::{BlockId, DescriptorId, GlobalId, LiteralId, RoutineId, Symbol, TableId};
 use std::alloc::{AllocError, Global};
 
+/// A line's first word, and what stands behind it.
+pub fn first_word(line: &str) -> (&str, &str) {
+    line.split_once(' ').unwrap_or((line, ""))
+}
+
+/// A number in decimal, or in hexadecimal digits behind `0x`; 0 where the word is none.
+pub fn natural_of(word: &str) -> u32 {
+    match word.strip_prefix("0x") {
+        Some(digits) => u32::from_str_radix(digits, 16).unwrap_or(0),
+        None => word.parse::<u32>().unwrap_or(0),
+    }
+}
+
 /// The words behind the first one of a line. One that is missing or no number of its type counts as 0.
 #[derive(Clone, Copy)]
-pub struct Operands<'a>(pub &'a [&'a str]);
+pub struct Operands<'a>(pub &'a str);
 
 impl<'a> Operands<'a> {
     pub fn word(self, place: usize) -> &'a str {
-        self.0.get(place).copied().unwrap_or("")
+        self.0.split_ascii_whitespace().nth(place).unwrap_or("")
     }
 
-    /// A number in decimal, or in hexadecimal digits behind `0x`.
     pub fn natural(self, place: usize) -> u32 {
-        let word = self.word(place);
-        match word.strip_prefix("0x") {
-            Some(digits) => u32::from_str_radix(digits, 16).unwrap_or(0),
-            None => word.parse::<u32>().unwrap_or(0),
-        }
+        natural_of(self.word(place))
     }
 
     pub fn signed(self, place: usize) -> i32 {
@@ -38,7 +46,7 @@ impl<'a> Operands<'a> {
     pub fn landing(self, place: usize) -> Option<BlockId> {
         match self.word(place) {
             "-" => None,
-            _ => Some(BlockId(self.natural(place))),
+            word => Some(BlockId(natural_of(word))),
         }
     }
 
@@ -58,19 +66,10 @@ impl<'a> Operands<'a> {
     /// The bytes from a place on.
     pub fn bytes(self, alloc: Global, place: usize) -> Result<Vec<u8>, AllocError> {
         let mut bytes = Vec::new(alloc);
-        for k in place..self.0.len() {
-            bytes.push(self.byte(k))?;
+        for word in self.0.split_ascii_whitespace().skip(place) {
+            bytes.push(word.parse::<u8>().unwrap_or(0))?;
         }
         Ok(bytes)
-    }
-
-    /// The numbers from a place on.
-    pub fn naturals(self, alloc: Global, place: usize) -> Result<Vec<u32>, AllocError> {
-        let mut numbers = Vec::new(alloc);
-        for k in place..self.0.len() {
-            numbers.push(self.natural(k))?;
-        }
-        Ok(numbers)
     }
 }
 

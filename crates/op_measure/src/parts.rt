@@ -1,11 +1,11 @@
 //! The parts of a program that is written as text: its constants, its globals, and the lines of its routines.
 
-use crate::operands::Operands;
+use crate::operands::{Operands, first_word, natural_of};
 use op_base::{NoMemory, Sequence, Text};
 use op_layout::Layout;
 use op_low::Counts;
 use op_rv::{GlobalVariable, RoutineId};
-use std::alloc::Global;
+use std::alloc::{AllocError, Global};
 
 /// A routine: the numbers behind its name, and the lines of its blocks.
 #[derive(Drop)]
@@ -28,18 +28,8 @@ pub struct Parts<'a> {
     entries: Vec<RoutineId>,
 }
 
-/// A line's first word, and what stands behind it.
-pub fn first_word(line: &str) -> (&str, &str) {
-    line.split_once(' ').unwrap_or((line, ""))
-}
-
-/// The words of a line.
-pub fn words_of(alloc: Global, line: &str) -> Result<Vec<&str>, NoMemory> {
-    Ok(line.split_ascii_whitespace().collect(alloc)?)
-}
-
 impl<'a> Parts<'a> {
-    pub fn read(alloc: Global, lines: &[&'a str]) -> Result<Parts<'a>, NoMemory> {
+    pub fn read(alloc: Global, text: &'a str) -> Result<Parts<'a>, AllocError> {
         let mut parts = Parts {
             routines: Vec::new(alloc),
             globals: Vec::new(alloc),
@@ -51,67 +41,96 @@ impl<'a> Parts<'a> {
             literals: Vec::new(alloc),
             entries: Vec::new(alloc),
         };
-        for line in lines {
-            parts.take(alloc, *line)?;
+        for line in text.lines() {
+            parts.take(alloc, line)?;
         }
         Ok(parts)
     }
 
     /// Takes one line more.
-    fn take(&mut self, alloc: Global, line: &'a str) -> Result<(), NoMemory> {
+    fn take(&mut self, alloc: Global, line: &'a str) -> Result<(), AllocError> {
         let (word, rest) = first_word(line);
-        let words = words_of(alloc, rest)?;
-        let operands = Operands(words.as_slice());
         match word {
-            "literal" => self.literals.push(Text::from(operands.bytes(alloc, 0)?))?,
-            "blank" => {
-                let zeros = vec![in alloc; 0; operands.natural(0) as usize]?;
-                self.literals.push(Text::from(zeros))?;
-            }
-            "global" => self.globals.push(GlobalVariable {
-                initial: Sequence::from(operands.bytes(alloc, 1)?),
-                zeros: operands.natural(0),
-            })?,
-            "table" => {
-                for number in operands.naturals(alloc, 0)? {
-                    self.entries.push(RoutineId(number))?;
-                }
-            }
+            "routine" => self.begin_routine(alloc, rest),
+            "block" => self.begin_block(alloc),
+            "times" => self.add_times(rest),
+            "literal" | "blank" | "global" => self.take_bytes(alloc, word, Operands(rest)),
+            "table" => self.take_table(Operands(rest)),
             "counts" => {
-                self.counts = Counts {
-                    literals: operands.natural(0),
-                    tables: operands.natural(1),
-                    descriptors: operands.natural(2),
-                };
+                self.take_counts(Operands(rest));
+                Ok(())
             }
-            "routine" => self.routines.push(RoutineLines {
-                numbers: rest,
-                blocks: vec![in alloc; Vec::new(alloc)]?,
-            })?,
-            "times" => {
-                let again = first_word(rest).1;
-                for _turn in 0..operands.natural(0) {
-                    self.add(again)?;
-                }
-            }
-            "block" => {
-                if let Some(routine) = self.routines.last_mut() {
-                    routine.blocks.push(Vec::new(alloc))?;
-                }
-            }
-            _ => self.add(line)?,
+            _ => self.add(line),
         }
-        Ok(())
+    }
+
+    fn begin_routine(&mut self, alloc: Global, numbers: &'a str) -> Result<(), AllocError> {
+        let blocks = Vec::new(alloc);
+        self.routines.push(RoutineLines { numbers, blocks })?;
+        self.begin_block(alloc)
+    }
+
+    fn begin_block(&mut self, alloc: Global) -> Result<(), AllocError> {
+        match self.routines.last_mut() {
+            Some(routine) => Ok(routine.blocks.push(Vec::new(alloc))?),
+            None => Ok(()),
+        }
     }
 
     /// Puts a line at the end of the last block.
-    fn add(&mut self, line: &'a str) -> Result<(), NoMemory> {
+    fn add(&mut self, line: &'a str) -> Result<(), AllocError> {
         if let Some(routine) = self.routines.last_mut() {
             if let Some(block) = routine.blocks.last_mut() {
                 block.push(line)?;
             }
         }
         Ok(())
+    }
+
+    /// Puts the line behind a number at the end of the last block, so often.
+    fn add_times(&mut self, rest: &'a str) -> Result<(), AllocError> {
+        let (number, line) = first_word(rest);
+        for _turn in 0..natural_of(number) {
+            self.add(line)?;
+        }
+        Ok(())
+    }
+
+    fn take_bytes(
+        &mut self,
+        alloc: Global,
+        word: &str,
+        operands: Operands<'_>,
+    ) -> Result<(), AllocError> {
+        match word {
+            "literal" => self.add_literal(operands.bytes(alloc, 0)?),
+            "blank" => self.add_literal(vec![in alloc; 0; operands.natural(0) as usize]?),
+            _ => self.add_global(operands.bytes(alloc, 1)?, operands.natural(0)),
+        }
+    }
+
+    fn add_literal(&mut self, bytes: Vec<u8>) -> Result<(), AllocError> {
+        Ok(self.literals.push(Text::from(bytes))?)
+    }
+
+    fn add_global(&mut self, bytes: Vec<u8>, zeros: u32) -> Result<(), AllocError> {
+        let initial = Sequence::from(bytes);
+        Ok(self.globals.push(GlobalVariable { initial, zeros })?)
+    }
+
+    fn take_table(&mut self, operands: Operands<'_>) -> Result<(), AllocError> {
+        for word in operands.0.split_ascii_whitespace() {
+            self.entries.push(RoutineId(natural_of(word)))?;
+        }
+        Ok(())
+    }
+
+    fn take_counts(&mut self, operands: Operands<'_>) {
+        self.counts = Counts {
+            literals: operands.natural(0),
+            tables: operands.natural(1),
+            descriptors: operands.natural(2),
+        };
     }
 
     /// The layout of the literals, and the table behind them.

@@ -1,6 +1,7 @@
 //! The tree of a text.
 ghost use Rattle.std.specs.Prelude.{◌≤◌, length};
 
+use crate::say;
 use op_base::Refusal;
 use op_parse_code::ParseError;
 use op_parse_decl::parse;
@@ -17,16 +18,33 @@ fn tell_refusal(rt: &HostRuntime, name: &str, refusal: Refusal) -> io::Result<()
     }
 }
 
+fn print_tree(rt: &HostRuntime, tree: &Tree) -> io::Result<()> {
+    match print(rt.alloc(), tree) {
+        Ok(text) => rt.stdout().write_all(text.as_slice()),
+        Err(_) => say(rt, "out of memory"),
+    }
+}
+
 fn tell_tree(rt: &HostRuntime, name: &str, tree: &Tree, prints: bool) -> io::Result<()> {
     if prints {
-        return match print(rt.alloc(), tree) {
-            Ok(text) => rt.stdout().write_all(text.as_slice()),
-            Err(_) => println!(rt; "out of memory"),
-        };
+        return print_tree(rt, tree);
     }
     match tree {
         Tree::Program(_) => println!(rt; "{name}: program"),
         Tree::Unit(_) => println!(rt; "{name}: unit"),
+    }
+}
+
+fn tell_parsed(
+    rt: &HostRuntime,
+    name: &str,
+    parsed: Result<Tree, ParseError>,
+    prints: bool,
+) -> io::Result<()> {
+    match parsed {
+        Ok(tree) => tell_tree(rt, name, &tree, prints),
+        Err(ParseError::Refused(refusal)) => tell_refusal(rt, name, refusal),
+        Err(ParseError::NoMemory) => say(rt, "out of memory"),
     }
 }
 
@@ -35,12 +53,8 @@ pub fn tell(rt: &HostRuntime, name: &str, text: &[u8], prints: bool) -> io::Resu
     requires { length text.now ≤ 2147483648 }
 {
     match scan(rt.alloc(), text, 0) {
-        Ok(tokens) => match parse(rt.alloc(), &tokens) {
-            Ok(tree) => tell_tree(rt, name, &tree, prints),
-            Err(ParseError::Refused(refusal)) => tell_refusal(rt, name, refusal),
-            Err(ParseError::NoMemory) => println!(rt; "out of memory"),
-        },
+        Ok(tokens) => tell_parsed(rt, name, parse(rt.alloc(), &tokens), prints),
         Err(ScanError::Refused(refusal)) => tell_refusal(rt, name, refusal),
-        Err(ScanError::NoMemory) => println!(rt; "out of memory"),
+        Err(ScanError::NoMemory) => say(rt, "out of memory"),
     }
 }

@@ -2,7 +2,9 @@
 use Rattle.std.proofs.Common.{◌≡◌, ℕ, Bool, false, List, [], ◌∷◌, ◌++◌, Option, Some, None, refl, sym, ap, ◌∙◌, subst}
 use Rattle.op_base.specs.declared.place.Place.{Place}
 use Rattle.op_parse_code.proofs.ExpressionKnown.{known_operand}
-use Rattle.op_parse_code.proofs.Refusing.{Some_, Seq, refuses_map, refuses_first, refuses_after, refuses_behind}
+use Rattle.op_parse_code.proofs.Fitting.{fits_operand}
+use Rattle.op_parse_code.proofs.Living.{Sample, hands_as, hands_behind, hands_first}
+use Rattle.op_parse_code.proofs.Refusing.{Some_, Seq, HandsOn, refuses_map, refuses_first, refuses_after, refuses_behind}
 use Rattle.op_parse_code.specs.GrammarForm.{GrammarForm, is_slash}
 use Rattle.op_parse_code.specs.Opening.{StandsOperator, NoOperator, NotTighter}
 use Rattle.op_parse_code.specs.Refusal.{Refuses, in_grammar, refused_at}
@@ -11,7 +13,7 @@ use Rattle.op_parse_code.specs.declared.error.ParseError.{ParseError}
 use Rattle.op_scan.specs.declared.token.TokenKind.{TokenKind}
 use Rattle.op_scan.specs.declared.token.TokenKind.TheVariants as kind
 use Rattle.op_tree.proofs.ExpressionUnique.{EndsOperandAt, operand_ends, last_operand, last_operation, clash}
-use Rattle.op_tree.specs.Ends.{IsNot, at_least, operator_at_least, binds, EndsOperand, EndOperations}
+use Rattle.op_tree.specs.Ends.{IsNot, Stops, at_least, operator_at_least, binds, EndsOperand, EndOperations}
 use Rattle.op_tree.specs.Expression.{Expression, Operations, no_operations, operation, expr_of}
 use Rattle.op_tree.specs.ExpressionGrammar.{is_chain, is_simple, is_term, is_factor, AreOperations, are_no_operations, are_operations, chain_of}
 use Rattle.op_tree.specs.Lists.{operations_of}
@@ -50,11 +52,20 @@ into_chain l d e ks r (is_chain {first = first} {rest = os} {m = m} a o q, (n, t
     let t1 = subst (λ z. EndsOperand z r) q t in
     ((first, os), r, (m, (a, operand_ends first o n t1), (o, n, last_operation first os r t1)))
 
+out_of_chain : (l : Level) (d : ℕ) (ks : List Terminal) → HandsOn (Seq (Operand l) (SomeOperations l)) d ks (Chain l) d ks
+out_of_chain l d ks = hands_as (Seq (Operand l) (SomeOperations l)) (Chain l) d ks (λ i y ls r s x. (chain_of y.0 y.1, chain_whole l i y.0 y.1 ls x.0 r x.1 x.2))
+
+no_more : (l : Level) → Position → Sample (SomeOperations l) Stops
+no_more l p = record { tokens = []; behind = []; part = no_operations; stands = λ i. (are_no_operations, tt, tt); fits = (tt, tt) }
+
+operand_alone : (l : Level) (d : ℕ) (ks : List Terminal) → HandsOn (Operand l) d ks (Seq (Operand l) (SomeOperations l)) d ks
+operand_alone l d ks = hands_first (Operand l) (SomeOperations l) Stops d ks (fits_operand l) (no_more l)
+
 pub chain_operand : (l : Level) (d : ℕ) (end : Place) (ks : List Terminal) (e : ParseError) → Refuses (Operand l) d end ks e → Refuses (Chain l) d end ks e
-chain_operand l d end ks e h = refuses_map (Seq (Operand l) (SomeOperations l)) (Chain l) d end ks e (λ d' b ls r s x. into_chain l d' b ls r x) (refuses_first (Operand l) (SomeOperations l) d end ks e h)
+chain_operand l d end ks e h = refuses_map (Seq (Operand l) (SomeOperations l)) (Chain l) d end ks e (λ d' b ls r s x. into_chain l d' b ls r x) (out_of_chain l d ks) (refuses_first (Operand l) (SomeOperations l) d end ks e (operand_alone l d ks) h)
 
 pub chain_operations : (l : Level) (d : ℕ) (end : Place) (a : Expression) (ks m : List Terminal) (e : ParseError) → Operand l d a ks m → Refuses (SomeOperations l) d end m e → Refuses (Chain l) d end ks e
-chain_operations l d end a ks m e f h = refuses_map (Seq (Operand l) (SomeOperations l)) (Chain l) d end ks e (λ d' b ls r s x. into_chain l d' b ls r x) (refuses_after (Operand l) (SomeOperations l) d end a ks m e (known_operand l) f h)
+chain_operations l d end a ks m e f h = refuses_map (Seq (Operand l) (SomeOperations l)) (Chain l) d end ks e (λ d' b ls r s x. into_chain l d' b ls r x) (out_of_chain l d ks) (refuses_after (Operand l) (SomeOperations l) d end a ks m e (known_operand l) f h)
 
 -- ---- an operand
 
@@ -77,13 +88,13 @@ into_factor : (d : ℕ) (e : Expression) (ks r : List Terminal) → Operand Mult
 into_factor d e ks r (is_factor f, h) = (e, r, (f, h))
 
 pub relational_refuses : (d : ℕ) (end : Place) (ks : List Terminal) (e : ParseError) → Refuses (Chain Additive) d end ks e → Refuses (Operand Relational) d end ks e
-relational_refuses d end ks e h = refuses_map (Chain Additive) (Operand Relational) d end ks e (λ d' b ls r s x. into_simple d' b ls r x) h
+relational_refuses d end ks e h = refuses_map (Chain Additive) (Operand Relational) d end ks e (λ d' b ls r s x. into_simple d' b ls r x) (hands_as (Chain Additive) (Operand Relational) d ks (λ i b ls r s x. (b, relational_operand i b ls r x))) h
 
 pub additive_refuses : (d : ℕ) (end : Place) (ks : List Terminal) (e : ParseError) → Refuses (Chain Multiplicative) d end ks e → Refuses (Operand Additive) d end ks e
-additive_refuses d end ks e h = refuses_map (Chain Multiplicative) (Operand Additive) d end ks e (λ d' b ls r s x. into_term d' b ls r x) h
+additive_refuses d end ks e h = refuses_map (Chain Multiplicative) (Operand Additive) d end ks e (λ d' b ls r s x. into_term d' b ls r x) (hands_as (Chain Multiplicative) (Operand Additive) d ks (λ i b ls r s x. (b, additive_operand i b ls r x))) h
 
 pub multiplicative_refuses : (d : ℕ) (end : Place) (ks : List Terminal) (e : ParseError) → Refuses Factor d end ks e → Refuses (Operand Multiplicative) d end ks e
-multiplicative_refuses d end ks e h = refuses_map Factor (Operand Multiplicative) d end ks e (λ d' b ls r s x. into_factor d' b ls r x) h
+multiplicative_refuses d end ks e h = refuses_map Factor (Operand Multiplicative) d end ks e (λ d' b ls r s x. into_factor d' b ls r x) (hands_as Factor (Operand Multiplicative) d ks (λ i b ls r s x. (b, multiplicative_operand i b ls r x))) h
 
 -- ---- operations
 
@@ -118,11 +129,14 @@ into_operation l k o p h q d b ls r (are_operations {o = o1} {e = e} {os = os} {
     let t1 = last_operand e os o1 p r t in
     ((e, os), r, (m, (a, operand_ends e g n t1), (g, n, last_operation e os r t1)))
 
+out_of_operation : (l : Level) (d : ℕ) (k : TokenKind) (o : Operator) (p : Position) (ks : List Terminal) → operator_of k ≡ Some o → level_of o ≡ l → HandsOn (Seq (Operand l) (SomeOperations l)) d ks (SomeOperations l) d (k at p ∷ ks)
+out_of_operation l d k o p ks h q = hands_behind (Seq (Operand l) (SomeOperations l)) (SomeOperations l) d (k at p) ks (λ i y ls r x. (operation o p y.0 y.1, add_operation l i k o p y.0 y.1 ls x.0 r h q x.1 x.2))
+
 operand_refuses : (l : Level) (d : ℕ) (end : Place) (k : TokenKind) (o : Operator) (p : Position) (after : List Terminal) (e : ParseError) → operator_of k ≡ Some o → level_of o ≡ l → Refuses (Operand l) d end after e → Refuses (SomeOperations l) d end (k at p ∷ after) e
-operand_refuses l d end k o p after e h q x = refuses_behind (Seq (Operand l) (SomeOperations l)) (SomeOperations l) d end (k at p) after e (into_operation l k o p h q) (refuses_first (Operand l) (SomeOperations l) d end after e x)
+operand_refuses l d end k o p after e h q x = refuses_behind (Seq (Operand l) (SomeOperations l)) (SomeOperations l) d end (k at p) after e (into_operation l k o p h q) (out_of_operation l d k o p after h q) (refuses_first (Operand l) (SomeOperations l) d end after e (operand_alone l d after) x)
 
 more_refuses : (l : Level) (d : ℕ) (end : Place) (k : TokenKind) (o : Operator) (p : Position) (a : Expression) (after m : List Terminal) (e : ParseError) → operator_of k ≡ Some o → level_of o ≡ l → Operand l d a after m → Refuses (SomeOperations l) d end m e → Refuses (SomeOperations l) d end (k at p ∷ after) e
-more_refuses l d end k o p a after m e h q f x = refuses_behind (Seq (Operand l) (SomeOperations l)) (SomeOperations l) d end (k at p) after e (into_operation l k o p h q) (refuses_after (Operand l) (SomeOperations l) d end a after m e (known_operand l) f x)
+more_refuses l d end k o p a after m e h q f x = refuses_behind (Seq (Operand l) (SomeOperations l)) (SomeOperations l) d end (k at p) after e (into_operation l k o p h q) (out_of_operation l d k o p after h q) (refuses_after (Operand l) (SomeOperations l) d end a after m e (known_operand l) f x)
 
 pub operating_more : (l : Level) (d : ℕ) (end : Place) (all rest after m : List Terminal) (xs : List Operation) (x : Operation) → Operating l d end all xs rest → StandsOperator l x.operator x.position rest after → Operand l d (expr_of x.operand) after m → Operating l d end all (xs ++ (x ∷ [])) m
 operating_more l d end all rest after m xs x so_far (k, is, h, q) f = record {

@@ -1,6 +1,7 @@
 -- The sorts of parts of expressions: each stands whatever follows that begins so, and ends at one place.
-use Rattle.std.proofs.Common.{◌≡◌, ℕ, List, ◌∷◌, refl, sym, ap, ◌∙◌, subst}
+use Rattle.std.proofs.Common.{◌≡◌, ℕ, suc, List, ◌∷◌, refl, sym, ap, ◌∙◌, subst}
 use Rattle.op_parse_code.proofs.Cuts.{IsCut, cut_none, cut_one, cut_join, same_chain, same_operand_at}
+use Rattle.op_parse_code.proofs.Deeper.{deeper_chain, deeper_operand, deeper_root, deeper_selector}
 use Rattle.op_parse_code.proofs.ExpressionFronts.{front_chain, front_operand, front_root, front_selector}
 use Rattle.op_parse_code.proofs.Refusing.{Known, no_mark_same}
 use Rattle.op_parse_code.specs.Opening.{kind_of}
@@ -20,30 +21,35 @@ pub known_chain : (l : Level) → Known (Chain l)
 known_chain l = record {
   front = λ d e ks m p. let s = front_chain p.0 in (s.0, s.1, s.2, λ x h. (s.3 x, same_chain l e m x h p.1));
   same = λ d d' e e' ks m m' p p'. (unique_chain p.0 p'.0 p.1 p'.1).1;
+  deepens = λ d e ks m p. (deeper_chain p.0, p.1);
 }
 
 pub known_operand : (l : Level) → Known (Operand l)
 known_operand l = record {
   front = λ d e ks m p. let s = front_operand p.0 in (s.0, s.1, s.2, λ x h. (s.3 x, same_operand_at l e m x h p.1));
   same = λ d d' e e' ks m m' p p'. (unique_operand p.0 p'.0 p.1 p'.1).1;
+  deepens = λ d e ks m p. (deeper_operand p.0, p.1);
 }
 
 pub known_root : Known IsRoot
 known_root = record {
   front = λ d e ks m p. let s = front_root p in (s.0, s.1, s.2, λ x h. s.3 x);
   same = λ d d' e e' ks m m' p p'. (unique_root p p').1;
+  deepens = λ d e ks m p. deeper_root p;
 }
 
 pub known_selector : Known IsSelector
 known_selector = record {
   front = λ d e ks m p. let s = front_selector p in (s.0, s.1, s.2, λ x h. s.3 x);
   same = λ d d' e e' ks m m' p p'. (unique_selector p p').1;
+  deepens = λ d e ks m p. deeper_selector p;
 }
 
 pub known_mark : (k : Mark) → Known (Marked k)
 known_mark k = record {
   front = λ d q ks m p. (λ x. kind_of k at q ∷ x, cut_one (kind_of k at q) cut_none, p, λ x h. refl);
   same = λ d d' q q' ks m m' p p'. ap behind (sym p ∙ p');
+  deepens = λ d q ks m p. p;
 }
 
 front_element : (d : ℕ) (a : Element) (ks m : List Terminal) → SomeElement d a ks m → (f : List Terminal → List Terminal) × IsCut f × (ks ≡ f m) × ((x : List Terminal) → SameHead m x → SomeElement d a (f x) x)
@@ -64,8 +70,12 @@ same_element d d' (range a b) (range a' b') ks m m' (p, n, f, g) (p', n', f', g'
     let w = subst (λ x. Chain Relational d' b' x m') (sym (ap behind s.1)) g' in
     (unique_chain g.0 w.0 g.1 w.1).1
 
+deeper_element : (d : ℕ) (a : Element) (ks m : List Terminal) → SomeElement d a ks m → SomeElement (suc d) a ks m
+deeper_element d (one e) ks m (f, none) = ((deeper_chain f.0, f.1), none)
+deeper_element d (range a b) ks m (p, n, f, g) = (p, n, (deeper_chain f.0, f.1), (deeper_chain g.0, g.1))
+
 pub known_element : Known SomeElement
-known_element = record { front = front_element; same = same_element }
+known_element = record { front = front_element; same = same_element; deepens = deeper_element }
 
 front_argument : (d : ℕ) (a : Argument) (ks m : List Terminal) → SomeArgument d a ks m → (f : List Terminal → List Terminal) × IsCut f × (ks ≡ f m) × ((x : List Terminal) → SameHead m x → SomeArgument d a (f x) x)
 front_argument d (value e) ks m (f, none) =
@@ -106,5 +116,10 @@ same_argument d d' (rounded a b c) (rounded a' b' c') ks m m' (p, q, n, n1, f, g
     let v = subst (λ x. Chain Relational d' c' x m') (sym (ap behind u.1)) i' in
     (unique_chain i.0 v.0 i.1 v.1).1
 
+deeper_argument : (d : ℕ) (a : Argument) (ks m : List Terminal) → SomeArgument d a ks m → SomeArgument (suc d) a ks m
+deeper_argument d (value e) ks m (f, none) = ((deeper_chain f.0, f.1), none)
+deeper_argument d (padded a b) ks m (p, n, f, g, none) = (p, n, (deeper_chain f.0, f.1), (deeper_chain g.0, g.1), none)
+deeper_argument d (rounded a b c) ks m (p, q, n, n1, f, g, i) = (p, q, n, n1, (deeper_chain f.0, f.1), (deeper_chain g.0, g.1), (deeper_chain i.0, i.1))
+
 pub known_argument : Known SomeArgument
-known_argument = record { front = front_argument; same = same_argument }
+known_argument = record { front = front_argument; same = same_argument; deepens = deeper_argument }

@@ -2,12 +2,14 @@
 use Rattle.std.proofs.Common.{◌≡◌, ℕ, List, ◌∷◌, ◌++◌, Option, Some, None, refl, sym, ap, ◌∙◌, subst}
 use Rattle.op_base.specs.declared.place.Place.{Place}
 use Rattle.op_parse_code.proofs.ExpressionKnown.{known_chain, known_element, known_argument}
-use Rattle.op_parse_code.proofs.Lists.{Splits, Listed, kind_same}
-use Rattle.op_parse_code.proofs.Refusing.{Some_, Seq, refuses_map, refuses_first, refuses_after, refuses_behind, no_mark_same}
+use Rattle.op_parse_code.proofs.Fitting.{fits_chain, fits_element, fits_argument, StopsElement, StopsArgument}
+use Rattle.op_parse_code.proofs.Living.{hands_as}
+use Rattle.op_parse_code.proofs.Lists.{Splits, Joins, Listed, Open, SplitsOpen, JoinsOpen, open_item, open_more, hands_open, hands_alone, hands_behind_mark, hands_item, kind_same}
+use Rattle.op_parse_code.proofs.Refusing.{Some_, Seq, refuses_map, refuses_first, no_mark_same}
 use Rattle.op_parse_code.proofs.Cuts.{cut_seen}
 use Rattle.op_parse_code.specs.GrammarForm.{GrammarForm, is_fraction_width}
 use Rattle.op_parse_code.specs.Opening.{kind_of}
-use Rattle.op_parse_code.specs.Refusal.{SameHead, Refuses, in_grammar, refused_at}
+use Rattle.op_parse_code.specs.Refusal.{Phrase, SameHead, Refuses, in_grammar, refused_at}
 use Rattle.op_parse_code.specs.Whole.{Chain, NoMark, SomeElement, SomeArgument, ElementsBefore, ArgumentsBefore, IndicesBefore, ClosesElements, closes_set, closes_labels, InsideSet, no_inside, some_inside, InsideCall, no_arguments_inside, arguments_inside}
 use Rattle.op_parse_code.specs.declared.error.ParseError.{ParseError}
 use Rattle.op_parse_code.specs.declared.mark.Mark.{Mark}
@@ -38,28 +40,19 @@ element_before : (d : ℕ) (x : Element) (ks : List Terminal) (m : Mark) (p : Po
 element_before d (one e) ks m p r s n (is_one f) = ((f, stop e _ s), n)
 element_before d (range a b) ks m p r s n (is_range {p = q} {m = k} f g) = (q, k, (f, stop a _ (refl, refl)), (g, stop b _ s))
 
-into_element : (d : ℕ) (x : Element) (ks r : List Terminal) → SomeElement d x ks r → Some_ (Chain Relational) d ks
-into_element d (one e) ks r f = (e, r, f.0)
-into_element d (range a b) ks r (p, m, f, g) = (a, kind.DotDot at p ∷ m, f)
+into_element : SplitsOpen (Chain Relational) (Chain Relational) SomeElement mark.DotDot
+into_element d (one e) ks r f = ((e, None), r, (r, f.0, (f.1, refl)))
+into_element d (range a b) ks r (p, m, f, g) = ((a, Some b), r, (kind.DotDot at p ∷ m, f, (p, m, refl, g)))
+
+out_of_element : JoinsOpen (Chain Relational) (Chain Relational) SomeElement mark.DotDot
+out_of_element d (a, None) ls r (m, f, (none, e)) = (one a, (subst (λ z. Chain Relational d a ls z) e f, subst (λ z. NoMark mark.DotDot z) e none))
+out_of_element d (a, Some b) ls r (m, f, (p, n, e, g)) = (range a b, (p, n, subst (λ z. Chain Relational d a ls z) e f, g))
 
 pub element_first : (d : ℕ) (end : Place) (ks : List Terminal) (e : ParseError) → Refuses (Chain Relational) d end ks e → Refuses SomeElement d end ks e
-element_first d end ks e h = refuses_map (Chain Relational) SomeElement d end ks e (λ d' b ls r s x. into_element d' b ls r x) h
-
--- what stands behind the first expression of an element
-abbrev Rest : ℕ → Option Expression → List Terminal → List Terminal → Type 0
-Rest d None ks r = NoMark mark.DotDot ks
-Rest d (Some b) ks r = (p : Position) × (m : List Terminal) × (ks ≡ kind.DotDot at p ∷ m) × Chain Relational d b m r
-
-into_rest : (d : ℕ) (x : Element) (ks r : List Terminal) → SomeElement d x ks r → Some_ (Seq (Chain Relational) Rest) d ks
-into_rest d (one e) ks r f = ((e, None), r, (r, f.0, f.1))
-into_rest d (range a b) ks r (p, m, f, g) = ((a, Some b), r, (kind.DotDot at p ∷ m, f, (p, m, refl, g)))
-
-rest_last : (p : Position) (d : ℕ) (x : Option Expression) (ls r : List Terminal) → Rest d x (kind.DotDot at p ∷ ls) r → Some_ (Chain Relational) d ls
-rest_last p d None ls r none = absurd (none p ls refl)
-rest_last p d (Some b) ls r (q, m, e, f) = (b, r, subst (λ z. Chain Relational d b z r) (sym (ap behind e)) f)
+element_first d end ks e h = open_item (Chain Relational) (Chain Relational) SomeElement mark.DotDot d end ks e into_element (hands_alone (Chain Relational) (Chain Relational) SomeElement mark.DotDot Stops d ks out_of_element (fits_chain Relational) (tt, tt)) h
 
 pub element_last : (d : ℕ) (end : Place) (a : Expression) (ks m : List Terminal) (p : Position) (after : List Terminal) (e : ParseError) → Chain Relational d a ks m → m ≡ kind.DotDot at p ∷ after → Refuses (Chain Relational) d end after e → Refuses SomeElement d end ks e
-element_last d end a ks m p after e f is h = refuses_map (Seq (Chain Relational) Rest) SomeElement d end ks e (λ d' b ls r s x. into_rest d' b ls r x) (refuses_after (Chain Relational) Rest d end a ks m e (known_chain Relational) f (subst (λ z. Refuses Rest d end z e) (sym is) (refuses_behind (Chain Relational) Rest d end (kind.DotDot at p) after e (rest_last p) h)))
+element_last d end a ks m p after e f is h = open_more (Chain Relational) (Chain Relational) SomeElement mark.DotDot d end a ks m after p e into_element (known_chain Relational) f is (hands_behind_mark (Chain Relational) (Chain Relational) SomeElement mark.DotDot d a ks m after p out_of_element (known_chain Relational) f is) h
 
 pub element_range : (d : ℕ) (a b : Expression) (ks m : List Terminal) (p : Position) (after r : List Terminal) → Chain Relational d a ks m → m ≡ kind.DotDot at p ∷ after → Chain Relational d b after r → SomeElement d (range a b) ks r
 element_range d a b ks m p after r f is g = (p, after, subst (λ z. Chain Relational d a ks z) is f, g)
@@ -88,11 +81,17 @@ elements_split : (close : Mark) → ClosesElements close → Splits SomeElement 
 elements_split close c d x ls r (p, are_one_element {e = e} f) = ((e, None), r, (kind_of close at p ∷ r, element_before d e ls close p r (closes_stops close c p r) (closes_no_range close c p r) f, (p, refl)))
 elements_split close c d x ls r (p, are_elements {e = e} {es = es} {p = q} {m = m} f g) = ((e, Some es), r, (kind.Comma at q ∷ m, element_before d e ls mark.Comma q m (refl, refl) (comma_no_range q m) f, (q, m, refl, (p, g))))
 
+elements_join : (close : Mark) → Joins SomeElement (ElementsBefore close) mark.Comma close
+elements_join close d (a, None) ls r (m, f, (p, e)) = (elements a no_elements, (p, are_one_element (element_is d a ls _ (subst (λ z. SomeElement d a ls z) e f))))
+elements_join close d (a, Some es) ls r (m, f, (p, n, e, g)) = (elements a es, (g.0, are_elements (element_is d a ls _ (subst (λ z. SomeElement d a ls z) e f)) g.1))
+
 pub elements_list : (close : Mark) → ClosesElements close → Listed SomeElement (ElementsBefore close) mark.Comma close element_of add_element elements_of
 elements_list close c = record {
   none = no_elements;
   known = known_element;
   split = elements_split close c;
+  join = elements_join close;
+  begins = λ d ks. hands_item SomeElement (ElementsBefore close) mark.Comma close StopsElement d ks (elements_join close) fits_element (λ p r. (closes_stops close c p r, closes_no_range close c p r));
   apart = closes_no_comma close c;
   one = λ d x ks r p f. (p, are_one_element (element_is d (element_of x) ks _ f));
   next = λ d x more ks m r p f g. (g.0, are_elements (element_is d (element_of x) ks _ f) g.1);
@@ -109,11 +108,17 @@ indices_split : Splits (Chain Relational) IndicesBefore mark.Comma mark.CloseBra
 indices_split d x ls r (p, are_one_expression {e = e} f) = ((e, None), r, (kind.CloseBracket at p ∷ r, (f, stop e _ (refl, refl)), (p, refl)))
 indices_split d x ls r (p, are_expressions {e = e} {es = es} {p = q} {m = m} f g) = ((e, Some es), r, (kind.Comma at q ∷ m, (f, stop e _ (refl, refl)), (q, m, refl, (p, g))))
 
+indices_join : Joins (Chain Relational) IndicesBefore mark.Comma mark.CloseBracket
+indices_join d (a, None) ls r (m, f, (p, e)) = (expressions a no_expressions, (p, are_one_expression (subst (λ z. IsChain Relational d a ls z) e f.0)))
+indices_join d (a, Some es) ls r (m, f, (p, n, e, g)) = (expressions a es, (g.0, are_expressions (subst (λ z. IsChain Relational d a ls z) e f.0) g.1))
+
 pub indices_list : Listed (Chain Relational) IndicesBefore mark.Comma mark.CloseBracket expr_of add_index expressions_of
 indices_list = record {
   none = no_expressions;
   known = known_chain Relational;
   split = indices_split;
+  join = indices_join;
+  begins = λ d ks. hands_item (Chain Relational) IndicesBefore mark.Comma mark.CloseBracket Stops d ks indices_join (fits_chain Relational) (λ p r. (refl, refl));
   apart = λ h. absurd cc;
   one = λ d x ks r p f. (p, are_one_expression f.0);
   next = λ d x more ks m r p f g. (g.0, are_expressions f.0 g.1);
@@ -133,25 +138,25 @@ argument_before d (value e) ks m p r s n (is_value f) = ((f, stop e _ s), n)
 argument_before d (padded a b) ks m p r s n (is_padded {p = q} {m = k} f g) = (q, k, (f, stop a _ (refl, refl)), (g, stop b _ s), n)
 argument_before d (rounded a b c) ks m p r s n (is_rounded {p = q} {q = q1} {m = k} {n = k1} f g h) = (q, q1, k, k1, (f, stop a _ (refl, refl)), (g, stop b _ (refl, refl)), (h, stop c _ s))
 
--- what stands behind the value of an argument
-abbrev Widths : ℕ → Option Expression → List Terminal → List Terminal → Type 0
-Widths d None ks r = NoMark mark.Colon ks
-Widths d (Some b) ks r = (p : Position) × (m : List Terminal) × (ks ≡ kind.Colon at p ∷ m) × Chain Relational d b m r
+-- a width, and the digits behind it
+abbrev Width : Phrase (Expression × Option Expression)
+Width = Seq (Chain Relational) (Open (Chain Relational) mark.Colon)
 
-into_widths : (d : ℕ) (x : Argument) (ks r : List Terminal) → SomeArgument d x ks r → Some_ (Seq (Chain Relational) Widths) d ks
-into_widths d (value e) ks r f = ((e, None), r, (r, f.0, f.1))
-into_widths d (padded a b) ks r (p, m, f, g, none) = ((a, Some b), r, (kind.Colon at p ∷ m, f, (p, m, refl, g)))
-into_widths d (rounded a b c) ks r (p, q, m, n, f, g, h) = ((a, Some b), kind.Colon at q ∷ n, (kind.Colon at p ∷ m, f, (p, m, refl, g)))
+into_widths : SplitsOpen (Chain Relational) Width SomeArgument mark.Colon
+into_widths d (value e) ks r f = ((e, None), r, (r, f.0, (f.1, refl)))
+into_widths d (padded a b) ks r (p, m, f, g, none) = ((a, Some (b, None)), r, (kind.Colon at p ∷ m, f, (p, m, refl, (r, g, (none, refl)))))
+into_widths d (rounded a b c) ks r (p, q, m, n, f, g, h) = ((a, Some (b, Some c)), r, (kind.Colon at p ∷ m, f, (p, m, refl, (kind.Colon at q ∷ n, g, (q, n, refl, h)))))
 
-width_behind : (p : Position) (d : ℕ) (x : Option Expression) (ls r : List Terminal) → Widths d x (kind.Colon at p ∷ ls) r → Some_ (Chain Relational) d ls
-width_behind p d None ls r none = absurd (none p ls refl)
-width_behind p d (Some b) ls r (q, m, e, f) = (b, r, subst (λ z. Chain Relational d b z r) (sym (ap behind e)) f)
+out_of_widths : JoinsOpen (Chain Relational) Width SomeArgument mark.Colon
+out_of_widths d (a, None) ls r (m, f, (none, e)) = (value a, (subst (λ z. Chain Relational d a ls z) e f, subst (λ z. NoMark mark.Colon z) e none))
+out_of_widths d (a, Some (b, None)) ls r (m, f, (p, n, e, (o, g, (none, e1)))) = (padded a b, (p, n, subst (λ z. Chain Relational d a ls z) e f, subst (λ z. Chain Relational d b n z) e1 g, subst (λ z. NoMark mark.Colon z) e1 none))
+out_of_widths d (a, Some (b, Some c)) ls r (m, f, (p, n, e, (o, g, (q, n1, e1, h)))) = (rounded a b c, (p, q, n, n1, subst (λ z. Chain Relational d a ls z) e f, subst (λ z. Chain Relational d b n z) e1 g, h))
 
 pub argument_value : (d : ℕ) (end : Place) (ks : List Terminal) (e : ParseError) → Refuses (Chain Relational) d end ks e → Refuses SomeArgument d end ks e
-argument_value d end ks e h = refuses_map (Seq (Chain Relational) Widths) SomeArgument d end ks e (λ d' b ls r s x. into_widths d' b ls r x) (refuses_first (Chain Relational) Widths d end ks e h)
+argument_value d end ks e h = open_item (Chain Relational) Width SomeArgument mark.Colon d end ks e into_widths (hands_alone (Chain Relational) Width SomeArgument mark.Colon Stops d ks out_of_widths (fits_chain Relational) (tt, tt)) h
 
 pub argument_width : (d : ℕ) (end : Place) (a : Expression) (ks m : List Terminal) (p : Position) (after : List Terminal) (e : ParseError) → Chain Relational d a ks m → m ≡ kind.Colon at p ∷ after → Refuses (Chain Relational) d end after e → Refuses SomeArgument d end ks e
-argument_width d end a ks m p after e f is h = refuses_map (Seq (Chain Relational) Widths) SomeArgument d end ks e (λ d' b ls r s x. into_widths d' b ls r x) (refuses_after (Chain Relational) Widths d end a ks m e (known_chain Relational) f (subst (λ z. Refuses Widths d end z e) (sym is) (refuses_behind (Chain Relational) Widths d end (kind.Colon at p) after e (width_behind p) h)))
+argument_width d end a ks m p after e f is h = open_more (Chain Relational) Width SomeArgument mark.Colon d end a ks m after p e into_widths (known_chain Relational) f is (hands_behind_mark (Chain Relational) Width SomeArgument mark.Colon d a ks m after p out_of_widths (known_chain Relational) f is) (refuses_first (Chain Relational) (Open (Chain Relational) mark.Colon) d end after e (hands_open (Chain Relational) (Chain Relational) mark.Colon Stops d after (fits_chain Relational) (tt, tt)) h)
 
 pub argument_padded : (d : ℕ) (a b : Expression) (ks m : List Terminal) (p : Position) (after r : List Terminal) → Chain Relational d a ks m → m ≡ kind.Colon at p ∷ after → Chain Relational d b after r → NoMark mark.Colon r → SomeArgument d (padded a b) ks r
 argument_padded d a b ks m p after r f is g none = (p, after, subst (λ z. Chain Relational d a ks z) is f, g, none)
@@ -177,11 +182,17 @@ arguments_split : Splits SomeArgument ArgumentsBefore mark.Comma mark.CloseParen
 arguments_split d x ls r (p, are_one_argument {a = a} f) = ((a, None), r, (kind.CloseParenthesis at p ∷ r, argument_before d a ls mark.CloseParenthesis p r (refl, refl) (close_no_colon p r) f, (p, refl)))
 arguments_split d x ls r (p, are_arguments {a = a} {args = args} {p = q} {m = m} f g) = ((a, Some args), r, (kind.Comma at q ∷ m, argument_before d a ls mark.Comma q m (refl, refl) (comma_no_colon q m) f, (q, m, refl, (p, g))))
 
+arguments_join : Joins SomeArgument ArgumentsBefore mark.Comma mark.CloseParenthesis
+arguments_join d (a, None) ls r (m, f, (p, e)) = (arguments a no_arguments, (p, are_one_argument (argument_is d a ls _ (subst (λ z. SomeArgument d a ls z) e f))))
+arguments_join d (a, Some args) ls r (m, f, (p, n, e, g)) = (arguments a args, (g.0, are_arguments (argument_is d a ls _ (subst (λ z. SomeArgument d a ls z) e f)) g.1))
+
 pub arguments_list : Listed SomeArgument ArgumentsBefore mark.Comma mark.CloseParenthesis argument_of add_argument arguments_of
 arguments_list = record {
   none = no_arguments;
   known = known_argument;
   split = arguments_split;
+  join = arguments_join;
+  begins = λ d ks. hands_item SomeArgument ArgumentsBefore mark.Comma mark.CloseParenthesis StopsArgument d ks arguments_join fits_argument (λ p r. ((refl, refl), close_no_colon p r));
   apart = λ h. absurd cc;
   one = λ d x ks r p f. (p, are_one_argument (argument_is d (argument_of x) ks _ f));
   next = λ d x more ks m r p f g. (g.0, are_arguments (argument_is d (argument_of x) ks _ f) g.1);
@@ -196,7 +207,7 @@ into_set ks none d b ls r s (no_inside {p = p}) = absurd (no_mark_same mark.Clos
 into_set ks none d b ls r s (some_inside f) = (b, r, f)
 
 pub set_inside : (d : ℕ) (end : Place) (ks : List Terminal) (e : ParseError) → NoMark mark.CloseBracket ks → Refuses (ElementsBefore mark.CloseBracket) d end ks e → Refuses InsideSet d end ks e
-set_inside d end ks e none h = refuses_map (ElementsBefore mark.CloseBracket) InsideSet d end ks e (into_set ks none) h
+set_inside d end ks e none h = refuses_map (ElementsBefore mark.CloseBracket) InsideSet d end ks e (into_set ks none) (hands_as (ElementsBefore mark.CloseBracket) InsideSet d ks (λ i b ls r s f. (b, some_inside f))) h
 
 pub set_empty : (d : ℕ) (p : Position) (ks r : List Terminal) → ks ≡ kind.CloseBracket at p ∷ r → InsideSet d no_elements ks r
 set_empty d p ks r is = subst (λ z. InsideSet d no_elements z r) (sym is) no_inside
@@ -206,7 +217,7 @@ into_call ks none d b ls r s (no_arguments_inside {p = p}) = absurd (no_mark_sam
 into_call ks none d b ls r s (arguments_inside f) = (b, r, f)
 
 pub call_inside : (d : ℕ) (end : Place) (ks : List Terminal) (e : ParseError) → NoMark mark.CloseParenthesis ks → Refuses ArgumentsBefore d end ks e → Refuses InsideCall d end ks e
-call_inside d end ks e none h = refuses_map ArgumentsBefore InsideCall d end ks e (into_call ks none) h
+call_inside d end ks e none h = refuses_map ArgumentsBefore InsideCall d end ks e (into_call ks none) (hands_as ArgumentsBefore InsideCall d ks (λ i b ls r s f. (b, arguments_inside f))) h
 
 pub call_empty : (d : ℕ) (p : Position) (ks r : List Terminal) → ks ≡ kind.CloseParenthesis at p ∷ r → InsideCall d no_arguments ks r
 call_empty d p ks r is = subst (λ z. InsideCall d no_arguments z r) (sym is) no_arguments_inside

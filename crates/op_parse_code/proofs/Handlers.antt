@@ -3,15 +3,17 @@ use Rattle.std.proofs.Common.{◌≡◌, ℕ, suc, Bool, true, false, ◌&&◌, 
 use Rattle.std.proofs.lemmas.Slice.Eq.{bytes_eq-Decides}
 use Rattle.std.specs.Char.{to_ascii_lowercase}
 use Rattle.op_base.specs.declared.place.Place.{Place}
-use Rattle.op_parse_code.proofs.Branches.{CaseEnd, EndsWith, at_end, at_else, ends_with, same_front_false, Led, LedBody}
-use Rattle.op_parse_code.proofs.Cuts.{same_behind}
+use Rattle.op_parse_code.proofs.Branches.{CaseEnd, EndsWith, at_end, at_else, ends_with, same_front_false, Led, LedBody, EndsIt, empty_body}
+use Rattle.op_parse_code.proofs.Cuts.{IsCut, cut_none, cut_one, cut_join, same_behind}
 use Rattle.op_parse_code.proofs.Lists.{kind_same}
+use Rattle.op_parse_code.proofs.Living.{Fits, Sample, Any, hands_as, hands_behind, hands_first, hands_mark}
+use Rattle.op_parse_code.proofs.StatementFronts.{front_on, front_statement}
 use Rattle.op_parse_code.proofs.Names.{word_kind}
-use Rattle.op_parse_code.proofs.Refusing.{Some_, Seq, refuses_map, refuses_first, refuses_after, refuses_behind, dead_here, inside_seen, no_mark_same}
-use Rattle.op_parse_code.proofs.StatementKnown.{known_name, known_on, known_statements}
-use Rattle.op_parse_code.proofs.Statements.{closed, ends_all, StatementsEnd}
+use Rattle.op_parse_code.proofs.Refusing.{Some_, Seq, HandsOn, refuses_map, refuses_first, refuses_after, refuses_behind, dead_here, inside_seen, no_mark_same}
+use Rattle.op_parse_code.proofs.StatementKnown.{same_front_is, known_name, known_on, known_statements}
+use Rattle.op_parse_code.proofs.Statements.{closed, ends_all, StatementsEnd, RestsAll, fits_name, fits_statements, some_end}
 use Rattle.op_parse_code.specs.Opening.{is_word, spelled, is_identifier}
-use Rattle.op_parse_code.specs.Refusal.{Phrase, SameHead, Dead, Refuses, out_of_memory, syntax, nested, left_out, in_grammar, Decides, decides_there, decides_behind, refused_at}
+use Rattle.op_parse_code.specs.Refusal.{Phrase, SameHead, Dead, Alive, Refuses, out_of_memory, syntax, nested, left_out, in_grammar, Decides, decides_there, decides_behind, refused_at}
 use Rattle.op_parse_code.specs.Whole.{Marked, NoMark, SomeName}
 use Rattle.op_parse_code.specs.WholeStatement.{SomeStatement, SomeStatements, SomeHandlers, SomeOn, SomeExcept, Rest, finally_rest, except_rest, on_rest, on_else_rest, try_of, IsHandled, ClassTail, class_of, Behind, front_is, begins_handler}
 use Rattle.op_parse_code.specs.declared.error.ParseError.{ParseError}
@@ -40,14 +42,42 @@ HandlerParts = Seq SomeOn (LedBody SomeHandlers)
 into_handler : (d : ℕ) (hs : Handlers) (ls r : List Terminal) → front_is ends_list ls ≡ false → SomeHandlers d hs ls r → Some_ HandlerParts d ls
 into_handler d hs ls r h (are_no_handlers, t) = true_false (sym t ∙ h)
 into_handler d hs ls r h (are_handlers {v = v} {c = c} {s = s} {hs = more} {p = p} {m = m} {n = n} o f g, t) = (((v, c), (s, Some more)), r, (m, o, (kind.Semicolon at p ∷ n, (f, ends s _ refl refl), (p, n, refl, (g, t)))))
-into_handler d hs ls r h (is_handler_before_end {v = v} {c = c} {s = s} {p = p} {m = m} {r = r1} o f, t) = (((v, c), (s, None)), kind.End at p ∷ r1, (m, o, (kind.End at p ∷ r1, (f, ends s _ refl refl), refl)))
-into_handler d hs ls r h (is_handler_before_else {v = v} {c = c} {s = s} {p = p} {m = m} {r = r1} o f shut, t) = (((v, c), (s, None)), kind.Else_ at p ∷ r1, (m, o, (kind.Else_ at p ∷ r1, (f, ends_closed s _ refl shut), refl)))
+into_handler d hs ls r h (is_handler_before_end {v = v} {c = c} {s = s} {p = p} {m = m} {r = r1} o f, t) = (((v, c), (s, None)), kind.End at p ∷ r1, (m, o, (kind.End at p ∷ r1, (f, ends s _ refl refl), (refl, refl))))
+into_handler d hs ls r h (is_handler_before_else {v = v} {c = c} {s = s} {p = p} {m = m} {r = r1} o f shut, t) = (((v, c), (s, None)), kind.Else_ at p ∷ r1, (m, o, (kind.Else_ at p ∷ r1, (f, ends_closed s _ refl shut), (refl, refl))))
 
 last_handler : (d : ℕ) (v : Option Name) (c : QualifiedName) (s : Statement) (ks m n : List Terminal) → IsOn v c ks m → SomeStatement d s m n → EndsWith n → AreHandlers d (handlers v c s no_handlers) ks n
 last_handler d v c s ks m n f g (at_end p r is) = subst (λ z. AreHandlers d (handlers v c s no_handlers) ks z) (sym is) (is_handler_before_end f (subst (λ z. IsStatement d s m z) is g.0))
 last_handler d v c s ks m n f g (at_else p r is) =
     let w : SomeStatement d s m (kind.Else_ at p ∷ r) = subst (λ z. SomeStatement d s m z) is g in
     subst (λ z. AreHandlers d (handlers v c s no_handlers) ks z) (sym is) (is_handler_before_else f w.0 (closed s p r w.1))
+
+handler_join : (d : ℕ) (y : (Option Name × QualifiedName) × (Statement × Option Handlers)) (ls r : List Terminal) → HandlerParts d y ls r → (hs : Handlers) × SomeHandlers d hs ls r
+handler_join d ((v, c), (s, None)) ls r (m, f, (n, g, (h, e))) = let h1 = subst (λ z. front_is ends_list z ≡ true) e h in (handlers v c s no_handlers, (last_handler d v c s ls m r f (subst (λ z. SomeStatement d s m z) e g) (ends_with r h1), h1))
+handler_join d ((v, c), (s, Some more)) ls r (m, f, (n, g, (q, k, e, h))) = (handlers v c s more, (are_handlers f (subst (λ z. IsStatement d s m z) e g.0) h.0, h.1))
+
+fits_on : Fits SomeOn Any
+fits_on d x ks r p = let s = front_on p in (s.0, s.1, s.2, λ x c. s.3 x)
+
+-- ---- handlers before `end`
+
+handlers_end : {d : ℕ} {hs : Handlers} {ks r : List Terminal} → AreHandlers d hs ks r → (f : List Terminal → List Terminal) × IsCut f × (ks ≡ f r) × ((u : Position) (y : List Terminal) → AreHandlers d hs (f (kind.End at u ∷ y)) (kind.End at u ∷ y))
+handlers_end are_no_handlers = (λ x. x, cut_none, refl, λ u y. are_no_handlers)
+handlers_end (are_handlers {p = p} o f hs) =
+    let a = front_on o in
+    let b = front_statement f in
+    let c = handlers_end hs in
+    (λ x. a.0 (b.0 (kind.Semicolon at p ∷ c.0 x)), cut_join a.1 (cut_join b.1 (cut_one (kind.Semicolon at p) c.1)), a.2 ∙ ap a.0 (b.2 ∙ ap (λ z. b.0 (kind.Semicolon at p ∷ z)) c.2), λ u y. are_handlers (a.3 (b.0 (kind.Semicolon at p ∷ c.0 (kind.End at u ∷ y)))) (b.3 (kind.Semicolon at p ∷ c.0 (kind.End at u ∷ y))) (c.3 u y))
+handlers_end (is_handler_before_end o f) =
+    let a = front_on o in
+    let b = front_statement f in
+    (λ x. a.0 (b.0 x), cut_join a.1 b.1, a.2 ∙ ap a.0 b.2, λ u y. is_handler_before_end (a.3 (b.0 (kind.End at u ∷ y))) (b.3 (kind.End at u ∷ y)))
+handlers_end (is_handler_before_else o f shut) =
+    let a = front_on o in
+    let b = front_statement f in
+    (λ x. a.0 (b.0 x), cut_join a.1 b.1, a.2 ∙ ap a.0 b.2, λ u y. is_handler_before_end (a.3 (b.0 (kind.End at u ∷ y))) (b.3 (kind.End at u ∷ y)))
+
+pub fits_handlers : Fits SomeHandlers EndsIt
+fits_handlers d hs ks r p = let w = handlers_end p.0 in (w.0, w.1, w.2, λ x c. (subst (λ z. AreHandlers d hs (w.0 z) z) (sym c.2) (w.3 c.0 c.1), subst (λ z. front_is ends_list z ≡ true) (sym c.2) refl))
 
 abbrev pub add_handler : Handler → Handlers → Handlers
 add_handler x more = handlers x.variable x.class (stmt_of x.body) more
@@ -57,6 +87,8 @@ handlers_list = record {
   none = no_handlers;
   known = known_on;
   split = into_handler;
+  join = handler_join;
+  begins = λ d ks. hands_first SomeOn (LedBody SomeHandlers) Any d ks fits_on (empty_body SomeHandlers);
   nothing = λ d ks h. (are_no_handlers, h);
   last = λ d x ks m n f g h. (last_handler d x.variable x.class (stmt_of x.body) ks m n f g (ends_with n h), h);
   next = λ d x more ks m n r p f g w. (are_handlers f g w.0, w.1);
@@ -83,17 +115,23 @@ do_of_tail m none d None ls r s (u, e) = (u, r, e)
 do_of_tail m none d (Some n) ls r s (p, u, k, e, f) = absurd (no_mark_same mark.Dot m ls s none p k e)
 
 pub class_do_missing : (d : ℕ) (end : Place) (ks : List Terminal) (e : ParseError) → NoMark mark.Dot ks → Refuses (Marked mark.Do_) d end ks e → Refuses ClassTail d end ks e
-class_do_missing d end ks e none h = refuses_map (Marked mark.Do_) ClassTail d end ks e (do_of_tail ks none) h
+class_do_missing d end ks e none h = refuses_map (Marked mark.Do_) ClassTail d end ks e (do_of_tail ks none) (hands_as (Marked mark.Do_) ClassTail d ks (λ i u ls r s f. (None, (u, f)))) h
 
 behind_dot : (p : Position) (d : ℕ) (x : Option Name) (ls r : List Terminal) → ClassTail d x (kind.Dot at p ∷ ls) r → Some_ (Seq SomeName (Marked mark.Do_)) d ls
 behind_dot p d None ls r (u, e) = let clash : kind.Dot ≡ kind.Do_ = kind_same e in absurd cc
 behind_dot p d (Some n) ls r (q, u, k, e, f) = ((n, u), r, (kind.Do_ at u ∷ r, subst (λ z. IsName n z (kind.Do_ at u ∷ r)) (sym (ap behind e)) f, refl))
 
 class_behind_dot : (d : ℕ) (end : Place) (p : Position) (ks after : List Terminal) (e : ParseError) → ks ≡ kind.Dot at p ∷ after → Refuses (Seq SomeName (Marked mark.Do_)) d end after e → Refuses ClassTail d end ks e
-class_behind_dot d end p ks after e is h = subst (λ z. Refuses ClassTail d end z e) (sym is) (refuses_behind (Seq SomeName (Marked mark.Do_)) ClassTail d end (kind.Dot at p) after e (behind_dot p) h)
+class_behind_dot d end p ks after e is h = subst (λ z. Refuses ClassTail d end z e) (sym is) (refuses_behind (Seq SomeName (Marked mark.Do_)) ClassTail d end (kind.Dot at p) after e (behind_dot p) (hands_behind (Seq SomeName (Marked mark.Do_)) ClassTail d (kind.Dot at p) after (λ i y ls r f. (Some y.0, (p, y.1, ls, refl, subst (λ z. IsName y.0 ls z) f.2 f.1)))) h)
+
+do_mark : (p : Position) → Sample (Marked mark.Do_) Any
+do_mark p = record { tokens = kind.Do_ at p ∷ []; behind = []; part = p; stands = λ i. refl; fits = tt }
+
+do_tail : (p : Position) → Sample ClassTail Any
+do_tail p = record { tokens = kind.Do_ at p ∷ []; behind = []; part = None; stands = λ i. (p, refl); fits = tt }
 
 pub class_name_missing : (d : ℕ) (end : Place) (p : Position) (ks after : List Terminal) (e : ParseError) → ks ≡ kind.Dot at p ∷ after → Refuses SomeName d end after e → Refuses ClassTail d end ks e
-class_name_missing d end p ks after e is h = class_behind_dot d end p ks after e is (refuses_first SomeName (Marked mark.Do_) d end after e h)
+class_name_missing d end p ks after e is h = class_behind_dot d end p ks after e is (refuses_first SomeName (Marked mark.Do_) d end after e (hands_first SomeName (Marked mark.Do_) Any d after fits_name do_mark) h)
 
 pub class_open : (d : ℕ) (end : Place) (p : Position) (n : Name) (ks after m : List Terminal) (e : ParseError) → ks ≡ kind.Dot at p ∷ after → IsName n after m → Refuses (Marked mark.Do_) d end m e → Refuses ClassTail d end ks e
 class_open d end p n ks after m e is f h = class_behind_dot d end p ks after e is (refuses_after SomeName (Marked mark.Do_) d end n after m e known_name f h)
@@ -120,39 +158,6 @@ into_on text p d (v, c) ls r (is_on_class {q = u} h (is_qualified {unit = n} {n 
 into_on text p d (v, c) ls r (is_on_variable {n = n} {q = q} {u = u} {m = k} h a (is_unqualified {n = m} b)) = ((n, (Some m, None)), r, (kind.Colon at q ∷ k, a, (q, k, kind.Do_ at u ∷ r, refl, b, (u, refl))))
 into_on text p d (v, c) ls r (is_on_variable {n = n} {q = q} {u = u} {m = k} h a (is_qualified {unit = m} {n = o} {p = w} {m = k1} b g)) = ((n, (Some m, Some o)), r, (kind.Colon at q ∷ k, a, (q, k, kind.Dot at w ∷ k1, refl, b, (w, u, k1, refl, g))))
 
-on_parts : (d : ℕ) (end : Place) (k : TokenKind) (p : Position) (ks : List Terminal) (e : ParseError) → is_word (codes "on") k ≡ true → Refuses OnParts d end ks e → Refuses SomeOn d end (k at p ∷ ks) e
-on_parts d end k p ks e h x = subst (λ z. Refuses SomeOn d end (z at p ∷ ks) e) (sym (word_kind (codes "on") k h).0) (refuses_behind OnParts SomeOn d end (kind.Identifier (spelled k) at p) ks e (into_on (spelled k) p) x)
-
-pub on_name_missing : (d : ℕ) (end : Place) (k : TokenKind) (p : Position) (ks : List Terminal) (e : ParseError) → is_word (codes "on") k ≡ true → Refuses SomeName d end ks e → Refuses SomeOn d end (k at p ∷ ks) e
-on_name_missing d end k p ks e h x = on_parts d end k p ks e h (refuses_first SomeName OnTail d end ks e x)
-
-on_tail : (d : ℕ) (end : Place) (k : TokenKind) (p : Position) (n : Name) (ks m : List Terminal) (e : ParseError) → is_word (codes "on") k ≡ true → IsName n ks m → Refuses OnTail d end m e → Refuses SomeOn d end (k at p ∷ ks) e
-on_tail d end k p n ks m e h f x = on_parts d end k p ks e h (refuses_after SomeName OnTail d end n ks m e known_name f x)
-
-class_of_on : (m : List Terminal) → NoMark mark.Colon m → (d : ℕ) (x : Option Name × Option Name) (ls r : List Terminal) → SameHead m ls → OnTail d x ls r → Some_ ClassTail d ls
-class_of_on m none d (None, y) ls r s f = (y, r, f)
-class_of_on m none d (Some n, y) ls r s (q, k, k1, e, f, g) = absurd (no_mark_same mark.Colon m ls s none q k e)
-
-pub on_class_refuses : (d : ℕ) (end : Place) (k : TokenKind) (p : Position) (n : Name) (ks m : List Terminal) (e : ParseError) → is_word (codes "on") k ≡ true → IsName n ks m → NoMark mark.Colon m → Refuses ClassTail d end m e → Refuses SomeOn d end (k at p ∷ ks) e
-on_class_refuses d end k p n ks m e h f none x = on_tail d end k p n ks m e h f (refuses_map ClassTail OnTail d end m e (class_of_on m none) x)
-
-no_class_at_colon : {A : Type 0} (q : Position) (d : ℕ) (y : Option Name) (ls r : List Terminal) → ClassTail d y (kind.Colon at q ∷ ls) r → A
-no_class_at_colon q d None ls r (u, e) = let clash : kind.Colon ≡ kind.Do_ = kind_same e in absurd cc
-no_class_at_colon q d (Some n) ls r (p, u, k, e, f) = let clash : kind.Colon ≡ kind.Dot = kind_same e in absurd cc
-
-behind_colon : (q : Position) (d : ℕ) (x : Option Name × Option Name) (ls r : List Terminal) → OnTail d x (kind.Colon at q ∷ ls) r → Some_ (Seq SomeName ClassTail) d ls
-behind_colon q d (None, y) ls r f = no_class_at_colon q d y ls r f
-behind_colon q d (Some n, y) ls r (u, k, k1, e, f, g) = ((n, y), r, (k1, subst (λ z. IsName n z k1) (sym (ap behind e)) f, g))
-
-on_colon : (d : ℕ) (end : Place) (k : TokenKind) (p q : Position) (n : Name) (ks m after : List Terminal) (e : ParseError) → is_word (codes "on") k ≡ true → IsName n ks m → m ≡ kind.Colon at q ∷ after → Refuses (Seq SomeName ClassTail) d end after e → Refuses SomeOn d end (k at p ∷ ks) e
-on_colon d end k p q n ks m after e h f is x = on_tail d end k p n ks m e h f (subst (λ z. Refuses OnTail d end z e) (sym is) (refuses_behind (Seq SomeName ClassTail) OnTail d end (kind.Colon at q) after e (behind_colon q) x))
-
-pub on_class_missing : (d : ℕ) (end : Place) (k : TokenKind) (p q : Position) (n : Name) (ks m after : List Terminal) (e : ParseError) → is_word (codes "on") k ≡ true → IsName n ks m → m ≡ kind.Colon at q ∷ after → Refuses SomeName d end after e → Refuses SomeOn d end (k at p ∷ ks) e
-on_class_missing d end k p q n ks m after e h f is x = on_colon d end k p q n ks m after e h f is (refuses_first SomeName ClassTail d end after e x)
-
-pub on_variable_refuses : (d : ℕ) (end : Place) (k : TokenKind) (p q : Position) (n c : Name) (ks m after o : List Terminal) (e : ParseError) → is_word (codes "on") k ≡ true → IsName n ks m → m ≡ kind.Colon at q ∷ after → IsName c after o → Refuses ClassTail d end o e → Refuses SomeOn d end (k at p ∷ ks) e
-on_variable_refuses d end k p q n c ks m after o e h f is g x = on_colon d end k p q n ks m after e h f is (refuses_after SomeName ClassTail d end c after o e known_name g x)
-
 class_whole : (n : Name) (y : Option Name) (ks m r : List Terminal) → IsName n ks m → ClassTail 0 y m r → (u : Position) × IsQualified (class_of n y) ks (kind.Do_ at u ∷ r)
 class_whole n None ks m r f (u, e) = (u, is_unqualified (subst (λ z. IsName n ks z) e f))
 class_whole n (Some c) ks m r f (p, u, k, e, g) = (u, is_qualified (subst (λ z. IsName n ks z) e f) g)
@@ -168,6 +173,50 @@ on_variable_whole k p q n c y ks m after o r h f is g i =
     let w = word_kind (codes "on") k h in
     let x = class_whole c y after o r g i in
     subst (λ z. IsOn (Some n) (class_of c y) (z at p ∷ ks) r) (sym w.0) (is_on_variable w.1 (subst (λ z. IsName n ks z) is f) x.1)
+
+same_class : (n m : ℕ) (y : Option Name) (ks r : List Terminal) → ClassTail n y ks r → ClassTail m y ks r
+same_class n m None ks r f = f
+same_class n m (Some c) ks r f = f
+
+out_of_on : (k : TokenKind) (p : Position) → is_word (codes "on") k ≡ true → (d : ℕ) (x : Name × (Option Name × Option Name)) (ls r : List Terminal) → OnParts d x ls r → (o : Option Name × QualifiedName) × SomeOn d o (k at p ∷ ls) r
+out_of_on k p h d (n, (None, y)) ls r (m, f, g) = ((None, class_of n y), on_class_whole k p n y ls m r h f (same_class d 0 y m r g))
+out_of_on k p h d (n, (Some c, y)) ls r (m, f, (q, o, o1, e, g, i)) = ((Some n, class_of c y), on_variable_whole k p q n c y ls m o o1 r h f e g (same_class d 0 y o1 r i))
+
+on_parts : (d : ℕ) (end : Place) (k : TokenKind) (p : Position) (ks : List Terminal) (e : ParseError) → is_word (codes "on") k ≡ true → Refuses OnParts d end ks e → Refuses SomeOn d end (k at p ∷ ks) e
+on_parts d end k p ks e h x = let w = word_kind (codes "on") k h in subst (λ z. Refuses SomeOn d end (z at p ∷ ks) e) (sym w.0) (refuses_behind OnParts SomeOn d end (kind.Identifier (spelled k) at p) ks e (into_on (spelled k) p) (hands_behind OnParts SomeOn d (kind.Identifier (spelled k) at p) ks (out_of_on (kind.Identifier (spelled k)) p (subst (λ z. is_word (codes "on") z ≡ true) w.0 h))) x)
+
+on_tail_do : (p : Position) → Sample OnTail Any
+on_tail_do p = record { tokens = kind.Do_ at p ∷ []; behind = []; part = (None, None); stands = λ i. (p, refl); fits = tt }
+
+pub on_name_missing : (d : ℕ) (end : Place) (k : TokenKind) (p : Position) (ks : List Terminal) (e : ParseError) → is_word (codes "on") k ≡ true → Refuses SomeName d end ks e → Refuses SomeOn d end (k at p ∷ ks) e
+on_name_missing d end k p ks e h x = on_parts d end k p ks e h (refuses_first SomeName OnTail d end ks e (hands_first SomeName OnTail Any d ks fits_name on_tail_do) x)
+
+on_tail : (d : ℕ) (end : Place) (k : TokenKind) (p : Position) (n : Name) (ks m : List Terminal) (e : ParseError) → is_word (codes "on") k ≡ true → IsName n ks m → Refuses OnTail d end m e → Refuses SomeOn d end (k at p ∷ ks) e
+on_tail d end k p n ks m e h f x = on_parts d end k p ks e h (refuses_after SomeName OnTail d end n ks m e known_name f x)
+
+class_of_on : (m : List Terminal) → NoMark mark.Colon m → (d : ℕ) (x : Option Name × Option Name) (ls r : List Terminal) → SameHead m ls → OnTail d x ls r → Some_ ClassTail d ls
+class_of_on m none d (None, y) ls r s f = (y, r, f)
+class_of_on m none d (Some n, y) ls r s (q, k, k1, e, f, g) = absurd (no_mark_same mark.Colon m ls s none q k e)
+
+pub on_class_refuses : (d : ℕ) (end : Place) (k : TokenKind) (p : Position) (n : Name) (ks m : List Terminal) (e : ParseError) → is_word (codes "on") k ≡ true → IsName n ks m → NoMark mark.Colon m → Refuses ClassTail d end m e → Refuses SomeOn d end (k at p ∷ ks) e
+on_class_refuses d end k p n ks m e h f none x = on_tail d end k p n ks m e h f (refuses_map ClassTail OnTail d end m e (class_of_on m none) (hands_as ClassTail OnTail d m (λ i y ls r s f. ((None, y), f))) x)
+
+no_class_at_colon : {A : Type 0} (q : Position) (d : ℕ) (y : Option Name) (ls r : List Terminal) → ClassTail d y (kind.Colon at q ∷ ls) r → A
+no_class_at_colon q d None ls r (u, e) = let clash : kind.Colon ≡ kind.Do_ = kind_same e in absurd cc
+no_class_at_colon q d (Some n) ls r (p, u, k, e, f) = let clash : kind.Colon ≡ kind.Dot = kind_same e in absurd cc
+
+behind_colon : (q : Position) (d : ℕ) (x : Option Name × Option Name) (ls r : List Terminal) → OnTail d x (kind.Colon at q ∷ ls) r → Some_ (Seq SomeName ClassTail) d ls
+behind_colon q d (None, y) ls r f = no_class_at_colon q d y ls r f
+behind_colon q d (Some n, y) ls r (u, k, k1, e, f, g) = ((n, y), r, (k1, subst (λ z. IsName n z k1) (sym (ap behind e)) f, g))
+
+on_colon : (d : ℕ) (end : Place) (k : TokenKind) (p q : Position) (n : Name) (ks m after : List Terminal) (e : ParseError) → is_word (codes "on") k ≡ true → IsName n ks m → m ≡ kind.Colon at q ∷ after → Refuses (Seq SomeName ClassTail) d end after e → Refuses SomeOn d end (k at p ∷ ks) e
+on_colon d end k p q n ks m after e h f is x = on_tail d end k p n ks m e h f (subst (λ z. Refuses OnTail d end z e) (sym is) (refuses_behind (Seq SomeName ClassTail) OnTail d end (kind.Colon at q) after e (behind_colon q) (hands_behind (Seq SomeName ClassTail) OnTail d (kind.Colon at q) after (λ i y ls r f. ((Some y.0, y.1), (q, ls, f.0, refl, f.1, f.2)))) x))
+
+pub on_class_missing : (d : ℕ) (end : Place) (k : TokenKind) (p q : Position) (n : Name) (ks m after : List Terminal) (e : ParseError) → is_word (codes "on") k ≡ true → IsName n ks m → m ≡ kind.Colon at q ∷ after → Refuses SomeName d end after e → Refuses SomeOn d end (k at p ∷ ks) e
+on_class_missing d end k p q n ks m after e h f is x = on_colon d end k p q n ks m after e h f is (refuses_first SomeName ClassTail d end after e (hands_first SomeName ClassTail Any d after fits_name do_tail) x)
+
+pub on_variable_refuses : (d : ℕ) (end : Place) (k : TokenKind) (p q : Position) (n c : Name) (ks m after o : List Terminal) (e : ParseError) → is_word (codes "on") k ≡ true → IsName n ks m → m ≡ kind.Colon at q ∷ after → IsName c after o → Refuses ClassTail d end o e → Refuses SomeOn d end (k at p ∷ ks) e
+on_variable_refuses d end k p q n c ks m after o e h f is g x = on_colon d end k p q n ks m after e h f is (refuses_after SomeName ClassTail d end c after o e known_name g x)
 
 -- ---- a handler or a statement
 
@@ -279,18 +328,22 @@ statements_dead d ks q b on h any (t ∷ seen, e, never) = dead_behind (Statemen
 statements_dead d ks q true on h any ([], e, never) = absurd (no_statement_dead ks q e on (any 1))
 statements_dead d ks q false on h any ([], e, never) = subst (λ z. Dead (SomeExcept d) ks z) e (dead_other (StatementsEnd d) (SomeExcept d) ks on (λ x ls r. into_except_statements d x ls r) (from_here (StatementsEnd d) ks q e never))
 
-statements_nested : (d : ℕ) (end : Place) (ks q z : List Terminal) (e : ParseError) (b : Bool) → front_is (is_word (codes "on")) ks ≡ b → begins_handler ks ≡ false → e ≡ refused_at 61 0 end q → Decides q z → Dead (StatementsEnd d) ks z → Refuses SomeExcept d end ks e
-statements_nested d end ks q z e b on h x w (t ∷ seen, e1, never) = nested q z x w (dead_behind (StatementsEnd d) (SomeExcept d) false ks z t seen h (λ x1 ls r. into_except_statements d x1 ls r) e1 never)
-statements_nested d end ks q z e false on h x w ([], e1, never) = nested q z x w (subst (λ y. Dead (SomeExcept d) ks y) e1 (dead_other (StatementsEnd d) (SomeExcept d) ks on (λ x1 ls r. into_except_statements d x1 ls r) (from_here (StatementsEnd d) ks z e1 never)))
-statements_nested d end ks q z e true on h x w ([], e1, never) =
+statements_except : (d : ℕ) (ks : List Terminal) → HandsOn StatementsEnd d ks SomeExcept d ks
+statements_except d ks = hands_as StatementsEnd SomeExcept d ks (λ i y ls r s f. (except_rest y.0, (y.1, subst (λ z. AreStatements i y.0 ls z) f.2 f.1.0)))
+
+-- where the tokens from the one on that decides are those from z on
+statements_nested : (d : ℕ) (end : Place) (ks q z w : List Terminal) (e : ParseError) (b : Bool) → front_is (is_word (codes "on")) ks ≡ b → begins_handler ks ≡ false → e ≡ refused_at 61 0 end q → Decides q z → Dead (StatementsEnd d) ks z → Decides w z → Alive SomeExcept d ks w → Refuses SomeExcept d end ks e
+statements_nested d end ks q z w e b on h x g (t ∷ seen, e1, never) i lives = nested q z w x g (dead_behind (StatementsEnd d) (SomeExcept d) false ks z t seen h (λ x1 ls r. into_except_statements d x1 ls r) e1 never) i lives
+statements_nested d end ks q z w e false on h x g ([], e1, never) i lives = nested q z w x g (subst (λ y. Dead (SomeExcept d) ks y) e1 (dead_other (StatementsEnd d) (SomeExcept d) ks on (λ x1 ls r. into_except_statements d x1 ls r) (from_here (StatementsEnd d) ks z e1 never))) i lives
+statements_nested d end ks q z w e true on h x g ([], e1, never) i lives =
     let v = on_front ks on in
     let t = kind.Identifier v.0 at v.1 in
-    nested q v.2 x (decides_more v.0 v.1 v.2 v.4 w (sym e1 ∙ v.3)) (dead_behind (StatementsEnd d) (SomeExcept d) false ks v.2 t [] h (λ x1 ls r. into_except_statements d x1 ls r) v.3 (λ ls a r s f. never (t ∷ ls) a r (subst (λ y. SameHead y (t ∷ ls)) (sym (sym e1 ∙ v.3)) refl) f))
+    nested q v.2 w x (decides_more v.0 v.1 v.2 v.4 g (sym e1 ∙ v.3)) (dead_behind (StatementsEnd d) (SomeExcept d) false ks v.2 t [] h (λ x1 ls r. into_except_statements d x1 ls r) v.3 (λ ls a r s f. never (t ∷ ls) a r (subst (λ y. SameHead y (t ∷ ls)) (sym (sym e1 ∙ v.3)) refl) f)) (decides_more v.0 v.1 v.2 v.4 i (sym e1 ∙ v.3)) lives
 
 pub except_statements : (d : ℕ) (end : Place) (ks : List Terminal) (e : ParseError) → begins_handler ks ≡ false → Refuses StatementsEnd d end ks e → Refuses SomeExcept d end ks e
 except_statements d end ks e h (out_of_memory x) = out_of_memory x
 except_statements d end ks e h (syntax q x never) = syntax q x (λ d'. statements_dead d' ks q _ refl h never (never d'))
-except_statements d end ks e h (nested q z x w never) = statements_nested d end ks q z e _ refl h x w never
+except_statements d end ks e h (nested q z n x w never v lives) = statements_nested d end ks q z n e _ refl h x w never v (statements_except d ks n lives)
 except_statements d end ks e h (left_out feature q m x f never) = left_out feature q m x f (λ d'. statements_dead d' ks m _ refl h never (never d'))
 except_statements d end ks e h (in_grammar feature q x f) = in_grammar feature q x f
 
@@ -310,10 +363,24 @@ handlers_dead d ks q h ([], e, never) =
     let ls = kind.Identifier v.0 at v.1 ∷ kind.Identifier v.0 at v.1 ∷ kind.Do_ at v.1 ∷ kind.End at v.1 ∷ [] in
     absurd (never ls a.0 a.1 (subst (λ y. SameHead y ls) (sym (sym e ∙ v.3)) refl) a.2)
 
+handled_so : (d : ℕ) (hs : Handlers) (ks r : List Terminal) → front_is (is_word (codes "on")) ks ≡ true → SomeHandlers d hs ks r → IsHandled hs
+handled_so d hs [] r h f = false_true h
+handled_so d hs (t ∷ ks) r h (are_no_handlers, e) = word_ends_none t.kind h e
+handled_so d hs (t ∷ ks) r h (are_handlers o f g, e) = tt
+handled_so d hs (t ∷ ks) r h (is_handler_before_end o f, e) = tt
+handled_so d hs (t ∷ ks) r h (is_handler_before_else o f c, e) = tt
+
+out_of_handlers : (d : ℕ) (x : Handlers × Option Statements) (ks r : List Terminal) → front_is (is_word (codes "on")) ks ≡ true → Seq SomeHandlers CaseEnd d x ks r → (y : Rest) × SomeExcept d y ks r
+out_of_handlers d (hs, None) ks r h (m, f, (u, e)) = (on_rest hs, (u, handled_so d hs ks m h f, subst (λ z. AreHandlers d hs ks z) e f.0))
+out_of_handlers d (hs, Some ts) ks r h (m, f, (u, v, n, e, g)) = (on_else_rest hs ts, (u, v, n, handled_so d hs ks m h f, subst (λ z. AreHandlers d hs ks z) e f.0, g))
+
+handlers_except : (d : ℕ) (ks : List Terminal) → begins_handler ks ≡ true → HandsOn (Seq SomeHandlers CaseEnd) d ks SomeExcept d ks
+handlers_except d ks h = hands_as (Seq SomeHandlers CaseEnd) SomeExcept d ks (λ i x ls r s f. out_of_handlers i x ls r (same_front_is (is_word (codes "on")) ks ls s (on_first ks h)) f)
+
 pub except_handlers : (d : ℕ) (end : Place) (ks : List Terminal) (e : ParseError) → begins_handler ks ≡ true → Refuses (Seq SomeHandlers CaseEnd) d end ks e → Refuses SomeExcept d end ks e
 except_handlers d end ks e h (out_of_memory x) = out_of_memory x
 except_handlers d end ks e h (syntax q x never) = syntax q x (λ d'. handlers_dead d' ks q h (never d'))
-except_handlers d end ks e h (nested q z x w never) = nested q z x w (handlers_dead d ks z h never)
+except_handlers d end ks e h (nested q z n x w never v lives) = nested q z n x w (handlers_dead d ks z h never) v (handlers_except d ks h n lives)
 except_handlers d end ks e h (left_out feature q m x f never) = left_out feature q m x f (λ d'. handlers_dead d' ks m h (never d'))
 except_handlers d end ks e h (in_grammar feature q x f) = in_grammar feature q x f
 
@@ -342,11 +409,40 @@ into_try p d s ls r (is_try_on_else {ss = ss} {ts = ts} {v = v} {c = c} {s = bod
 into_try p d s ls r (is_call g, t) = false_true (designator_begins g)
 into_try p d s ls r (is_assignment g e, t) = false_true (designator_begins g)
 
+pub try_finally_whole : (p q u : Position) (d : ℕ) (ss ts : Statements) (ks m after o r : List Terminal) → SomeStatements d ss ks m → Marked mark.Finally d q m after → SomeStatements d ts after o → Marked mark.End d u o r → Behind kind.Try_ p d (try_of ss (finally_rest ts)) ks r
+try_finally_whole p q u d ss ts ks m after o r f is g h = (is_try_finally (subst (λ z. AreStatements d ss ks z) is f.0) (subst (λ z. AreStatements d ts after z) h g.0), tt)
+
+pub try_except_whole : (p q : Position) (d : ℕ) (ss : Statements) (x : Rest) (ks m after r : List Terminal) → SomeStatements d ss ks m → Marked mark.Except d q m after → SomeExcept d x after r → Behind kind.Try_ p d (try_of ss x) ks r
+try_except_whole p q d ss (finally_rest ts) ks m after r f is g = absurd g
+try_except_whole p q d ss (except_rest ts) ks m after r f is (u, g) = (is_try_except (subst (λ z. AreStatements d ss ks z) is f.0) g, tt)
+try_except_whole p q d ss (on_rest no_handlers) ks m after r f is (u, i, g) = absurd i
+try_except_whole p q d ss (on_rest (handlers v c s hs)) ks m after r f is (u, i, g) = (is_try_on (subst (λ z. AreStatements d ss ks z) is f.0) g, tt)
+try_except_whole p q d ss (on_else_rest no_handlers ts) ks m after r f is (u, w, n, i, g, h) = absurd i
+try_except_whole p q d ss (on_else_rest (handlers v c s hs) ts) ks m after r f is (u, w, n, i, g, h) = (is_try_on_else (subst (λ z. AreStatements d ss ks z) is f.0) g h, tt)
+
+out_of_try : (p : Position) (d : ℕ) (x : Statements × Rest) (ls r : List Terminal) → TryParts d x ls r → (s : Statement) × Behind kind.Try_ p d s ls r
+out_of_try p d (ss, finally_rest ts) ls r (m, f, (q, u, k, e, g)) = (try_of ss (finally_rest ts), try_finally_whole p q u d ss ts ls m k (kind.End at u ∷ r) r f e (g, ends_all g refl refl refl) refl)
+out_of_try p d (ss, except_rest ts) ls r (m, f, (q, k, e, g)) = (try_of ss (except_rest ts), try_except_whole p q d ss (except_rest ts) ls m k r f e g)
+out_of_try p d (ss, on_rest hs) ls r (m, f, (q, k, e, g)) = (try_of ss (on_rest hs), try_except_whole p q d ss (on_rest hs) ls m k r f e g)
+out_of_try p d (ss, on_else_rest hs ts) ls r (m, f, (q, k, e, g)) = (try_of ss (on_else_rest hs ts), try_except_whole p q d ss (on_else_rest hs ts) ls m k r f e g)
+
+finally_it : (p : Position) → Sample BodyTail RestsAll
+finally_it p = record { tokens = kind.Finally at p ∷ kind.End at p ∷ []; behind = []; part = finally_rest (statements empty no_statements); stands = λ i. (p, p, kind.End at p ∷ [], refl, are_one_statement is_empty); fits = (refl, refl, refl) }
+
+out_of_except : (d : ℕ) (ks : List Terminal) → HandsOn (Marked mark.Except) d ks BodyTail d ks
+out_of_except d ks q x = hands_as (Seq (Marked mark.Except) StatementsEnd) BodyTail d ks (λ i y ls r s f. (except_rest y.1.0, (y.0, f.0, f.1, (y.1.1, subst (λ z. AreStatements i y.1.0 f.0 z) f.2.2 f.2.1.0)))) q (hands_mark mark.Except StatementsEnd d ks some_end q x)
+
+behind_try : (q : Position) (d : ℕ) (x : Rest) (ls r : List Terminal) → SomeExcept d x ls r → BodyTail d x (kind.Except at q ∷ ls) r
+behind_try q d (finally_rest ts) ls r f = absurd f
+behind_try q d (except_rest ts) ls r f = (q, ls, refl, f)
+behind_try q d (on_rest hs) ls r f = (q, ls, refl, f)
+behind_try q d (on_else_rest hs ts) ls r f = (q, ls, refl, f)
+
 try_parts : (p : Position) (d : ℕ) (end : Place) (ks : List Terminal) (e : ParseError) → Refuses TryParts d end ks e → Refuses (Behind kind.Try_ p) d end ks e
-try_parts p d end ks e h = refuses_map TryParts (Behind kind.Try_ p) d end ks e (λ d' b ls r s x. into_try p d' b ls r x) h
+try_parts p d end ks e h = refuses_map TryParts (Behind kind.Try_ p) d end ks e (λ d' b ls r s x. into_try p d' b ls r x) (hands_as TryParts (Behind kind.Try_ p) d ks (λ i y ls r s x. out_of_try p i y ls r x)) h
 
 pub try_body : (p : Position) (d : ℕ) (end : Place) (ks : List Terminal) (e : ParseError) → Refuses SomeStatements d end ks e → Refuses (Behind kind.Try_ p) d end ks e
-try_body p d end ks e h = try_parts p d end ks e (refuses_first SomeStatements BodyTail d end ks e h)
+try_body p d end ks e h = try_parts p d end ks e (refuses_first SomeStatements BodyTail d end ks e (hands_first SomeStatements BodyTail RestsAll d ks fits_statements finally_it) h)
 
 try_tail : (p : Position) (d : ℕ) (end : Place) (ss : Statements) (ks m : List Terminal) (e : ParseError) → SomeStatements d ss ks m → Refuses BodyTail d end m e → Refuses (Behind kind.Try_ p) d end ks e
 try_tail p d end ss ks m e f h = try_parts p d end ks e (refuses_after SomeStatements BodyTail d end ss ks m e known_statements f h)
@@ -358,7 +454,7 @@ except_of_tail m none d (on_rest hs) ls r s (q, k, e, f) = (q, k, e)
 except_of_tail m none d (on_else_rest hs ts) ls r s (q, k, e, f) = (q, k, e)
 
 pub try_except_missing : (p : Position) (d : ℕ) (end : Place) (ss : Statements) (ks m : List Terminal) (e : ParseError) → SomeStatements d ss ks m → NoMark mark.Finally m → Refuses (Marked mark.Except) d end m e → Refuses (Behind kind.Try_ p) d end ks e
-try_except_missing p d end ss ks m e f none h = try_tail p d end ss ks m e f (refuses_map (Marked mark.Except) BodyTail d end m e (except_of_tail m none) h)
+try_except_missing p d end ss ks m e f none h = try_tail p d end ss ks m e f (refuses_map (Marked mark.Except) BodyTail d end m e (except_of_tail m none) (out_of_except d m) h)
 
 behind_finally : (q : Position) (d : ℕ) (x : Rest) (ls r : List Terminal) → BodyTail d x (kind.Finally at q ∷ ls) r → Some_ StatementsEnd d ls
 behind_finally q d (finally_rest ts) ls r (w, u, k, e, f) = ((ts, u), r, subst (λ z. StatementsEnd d (ts, u) z r) (sym (ap behind e)) (kind.End at u ∷ r, (f, ends_all f refl refl refl), refl))
@@ -373,18 +469,7 @@ behind_except q d (on_rest hs) ls r (w, k, e, f) = (on_rest hs, r, subst (λ z. 
 behind_except q d (on_else_rest hs ts) ls r (w, k, e, f) = (on_else_rest hs ts, r, subst (λ z. SomeExcept d (on_else_rest hs ts) z r) (sym (ap behind e)) f)
 
 pub try_except_refuses : (p q : Position) (d : ℕ) (end : Place) (ss : Statements) (ks m after : List Terminal) (e : ParseError) → SomeStatements d ss ks m → Marked mark.Except d q m after → Refuses SomeExcept d end after e → Refuses (Behind kind.Try_ p) d end ks e
-try_except_refuses p q d end ss ks m after e f is h = try_tail p d end ss ks m e f (subst (λ z. Refuses BodyTail d end z e) (sym is) (refuses_behind SomeExcept BodyTail d end (kind.Except at q) after e (behind_except q) h))
+try_except_refuses p q d end ss ks m after e f is h = try_tail p d end ss ks m e f (subst (λ z. Refuses BodyTail d end z e) (sym is) (refuses_behind SomeExcept BodyTail d end (kind.Except at q) after e (behind_except q) (hands_behind SomeExcept BodyTail d (kind.Except at q) after (λ i x ls r f. (x, behind_try q i x ls r f))) h))
 
 pub try_finally_refuses : (p q : Position) (d : ℕ) (end : Place) (ss : Statements) (ks m after : List Terminal) (e : ParseError) → SomeStatements d ss ks m → Marked mark.Finally d q m after → Refuses StatementsEnd d end after e → Refuses (Behind kind.Try_ p) d end ks e
-try_finally_refuses p q d end ss ks m after e f is h = try_tail p d end ss ks m e f (subst (λ z. Refuses BodyTail d end z e) (sym is) (refuses_behind StatementsEnd BodyTail d end (kind.Finally at q) after e (behind_finally q) h))
-
-pub try_finally_whole : (p q u : Position) (d : ℕ) (ss ts : Statements) (ks m after o r : List Terminal) → SomeStatements d ss ks m → Marked mark.Finally d q m after → SomeStatements d ts after o → Marked mark.End d u o r → Behind kind.Try_ p d (try_of ss (finally_rest ts)) ks r
-try_finally_whole p q u d ss ts ks m after o r f is g h = (is_try_finally (subst (λ z. AreStatements d ss ks z) is f.0) (subst (λ z. AreStatements d ts after z) h g.0), tt)
-
-pub try_except_whole : (p q : Position) (d : ℕ) (ss : Statements) (x : Rest) (ks m after r : List Terminal) → SomeStatements d ss ks m → Marked mark.Except d q m after → SomeExcept d x after r → Behind kind.Try_ p d (try_of ss x) ks r
-try_except_whole p q d ss (finally_rest ts) ks m after r f is g = absurd g
-try_except_whole p q d ss (except_rest ts) ks m after r f is (u, g) = (is_try_except (subst (λ z. AreStatements d ss ks z) is f.0) g, tt)
-try_except_whole p q d ss (on_rest no_handlers) ks m after r f is (u, i, g) = absurd i
-try_except_whole p q d ss (on_rest (handlers v c s hs)) ks m after r f is (u, i, g) = (is_try_on (subst (λ z. AreStatements d ss ks z) is f.0) g, tt)
-try_except_whole p q d ss (on_else_rest no_handlers ts) ks m after r f is (u, w, n, i, g, h) = absurd i
-try_except_whole p q d ss (on_else_rest (handlers v c s hs) ts) ks m after r f is (u, w, n, i, g, h) = (is_try_on_else (subst (λ z. AreStatements d ss ks z) is f.0) g h, tt)
+try_finally_refuses p q d end ss ks m after e f is h = try_tail p d end ss ks m e f (subst (λ z. Refuses BodyTail d end z e) (sym is) (refuses_behind StatementsEnd BodyTail d end (kind.Finally at q) after e (behind_finally q) (hands_behind StatementsEnd BodyTail d (kind.Finally at q) after (λ i y ls r f. (finally_rest y.0, (q, y.1, ls, refl, subst (λ z. AreStatements i y.0 ls z) f.2 f.1.0)))) h))

@@ -2,14 +2,17 @@ pub mod Branches
 pub mod Calls
 pub mod Chains
 pub mod Cuts
+pub mod Deeper
 pub mod Designators
 pub mod Errors
 pub mod ExpressionFronts
 pub mod ExpressionKnown
 pub mod ExpressionLists
 pub mod Factors
+pub mod Fitting
 pub mod Handlers
 pub mod Lists
+pub mod Living
 pub mod Marks
 pub mod Names
 pub mod Parts

@@ -5,7 +5,7 @@ use Rattle.std.proofs.lemmas.List.{take-append-drop}
 use Rattle.op_base.specs.declared.place.Place.{Place}
 use Rattle.op_parse_code.proofs.Cuts.{cut_seen, same_refl}
 use Rattle.op_parse_code.proofs.Refusing.{Known}
-use Rattle.op_parse_code.specs.Refusal.{Phrase, Dead, Decision, RefusesBy, out_of_memory, syntax, nested, left_out, in_grammar, IsFree}
+use Rattle.op_parse_code.specs.Refusal.{Phrase, Dead, Decision, Shown, RefusesBy, out_of_memory, syntax, nested, left_out, in_grammar, IsFree}
 use Rattle.op_parse_code.specs.declared.error.ParseError.{ParseError}
 use Rattle.op_tree.specs.Terminal.{Terminal}
 
@@ -26,10 +26,10 @@ dead_none : {A : Type 0} (P : A → List Terminal → List Terminal → Type 0) 
 dead_none P ks q a r p (seen, e, never) = never q a r (same_refl q) (subst (λ z. P a z r) e p)
 
 -- a part that stands there is refused for a form of statements and expressions alone
-pub refuses_free : {A : Type 0} {D : Decision} (P : Phrase A) (d : ℕ) (end : Place) (ks : List Terminal) (e : ParseError) (a : A) (r : List Terminal) → P d a ks r → RefusesBy D P d end ks e → IsFree end ks e
+pub refuses_free : {A : Type 0} {D : Decision} {W : Shown} (P : Phrase A) (d : ℕ) (end : Place) (ks : List Terminal) (e : ParseError) (a : A) (r : List Terminal) → P d a ks r → RefusesBy D W P d end ks e → IsFree end ks e
 refuses_free P d end ks e a r p (out_of_memory x) = subst (IsFree end ks) (sym x) tt
 refuses_free P d end ks e a r p (syntax q x never) = absurd (dead_none (P d) ks q a r p (never d))
-refuses_free P d end ks e a r p (nested q m x w never) = absurd (dead_none (P d) ks m a r p never)
+refuses_free P d end ks e a r p (nested q m n x w never v lives) = absurd (dead_none (P d) ks m a r p never)
 refuses_free P d end ks e a r p (left_out feature q m x f never) = absurd (dead_none (P d) ks m a r p (never d))
 refuses_free P d end ks e a r p (in_grammar feature q x f) = subst (IsFree end ks) (sym x) (feature, q, f, refl)
 

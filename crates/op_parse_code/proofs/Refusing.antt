@@ -1,11 +1,11 @@
 -- Refusals of parts are refusals of what they are parts of.
-use Rattle.std.proofs.Common.{◌≡◌, ℕ, suc, List, [], ◌∷◌, ◌++◌, append_assoc, refl, sym, ap, ◌∙◌, subst, length, length-append, arith}
+use Rattle.std.proofs.Common.{◌≡◌, ◌+◌, ◌-◌, ℕ, zero, suc, List, [], ◌∷◌, ◌++◌, append_assoc, refl, sym, ap, ◌∙◌, subst, length, length-append, arith}
 use Rattle.op_tree.proofs.ExpressionUnique.{behind, same2}
 use Rattle.op_base.specs.declared.place.Place.{Place}
 use Rattle.op_parse_code.proofs.Cuts.{IsCut, cut_seen, same_behind}
 use Rattle.op_parse_code.specs.GrammarForm.{HasGrammarForm}
 use Rattle.op_parse_code.specs.Form.{HasForm}
-use Rattle.op_parse_code.specs.Refusal.{Phrase, SameHead, Dead, RefusesBy, Decision, out_of_memory, syntax, nested, left_out, in_grammar, refused_at, IsSyntax, Told, as_it_was, by_form}
+use Rattle.op_parse_code.specs.Refusal.{Phrase, SameHead, Dead, Alive, Shown, RefusesBy, Decision, out_of_memory, syntax, nested, left_out, in_grammar, refused_at, IsSyntax, Told, as_it_was, by_form}
 use Rattle.op_parse_code.specs.Whole.{Marked, NoMark}
 use Rattle.op_parse_code.specs.declared.error.ParseError.{ParseError}
 use Rattle.op_parse_code.specs.declared.mark.Mark.{Mark}
@@ -26,7 +26,7 @@ pub suc_same : {n m : ℕ} → suc n ≡ suc m → n ≡ m
 suc_same h = cc
 
 -- two lists of tokens before the same ones, where the whole is the same
-append_same_front : (f g q : List Terminal) → f ++ q ≡ g ++ q → f ≡ g
+pub append_same_front : (f g q : List Terminal) → f ++ q ≡ g ++ q → f ≡ g
 append_same_front [] [] q h = refl
 append_same_front [] (u ∷ g) q h = absurd (omega (arith, ap length h, length-append g q))
 append_same_front (t ∷ f) [] q h = absurd (omega (arith, ap length h, length-append f q))
@@ -68,49 +68,77 @@ deeper_any P Q d' ks q h never =
     let first = never d' in
     (first.0, first.1, λ ls b r s x. let w = h b (first.0 ++ ls) r (subst (λ z. SameHead z (first.0 ++ ls)) (sym first.1) (same_behind first.0 q ls s)) x in inside_seen (P w.0) ks q first.0 first.1 (never w.0) ls w.2.0 w.2.1 s w.2.2)
 
+-- ---- parts of a greater depth
+
+-- what is shown of some tokens shows what is to be shown of others, up to the same token
+abbrev pub Shows : Shown → ℕ → List Terminal → Shown → ℕ → List Terminal → Type 0
+Shows W d ks V i ls = (q : List Terminal) → W d ks q → V i ls q
+
+-- Where tokens begin a part of this depth or a greater one, others do, up to the same token.
+abbrev pub HandsOn : {A B : Type 0} → Phrase A → ℕ → List Terminal → Phrase B → ℕ → List Terminal → Type 0
+HandsOn P d ks Q i ls = Shows (Alive P) d ks (Alive Q) i ls
+
 -- ---- refusals
 
 -- at the same depth, what stands behind a token
-pub refuses_behind : {A B : Type 0} {D : Decision} (P : Phrase A) (Q : Phrase B) (d : ℕ) (end : Place) (t : Terminal) (ks : List Terminal) (e : ParseError) → ((d' : ℕ) (b : B) (ls r : List Terminal) → Q d' b (t ∷ ls) r → Some_ P d' ls) → RefusesBy D P d end ks e → RefusesBy D Q d end (t ∷ ks) e
-refuses_behind P Q d end t ks e h (out_of_memory x) = out_of_memory x
-refuses_behind P Q d end t ks e h (syntax q x never) = syntax q x (λ d'. dead_token (P d') (Q d') t ks q (h d') (never d'))
-refuses_behind P Q d end t ks e h (nested q z x w never) = nested q z x w (dead_token (P d) (Q d) t ks z (h d) never)
-refuses_behind P Q d end t ks e h (left_out feature q m x f never) = left_out feature q m x (with_token t f) (λ d'. dead_token (P d') (Q d') t ks m (h d') (never d'))
-refuses_behind P Q d end t ks e h (in_grammar feature q x f) = in_grammar feature q x (with_token_in_grammar t f)
+pub refuses_behind_by : {A B : Type 0} {D : Decision} {W V : Shown} (P : Phrase A) (Q : Phrase B) (d : ℕ) (end : Place) (t : Terminal) (ks : List Terminal) (e : ParseError) → ((d' : ℕ) (b : B) (ls r : List Terminal) → Q d' b (t ∷ ls) r → Some_ P d' ls) → Shows W d ks V d (t ∷ ks) → RefusesBy D W P d end ks e → RefusesBy D V Q d end (t ∷ ks) e
+refuses_behind_by P Q d end t ks e h k (out_of_memory x) = out_of_memory x
+refuses_behind_by P Q d end t ks e h k (syntax q x never) = syntax q x (λ d'. dead_token (P d') (Q d') t ks q (h d') (never d'))
+refuses_behind_by P Q d end t ks e h k (nested q z n x w never v lives) = nested q z n x w (dead_token (P d) (Q d) t ks z (h d) never) v (k n lives)
+refuses_behind_by P Q d end t ks e h k (left_out feature q m x f never) = left_out feature q m x (with_token t f) (λ d'. dead_token (P d') (Q d') t ks m (h d') (never d'))
+refuses_behind_by P Q d end t ks e h k (in_grammar feature q x f) = in_grammar feature q x (with_token_in_grammar t f)
 
 -- one deeper, what stands behind a token
-pub refuses_inside : {A B : Type 0} {D : Decision} (P : Phrase A) (Q : Phrase B) (d : ℕ) (end : Place) (t : Terminal) (ks : List Terminal) (e : ParseError) → ((d' : ℕ) (b : B) (ls r : List Terminal) → Q d' b (t ∷ ls) r → (i : ℕ) × (d' ≡ suc i) × Some_ P i ls) → RefusesBy D P d end ks e → RefusesBy D Q (suc d) end (t ∷ ks) e
-refuses_inside P Q d end t ks e h (out_of_memory x) = out_of_memory x
-refuses_inside P Q d end t ks e h (syntax q x (never)) = syntax q x (λ d'. inside_any P Q d' t ks q (h d') never)
-refuses_inside P Q d end t ks e h (nested q z x w never) = nested q z x w (dead_token (P d) (Q (suc d)) t ks z (λ b ls r f. let v = h (suc d) b ls r f in subst (λ (i : ℕ). Some_ P i ls) (sym (suc_same v.1)) v.2) never)
-refuses_inside P Q d end t ks e h (left_out feature q m x f never) = left_out feature q m x (with_token t f) (λ d'. inside_any P Q d' t ks m (h d') never)
-refuses_inside P Q d end t ks e h (in_grammar feature q x f) = in_grammar feature q x (with_token_in_grammar t f)
+pub refuses_inside_by : {A B : Type 0} {D : Decision} {W V : Shown} (P : Phrase A) (Q : Phrase B) (d : ℕ) (end : Place) (t : Terminal) (ks : List Terminal) (e : ParseError) → ((d' : ℕ) (b : B) (ls r : List Terminal) → Q d' b (t ∷ ls) r → (i : ℕ) × (d' ≡ suc i) × Some_ P i ls) → Shows W d ks V (suc d) (t ∷ ks) → RefusesBy D W P d end ks e → RefusesBy D V Q (suc d) end (t ∷ ks) e
+refuses_inside_by P Q d end t ks e h k (out_of_memory x) = out_of_memory x
+refuses_inside_by P Q d end t ks e h k (syntax q x (never)) = syntax q x (λ d'. inside_any P Q d' t ks q (h d') never)
+refuses_inside_by P Q d end t ks e h k (nested q z n x w never v lives) = nested q z n x w (dead_token (P d) (Q (suc d)) t ks z (λ b ls r f. let u = h (suc d) b ls r f in subst (λ (i : ℕ). Some_ P i ls) (sym (suc_same u.1)) u.2) never) v (k n lives)
+refuses_inside_by P Q d end t ks e h k (left_out feature q m x f never) = left_out feature q m x (with_token t f) (λ d'. inside_any P Q d' t ks m (h d') never)
+refuses_inside_by P Q d end t ks e h k (in_grammar feature q x f) = in_grammar feature q x (with_token_in_grammar t f)
 
 -- one deeper at the same place
-pub refuses_deeper : {A B : Type 0} {D : Decision} (P : Phrase A) (Q : Phrase B) (d : ℕ) (end : Place) (ks : List Terminal) (e : ParseError) → ((d' : ℕ) (b : B) (ls r : List Terminal) → SameHead ks ls → Q d' b ls r → (i : ℕ) × (d' ≡ suc i) × Some_ P i ls) → RefusesBy D P d end ks e → RefusesBy D Q (suc d) end ks e
-refuses_deeper P Q d end ks e h (out_of_memory x) = out_of_memory x
-refuses_deeper P Q d end ks e h (syntax q x never) = syntax q x (λ d'. deeper_any P Q d' ks q (h d') never)
-refuses_deeper P Q d end ks e h (nested q z x w never) = nested q z x w (dead_map (P d) (Q (suc d)) ks z (λ b ls r s f. let v = h (suc d) b ls r s f in subst (λ (i : ℕ). Some_ P i ls) (sym (suc_same v.1)) v.2) never)
-refuses_deeper P Q d end ks e h (left_out feature q m x f never) = left_out feature q m x f (λ d'. deeper_any P Q d' ks m (h d') never)
-refuses_deeper P Q d end ks e h (in_grammar feature q x f) = in_grammar feature q x f
+pub refuses_deeper_by : {A B : Type 0} {D : Decision} {W V : Shown} (P : Phrase A) (Q : Phrase B) (d : ℕ) (end : Place) (ks : List Terminal) (e : ParseError) → ((d' : ℕ) (b : B) (ls r : List Terminal) → SameHead ks ls → Q d' b ls r → (i : ℕ) × (d' ≡ suc i) × Some_ P i ls) → Shows W d ks V (suc d) ks → RefusesBy D W P d end ks e → RefusesBy D V Q (suc d) end ks e
+refuses_deeper_by P Q d end ks e h k (out_of_memory x) = out_of_memory x
+refuses_deeper_by P Q d end ks e h k (syntax q x never) = syntax q x (λ d'. deeper_any P Q d' ks q (h d') never)
+refuses_deeper_by P Q d end ks e h k (nested q z n x w never v lives) = nested q z n x w (dead_map (P d) (Q (suc d)) ks z (λ b ls r s f. let u = h (suc d) b ls r s f in subst (λ (i : ℕ). Some_ P i ls) (sym (suc_same u.1)) u.2) never) v (k n lives)
+refuses_deeper_by P Q d end ks e h k (left_out feature q m x f never) = left_out feature q m x f (λ d'. deeper_any P Q d' ks m (h d') never)
+refuses_deeper_by P Q d end ks e h k (in_grammar feature q x f) = in_grammar feature q x f
 
 -- the same place and depth
-pub refuses_map : {A B : Type 0} {D : Decision} (P : Phrase A) (Q : Phrase B) (d : ℕ) (end : Place) (ks : List Terminal) (e : ParseError) → ((d' : ℕ) (b : B) (ls r : List Terminal) → SameHead ks ls → Q d' b ls r → Some_ P d' ls) → RefusesBy D P d end ks e → RefusesBy D Q d end ks e
-refuses_map P Q d end ks e h (out_of_memory x) = out_of_memory x
-refuses_map P Q d end ks e h (syntax q x never) = syntax q x (λ d'. dead_map (P d') (Q d') ks q (h d') (never d'))
-refuses_map P Q d end ks e h (nested q z x w never) = nested q z x w (dead_map (P d) (Q d) ks z (h d) never)
-refuses_map P Q d end ks e h (left_out feature q m x f never) = left_out feature q m x f (λ d'. dead_map (P d') (Q d') ks m (h d') (never d'))
-refuses_map P Q d end ks e h (in_grammar feature q x f) = in_grammar feature q x f
+pub refuses_map_by : {A B : Type 0} {D : Decision} {W V : Shown} (P : Phrase A) (Q : Phrase B) (d : ℕ) (end : Place) (ks : List Terminal) (e : ParseError) → ((d' : ℕ) (b : B) (ls r : List Terminal) → SameHead ks ls → Q d' b ls r → Some_ P d' ls) → Shows W d ks V d ks → RefusesBy D W P d end ks e → RefusesBy D V Q d end ks e
+refuses_map_by P Q d end ks e h k (out_of_memory x) = out_of_memory x
+refuses_map_by P Q d end ks e h k (syntax q x never) = syntax q x (λ d'. dead_map (P d') (Q d') ks q (h d') (never d'))
+refuses_map_by P Q d end ks e h k (nested q z n x w never v lives) = nested q z n x w (dead_map (P d) (Q d) ks z (h d) never) v (k n lives)
+refuses_map_by P Q d end ks e h k (left_out feature q m x f never) = left_out feature q m x f (λ d'. dead_map (P d') (Q d') ks m (h d') (never d'))
+refuses_map_by P Q d end ks e h k (in_grammar feature q x f) = in_grammar feature q x f
 
-pub refuses_first : {A B : Type 0} {D : Decision} (P : Phrase A) (Q : Phrase B) (d : ℕ) (end : Place) (ks : List Terminal) (e : ParseError) → RefusesBy D P d end ks e → RefusesBy D (Seq P Q) d end ks e
-refuses_first P Q d end ks e h = refuses_map P (Seq P Q) d end ks e (λ d' b ls r s x. (b.0, x.0, x.1)) h
+pub refuses_first_by : {A B : Type 0} {D : Decision} {W V : Shown} (P : Phrase A) (Q : Phrase B) (d : ℕ) (end : Place) (ks : List Terminal) (e : ParseError) → Shows W d ks V d ks → RefusesBy D W P d end ks e → RefusesBy D V (Seq P Q) d end ks e
+refuses_first_by P Q d end ks e k h = refuses_map_by P (Seq P Q) d end ks e (λ d' b ls r s x. (b.0, x.0, x.1)) k h
+
+-- the same where a part of a greater depth is shown
+
+pub refuses_behind : {A B : Type 0} {D : Decision} (P : Phrase A) (Q : Phrase B) (d : ℕ) (end : Place) (t : Terminal) (ks : List Terminal) (e : ParseError) → ((d' : ℕ) (b : B) (ls r : List Terminal) → Q d' b (t ∷ ls) r → Some_ P d' ls) → HandsOn P d ks Q d (t ∷ ks) → RefusesBy D (Alive P) P d end ks e → RefusesBy D (Alive Q) Q d end (t ∷ ks) e
+refuses_behind P Q d end t ks e h k x = refuses_behind_by {W = Alive P} {V = Alive Q} P Q d end t ks e h k x
+
+pub refuses_inside : {A B : Type 0} {D : Decision} (P : Phrase A) (Q : Phrase B) (d : ℕ) (end : Place) (t : Terminal) (ks : List Terminal) (e : ParseError) → ((d' : ℕ) (b : B) (ls r : List Terminal) → Q d' b (t ∷ ls) r → (i : ℕ) × (d' ≡ suc i) × Some_ P i ls) → HandsOn P d ks Q (suc d) (t ∷ ks) → RefusesBy D (Alive P) P d end ks e → RefusesBy D (Alive Q) Q (suc d) end (t ∷ ks) e
+refuses_inside P Q d end t ks e h k x = refuses_inside_by {W = Alive P} {V = Alive Q} P Q d end t ks e h k x
+
+pub refuses_deeper : {A B : Type 0} {D : Decision} (P : Phrase A) (Q : Phrase B) (d : ℕ) (end : Place) (ks : List Terminal) (e : ParseError) → ((d' : ℕ) (b : B) (ls r : List Terminal) → SameHead ks ls → Q d' b ls r → (i : ℕ) × (d' ≡ suc i) × Some_ P i ls) → HandsOn P d ks Q (suc d) ks → RefusesBy D (Alive P) P d end ks e → RefusesBy D (Alive Q) Q (suc d) end ks e
+refuses_deeper P Q d end ks e h k x = refuses_deeper_by {W = Alive P} {V = Alive Q} P Q d end ks e h k x
+
+pub refuses_map : {A B : Type 0} {D : Decision} (P : Phrase A) (Q : Phrase B) (d : ℕ) (end : Place) (ks : List Terminal) (e : ParseError) → ((d' : ℕ) (b : B) (ls r : List Terminal) → SameHead ks ls → Q d' b ls r → Some_ P d' ls) → HandsOn P d ks Q d ks → RefusesBy D (Alive P) P d end ks e → RefusesBy D (Alive Q) Q d end ks e
+refuses_map P Q d end ks e h k x = refuses_map_by {W = Alive P} {V = Alive Q} P Q d end ks e h k x
+
+pub refuses_first : {A B : Type 0} {D : Decision} (P : Phrase A) (Q : Phrase B) (d : ℕ) (end : Place) (ks : List Terminal) (e : ParseError) → HandsOn P d ks (Seq P Q) d ks → RefusesBy D (Alive P) P d end ks e → RefusesBy D (Alive (Seq P Q)) (Seq P Q) d end ks e
+refuses_first P Q d end ks e k x = refuses_first_by {W = Alive P} {V = Alive (Seq P Q)} P Q d end ks e k x
 
 -- ---- what is known of a sort of parts
 
--- A part stands whatever follows that begins so, and never other one ends elsewhere.
+-- A part stands whatever follows that begins so, and at any greater depth, and never other one ends elsewhere.
 pub record Known {A : Type 0} (P : Phrase A) : Type 0 where
   pub front : (d : ℕ) (a : A) (ks m : List Terminal) → P d a ks m → (f : List Terminal → List Terminal) × IsCut f × (ks ≡ f m) × ((x : List Terminal) → SameHead m x → P d a (f x) x)
   pub same : (d d' : ℕ) (a a' : A) (ks m m' : List Terminal) → P d a ks m → P d' a' ks m' → m ≡ m'
+  pub deepens : (d : ℕ) (a : A) (ks m : List Terminal) → P d a ks m → P (suc d) a ks m
 
 dead_after : {A B : Type 0} (P : Phrase A) (Q : Phrase B) (d d' : ℕ) (a : A) (ks m q : List Terminal) → Known P → P d a ks m → Dead (Q d') m q → Dead (Seq P Q d') ks q
 dead_after P Q d d' a ks m q known p (seen, e, never) =
@@ -124,18 +152,45 @@ dead_after P Q d d' a ks m q known p (seen, e, never) =
           never ls b.1 r h (subst (λ z. Q d' b.1 z r) (sym (known.same d d' a b.0 _ _ _ whole other)) x.2),
     )
 
-pub refuses_after : {A B : Type 0} {D : Decision} (P : Phrase A) (Q : Phrase B) (d : ℕ) (end : Place) (a : A) (ks m : List Terminal) (e : ParseError) → Known P → P d a ks m → RefusesBy D Q d end m e → RefusesBy D (Seq P Q) d end ks e
-refuses_after P Q d end a ks m e known p (out_of_memory x) = out_of_memory x
-refuses_after P Q d end a ks m e known p (syntax q x never) = syntax q x (λ d'. dead_after P Q d d' a ks m q known p (never d'))
-refuses_after P Q d end a ks m e known p (nested q z x w never) = nested q z x w (dead_after P Q d d a ks m z known p never)
-refuses_after P Q d end a ks m e known p (left_out feature q z x f never) =
+by_depth : {A : Type 0} (P : Phrase A) (n d i : ℕ) (a : A) (ks m : List Terminal) → Known P → i ≡ n + d → P d a ks m → P i a ks m
+by_depth P zero d i a ks m known h p = let same : d ≡ i = omega (arith, h) in subst (λ (z : ℕ). P z a ks m) same p
+by_depth P (suc n) d i a ks m known h p = let same : suc (n + d) ≡ i = omega (arith, h) in subst (λ (z : ℕ). P z a ks m) same (known.deepens (n + d) a ks m (by_depth P n d (n + d) a ks m known refl p))
+
+pub alive_after : {A B : Type 0} (P : Phrase A) (Q : Phrase B) (d : ℕ) (a : A) (ks m q : List Terminal) → Known P → P d a ks m → Alive Q d m q → Alive (Seq P Q) d ks q
+alive_after P Q d a ks m q known p x =
+    let w = known.front x.depth a ks m (by_depth P (x.depth - d) d x.depth a ks m known (omega (arith, x.deep)) p) in
+    let s = cut_seen w.1 in
+    let goes : List Terminal = x.first ∷ (x.others ++ x.behind) in
+    let whole : P x.depth a (s.0 ++ (x.seen ++ goes)) (x.seen ++ goes) = subst (λ z. P x.depth a z (x.seen ++ goes)) (s.1 (x.seen ++ goes)) (w.3 (x.seen ++ goes) (subst (λ z. SameHead z (x.seen ++ goes)) (sym (x.from ∙ ap (λ z. x.seen ++ z) x.to)) (same_behind x.seen (x.first ∷ x.rest) goes refl))) in
+    record {
+      seen = s.0 ++ x.seen;
+      first = x.first;
+      rest = x.rest;
+      from = w.2 ∙ s.1 m ∙ ap (λ z. s.0 ++ z) x.from ∙ sym (append_assoc s.0 x.seen q);
+      to = x.to;
+      depth = x.depth;
+      deep = x.deep;
+      others = x.others;
+      behind = x.behind;
+      part = (a, x.part);
+      stands = (x.seen ++ goes, subst (λ z. P x.depth a z (x.seen ++ goes)) (sym (append_assoc s.0 x.seen goes)) whole, x.stands);
+    }
+
+pub refuses_after_by : {A B : Type 0} {D : Decision} {W V : Shown} (P : Phrase A) (Q : Phrase B) (d : ℕ) (end : Place) (a : A) (ks m : List Terminal) (e : ParseError) → Known P → P d a ks m → Shows W d m V d ks → RefusesBy D W Q d end m e → RefusesBy D V (Seq P Q) d end ks e
+refuses_after_by P Q d end a ks m e known p k (out_of_memory x) = out_of_memory x
+refuses_after_by P Q d end a ks m e known p k (syntax q x never) = syntax q x (λ d'. dead_after P Q d d' a ks m q known p (never d'))
+refuses_after_by P Q d end a ks m e known p k (nested q z n x w never v lives) = nested q z n x w (dead_after P Q d d a ks m z known p never) v (k n lives)
+refuses_after_by P Q d end a ks m e known p k (left_out feature q z x f never) =
     let w = known.front d a ks m p in
     let s = cut_seen w.1 in
     left_out feature q z x (with_front s.0 (w.2 ∙ s.1 m) f) (λ d'. dead_after P Q d d' a ks m z known p (never d'))
-refuses_after P Q d end a ks m e known p (in_grammar feature q x f) =
+refuses_after_by P Q d end a ks m e known p k (in_grammar feature q x f) =
     let w = known.front d a ks m p in
     let s = cut_seen w.1 in
     in_grammar feature q x (with_front_in_grammar s.0 (w.2 ∙ s.1 m) f)
+
+pub refuses_after : {A B : Type 0} {D : Decision} (P : Phrase A) (Q : Phrase B) (d : ℕ) (end : Place) (a : A) (ks m : List Terminal) (e : ParseError) → Known P → P d a ks m → RefusesBy D (Alive Q) Q d end m e → RefusesBy D (Alive (Seq P Q)) (Seq P Q) d end ks e
+refuses_after P Q d end a ks m e known p h = refuses_after_by {W = Alive Q} {V = Alive (Seq P Q)} P Q d end a ks m e known p (λ q x. alive_after P Q d a ks m q known p x) h
 
 -- ---- a form in place of rule 9
 
@@ -146,15 +201,15 @@ no_thirteen : {A : Type 0} → ◌≡◌ {A = ℕ} 13 9 → A
 no_thirteen h = absurd (omega (arith, h))
 
 -- where rule 9 refuses the part, a form in its tokens may be told
-pub form_told : {A : Type 0} {D : Decision} {P : Phrase A} {d : ℕ} {end : Place} {ks : List Terminal} {feature : ℕ} {q : List Terminal} {told : ParseError} (e : ParseError) → IsSyntax e → HasForm feature ks q → told ≡ refused_at 13 feature end q → RefusesBy D P d end ks e → RefusesBy D P d end ks told
+pub form_told : {A : Type 0} {D : Decision} {W : Shown} {P : Phrase A} {d : ℕ} {end : Place} {ks : List Terminal} {feature : ℕ} {q : List Terminal} {told : ParseError} (e : ParseError) → IsSyntax e → HasForm feature ks q → told ≡ refused_at 13 feature end q → RefusesBy D W P d end ks e → RefusesBy D W P d end ks told
 form_told e is f x (out_of_memory y) = absurd (subst IsSyntax y is)
 form_told {feature = feature} {q = q} e is f x (syntax m y never) = left_out feature q m x f never
-form_told e is f x (nested m z y w never) = no_sixty_one (subst IsSyntax y is)
+form_told e is f x (nested m z n y w never v lives) = no_sixty_one (subst IsSyntax y is)
 form_told e is f x (left_out n m z y g never) = no_thirteen (subst IsSyntax y is)
 form_told e is f x (in_grammar n m y g) = no_thirteen (subst IsSyntax y is)
 
-pub refuses_told : {A : Type 0} {D : Decision} {P : Phrase A} {d : ℕ} {end : Place} {ks : List Terminal} {feature : ℕ} {q : List Terminal} {e told : ParseError} → HasForm feature ks q → Told feature end q e told → RefusesBy D P d end ks e → RefusesBy D P d end ks told
-refuses_told {D = D} {P = P} {d = d} {end = end} {ks = ks} f (as_it_was x) h = subst (λ z. RefusesBy D P d end ks z) (sym x) h
+pub refuses_told : {A : Type 0} {D : Decision} {W : Shown} {P : Phrase A} {d : ℕ} {end : Place} {ks : List Terminal} {feature : ℕ} {q : List Terminal} {e told : ParseError} → HasForm feature ks q → Told feature end q e told → RefusesBy D W P d end ks e → RefusesBy D W P d end ks told
+refuses_told {D = D} {W = W} {P = P} {d = d} {end = end} {ks = ks} f (as_it_was x) h = subst (λ z. RefusesBy D W P d end ks z) (sym x) h
 refuses_told {e = e} f (by_form is x) h = form_told e is f x h
 
 -- ---- marks
@@ -165,5 +220,5 @@ no_mark_same m [] (u ∷ ls) s never = absurd s
 no_mark_same m (t ∷ ks) [] s never = absurd s
 no_mark_same m (t ∷ ks) (u ∷ ls) s never = λ p r h. never p ks (ap (λ z. z ∷ ks) (s ∙ head_same h))
 
-pub no_mark_refuses : {D : Decision} (m : Mark) (d : ℕ) (end : Place) (ks : List Terminal) (e : ParseError) → NoMark m ks → e ≡ refused_at 9 0 end ks → RefusesBy D (Marked m) d end ks e
+pub no_mark_refuses : {D : Decision} {W : Shown} (m : Mark) (d : ℕ) (end : Place) (ks : List Terminal) (e : ParseError) → NoMark m ks → e ≡ refused_at 9 0 end ks → RefusesBy D W (Marked m) d end ks e
 no_mark_refuses m d end ks e never x = syntax ks x (λ d'. dead_here (Marked m d') ks (λ p ls r s h. no_mark_same m ks ls s never p r h))

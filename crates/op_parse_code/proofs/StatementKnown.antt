@@ -1,6 +1,7 @@
 -- The sorts of parts of statements: each stands whatever follows that begins so, and ends at one place.
 use Rattle.std.proofs.Common.{◌≡◌, ℕ, Bool, true, List, [], ◌∷◌, refl, sym, ap, ◌∙◌, subst}
 use Rattle.op_parse_code.proofs.Cuts.{cut_none, cut_one, cut_join, same_not}
+use Rattle.op_parse_code.proofs.Deeper.{deeper_designator, deeper_elements, deeper_statement, deeper_statements, deeper_branches, deeper_handlers}
 use Rattle.op_parse_code.proofs.ExpressionFronts.{front_designator, front_elements}
 use Rattle.op_parse_code.proofs.Refusing.{Known}
 use Rattle.op_parse_code.proofs.StatementFronts.{front_statement, front_statements, front_branches, front_handlers, front_name, front_on, same_statement, same_statements}
@@ -21,36 +22,42 @@ pub known_name : Known SomeName
 known_name = record {
   front = λ d n ks m p. let s = front_name p in (s.0, s.1, s.2, λ x h. s.3 x);
   same = λ d d' n n' ks m m' p p'. (unique_name p p').1;
+  deepens = λ d n ks m p. p;
 }
 
 pub known_on : Known SomeOn
 known_on = record {
   front = λ d n ks m p. let s = front_on p in (s.0, s.1, s.2, λ x h. s.3 x);
   same = λ d d' n n' ks m m' p p'. (unique_on p p').2;
+  deepens = λ d n ks m p. p;
 }
 
 pub known_designator : Known SomeDesignator
 known_designator = record {
   front = λ d n ks m p. let s = front_designator p.0 in (s.0, s.1, s.2, λ x h. (s.3 x, same_not _ m x h p.1));
   same = λ d d' n n' ks m m' p p'. (unique_designator p.0 p'.0 p.1 p'.1).1;
+  deepens = λ d n ks m p. (deeper_designator p.0, p.1);
 }
 
 pub known_direction : Known SomeDirection
 known_direction = record {
   front = λ d n ks m p. (λ x. p.0 at p.1 ∷ x, cut_one (p.0 at p.1) cut_none, p.2, λ x h. (p.0, p.1, refl, p.3));
   same = λ d d' n n' ks m m' p p'. ap behind (sym p.2 ∙ p'.2);
+  deepens = λ d n ks m p. p;
 }
 
 pub known_labels : Known (ElementsBefore mark.Colon)
 known_labels = record {
   front = λ d n ks m p. let s = front_elements p.1 in (λ x. s.0 (kind.Colon at p.0 ∷ x), cut_join s.1 (cut_one (kind.Colon at p.0) cut_none), s.2, λ x h. (p.0, s.3 (kind.Colon at p.0 ∷ x)));
   same = λ d d' n n' ks m m' p p'. ap behind (unique_elements p.1 p'.1 (refl, refl) (refl, refl) refl refl refl refl).1;
+  deepens = λ d n ks m p. (p.0, deeper_elements p.1);
 }
 
 pub known_statement : Known SomeStatement
 known_statement = record {
   front = λ d s ks m p. let a = front_statement p.0 in (a.0, a.1, a.2, λ x h. (a.3 x, same_statement s m x h p.1));
   same = λ d d' s s' ks m m' p p'. (unique_statement p.0 p'.0 p.1 p'.1).1;
+  deepens = λ d s ks m p. (deeper_statement p.0, p.1);
 }
 
 -- what ends the last statement of a list ends the last but the first
@@ -70,6 +77,7 @@ pub known_statements : Known SomeStatements
 known_statements = record {
   front = λ d s ks m p. let a = front_statements p.0 in (a.0, a.1, a.2, λ x h. (a.3 x, same_statements s m x h p.1));
   same = λ d d' s s' ks m m' p p'. same_list p.0 p'.0 p.1 p'.1;
+  deepens = λ d s ks m p. (deeper_statements p.0, p.1);
 }
 
 pub begins_of : (r : List Terminal) → front_is ends_list r ≡ true → Begins ends_list r
@@ -86,10 +94,12 @@ pub known_branches : Known SomeBranches
 known_branches = record {
   front = λ d s ks m p. let a = front_branches p.0 in (a.0, a.1, a.2, λ x h. (a.3 x h, same_front_is ends_list m x h p.1));
   same = λ d d' s s' ks m m' p p'. (unique_branches p.0 p'.0 (begins_of m p.1) (begins_of m' p'.1)).1;
+  deepens = λ d s ks m p. (deeper_branches p.0, p.1);
 }
 
 pub known_handlers : Known SomeHandlers
 known_handlers = record {
   front = λ d s ks m p. let a = front_handlers p.0 in (a.0, a.1, a.2, λ x h. (a.3 x h, same_front_is ends_list m x h p.1));
   same = λ d d' s s' ks m m' p p'. (unique_handlers p.0 p'.0 (begins_of m p.1) (begins_of m' p'.1)).1;
+  deepens = λ d s ks m p. (deeper_handlers p.0, p.1);
 }

@@ -1,5 +1,5 @@
 -- What a refusal of a part says.
-use Rattle.std.specs.Prelude.{◌≡◌, ℕ, List, [], ◌∷◌, ◌++◌, codes}
+use Rattle.std.specs.Prelude.{◌≡◌, ℕ, ◌≤◌, List, [], ◌∷◌, ◌++◌, codes}
 use Rattle.op_base.specs.declared.place.Place.{Place}
 use Rattle.op_parse_code.specs.GrammarForm.{HasGrammarForm}
 use Rattle.op_parse_code.specs.Form.{HasForm}
@@ -24,6 +24,23 @@ SameHead (t ∷ ts) (u ∷ us) = t ≡ u
 abbrev pub Dead : {A : Type 0} → (A → List Terminal → List Terminal → Type 0) → List Terminal → List Terminal → Type 0
 Dead {A} P ks q = (seen : List Terminal) × (ks ≡ seen ++ q) × ((ls : List Terminal) (a : A) (r : List Terminal) → SameHead q ls → P a (seen ++ ls) r → ⊥)
 
+-- Some part, of this depth or a greater one, begins with the tokens of ks up to and including the first of q: such a part stands
+-- there where others follow that token.
+pub record Alive {A : Type 0} (P : Phrase A) (d : ℕ) (ks q : List Terminal) : Type 0 where
+  -- the tokens before q, and the first of q
+  pub seen : List Terminal
+  pub first : Terminal
+  pub rest : List Terminal
+  pub from : ks ≡ seen ++ q
+  pub to : q ≡ first ∷ rest
+  -- the part: its depth, what it goes on with, and what stands behind it
+  pub depth : ℕ
+  pub deep : d ≤ depth
+  pub others : List Terminal
+  pub behind : List Terminal
+  pub part : A
+  pub stands : P depth part (seen ++ (first ∷ (others ++ behind))) behind
+
 -- where the first of these tokens stands, or the file ends
 abbrev pub place_at : Place → List Terminal → Place
 place_at end [] = end
@@ -45,19 +62,24 @@ pub data Decides : List Terminal → List Terminal → Type 0 where
   decides_there : {q : List Terminal} → Decides q q
   decides_behind : {text : List ℕ} {p : Position} {q m : List Terminal} → IsWord (codes "on") text → Decides q m → Decides (kind.Identifier text at p ∷ q) m
 
--- Why the tokens have no part at this depth: rule 9 where none begins so, whatever the depth, rule 61 where none of this
--- depth begins so, rule 13 where a form that is left out stands in the tokens and none begins so, whatever the depth, or where one
--- stands in them that the grammar has. Want of memory may come at any time.
-pub data RefusesBy {A : Type 0} (D : Decision) (P : Phrase A) (d : ℕ) (end : Place) (ks : List Terminal) : ParseError → Type 0 where
-  out_of_memory : {e : ParseError} → e ≡ NoMemory → RefusesBy D P d end ks e
-  syntax : {e : ParseError} (q : List Terminal) → e ≡ refused_at 9 0 end q → ((d' : ℕ) → Dead (P d') ks q) → RefusesBy D P d end ks e
-  nested : {e : ParseError} (q m : List Terminal) → e ≡ refused_at 61 0 end q → D q m → Dead (P d) ks m → RefusesBy D P d end ks e
-  left_out : {e : ParseError} (feature : ℕ) (q m : List Terminal) → e ≡ refused_at 13 feature end q → HasForm feature ks q → ((d' : ℕ) → Dead (P d') ks m) → RefusesBy D P d end ks e
-  in_grammar : {e : ParseError} (feature : ℕ) (q : List Terminal) → e ≡ refused_at 13 feature end q → HasGrammarForm feature ks q → RefusesBy D P d end ks e
+-- What is shown of the tokens up to one where a part is nested too deep: at the depth that is left, among these tokens, up to the
+-- first of those.
+abbrev pub Shown : Type 1
+Shown = ℕ → List Terminal → List Terminal → Type 0
 
--- the same of statements, expressions and their parts
+-- Why the tokens have no part at this depth: rule 9 where none begins so, whatever the depth, rule 61 where none of this
+-- depth begins so and what is to be shown of the tokens before holds, rule 13 where a form that is left out stands in the tokens and none begins so, whatever the depth, or where one
+-- stands in them that the grammar has. Want of memory may come at any time.
+pub data RefusesBy {A : Type 0} (D : Decision) (W : Shown) (P : Phrase A) (d : ℕ) (end : Place) (ks : List Terminal) : ParseError → Type 0 where
+  out_of_memory : {e : ParseError} → e ≡ NoMemory → RefusesBy D W P d end ks e
+  syntax : {e : ParseError} (q : List Terminal) → e ≡ refused_at 9 0 end q → ((d' : ℕ) → Dead (P d') ks q) → RefusesBy D W P d end ks e
+  nested : {e : ParseError} (q m w : List Terminal) → e ≡ refused_at 61 0 end q → D q m → Dead (P d) ks m → Decides w m → W d ks w → RefusesBy D W P d end ks e
+  left_out : {e : ParseError} (feature : ℕ) (q m : List Terminal) → e ≡ refused_at 13 feature end q → HasForm feature ks q → ((d' : ℕ) → Dead (P d') ks m) → RefusesBy D W P d end ks e
+  in_grammar : {e : ParseError} (feature : ℕ) (q : List Terminal) → e ≡ refused_at 13 feature end q → HasGrammarForm feature ks q → RefusesBy D W P d end ks e
+
+-- The same of statements, expressions and their parts: it is shown that one of a greater depth begins so.
 abbrev pub Refuses : {A : Type 0} → Phrase A → ℕ → Place → List Terminal → ParseError → Type 0
-Refuses {A} P d end ks e = RefusesBy Decides P d end ks e
+Refuses {A} P d end ks e = RefusesBy Decides (Alive P) P d end ks e
 
 -- the refusals that a part which stands there leaves open: for a form in its tokens that the grammar has
 abbrev pub IsFree : Place → List Terminal → ParseError → Type 0

@@ -3,7 +3,7 @@ use Rattle.std.specs.Prelude.{◌≡◌, ℕ, List, ◌∷◌}
 use Rattle.op_scan.specs.declared.token.TokenKind.TheVariants as kind
 use Rattle.op_base.specs.declared.place.Place.{Place}
 use Rattle.op_parse_code.specs.Opening.{kind_of}
-use Rattle.op_parse_code.specs.Refusal.{Phrase, Dead, refused_at}
+use Rattle.op_parse_code.specs.Refusal.{Phrase, Dead, Alive, refused_at}
 use Rattle.op_parse_code.specs.declared.error.ParseError.{ParseError}
 use Rattle.op_parse_code.specs.declared.mark.Mark.{Mark}
 use Rattle.op_parse_code.specs.declared.mark.Mark.TheVariants as mark
@@ -83,7 +83,7 @@ pub data InsideCall : ℕ → Arguments → List Terminal → List Terminal → 
   no_arguments_inside : {d : ℕ} {p : Position} {r : List Terminal} → InsideCall d no_arguments (kind.CloseParenthesis at p ∷ r) r
   arguments_inside : {d : ℕ} {args : Arguments} {ks r : List Terminal} → ArgumentsBefore d args ks r → InsideCall d args ks r
 
--- an operand of a sign or `not` may not be nested there any more: either no factor begins so, or it would be too deep
+-- an operand of a sign or `not` may not be nested there any more: either no factor begins so, or one does, and would be too deep
 pub data CannotEnter (end : Place) (ks : List Terminal) (e : ParseError) : Type 0 where
   begins_none : e ≡ refused_at 9 0 end ks → ((d : ℕ) → Dead (Factor d) ks ks) → CannotEnter end ks e
-  too_deep : e ≡ refused_at 61 0 end ks → CannotEnter end ks e
+  too_deep : e ≡ refused_at 61 0 end ks → Alive Factor 0 ks ks → CannotEnter end ks e

@@ -97,7 +97,7 @@ fn assignment_at(tokens: &[Token]) -> Option<(Position, &[Token])>
     Some((position_of(first), after))
 }
 
-fn begins_expression(tokens: &[Token]) -> bool
+pub fn begins_expression(tokens: &[Token]) -> bool
     ensures { result ≡ front_is begins_expression (terminals tokens.now) }
 {
     match tokens.split_first() {

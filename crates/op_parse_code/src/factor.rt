@@ -7,6 +7,7 @@ ghost use Rattle.op_tree.specs.Statement.{elements_of};
 ghost use Rattle.op_tree.specs.Terminal.{terminals};
 
 use crate::ParseError;
+use crate::call::begins_expression;
 use crate::designator::{designator, selectors};
 use crate::error::{nested, syntax};
 use crate::list::elements;
@@ -104,11 +105,8 @@ fn enter_operand(left: u32, end: Place, tokens: &[Token]) -> Result<u32, ParseEr
     if left > 0 {
         return Ok(left - 1);
     }
-    let Some((first, _)) = tokens.split_first() else {
-        return Err(syntax(end, tokens));
-    };
-    match factor_opening(&first.kind) {
-        FactorOpening::Nothing => Err(syntax(end, tokens)),
-        _ => Err(nested(end, tokens)),
+    if begins_expression(tokens) {
+        return Err(nested(end, tokens));
     }
+    Err(syntax(end, tokens))
 }

@@ -4,8 +4,10 @@ use Rattle.op_base.specs.declared.place.Place.{Place}
 use Rattle.op_parse_code.proofs.Cuts.{cut_seen, same_behind}
 use Rattle.op_parse_code.proofs.ExpressionKnown.{known_chain}
 use Rattle.op_parse_code.proofs.Factors.{same_begins}
-use Rattle.op_parse_code.proofs.Refusing.{Some_, Seq, refuses_first, refuses_after, refuses_behind, with_front, with_front_in_grammar, no_mark_same}
+use Rattle.op_parse_code.proofs.Refusing.{Some_, Seq, with_front, with_front_in_grammar, no_mark_same}
+use Rattle.op_parse_decl.proofs.Untold.{refuses_first, refuses_after, refuses_behind}
 use Rattle.op_parse_code.specs.Refusal.{SameHead, Dead, Refuses, out_of_memory, syntax, nested, left_out, in_grammar, refused_at}
+use Rattle.op_parse_decl.specs.Refusal.{RefusesHere}
 use Rattle.op_parse_code.specs.Whole.{Chain, NoMark}
 use Rattle.op_parse_code.specs.declared.error.ParseError.{ParseError}
 use Rattle.op_parse_code.specs.declared.mark.Mark.TheVariants as mark
@@ -102,10 +104,10 @@ dead_bound d ks q b none (seen, e, never) = (seen, e, λ ls t r s f. dies ls t r
     dies ls t r s (reads_bounds a c p m f g st) = never ls a (kind.DotDot at p ∷ m) s f
     dies ls t r s (reads_list i text p u w m z is) = no_death i p u w text m seen q ls (subst (λ (z : List Terminal). lists_names z ≡ false) e none) (subst (λ (z : ℕ). (xs : List Terminal) (a : Expression) (r : List Terminal) → SameHead q xs → Chain Additive z a (seen ++ xs) r → ⊥) z never) s is
 
-pub bound_first : (d : ℕ) (end : Place) (ks : List Terminal) (e : ParseError) → Begins begins_expression ks → lists_names ks ≡ false → Refuses (Chain Additive) d end ks e → Refuses SomeBounded d end ks e
+pub bound_first : (d : ℕ) (end : Place) (ks : List Terminal) (e : ParseError) → Begins begins_expression ks → lists_names ks ≡ false → Refuses (Chain Additive) d end ks e → RefusesHere SomeBounded d end ks e
 bound_first d end ks e b n (out_of_memory x) = out_of_memory x
 bound_first d end ks e b n (syntax q x never) = syntax q x (λ d'. dead_bound d' ks q b n (never d'))
-bound_first d end ks e b n (nested q m x w never) = nested q m x w (dead_bound d ks m b n never)
+bound_first d end ks e b n (nested q m o x w never v t) = nested q m o x w (dead_bound d ks m b n never) v tt
 bound_first d end ks e b n (left_out feature q m x f never) = left_out feature q m x f (λ d'. dead_bound d' ks m b n (never d'))
 bound_first d end ks e b n (in_grammar feature q x f) = in_grammar feature q x f
 
@@ -140,10 +142,10 @@ dead_tail d d' a ks m q b p (seen, e, never) =
     dies ls t r front s whole (reads_bounds x c p m1 f g st) = never ls (Some c) r s (p, m1, (unique_chain whole.0 f.0 whole.1 f.1).1, g, st)
     dies ls t r front s whole (reads_list i text p u w m1 z is) = no_list text p u w m1 front (seen ++ ls) whole.0 is
 
-bound_tail : (d : ℕ) (end : Place) (a : Expression) (ks m : List Terminal) (e : ParseError) → Begins begins_expression ks → Chain Additive d a ks m → Refuses Tail d end m e → Refuses SomeBounded d end ks e
+bound_tail : (d : ℕ) (end : Place) (a : Expression) (ks m : List Terminal) (e : ParseError) → Begins begins_expression ks → Chain Additive d a ks m → RefusesHere Tail d end m e → RefusesHere SomeBounded d end ks e
 bound_tail d end a ks m e b f (out_of_memory x) = out_of_memory x
 bound_tail d end a ks m e b f (syntax q x never) = syntax q x (λ d'. dead_tail d d' a ks m q b f (never d'))
-bound_tail d end a ks m e b f (nested q z x w never) = nested q z x w (dead_tail d d a ks m z b f never)
+bound_tail d end a ks m e b f (nested q z n x w never v t) = nested q z n x w (dead_tail d d a ks m z b f never) v tt
 bound_tail d end a ks m e b f (left_out feature q z x g never) =
     let w = (known_chain Additive).front d a ks m f in
     let s = cut_seen w.1 in
@@ -157,17 +159,17 @@ into_tail : (p : Position) (d : ℕ) (b : Option Expression) (ls r : List Termin
 into_tail p d None ls r (e, st) = true_false (subst (IsNot is_dot_dot) (sym e) st.range)
 into_tail p d (Some b) ls r (q, m, e, f, st) = ((b, []), r, (r, subst (λ z. Chain Additive d b z r) (sym (ap behind e)) f, (refl, st)))
 
-pub bound_last : (d : ℕ) (end : Place) (a : Expression) (ks m : List Terminal) (p : Position) (after : List Terminal) (e : ParseError) → Begins begins_expression ks → Chain Additive d a ks m → m ≡ kind.DotDot at p ∷ after → Refuses (Chain Additive) d end after e → Refuses SomeBounded d end ks e
-bound_last d end a ks m p after e b f is h = bound_tail d end a ks m e b f (subst (λ z. Refuses Tail d end z e) (sym is) (refuses_behind (Seq (Chain Additive) NoMoreType) Tail d end (kind.DotDot at p) after e (into_tail p) (refuses_first (Chain Additive) NoMoreType d end after e h)))
+pub bound_last : (d : ℕ) (end : Place) (a : Expression) (ks m : List Terminal) (p : Position) (after : List Terminal) (e : ParseError) → Begins begins_expression ks → Chain Additive d a ks m → m ≡ kind.DotDot at p ∷ after → Refuses (Chain Additive) d end after e → RefusesHere SomeBounded d end ks e
+bound_last d end a ks m p after e b f is h = bound_tail d end a ks m e b f (subst (λ z. RefusesHere Tail d end z e) (sym is) (refuses_behind (Seq (Chain Additive) NoMoreType) Tail d end (kind.DotDot at p) after e (into_tail p) (refuses_first (Chain Additive) NoMoreType d end after e h)))
 
-pub bound_goes_on : (d : ℕ) (end : Place) (a c : Expression) (ks m : List Terminal) (p : Position) (after r : List Terminal) (e : ParseError) → Begins begins_expression ks → Chain Additive d a ks m → m ≡ kind.DotDot at p ∷ after → Chain Additive d c after r → Refuses NoMoreType d end r e → Refuses SomeBounded d end ks e
-bound_goes_on d end a c ks m p after r e b f is g h = bound_tail d end a ks m e b f (subst (λ z. Refuses Tail d end z e) (sym is) (refuses_behind (Seq (Chain Additive) NoMoreType) Tail d end (kind.DotDot at p) after e (into_tail p) (refuses_after (Chain Additive) NoMoreType d end c after r e (known_chain Additive) g h)))
+pub bound_goes_on : (d : ℕ) (end : Place) (a c : Expression) (ks m : List Terminal) (p : Position) (after r : List Terminal) (e : ParseError) → Begins begins_expression ks → Chain Additive d a ks m → m ≡ kind.DotDot at p ∷ after → Chain Additive d c after r → RefusesHere NoMoreType d end r e → RefusesHere SomeBounded d end ks e
+bound_goes_on d end a c ks m p after r e b f is g h = bound_tail d end a ks m e b f (subst (λ z. RefusesHere Tail d end z e) (sym is) (refuses_behind (Seq (Chain Additive) NoMoreType) Tail d end (kind.DotDot at p) after e (into_tail p) (refuses_after (Chain Additive) NoMoreType d end c after r e (known_chain Additive) g h)))
 
 pub bounds_whole : (d : ℕ) (a c : Expression) (ks m : List Terminal) (p : Position) (after r : List Terminal) → Chain Additive d a ks m → m ≡ kind.DotDot at p ∷ after → Chain Additive d c after r → StopsDenoter r → SomeBounded d (subrange a c) ks r
 bounds_whole d a c ks m p after r f is g st = (is_subrange (subst (λ z. IsChain Additive d a ks z) is f.0) g.0, st)
 
 -- an expression that is no type, and no other bound behind it
-pub bound_no_type : (d : ℕ) (end : Place) (a : Expression) (ks m : List Terminal) (e : ParseError) → Begins begins_expression ks → Chain Additive d a ks m → NoMark mark.DotDot m → denoted a ≡ None → e ≡ refused_at 9 0 end m → Refuses SomeBounded d end ks e
+pub bound_no_type : (d : ℕ) (end : Place) (a : Expression) (ks m : List Terminal) (e : ParseError) → Begins begins_expression ks → Chain Additive d a ks m → NoMark mark.DotDot m → denoted a ≡ None → e ≡ refused_at 9 0 end m → RefusesHere SomeBounded d end ks e
 bound_no_type d end a ks m e b p none untyped x =
     let w = (known_chain Additive).front d a ks m p in
     let s = cut_seen w.1 in

@@ -4,7 +4,8 @@ use Rattle.std.specs.Char.{to_ascii_lowercase}
 use Rattle.op_base.specs.declared.place.Place.{Place}
 use Rattle.op_parse_code.proofs.Cuts.{same_not}
 use Rattle.op_parse_code.proofs.Names.{word_kind}
-use Rattle.op_parse_code.proofs.Refusing.{Some_, dead_here, no_mark_refuses, refuses_behind}
+use Rattle.op_parse_code.proofs.Refusing.{Some_, dead_here, no_mark_refuses}
+use Rattle.op_parse_decl.proofs.Untold.{refuses_behind}
 use Rattle.op_parse_code.specs.Form.{Form, HasForm, is_array_property, is_indexed_property, is_interface_property, is_descendant_property}
 use Rattle.op_parse_code.specs.Opening.{is_word, spelled}
 use Rattle.op_parse_code.specs.Refusal.{Refuses, syntax, refused_at}

@@ -4,12 +4,13 @@ use Rattle.std.proofs.lemmas.List.{append-nil}
 use Rattle.op_base.specs.declared.place.Place.{Place}
 use Rattle.op_parse_code.proofs.Calls.{front_not}
 use Rattle.op_parse_code.proofs.Cuts.{same_behind, same_not}
-use Rattle.op_parse_code.proofs.Refusing.{Known, Some_, Seq, form_told, refuses_map, refuses_first, refuses_after, refuses_behind, no_mark_refuses, no_mark_same}
+use Rattle.op_parse_code.proofs.Refusing.{Known, Some_, Seq, form_told, no_mark_refuses, no_mark_same}
+use Rattle.op_parse_decl.proofs.Untold.{refuses_map, refuses_first, refuses_after, refuses_behind}
 use Rattle.op_parse_code.proofs.Names.{identifier_kind, named_at, word_kind}
 use Rattle.op_parse_code.specs.Form.{Form, HasForm, is_default_property, is_resolution, is_strict}
 use Rattle.op_parse_code.specs.Opening.{is_identifier, is_word, spelled}
 use Rattle.op_parse_code.specs.Refusal.{Phrase, SameHead, Dead, Refuses, out_of_memory, syntax, nested, left_out, in_grammar, refused_at}
-use Rattle.op_parse_decl.specs.Refusal.{RefusesPart}
+use Rattle.op_parse_decl.specs.Refusal.{RefusesPart, RefusesHere}
 use Rattle.op_parse_code.specs.Whole.{Marked, NoMark}
 use Rattle.op_parse_code.specs.WholeStatement.{front_is}
 use Rattle.op_parse_code.specs.declared.error.ParseError.{ParseError}
@@ -247,18 +248,18 @@ dead_second P Q t ks q a z f h (v ∷ seen, e, never) = (
 refuses_second : {A B : Type 0} (P : Phrase A) (Q : Phrase B) (d : ℕ) (end : Place) (t : Terminal) (ks : List Terminal) (x : ParseError) → (a : A) (z : List Terminal) → ((d' : ℕ) → P d' a (t ∷ []) z) → ((d' : ℕ) (c : B) (ls r : List Terminal) → SameHead ks ls → Q d' c (t ∷ ls) r → Some_ P d' (t ∷ ls)) → RefusesPart P d end (t ∷ ks) x → RefusesPart Q d end (t ∷ ks) x
 refuses_second P Q d end t ks x a z f h (out_of_memory e) = out_of_memory e
 refuses_second P Q d end t ks x a z f h (syntax q e never) = syntax q e (λ d'. dead_second (P d') (Q d') t ks q a z (f d') (h d') (never d'))
-refuses_second P Q d end t ks x a z f h (nested q m e w never) = nested q m e w (dead_second (P d) (Q d) t ks m a z (f d) (h d) never)
+refuses_second P Q d end t ks x a z f h (nested q m n e w never v lives) = nested q m n e w (dead_second (P d) (Q d) t ks m a z (f d) (h d) never) v tt
 refuses_second P Q d end t ks x a z f h (left_out feature q m e w never) = left_out feature q m e w (λ d'. dead_second (P d') (Q d') t ks m a z (f d') (h d') (never d'))
 refuses_second P Q d end t ks x a z f h (in_grammar feature q e w) = in_grammar feature q e w
 
 names_first : {d : ℕ} {ks : List Terminal} → Some_ (Seq SomeNames FieldsRest) d ks → Some_ SomeNames d ks
 names_first (a, r, (m, f, g)) = (a.0, m, f)
 
-pub fields_names : (d : ℕ) (end : Place) (ks : List Terminal) (x : ParseError) → Begins is_identifier ks → NoVisibility ks → Refuses SomeNames d end ks x → RefusesRest d end ks x
+pub fields_names : (d : ℕ) (end : Place) (ks : List Terminal) (x : ParseError) → Begins is_identifier ks → NoVisibility ks → RefusesHere SomeNames d end ks x → RefusesRest d end ks x
 fields_names d end [] x i none h b free = absurd i
 fields_names d end (t ∷ ks) x i none h b free = at_kind t.kind t.position i none free h
   where
-    at_kind : (k : TokenKind) (p : Position) → is_identifier k ≡ true → NoVisibility (k at p ∷ ks) → (b ≡ true → NoDirective (k at p ∷ ks)) → Refuses SomeNames d end (k at p ∷ ks) x → RefusesPart (ClassRest b) d end (k at p ∷ ks) x
+    at_kind : (k : TokenKind) (p : Position) → is_identifier k ≡ true → NoVisibility (k at p ∷ ks) → (b ≡ true → NoDirective (k at p ∷ ks)) → RefusesHere SomeNames d end (k at p ∷ ks) x → RefusesPart (ClassRest b) d end (k at p ∷ ks) x
     at_kind (kind.Identifier word) p i none free h = refuses_second SomeNames (ClassRest b) d end (kind.Identifier word at p) ks x (name word p ∷ []) [] (λ d'. (are_one_name is_name, no_mark_by mark.Comma is_comma refl tt)) (λ d' u ls r s f. names_first (field_off ks s free none f)) (refuses_part h)
     at_kind other p i none free h = false_true i
 

@@ -5,10 +5,11 @@ use Rattle.op_base.specs.declared.place.Place.{Place}
 use Rattle.op_parse_code.proofs.Cuts.{same_not}
 use Rattle.op_parse_code.proofs.Factors.{same_begins}
 use Rattle.op_parse_code.proofs.Lists.{SplitsOpen, open_item, open_more}
-use Rattle.op_parse_code.proofs.Refusing.{Some_, Seq, Known, no_mark_same, refuses_map, refuses_first, refuses_after, refuses_behind, refuses_deeper, dead_here}
+use Rattle.op_parse_code.proofs.Refusing.{Some_, Seq, Known, no_mark_same, dead_here}
+use Rattle.op_parse_decl.proofs.Untold.{refuses_map, refuses_first, refuses_after, refuses_behind, refuses_deeper}
 use Rattle.op_parse_code.specs.Opening.{kind_of}
-use Rattle.op_parse_code.specs.Refusal.{Phrase, SameHead, Refuses, out_of_memory, syntax, nested, left_out, in_grammar, decides_there, refused_at}
-use Rattle.op_parse_decl.specs.Refusal.{RefusesPart, decides_in_code}
+use Rattle.op_parse_code.specs.Refusal.{Phrase, SameHead, Shown, Decides, RefusesBy, Refuses, out_of_memory, syntax, nested, left_out, in_grammar, decides_there, refused_at}
+use Rattle.op_parse_decl.specs.Refusal.{RefusesPart, decides_in_code, RefusesHere}
 use Rattle.op_parse_code.specs.Whole.{Marked, NoMark}
 use Rattle.op_parse_code.specs.declared.error.ParseError.{ParseError}
 use Rattle.op_parse_code.specs.declared.mark.Mark.{Mark}
@@ -34,10 +35,10 @@ head_of h = cc
 
 -- ---- what statements and expressions refuse
 
-pub refuses_part : {A : Type 0} {P : Phrase A} {d : ℕ} {end : Place} {ks : List Terminal} {e : ParseError} → Refuses P d end ks e → RefusesPart P d end ks e
+pub refuses_part : {A : Type 0} {W : Shown} {P : Phrase A} {d : ℕ} {end : Place} {ks : List Terminal} {e : ParseError} → RefusesBy Decides W P d end ks e → RefusesPart P d end ks e
 refuses_part (out_of_memory x) = out_of_memory x
 refuses_part (syntax q x never) = syntax q x never
-refuses_part (nested q m x w never) = nested q m x (decides_in_code w) never
+refuses_part (nested q m n x w never v t) = nested q m n x (decides_in_code w) never v tt
 refuses_part (left_out feature q m x f never) = left_out feature q m x f never
 refuses_part (in_grammar feature q x f) = in_grammar feature q x f
 
@@ -114,14 +115,14 @@ repeating_ends test P says d end all rest xs so_far h = subst (λ z. Repeats tes
 -- ---- parts with a mark between them
 
 separated_split : {A : Type 0} (m : Mark) (P : Phrase A) → SplitsOpen P (Separated m P) (Separated m P) m
-separated_split m P d x ls r (last_part {a = a} p none) = ((a, None), r, (r, p, none))
+separated_split m P d x ls r (last_part {a = a} p none) = ((a, None), r, (r, p, (none, refl)))
 separated_split m P d x ls r (and_more {a = a} {as_ = as_} {p = q} {z = z} p more) = ((a, Some as_), r, (kind_of m at q ∷ z, p, (q, z, refl, more)))
 
 pub separated_item : {A X : Type 0} (m : Mark) (P : Phrase A) (says : X → A) (d : ℕ) (end : Place) (all rest : List Terminal) (xs : List X) (e : ParseError) → Repeating (Separated m P) says d end all xs rest → RefusesPart P d end rest e → RefusesPart (Separated m P) d end all e
-separated_item m P says d end all rest xs e so_far h = so_far.dies e (open_item P (Separated m P) (Separated m P) m d end rest e (separated_split m P) h)
+separated_item m P says d end all rest xs e so_far h = so_far.dies e (open_item P (Separated m P) (Separated m P) m d end rest e (separated_split m P) (λ q x. tt) h)
 
 pub separated_more : {A X : Type 0} (m : Mark) (P : Phrase A) (says : X → A) (d : ℕ) (end : Place) (all rest behind : List Terminal) (xs : List X) (x : X) (q : Position) (after : List Terminal) → Known P → Repeating (Separated m P) says d end all xs rest → P d (says x) rest behind → behind ≡ kind_of m at q ∷ after → Repeating (Separated m P) says d end all (xs ++ (x ∷ [])) after
-separated_more m P says d end all rest behind xs x q after known so_far p is = repeating_push (Separated m P) says d end all rest after xs x so_far (λ more r h. and_more (subst (λ z. P d (says x) rest z) is p) h) (λ e h. open_more P (Separated m P) (Separated m P) m d end (says x) rest behind after q e (separated_split m P) known p is h)
+separated_more m P says d end all rest behind xs x q after known so_far p is = repeating_push (Separated m P) says d end all rest after xs x so_far (λ more r h. and_more (subst (λ z. P d (says x) rest z) is p) h) (λ e h. open_more P (Separated m P) (Separated m P) m d end (says x) rest behind after q e (separated_split m P) known p is (λ q x. tt) h)
 
 pub separated_ends : {A X : Type 0} (m : Mark) (P : Phrase A) (says : X → A) (d : ℕ) (end : Place) (all rest behind : List Terminal) (xs : List X) (x : X) → Repeating (Separated m P) says d end all xs rest → P d (says x) rest behind → NoMark m behind → Separated m P d (map says (xs ++ (x ∷ []))) all behind
 separated_ends m P says d end all rest behind xs x so_far p none = subst (λ z. Separated m P d z all behind) (sym (map_push says xs x []) ∙ append-nil (map says (xs ++ (x ∷ [])))) (so_far.completes (says x ∷ []) behind (last_part p none))
@@ -151,7 +152,7 @@ no_room : {A : Type 0} {P : Phrase A} (b : A) (ls r : List Terminal) → Deeper 
 no_room b ls r h = elim h [ ]
 
 pub too_deep : {A : Type 0} {P : Phrase A} {d : ℕ} {end : Place} {ks : List Terminal} {e : ParseError} → d ≡ 0 → e ≡ refused_at 61 0 end ks → RefusesPart (Deeper P) d end ks e
-too_deep {P = P} {end = end} {ks = ks} {e = e} z x = subst (λ (w : ℕ). RefusesPart (Deeper P) w end ks e) (sym z) (nested ks ks x (decides_in_code decides_there) (dead_here (Deeper P 0) ks (λ b ls r s f. no_room b ls r f)))
+too_deep {P = P} {end = end} {ks = ks} {e = e} z x = subst (λ (w : ℕ). RefusesPart (Deeper P) w end ks e) (sym z) (nested ks ks ks x (decides_in_code decides_there) (dead_here (Deeper P 0) ks (λ b ls r s f. no_room b ls r f)) decides_there tt)
 
 pub deeper_refused : {A : Type 0} {P : Phrase A} {d i : ℕ} {end : Place} {ks : List Terminal} {e : ParseError} → d ≡ suc i → RefusesPart P i end ks e → RefusesPart (Deeper P) d end ks e
 deeper_refused {P = P} {i = i} {end = end} {ks = ks} {e = e} z h = subst (λ (w : ℕ). RefusesPart (Deeper P) w end ks e) (sym z) (refuses_deeper P (Deeper P) i end ks e (λ d' b ls r s x. into_deeper d' b ls r x) h)

@@ -4,9 +4,11 @@ use Rattle.op_base.specs.declared.place.Place.{Place}
 use Rattle.op_parse_code.proofs.Cuts.{same_not}
 use Rattle.op_parse_code.proofs.ExpressionKnown.{known_mark}
 use Rattle.op_parse_code.proofs.Lists.{Splits, list_item, list_close, list_more}
-use Rattle.op_parse_code.proofs.Refusing.{Some_, Seq, refuses_map, refuses_first, refuses_after, refuses_behind, refuses_inside, refuses_deeper, form_told, dead_here, no_mark_same}
+use Rattle.op_parse_code.proofs.Refusing.{Some_, Seq, form_told, dead_here, no_mark_same}
+use Rattle.op_parse_decl.proofs.Untold.{refuses_map, refuses_first, refuses_after, refuses_behind, refuses_inside, refuses_deeper}
 use Rattle.op_parse_code.specs.Form.{BeginsProcedural, Form, is_procedural}
 use Rattle.op_parse_code.specs.Refusal.{SameHead, Refuses, syntax, nested, decides_there, refused_at}
+use Rattle.op_parse_decl.specs.Refusal.{RefusesHere}
 use Rattle.op_parse_code.specs.Whole.{Marked, NoMark}
 use Rattle.op_parse_code.specs.declared.error.ParseError.{ParseError}
 use Rattle.op_parse_code.specs.declared.mark.Mark.TheVariants as mark
@@ -55,7 +57,7 @@ denoter_begins (is_set t) = refl
 denoter_begins {ks = ks} (is_unpacked s) = also structure_denotes ks (structure_begins s)
 denoter_begins (is_packed s) = refl
 
-pub denoter_none : (d : ℕ) (end : Place) (ks : List Terminal) (e : ParseError) → IsNot begins_denoter ks → e ≡ refused_at 9 0 end ks → Refuses SomeDenoter d end ks e
+pub denoter_none : (d : ℕ) (end : Place) (ks : List Terminal) (e : ParseError) → IsNot begins_denoter ks → e ≡ refused_at 9 0 end ks → RefusesHere SomeDenoter d end ks e
 denoter_none d end ks e h x = syntax ks x (λ d'. dead_here (SomeDenoter d') ks (λ t ls r s f. both begins_denoter ls (denoter_begins f.0) (same_not begins_denoter ks ls s h)))
 
 deeper : {d : ℕ} {t : Denoter} {ks r : List Terminal} → IsDenoter d t ks r → (i : ℕ) × (d ≡ suc i)
@@ -70,10 +72,10 @@ deeper (is_packed {d = i} s) = (i, refl)
 no_room : (t : Denoter) (ks r : List Terminal) → IsDenoter 0 t ks r → ⊥
 no_room t ks r f = elim f [ ]
 
-pub denoter_too_deep : (d : ℕ) (end : Place) (ks : List Terminal) (e : ParseError) → d ≡ 0 → e ≡ refused_at 61 0 end ks → Refuses SomeDenoter d end ks e
-denoter_too_deep d end ks e z x = subst (λ (w : ℕ). Refuses SomeDenoter w end ks e) (sym z) (nested ks ks x decides_there (dead_here (SomeDenoter 0) ks (λ t ls r s f. no_room t ls r f.0)))
+pub denoter_too_deep : (d : ℕ) (end : Place) (ks : List Terminal) (e : ParseError) → d ≡ 0 → e ≡ refused_at 61 0 end ks → RefusesHere SomeDenoter d end ks e
+denoter_too_deep d end ks e z x = subst (λ (w : ℕ). RefusesHere SomeDenoter w end ks e) (sym z) (nested ks ks ks x decides_there (dead_here (SomeDenoter 0) ks (λ t ls r s f. no_room t ls r f.0)) decides_there tt)
 
-pub denoter_form : (d : ℕ) (end : Place) (feature : ℕ) (k : TokenKind) (p : Position) (ks : List Terminal) (e : ParseError) → begins_denoter k ≡ false → ((p : Position) (r : List Terminal) → Form feature (k at p ∷ r) (k at p ∷ r)) → e ≡ refused_at 13 feature end (k at p ∷ ks) → Refuses SomeDenoter d end (k at p ∷ ks) e
+pub denoter_form : (d : ℕ) (end : Place) (feature : ℕ) (k : TokenKind) (p : Position) (ks : List Terminal) (e : ParseError) → begins_denoter k ≡ false → ((p : Position) (r : List Terminal) → Form feature (k at p ∷ r) (k at p ∷ r)) → e ≡ refused_at 13 feature end (k at p ∷ ks) → RefusesHere SomeDenoter d end (k at p ∷ ks) e
 denoter_form d end feature k p ks e none form x = form_told (refused_at 9 0 end (k at p ∷ ks)) refl ([], k at p ∷ ks, refl, form p ks) x (denoter_none d end (k at p ∷ ks) (refused_at 9 0 end (k at p ∷ ks)) none refl)
 
 procedural_none : (k : TokenKind) → BeginsProcedural k → begins_denoter k ≡ false
@@ -81,22 +83,22 @@ procedural_none kind.Procedure h = refl
 procedural_none kind.Function h = refl
 procedural_none other h = elim h [ ]
 
-pub denoter_no_procedural : (d : ℕ) (end : Place) (k : TokenKind) (p : Position) (ks : List Terminal) (e : ParseError) → BeginsProcedural k → e ≡ refused_at 9 0 end (k at p ∷ ks) → Refuses SomeDenoter d end (k at p ∷ ks) e
+pub denoter_no_procedural : (d : ℕ) (end : Place) (k : TokenKind) (p : Position) (ks : List Terminal) (e : ParseError) → BeginsProcedural k → e ≡ refused_at 9 0 end (k at p ∷ ks) → RefusesHere SomeDenoter d end (k at p ∷ ks) e
 denoter_no_procedural d end k p ks e h x = denoter_none d end (k at p ∷ ks) e (procedural_none k h) x
 
-pub denoter_procedural : (d : ℕ) (end : Place) (k : TokenKind) (p : Position) (ks : List Terminal) (e : ParseError) → BeginsProcedural k → IsProcedural (k at p ∷ ks) → e ≡ refused_at 13 6 end (k at p ∷ ks) → Refuses SomeDenoter d end (k at p ∷ ks) e
+pub denoter_procedural : (d : ℕ) (end : Place) (k : TokenKind) (p : Position) (ks : List Terminal) (e : ParseError) → BeginsProcedural k → IsProcedural (k at p ∷ ks) → e ≡ refused_at 13 6 end (k at p ∷ ks) → RefusesHere SomeDenoter d end (k at p ∷ ks) e
 denoter_procedural d end k p ks e h (t, k', q, r, is, none) x = form_told (refused_at 9 0 end (k at p ∷ ks)) refl ([], k at p ∷ ks, refl, subst (λ z. Form 6 (k at p ∷ z) (k at p ∷ z)) (sym (ap behind is)) (is_procedural h none)) x (denoter_no_procedural d end k p ks (refused_at 9 0 end (k at p ∷ ks)) h refl)
 
 -- ---- the rest of a type behind its first token
 
-pub denoter_bounded : (d i : ℕ) (end : Place) (ks : List Terminal) (e : ParseError) → d ≡ suc i → Refuses SomeBounded i end ks e → Refuses SomeDenoter d end ks e
-denoter_bounded d i end ks e z h = subst (λ (w : ℕ). Refuses SomeDenoter w end ks e) (sym z) (refuses_deeper SomeBounded SomeDenoter i end ks e (λ d' t ls r s f. let w = deeper f.0 in (w.0, w.1, (t, r, subst (λ (x : ℕ). SomeDenoter x t ls r) w.1 f))) h)
+pub denoter_bounded : (d i : ℕ) (end : Place) (ks : List Terminal) (e : ParseError) → d ≡ suc i → RefusesHere SomeBounded i end ks e → RefusesHere SomeDenoter d end ks e
+denoter_bounded d i end ks e z h = subst (λ (w : ℕ). RefusesHere SomeDenoter w end ks e) (sym z) (refuses_deeper SomeBounded SomeDenoter i end ks e (λ d' t ls r s f. let w = deeper f.0 in (w.0, w.1, (t, r, subst (λ (x : ℕ). SomeDenoter x t ls r) w.1 f))) h)
 
 pub denoter_bounded_whole : (d i : ℕ) (t : Denoter) (ks r : List Terminal) → d ≡ suc i → SomeBounded i t ks r → SomeDenoter d t ks r
 denoter_bounded_whole d i t ks r z f = subst (λ (w : ℕ). SomeDenoter w t ks r) (sym z) f
 
-pub denoter_behind : (d i : ℕ) (end : Place) (k k' : TokenKind) (p : Position) (ks : List Terminal) (e : ParseError) → k ≡ k' → d ≡ suc i → Refuses (DenoterBehind k' p) i end ks e → Refuses SomeDenoter d end (k at p ∷ ks) e
-denoter_behind d i end k k' p ks e h z x = subst (λ (w : ℕ). Refuses SomeDenoter w end (k at p ∷ ks) e) (sym z) (subst (λ w. Refuses SomeDenoter (suc i) end (w at p ∷ ks) e) (sym h) (refuses_inside (DenoterBehind k' p) SomeDenoter i end (k' at p) ks e (λ d' t ls r f. let w = deeper f.0 in (w.0, w.1, (t, r, subst (λ (x : ℕ). SomeDenoter x t (k' at p ∷ ls) r) w.1 f))) x))
+pub denoter_behind : (d i : ℕ) (end : Place) (k k' : TokenKind) (p : Position) (ks : List Terminal) (e : ParseError) → k ≡ k' → d ≡ suc i → RefusesHere (DenoterBehind k' p) i end ks e → RefusesHere SomeDenoter d end (k at p ∷ ks) e
+denoter_behind d i end k k' p ks e h z x = subst (λ (w : ℕ). RefusesHere SomeDenoter w end (k at p ∷ ks) e) (sym z) (subst (λ w. RefusesHere SomeDenoter (suc i) end (w at p ∷ ks) e) (sym h) (refuses_inside (DenoterBehind k' p) SomeDenoter i end (k' at p) ks e (λ d' t ls r f. let w = deeper f.0 in (w.0, w.1, (t, r, subst (λ (x : ℕ). SomeDenoter x t (k' at p ∷ ls) r) w.1 f))) x))
 
 pub denoter_behind_whole : (d i : ℕ) (t : Denoter) (k k' : TokenKind) (p : Position) (ks r : List Terminal) → k ≡ k' → d ≡ suc i → DenoterBehind k' p i t ks r → SomeDenoter d t (k at p ∷ ks) r
 denoter_behind_whole d i t k k' p ks r h z f = subst (λ (w : ℕ). SomeDenoter w t (k at p ∷ ks) r) (sym z) (subst (λ w. SomeDenoter (suc i) t (w at p ∷ ks) r) (sym h) f)
@@ -109,10 +111,10 @@ into_set p d t ls r (is_subrange a b, st) = false_true (chain_begins a)
 into_set p d t ls r (is_set {base = base} {q = q} {ks = ks} f, st) = ((q, base), r, (ks, refl, (f, st)))
 into_set p d t ls r (is_unpacked s, st) = false_true (structure_begins s)
 
-pub set_of_missing : (p : Position) (d : ℕ) (end : Place) (ks : List Terminal) (e : ParseError) → Refuses (Marked mark.Of) d end ks e → Refuses (DenoterBehind kind.Set p) d end ks e
+pub set_of_missing : (p : Position) (d : ℕ) (end : Place) (ks : List Terminal) (e : ParseError) → Refuses (Marked mark.Of) d end ks e → RefusesHere (DenoterBehind kind.Set p) d end ks e
 set_of_missing p d end ks e h = refuses_map (Seq (Marked mark.Of) SomeDenoter) (DenoterBehind kind.Set p) d end ks e (λ d' t ls r s f. into_set p d' t ls r f) (refuses_first (Marked mark.Of) SomeDenoter d end ks e h)
 
-pub set_base : (p q : Position) (d : ℕ) (end : Place) (ks m : List Terminal) (e : ParseError) → ks ≡ kind.Of at q ∷ m → Refuses SomeDenoter d end m e → Refuses (DenoterBehind kind.Set p) d end ks e
+pub set_base : (p q : Position) (d : ℕ) (end : Place) (ks m : List Terminal) (e : ParseError) → ks ≡ kind.Of at q ∷ m → RefusesHere SomeDenoter d end m e → RefusesHere (DenoterBehind kind.Set p) d end ks e
 set_base p q d end ks m e is h = refuses_map (Seq (Marked mark.Of) SomeDenoter) (DenoterBehind kind.Set p) d end ks e (λ d' t ls r s f. into_set p d' t ls r f) (refuses_after (Marked mark.Of) SomeDenoter d end q ks m e (known_mark mark.Of) is h)
 
 pub set_whole : (p q : Position) (d : ℕ) (t : Denoter) (ks m r : List Terminal) → ks ≡ kind.Of at q ∷ m → SomeDenoter d t m r → DenoterBehind kind.Set p d (set p t) ks r
@@ -134,8 +136,8 @@ into_unpacked d t k p ls r h (is_set f, st) = false_true h
 into_unpacked d t k p ls r h (is_unpacked {d = i} s, st) = (i, refl, (t, r, (s, st)))
 into_unpacked d t k p ls r h (is_packed s, st) = false_true h
 
-pub denoter_unpacked : (d i : ℕ) (end : Place) (k k' : TokenKind) (p : Position) (ks : List Terminal) (e : ParseError) → k ≡ k' → is_structure k' ≡ true → d ≡ suc i → ((q : Position) → Refuses (SomeStructure p false) i end (k' at q ∷ ks) e) → Refuses SomeDenoter d end (k at p ∷ ks) e
-denoter_unpacked d i end k k' p ks e h g z x = subst (λ (w : ℕ). Refuses SomeDenoter w end (k at p ∷ ks) e) (sym z) (subst (λ w. Refuses SomeDenoter (suc i) end (w at p ∷ ks) e) (sym h) (refuses_deeper (SomeStructure p false) SomeDenoter i end (k' at p ∷ ks) e into (x p)))
+pub denoter_unpacked : (d i : ℕ) (end : Place) (k k' : TokenKind) (p : Position) (ks : List Terminal) (e : ParseError) → k ≡ k' → is_structure k' ≡ true → d ≡ suc i → ((q : Position) → RefusesHere (SomeStructure p false) i end (k' at q ∷ ks) e) → RefusesHere SomeDenoter d end (k at p ∷ ks) e
+denoter_unpacked d i end k k' p ks e h g z x = subst (λ (w : ℕ). RefusesHere SomeDenoter w end (k at p ∷ ks) e) (sym z) (subst (λ w. RefusesHere SomeDenoter (suc i) end (w at p ∷ ks) e) (sym h) (refuses_deeper (SomeStructure p false) SomeDenoter i end (k' at p ∷ ks) e into (x p)))
   where
     into : (d' : ℕ) (t : Denoter) (ls r : List Terminal) → SameHead (k' at p ∷ ks) ls → SomeDenoter d' t ls r → (i : ℕ) × (d' ≡ suc i) × Some_ (SomeStructure p false) i ls
     into d' t [] r s f = absurd s
@@ -152,8 +154,8 @@ into_packed p d t ls r (is_subrange a b, st) = false_true (chain_begins a)
 into_packed p d t ls r (is_unpacked s, st) = false_true (structure_begins s)
 into_packed p d t ls r (is_packed {d = i} s, st) = (i, refl, (t, r, (s, st)))
 
-pub denoter_packed : (d i : ℕ) (end : Place) (k : TokenKind) (p : Position) (ks : List Terminal) (e : ParseError) → k ≡ kind.Packed → d ≡ suc i → Refuses (SomeStructure p true) i end ks e → Refuses SomeDenoter d end (k at p ∷ ks) e
-denoter_packed d i end k p ks e h z x = subst (λ (w : ℕ). Refuses SomeDenoter w end (k at p ∷ ks) e) (sym z) (subst (λ w. Refuses SomeDenoter (suc i) end (w at p ∷ ks) e) (sym h) (refuses_inside (SomeStructure p true) SomeDenoter i end (kind.Packed at p) ks e (into_packed p) x))
+pub denoter_packed : (d i : ℕ) (end : Place) (k : TokenKind) (p : Position) (ks : List Terminal) (e : ParseError) → k ≡ kind.Packed → d ≡ suc i → RefusesHere (SomeStructure p true) i end ks e → RefusesHere SomeDenoter d end (k at p ∷ ks) e
+denoter_packed d i end k p ks e h z x = subst (λ (w : ℕ). RefusesHere SomeDenoter w end (k at p ∷ ks) e) (sym z) (subst (λ w. RefusesHere SomeDenoter (suc i) end (w at p ∷ ks) e) (sym h) (refuses_inside (SomeStructure p true) SomeDenoter i end (kind.Packed at p) ks e (into_packed p) x))
 
 pub denoter_packed_whole : (d i : ℕ) (t : Denoter) (k : TokenKind) (p : Position) (ks r : List Terminal) → k ≡ kind.Packed → d ≡ suc i → SomeStructure p true i t ks r → SomeDenoter d t (k at p ∷ ks) r
 denoter_packed_whole d i t k p ks r h z f = subst (λ (w : ℕ). SomeDenoter w t (k at p ∷ ks) r) (sym z) (subst (λ w. SomeDenoter (suc i) t (w at p ∷ ks) r) (sym h) (is_packed f.0, f.1))
@@ -163,11 +165,11 @@ no_array_record p b ks none d t ls r s (is_dynamic_array {q = q} f, st) = absurd
 no_array_record p b ks none d t ls r s (is_static_array {q = q} ts f, st) = absurd (no_mark_same mark.Array ks ls s none q _ refl)
 no_array_record p b ks none d t ls r s (is_record {q = q} {ks = m} fs, st) = (q, m, refl)
 
-pub packed_none : (p : Position) (d : ℕ) (end : Place) (ks : List Terminal) (e : ParseError) → NoMark mark.Array ks → Refuses (Marked mark.Record) d end ks e → Refuses (SomeStructure p true) d end ks e
+pub packed_none : (p : Position) (d : ℕ) (end : Place) (ks : List Terminal) (e : ParseError) → NoMark mark.Array ks → Refuses (Marked mark.Record) d end ks e → RefusesHere (SomeStructure p true) d end ks e
 packed_none p d end ks e none h = refuses_map (Marked mark.Record) (SomeStructure p true) d end ks e (no_array_record p true ks none) h
 
-pub structure_there : (p q : Position) (b : Bool) (d : ℕ) (end : Place) (k : TokenKind) (ks m : List Terminal) (e : ParseError) → ks ≡ k at q ∷ m → ((u : Position) → Refuses (SomeStructure p b) d end (k at u ∷ m) e) → Refuses (SomeStructure p b) d end ks e
-structure_there p q b d end k ks m e is h = subst (λ z. Refuses (SomeStructure p b) d end z e) (sym is) (h q)
+pub structure_there : (p q : Position) (b : Bool) (d : ℕ) (end : Place) (k : TokenKind) (ks m : List Terminal) (e : ParseError) → ks ≡ k at q ∷ m → ((u : Position) → RefusesHere (SomeStructure p b) d end (k at u ∷ m) e) → RefusesHere (SomeStructure p b) d end ks e
+structure_there p q b d end k ks m e is h = subst (λ z. RefusesHere (SomeStructure p b) d end z e) (sym is) (h q)
 
 pub structure_there_whole : (p q : Position) (b : Bool) (d : ℕ) (t : Denoter) (k : TokenKind) (ks m r : List Terminal) → ks ≡ k at q ∷ m → ((u : Position) → SomeStructure p b d t (k at u ∷ m) r) → SomeStructure p b d t ks r
 structure_there_whole p q b d t k ks m r is f = subst (λ z. SomeStructure p b d t z r) (sym is) (f q)
@@ -178,13 +180,13 @@ into_array : (p q : Position) (b : Bool) (d : ℕ) (t : Denoter) (ls r : List Te
 into_array p q b d t ls r (is_dynamic_array {t = a} {ks = m} f, st) = ((no_denoters, a), r, (m, no_indices, (f, st)))
 into_array p q b d t ls r (is_static_array {ts = ts} {t = a} {v = v} {m = m} fs f, st) = ((ts, a), r, (m, some_indices {p = _} (v, fs), (f, st)))
 
-array_behind : (p : Position) (b : Bool) (d : ℕ) (end : Place) (ks : List Terminal) (e : ParseError) → Refuses (Seq SomeIndices SomeDenoter) d end ks e → (q : Position) → Refuses (SomeStructure p b) d end (kind.Array at q ∷ ks) e
+array_behind : (p : Position) (b : Bool) (d : ℕ) (end : Place) (ks : List Terminal) (e : ParseError) → RefusesHere (Seq SomeIndices SomeDenoter) d end ks e → (q : Position) → RefusesHere (SomeStructure p b) d end (kind.Array at q ∷ ks) e
 array_behind p b d end ks e h q = refuses_behind (Seq SomeIndices SomeDenoter) (SomeStructure p b) d end (kind.Array at q) ks e (λ d' t ls r f. into_array p q b d' t ls r f) h
 
-pub array_indices : (p : Position) (b : Bool) (d : ℕ) (end : Place) (ks : List Terminal) (e : ParseError) → Refuses SomeIndices d end ks e → (q : Position) → Refuses (SomeStructure p b) d end (kind.Array at q ∷ ks) e
+pub array_indices : (p : Position) (b : Bool) (d : ℕ) (end : Place) (ks : List Terminal) (e : ParseError) → RefusesHere SomeIndices d end ks e → (q : Position) → RefusesHere (SomeStructure p b) d end (kind.Array at q ∷ ks) e
 array_indices p b d end ks e h = array_behind p b d end ks e (refuses_first SomeIndices SomeDenoter d end ks e h)
 
-pub array_element : (p : Position) (b : Bool) (d : ℕ) (end : Place) (ts : Denoters) (ks m : List Terminal) (e : ParseError) → SomeIndices d ts ks m → Refuses SomeDenoter d end m e → (q : Position) → Refuses (SomeStructure p b) d end (kind.Array at q ∷ ks) e
+pub array_element : (p : Position) (b : Bool) (d : ℕ) (end : Place) (ts : Denoters) (ks m : List Terminal) (e : ParseError) → SomeIndices d ts ks m → RefusesHere SomeDenoter d end m e → (q : Position) → RefusesHere (SomeStructure p b) d end (kind.Array at q ∷ ks) e
 array_element p b d end ts ks m e f h = array_behind p b d end ks e (refuses_after SomeIndices SomeDenoter d end ts ks m e known_indices f h)
 
 pub array_whole : (p : Position) (b : Bool) (d : ℕ) (ts : Denoters) (t : Denoter) (ks m r : List Terminal) → SomeIndices d ts ks m → SomeDenoter d t m r → (q : Position) → SomeStructure p b d (array p b ts t) (kind.Array at q ∷ ks) r
@@ -195,7 +197,7 @@ no_bracket_of : (ks : List Terminal) → NoMark mark.OpenBracket ks → (d : ℕ
 no_bracket_of ks none d ts ls r s (no_indices {p = p}) = (p, r, refl)
 no_bracket_of ks none d ts ls r s (some_indices {p = p} f) = absurd (no_mark_same mark.OpenBracket ks ls s none p _ refl)
 
-pub indices_none : (d : ℕ) (end : Place) (ks : List Terminal) (e : ParseError) → NoMark mark.OpenBracket ks → Refuses (Marked mark.Of) d end ks e → Refuses SomeIndices d end ks e
+pub indices_none : (d : ℕ) (end : Place) (ks : List Terminal) (e : ParseError) → NoMark mark.OpenBracket ks → Refuses (Marked mark.Of) d end ks e → RefusesHere SomeIndices d end ks e
 indices_none d end ks e none h = refuses_map (Marked mark.Of) SomeIndices d end ks e (no_bracket_of ks none) h
 
 pub indices_none_whole : (d : ℕ) (p : Position) (ks r : List Terminal) → ks ≡ kind.Of at p ∷ r → SomeIndices d no_denoters ks r
@@ -204,8 +206,8 @@ indices_none_whole d p ks r is = subst (λ z. SomeIndices d no_denoters z r) (sy
 no_index : (ts : Denoters) (p : Position) (ls r : List Terminal) → SomeIndices 0 ts (kind.OpenBracket at p ∷ ls) r → ⊥
 no_index ts p ls r f = elim f [ ]
 
-pub indices_too_deep : (d : ℕ) (end : Place) (p : Position) (ks m : List Terminal) (e : ParseError) → ks ≡ kind.OpenBracket at p ∷ m → d ≡ 0 → e ≡ refused_at 61 0 end ks → Refuses SomeIndices d end ks e
-indices_too_deep d end p ks m e is z x = subst (λ (w : ℕ). Refuses SomeIndices w end ks e) (sym z) (nested ks ks x decides_there (dead_here (SomeIndices 0) ks (λ ts ls r s f. none ts ls r (subst (λ z. SameHead z ls) is s) f)))
+pub indices_too_deep : (d : ℕ) (end : Place) (p : Position) (ks m : List Terminal) (e : ParseError) → ks ≡ kind.OpenBracket at p ∷ m → d ≡ 0 → e ≡ refused_at 61 0 end ks → RefusesHere SomeIndices d end ks e
+indices_too_deep d end p ks m e is z x = subst (λ (w : ℕ). RefusesHere SomeIndices w end ks e) (sym z) (nested ks ks ks x decides_there (dead_here (SomeIndices 0) ks (λ ts ls r s f. none ts ls r (subst (λ z. SameHead z ls) is s) f)) decides_there tt)
   where
     none : (ts : Denoters) (ls r : List Terminal) → SameHead (kind.OpenBracket at p ∷ m) ls → SomeIndices 0 ts ls r → ⊥
     none ts [] r s f = absurd s
@@ -214,13 +216,13 @@ indices_too_deep d end p ks m e is z x = subst (λ (w : ℕ). Refuses SomeIndice
 into_indices : (p : Position) (d : ℕ) (ts : Denoters) (ls r : List Terminal) → SomeIndices d ts (kind.OpenBracket at p ∷ ls) r → (i : ℕ) × (d ≡ suc i) × Some_ (Seq DenotersBefore (Marked mark.Of)) i ls
 into_indices p d ts ls r (some_indices {d = i} {q = q} f) = (i, refl, ((ts, q), r, (kind.Of at q ∷ r, f, refl)))
 
-indices_inside : (d i : ℕ) (end : Place) (p : Position) (ks m : List Terminal) (e : ParseError) → ks ≡ kind.OpenBracket at p ∷ m → d ≡ suc i → Refuses (Seq DenotersBefore (Marked mark.Of)) i end m e → Refuses SomeIndices d end ks e
-indices_inside d i end p ks m e is z h = subst (λ (w : ℕ). Refuses SomeIndices w end ks e) (sym z) (subst (λ w. Refuses SomeIndices (suc i) end w e) (sym is) (refuses_inside (Seq DenotersBefore (Marked mark.Of)) SomeIndices i end (kind.OpenBracket at p) m e (into_indices p) h))
+indices_inside : (d i : ℕ) (end : Place) (p : Position) (ks m : List Terminal) (e : ParseError) → ks ≡ kind.OpenBracket at p ∷ m → d ≡ suc i → RefusesHere (Seq DenotersBefore (Marked mark.Of)) i end m e → RefusesHere SomeIndices d end ks e
+indices_inside d i end p ks m e is z h = subst (λ (w : ℕ). RefusesHere SomeIndices w end ks e) (sym z) (subst (λ w. RefusesHere SomeIndices (suc i) end w e) (sym is) (refuses_inside (Seq DenotersBefore (Marked mark.Of)) SomeIndices i end (kind.OpenBracket at p) m e (into_indices p) h))
 
-pub indices_types : (d i : ℕ) (end : Place) (p : Position) (ks m : List Terminal) (e : ParseError) → ks ≡ kind.OpenBracket at p ∷ m → d ≡ suc i → Refuses DenotersBefore i end m e → Refuses SomeIndices d end ks e
+pub indices_types : (d i : ℕ) (end : Place) (p : Position) (ks m : List Terminal) (e : ParseError) → ks ≡ kind.OpenBracket at p ∷ m → d ≡ suc i → RefusesHere DenotersBefore i end m e → RefusesHere SomeIndices d end ks e
 indices_types d i end p ks m e is z h = indices_inside d i end p ks m e is z (refuses_first DenotersBefore (Marked mark.Of) i end m e h)
 
-pub indices_of_missing : (d i : ℕ) (end : Place) (p : Position) (ts : Denoters) (ks m n : List Terminal) (e : ParseError) → ks ≡ kind.OpenBracket at p ∷ m → d ≡ suc i → DenotersBefore i ts m n → Refuses (Marked mark.Of) i end n e → Refuses SomeIndices d end ks e
+pub indices_of_missing : (d i : ℕ) (end : Place) (p : Position) (ts : Denoters) (ks m n : List Terminal) (e : ParseError) → ks ≡ kind.OpenBracket at p ∷ m → d ≡ suc i → DenotersBefore i ts m n → Refuses (Marked mark.Of) i end n e → RefusesHere SomeIndices d end ks e
 indices_of_missing d i end p ts ks m n e is z f h = indices_inside d i end p ks m e is z (refuses_after DenotersBefore (Marked mark.Of) i end ts m n e known_denoters f h)
 
 pub indices_whole : (d i : ℕ) (p q : Position) (ts : Denoters) (ks m n r : List Terminal) → ks ≡ kind.OpenBracket at p ∷ m → d ≡ suc i → DenotersBefore i ts m n → n ≡ kind.Of at q ∷ r → SomeIndices d ts ks r
@@ -250,20 +252,20 @@ types_split d x ls r (p, are_denoters {t = t} {ts = ts} {p = q} {m = m} f g) = (
 -- the types that are read so far, and what is left
 pub record Indexing (d : ℕ) (end : Place) (all : List Terminal) (xs : List TypeDenoter) (rest : List Terminal) : Type 0 where
   pub completes : (more : Denoters) (r : List Terminal) → DenotersBefore d more rest r → DenotersBefore d (types_before xs more) all r
-  pub dies : (e : ParseError) → Refuses DenotersBefore d end rest e → Refuses DenotersBefore d end all e
+  pub dies : (e : ParseError) → RefusesHere DenotersBefore d end rest e → RefusesHere DenotersBefore d end all e
 
-pub indexing_item : (d : ℕ) (end : Place) (all rest : List Terminal) (xs : List TypeDenoter) (e : ParseError) → Indexing d end all xs rest → Refuses SomeDenoter d end rest e → Refuses DenotersBefore d end all e
-indexing_item d end all rest xs e so_far h = so_far.dies e (list_item SomeDenoter DenotersBefore mark.Comma mark.CloseBracket d end rest e types_split h)
+pub indexing_item : (d : ℕ) (end : Place) (all rest : List Terminal) (xs : List TypeDenoter) (e : ParseError) → Indexing d end all xs rest → RefusesHere SomeDenoter d end rest e → RefusesHere DenotersBefore d end all e
+indexing_item d end all rest xs e so_far h = so_far.dies e (list_item SomeDenoter DenotersBefore mark.Comma mark.CloseBracket d end rest e types_split (λ q x. tt) h)
 
-pub indexing_close : (d : ℕ) (end : Place) (all rest m : List Terminal) (xs : List TypeDenoter) (x : TypeDenoter) (e : ParseError) → Indexing d end all xs rest → SomeDenoter d (denoter_of x) rest m → NoMark mark.Comma m → Refuses (Marked mark.CloseBracket) d end m e → Refuses DenotersBefore d end all e
-indexing_close d end all rest m xs x e so_far f none h = so_far.dies e (list_close SomeDenoter DenotersBefore mark.Comma mark.CloseBracket d end (denoter_of x) rest m e types_split known_denoter f none h)
+pub indexing_close : (d : ℕ) (end : Place) (all rest m : List Terminal) (xs : List TypeDenoter) (x : TypeDenoter) (e : ParseError) → Indexing d end all xs rest → SomeDenoter d (denoter_of x) rest m → NoMark mark.Comma m → Refuses (Marked mark.CloseBracket) d end m e → RefusesHere DenotersBefore d end all e
+indexing_close d end all rest m xs x e so_far f none h = so_far.dies e (list_close SomeDenoter DenotersBefore mark.Comma mark.CloseBracket d end (denoter_of x) rest m e types_split known_denoter f none (λ q x. tt) h)
 
 pub indexing_more : (d : ℕ) (end : Place) (all rest m : List Terminal) (xs : List TypeDenoter) (x : TypeDenoter) (p : Position) (after : List Terminal) → Indexing d end all xs rest → SomeDenoter d (denoter_of x) rest m → m ≡ kind.Comma at p ∷ after → Indexing d end all (xs ++ (x ∷ [])) after
 indexing_more d end all rest m xs x p after so_far f is =
     let g : SomeDenoter d (denoter_of x) rest (kind.Comma at p ∷ after) = subst (λ z. SomeDenoter d (denoter_of x) rest z) is f in
     record {
       completes = λ more r h. subst (λ z. DenotersBefore d z all r) (sym (types_push xs x more)) (so_far.completes _ r (h.0, are_denoters g.0 h.1));
-      dies = λ e h. so_far.dies e (list_more SomeDenoter DenotersBefore mark.Comma mark.CloseBracket d end (denoter_of x) rest after p e types_split known_denoter no_comma_closes g h);
+      dies = λ e h. so_far.dies e (list_more SomeDenoter DenotersBefore mark.Comma mark.CloseBracket d end (denoter_of x) rest after p e types_split known_denoter no_comma_closes g (λ q x. tt) h);
     }
 
 pub indexing_ends : (d : ℕ) (end : Place) (all rest m : List Terminal) (xs : List TypeDenoter) (x : TypeDenoter) (p : Position) (after : List Terminal) → Indexing d end all xs rest → SomeDenoter d (denoter_of x) rest m → m ≡ kind.CloseBracket at p ∷ after → DenotersBefore d (denoters_of (xs ++ (x ∷ []))) all after

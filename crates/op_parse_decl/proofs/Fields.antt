@@ -3,8 +3,10 @@ use Rattle.std.proofs.Common.{◌≡◌, ℕ, Bool, List, [], ◌∷◌, ◌++�
 use Rattle.op_base.specs.declared.place.Place.{Place}
 use Rattle.op_parse_code.proofs.ExpressionKnown.{known_mark}
 use Rattle.op_parse_code.proofs.Names.{no_name_refuses}
-use Rattle.op_parse_code.proofs.Refusing.{Some_, Seq, form_told, refuses_map, refuses_first, refuses_after, refuses_behind, no_mark_same}
+use Rattle.op_parse_code.proofs.Refusing.{Some_, Seq, form_told, no_mark_same}
+use Rattle.op_parse_decl.proofs.Untold.{refuses_map, refuses_first, refuses_after, refuses_behind}
 use Rattle.op_parse_code.specs.Refusal.{SameHead, Refuses, refused_at}
+use Rattle.op_parse_decl.specs.Refusal.{RefusesHere}
 use Rattle.op_parse_code.specs.Whole.{Marked, NoMark}
 use Rattle.op_parse_code.specs.declared.error.ParseError.{ParseError}
 use Rattle.op_parse_code.specs.declared.mark.Mark.TheVariants as mark
@@ -33,16 +35,16 @@ no_comma_there h = differ is_comma (sym h) refl refl
 into_fields : (d : ℕ) (x : List Name × Denoter) (ls r : List Terminal) → SomeFields d x ls r → Some_ (Seq SomeNames (Seq (Marked mark.Colon) SomeDenoter)) d ls
 into_fields d x ls r (p, m, f, g) = ((x.0, (p, x.1)), r, (kind.Colon at p ∷ m, (f, λ u z h. no_comma_there h), (m, refl, g)))
 
-pub fields_names : (d : ℕ) (end : Place) (ks : List Terminal) (e : ParseError) → Refuses SomeNames d end ks e → Refuses SomeFields d end ks e
+pub fields_names : (d : ℕ) (end : Place) (ks : List Terminal) (e : ParseError) → RefusesHere SomeNames d end ks e → RefusesHere SomeFields d end ks e
 fields_names d end ks e h = refuses_map (Seq SomeNames (Seq (Marked mark.Colon) SomeDenoter)) SomeFields d end ks e (λ d' b ls r s x. into_fields d' b ls r x) (refuses_first SomeNames (Seq (Marked mark.Colon) SomeDenoter) d end ks e h)
 
-fields_behind : (d : ℕ) (end : Place) (ns : List Name) (ks m : List Terminal) (e : ParseError) → SomeNames d ns ks m → Refuses (Seq (Marked mark.Colon) SomeDenoter) d end m e → Refuses SomeFields d end ks e
+fields_behind : (d : ℕ) (end : Place) (ns : List Name) (ks m : List Terminal) (e : ParseError) → SomeNames d ns ks m → RefusesHere (Seq (Marked mark.Colon) SomeDenoter) d end m e → RefusesHere SomeFields d end ks e
 fields_behind d end ns ks m e f h = refuses_map (Seq SomeNames (Seq (Marked mark.Colon) SomeDenoter)) SomeFields d end ks e (λ d' b ls r s x. into_fields d' b ls r x) (refuses_after SomeNames (Seq (Marked mark.Colon) SomeDenoter) d end ns ks m e known_names f h)
 
-pub fields_colon : (d : ℕ) (end : Place) (ns : List Name) (ks m : List Terminal) (e : ParseError) → SomeNames d ns ks m → Refuses (Marked mark.Colon) d end m e → Refuses SomeFields d end ks e
+pub fields_colon : (d : ℕ) (end : Place) (ns : List Name) (ks m : List Terminal) (e : ParseError) → SomeNames d ns ks m → Refuses (Marked mark.Colon) d end m e → RefusesHere SomeFields d end ks e
 fields_colon d end ns ks m e f h = fields_behind d end ns ks m e f (refuses_first (Marked mark.Colon) SomeDenoter d end m e h)
 
-pub fields_type : (d : ℕ) (end : Place) (ns : List Name) (ks m : List Terminal) (p : Position) (n : List Terminal) (e : ParseError) → SomeNames d ns ks m → m ≡ kind.Colon at p ∷ n → Refuses SomeDenoter d end n e → Refuses SomeFields d end ks e
+pub fields_type : (d : ℕ) (end : Place) (ns : List Name) (ks m : List Terminal) (p : Position) (n : List Terminal) (e : ParseError) → SomeNames d ns ks m → m ≡ kind.Colon at p ∷ n → RefusesHere SomeDenoter d end n e → RefusesHere SomeFields d end ks e
 fields_type d end ns ks m p n e f is h = fields_behind d end ns ks m e f (refuses_after (Marked mark.Colon) SomeDenoter d end p m n e (known_mark mark.Colon) is h)
 
 pub fields_whole : (d : ℕ) (ns : List Name) (t : Denoter) (ks m : List Terminal) (p : Position) (n r : List Terminal) → SomeNames d ns ks m → m ≡ kind.Colon at p ∷ n → SomeDenoter d t n r → SomeFields d (ns, t) ks r
@@ -75,9 +77,9 @@ into_lists ks none d fs ls r s (p, are_fields {ns = ns} {t = t} {fs = fs1} {p = 
 -- the fields that are read so far, and what is left
 pub record Fielding (d : ℕ) (end : Place) (all : List Terminal) (xs : List Fields) (rest : List Terminal) : Type 0 where
   pub completes : (more : FieldLists) (r : List Terminal) → AreFieldLists d more rest r → AreFieldLists d (lists_before xs more) all r
-  pub dies : (e : ParseError) → Refuses FieldsBefore d end rest e → Refuses FieldsBefore d end all e
+  pub dies : (e : ParseError) → RefusesHere FieldsBefore d end rest e → RefusesHere FieldsBefore d end all e
 
-in_record : (d : ℕ) (end : Place) (all : List Terminal) (e : ParseError) → Refuses FieldsBefore d end all e → (q : Position) → Refuses RecordFields d end (kind.Record at q ∷ all) e
+in_record : (d : ℕ) (end : Place) (all : List Terminal) (e : ParseError) → RefusesHere FieldsBefore d end all e → (q : Position) → RefusesHere RecordFields d end (kind.Record at q ∷ all) e
 in_record d end all e h q = refuses_behind FieldsBefore RecordFields d end (kind.Record at q) all e (λ d' fs ls r f. inside d' fs ls r f) h
   where
     inside : (d' : ℕ) (fs : FieldLists) (ls r : List Terminal) → RecordFields d' fs (kind.Record at q ∷ ls) r → Some_ FieldsBefore d' ls
@@ -86,16 +88,16 @@ in_record d end all e h q = refuses_behind FieldsBefore RecordFields d end (kind
 pub fielding_ends : (d : ℕ) (end : Place) (all rest : List Terminal) (xs : List Fields) (p : Position) (r : List Terminal) → Fielding d end all xs rest → rest ≡ kind.End at p ∷ r → FieldsBefore d (field_lists_of xs) all r
 fielding_ends d end all rest xs p r so_far is = (p, subst (λ z. AreFieldLists d z all (kind.End at p ∷ r)) (lists_none xs) (so_far.completes no_fields (kind.End at p ∷ r) (subst (λ z. AreFieldLists d no_fields z (kind.End at p ∷ r)) (sym is) are_no_fields)))
 
-pub fielding_fields : (d : ℕ) (end : Place) (all rest : List Terminal) (xs : List Fields) (e : ParseError) → Fielding d end all xs rest → NoMark mark.End rest → Refuses SomeFields d end rest e → (q : Position) → Refuses RecordFields d end (kind.Record at q ∷ all) e
+pub fielding_fields : (d : ℕ) (end : Place) (all rest : List Terminal) (xs : List Fields) (e : ParseError) → Fielding d end all xs rest → NoMark mark.End rest → RefusesHere SomeFields d end rest e → (q : Position) → RefusesHere RecordFields d end (kind.Record at q ∷ all) e
 fielding_fields d end all rest xs e so_far none h = in_record d end all e (so_far.dies e (refuses_map (Seq SomeFields Behind) FieldsBefore d end rest e (into_lists rest none) (refuses_first SomeFields Behind d end rest e h)))
 
-pub fielding_form : (d : ℕ) (end : Place) (all rest : List Terminal) (xs : List Fields) (feature : ℕ) (e : ParseError) → Fielding d end all xs rest → NoMark mark.End rest → IsFormOfRecord feature rest → e ≡ refused_at 13 feature end rest → (q : Position) → Refuses RecordFields d end (kind.Record at q ∷ all) e
+pub fielding_form : (d : ℕ) (end : Place) (all rest : List Terminal) (xs : List Fields) (feature : ℕ) (e : ParseError) → Fielding d end all xs rest → NoMark mark.End rest → IsFormOfRecord feature rest → e ≡ refused_at 13 feature end rest → (q : Position) → RefusesHere RecordFields d end (kind.Record at q ∷ all) e
 fielding_form d end all rest xs feature e so_far none (no_name, form) x q = form_told syntax_there refl ([], kind.Record at q ∷ all, refl, form d (lists_before xs no_fields) q all (so_far.completes no_fields rest are_no_fields)) x (fielding_fields d end all rest xs syntax_there so_far none (fields_names d end rest syntax_there (naming_item d end rest rest [] syntax_there (naming_none rest) (no_name_refuses d end rest syntax_there no_name refl))) q)
   where
     syntax_there : ParseError
     syntax_there = refused_at 9 0 end rest
 
-behind_dies : (d : ℕ) (end : Place) (rest m : List Terminal) (x : List Name × Denoter) (e : ParseError) → NoMark mark.End rest → SomeFields d x rest m → Refuses Behind d end m e → Refuses FieldsBefore d end rest e
+behind_dies : (d : ℕ) (end : Place) (rest m : List Terminal) (x : List Name × Denoter) (e : ParseError) → NoMark mark.End rest → SomeFields d x rest m → RefusesHere Behind d end m e → RefusesHere FieldsBefore d end rest e
 behind_dies d end rest m x e none f h = refuses_map (Seq SomeFields Behind) FieldsBefore d end rest e (into_lists rest none) (refuses_after SomeFields Behind d end x rest m e known_fields f h)
 
 into_behind : (p : Position) (d : ℕ) (fs : FieldLists) (ls r : List Terminal) → Behind d fs (kind.Semicolon at p ∷ ls) r → Some_ FieldsBefore d ls
@@ -113,7 +115,7 @@ no_semicolon_end : (m : List Terminal) → NoMark mark.Semicolon m → (d : ℕ)
 no_semicolon_end m none d fs ls r s (behind_end {p = p}) = (p, r, refl)
 no_semicolon_end m none d fs ls r s (behind_semicolon {p = p} f) = absurd (no_mark_same mark.Semicolon m ls s none p _ refl)
 
-pub fielding_unclosed : (d : ℕ) (end : Place) (all rest m : List Terminal) (xs : List Fields) (x : List Name × Denoter) (e : ParseError) → Fielding d end all xs rest → NoMark mark.End rest → SomeFields d x rest m → NoMark mark.Semicolon m → Refuses (Marked mark.End) d end m e → (q : Position) → Refuses RecordFields d end (kind.Record at q ∷ all) e
+pub fielding_unclosed : (d : ℕ) (end : Place) (all rest m : List Terminal) (xs : List Fields) (x : List Name × Denoter) (e : ParseError) → Fielding d end all xs rest → NoMark mark.End rest → SomeFields d x rest m → NoMark mark.Semicolon m → Refuses (Marked mark.End) d end m e → (q : Position) → RefusesHere RecordFields d end (kind.Record at q ∷ all) e
 fielding_unclosed d end all rest m xs x e so_far none f open_end h = in_record d end all e (so_far.dies e (behind_dies d end rest m x e none f (refuses_map (Marked mark.End) Behind d end m e (no_semicolon_end m open_end) h)))
 
 pub fielding_closes : (d : ℕ) (end : Place) (all rest m : List Terminal) (xs : List Fields) (x : Fields) (p : Position) (r : List Terminal) → Fielding d end all xs rest → SomeFields d (x.names, denoter_of x.denoter) rest m → m ≡ kind.End at p ∷ r → FieldsBefore d (field_lists_of (xs ++ (x ∷ []))) all r
@@ -130,10 +132,10 @@ into_record_at : (p q : Position) (b : Bool) (ks : List Terminal) (d : ℕ) (t :
 into_record_at p q b ks d t [] r s f = absurd s
 into_record_at p q b ks d t (u ∷ ls) r s f = subst (λ (z : Terminal). Some_ (Seq RecordFields NoMoreType) d (z ∷ ls)) s (into_record p q b d t ls r (subst (λ (z : Terminal). SomeStructure p b d t (z ∷ ls) r) (sym s) f))
 
-pub record_refuses : (p : Position) (b : Bool) (d : ℕ) (end : Place) (ks : List Terminal) (e : ParseError) → ((q : Position) → Refuses RecordFields d end (kind.Record at q ∷ ks) e) → (q : Position) → Refuses (SomeStructure p b) d end (kind.Record at q ∷ ks) e
+pub record_refuses : (p : Position) (b : Bool) (d : ℕ) (end : Place) (ks : List Terminal) (e : ParseError) → ((q : Position) → RefusesHere RecordFields d end (kind.Record at q ∷ ks) e) → (q : Position) → RefusesHere (SomeStructure p b) d end (kind.Record at q ∷ ks) e
 record_refuses p b d end ks e h q = refuses_map (Seq RecordFields NoMoreType) (SomeStructure p b) d end (kind.Record at q ∷ ks) e (into_record_at p q b ks) (refuses_first RecordFields NoMoreType d end (kind.Record at q ∷ ks) e (h q))
 
-pub record_goes_on : (p : Position) (b : Bool) (d : ℕ) (end : Place) (fs : FieldLists) (ks m : List Terminal) (e : ParseError) → FieldsBefore d fs ks m → Refuses NoMoreType d end m e → (q : Position) → Refuses (SomeStructure p b) d end (kind.Record at q ∷ ks) e
+pub record_goes_on : (p : Position) (b : Bool) (d : ℕ) (end : Place) (fs : FieldLists) (ks m : List Terminal) (e : ParseError) → FieldsBefore d fs ks m → RefusesHere NoMoreType d end m e → (q : Position) → RefusesHere (SomeStructure p b) d end (kind.Record at q ∷ ks) e
 record_goes_on p b d end fs ks m e f h q = refuses_map (Seq RecordFields NoMoreType) (SomeStructure p b) d end (kind.Record at q ∷ ks) e (into_record_at p q b ks) (refuses_after RecordFields NoMoreType d end fs (kind.Record at q ∷ ks) m e known_record (record_fields f) h)
 
 pub record_whole : (p : Position) (b : Bool) (d : ℕ) (fs : FieldLists) (ks r : List Terminal) → FieldsBefore d fs ks r → StopsDenoter r → (q : Position) → SomeStructure p b d (record_ p b fs) (kind.Record at q ∷ ks) r

@@ -1,7 +1,8 @@
 -- Parts with nothing behind them.
 use Rattle.std.proofs.Common.{◌≡◌, ℕ, List, [], ◌∷◌, length, arith, refl, sym, ap, subst}
 use Rattle.op_base.specs.declared.place.Place.{Place}
-use Rattle.op_parse_code.proofs.Refusing.{Some_, Seq, Known, dead_here, refuses_after, refuses_map}
+use Rattle.op_parse_code.proofs.Refusing.{Some_, Seq, Known, dead_here}
+use Rattle.op_parse_decl.proofs.Untold.{refuses_after, refuses_map}
 use Rattle.op_parse_code.specs.Refusal.{Phrase, SameHead, syntax, refused_at}
 use Rattle.op_parse_decl.specs.Refusal.{RefusesPart}
 use Rattle.op_parse_code.specs.declared.error.ParseError.{ParseError}

@@ -5,7 +5,8 @@ use Rattle.op_parse_code.proofs.Names.{named_at}
 use Rattle.op_parse_code.proofs.Refusing.{dead_here}
 use Rattle.op_parse_code.specs.Form.{Form, HasForm, is_short_string, is_variant, is_record_method, is_given_value}
 use Rattle.op_parse_code.specs.Opening.{is_identifier, spelled}
-use Rattle.op_parse_code.specs.Refusal.{SameHead, Refuses, syntax, refused_at}
+use Rattle.op_parse_code.specs.Refusal.{SameHead, syntax, refused_at}
+use Rattle.op_parse_decl.specs.Refusal.{RefusesHere}
 use Rattle.op_parse_code.specs.Whole.{NoMark}
 use Rattle.op_parse_code.specs.declared.error.ParseError.{ParseError}
 use Rattle.op_parse_code.specs.declared.mark.Mark.TheVariants as mark
@@ -53,7 +54,7 @@ or_neither false b h g = g
 stops_not : (k : TokenKind) (p : Position) (r : List Terminal) → continues_type k ≡ true → StopsDenoter (k at p ∷ r) → ⊥
 stops_not k p r h st = both_ways (or_both (binds Additive k || begins_selector k) (is_dot_dot k) h (or_neither (binds Additive k) (begins_selector k) st.operator st.selector)) st.range
 
-pub type_goes_on : (d : ℕ) (end : Place) (k : TokenKind) (p : Position) (ks : List Terminal) (e : ParseError) → continues_type k ≡ true → e ≡ refused_at 9 0 end (k at p ∷ ks) → Refuses NoMoreType d end (k at p ∷ ks) e
+pub type_goes_on : (d : ℕ) (end : Place) (k : TokenKind) (p : Position) (ks : List Terminal) (e : ParseError) → continues_type k ≡ true → e ≡ refused_at 9 0 end (k at p ∷ ks) → RefusesHere NoMoreType d end (k at p ∷ ks) e
 type_goes_on d end k p ks e h x = syntax (k at p ∷ ks) x (λ d'. dead_here (NoMoreType d') (k at p ∷ ks) none)
   where
     none : (a : List Terminal) (ls r : List Terminal) → SameHead (k at p ∷ ks) ls → NoMoreType 0 a ls r → ⊥

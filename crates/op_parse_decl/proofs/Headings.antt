@@ -4,12 +4,13 @@ use Rattle.op_base.specs.declared.place.Place.{Place}
 use Rattle.op_parse_code.proofs.Cuts.{same_behind, same_not}
 use Rattle.op_parse_code.proofs.Factors.{same_begins}
 use Rattle.op_parse_code.proofs.Names.{none_left, word_kind}
-use Rattle.op_parse_code.proofs.Refusing.{Some_, dead_here, no_mark_same, refuses_behind, refuses_map}
+use Rattle.op_parse_code.proofs.Refusing.{Some_, dead_here, no_mark_same}
+use Rattle.op_parse_decl.proofs.Untold.{refuses_behind, refuses_map}
 use Rattle.op_parse_code.specs.Form.{Form, HasForm, is_array_of_const, is_default}
 use Rattle.op_parse_code.specs.Opening.{is_identifier, is_word}
-use Rattle.op_parse_code.specs.Refusal.{Phrase, SameHead, Dead, Refuses, out_of_memory, syntax, nested, left_out, in_grammar, refused_at}
+use Rattle.op_parse_code.specs.Refusal.{Phrase, SameHead, Dead, out_of_memory, syntax, nested, left_out, in_grammar, refused_at}
 use Rattle.op_parse_decl.proofs.Combining.{refuses_part, same_sym, head_of}
-use Rattle.op_parse_decl.specs.Refusal.{RefusesPart}
+use Rattle.op_parse_decl.specs.Refusal.{RefusesPart, RefusesHere}
 use Rattle.op_parse_code.specs.Whole.{NoMark}
 use Rattle.op_parse_code.specs.declared.error.ParseError.{ParseError}
 use Rattle.op_parse_code.specs.declared.mark.Mark.TheVariants as mark
@@ -108,7 +109,7 @@ dead_value d ks q m (seen, e, never) = (seen, e, λ ls a r s x. no_value d ks q 
 by_value_refused : (d : ℕ) (end : Place) (ks : List Terminal) (e : ParseError) → SomeMode mode.Value ks ks → RefusesPart Named d end ks e → RefusesPart SomeModed d end ks e
 by_value_refused d end ks e m (out_of_memory x) = out_of_memory x
 by_value_refused d end ks e m (syntax q x never) = syntax q x (λ d'. dead_value d' ks q m (never d'))
-by_value_refused d end ks e m (nested q z x w never) = nested q z x w (dead_value d ks z m never)
+by_value_refused d end ks e m (nested q z n x w never v t) = nested q z n x w (dead_value d ks z m never) v tt
 by_value_refused d end ks e m (left_out feature q z x f never) = left_out feature q z x f (λ d'. dead_value d' ks z m (never d'))
 by_value_refused d end ks e m (in_grammar feature q x f) = in_grammar feature q x f
 
@@ -163,7 +164,7 @@ into_string : (p : Position) (d : ℕ) (t : ParameterType) (ls r : List Terminal
 into_string p d t ls r (is_named q, none) = false_true (qualified_begins q)
 into_string p d t ls r (is_string, none) = ([], r, (refl, none))
 
-pub string_refused : (d : ℕ) (end : Place) (k : TokenKind) (p : Position) (ks : List Terminal) (e : ParseError) → k ≡ kind.String → Refuses NoDot d end ks e → RefusesPart SomeParameterType d end (k at p ∷ ks) e
+pub string_refused : (d : ℕ) (end : Place) (k : TokenKind) (p : Position) (ks : List Terminal) (e : ParseError) → k ≡ kind.String → RefusesHere NoDot d end ks e → RefusesPart SomeParameterType d end (k at p ∷ ks) e
 string_refused d end k p ks e is h = subst (λ z. RefusesPart SomeParameterType d end (z at p ∷ ks) e) (sym is) (refuses_behind NoDot SomeParameterType d end (kind.String at p) ks e (into_string p) (refuses_part h))
 
 pub string_whole : (d : ℕ) {k : TokenKind} {p : Position} {ks : List Terminal} → k ≡ kind.String → NoMark mark.Dot ks → SomeParameterType d (string_type.String p) (k at p ∷ ks) ks
@@ -173,7 +174,7 @@ into_named : (ks : List Terminal) → IsNot is_string_word ks → (d : ℕ) (t :
 into_named ks h d t ls r s (is_named {q = q} f, none) = (q, r, (f, none))
 into_named ks h d t ls r s (is_string, none) = true_false (same_not is_string_word ks ls s h)
 
-pub named_refused : (d : ℕ) (end : Place) (ks : List Terminal) (e : ParseError) → IsNot is_string_word ks → Refuses SomeQualified d end ks e → RefusesPart SomeParameterType d end ks e
+pub named_refused : (d : ℕ) (end : Place) (ks : List Terminal) (e : ParseError) → IsNot is_string_word ks → RefusesHere SomeQualified d end ks e → RefusesPart SomeParameterType d end ks e
 named_refused d end ks e h f = refuses_map SomeQualified SomeParameterType d end ks e (into_named ks h) (refuses_part f)
 
 -- ---- forms

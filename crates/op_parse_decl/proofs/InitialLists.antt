@@ -1,19 +1,22 @@
 -- Refusals of the items and the fields of a first value.
-use Rattle.std.proofs.Common.{◌≡◌, ℕ, List, [], ◌∷◌, ◌++◌, Some, None, refl, sym, ap, ◌∙◌, subst}
+use Rattle.std.proofs.Common.{◌≡◌, ℕ, suc, List, [], ◌∷◌, ◌++◌, Some, None, refl, sym, ap, ◌∙◌, subst}
 use Rattle.op_base.specs.declared.place.Place.{Place}
 use Rattle.op_parse_code.proofs.Cuts.{IsCut, cut_none, cut_one, cut_join}
 use Rattle.op_parse_code.proofs.ExpressionKnown.{known_mark}
-use Rattle.op_parse_code.proofs.Lists.{Splits, Listed, ReadingBy, reading_ends, reading_more}
-use Rattle.op_parse_code.proofs.Refusing.{Some_, Seq, Known, refuses_map, refuses_first, refuses_after, refuses_behind, no_mark_same}
+use Rattle.op_parse_code.proofs.Living.{Fits}
+use Rattle.op_parse_code.proofs.Lists.{Splits, Joins, Listed, hands_item, ReadingBy, reading_ends, reading_more}
+use Rattle.op_parse_code.proofs.Refusing.{Some_, Seq, Known, no_mark_same}
+use Rattle.op_parse_decl.proofs.Untold.{refuses_map, refuses_first, refuses_after, refuses_behind}
 use Rattle.op_parse_code.proofs.StatementFronts.{front_name}
 use Rattle.op_parse_code.proofs.StatementKnown.{known_name}
 use Rattle.op_parse_code.specs.Refusal.{Phrase, SameHead, Refuses}
 use Rattle.op_parse_decl.proofs.Combining.{refuses_part}
-use Rattle.op_parse_decl.specs.Refusal.{DecidesInPart, RefusesPart}
+use Rattle.op_parse_decl.specs.Refusal.{DecidesInPart, Untold, RefusesPart, RefusesHere}
 use Rattle.op_parse_code.specs.Whole.{Marked, NoMark, SomeName}
 use Rattle.op_parse_code.specs.declared.error.ParseError.{ParseError}
 use Rattle.op_parse_code.specs.declared.mark.Mark.TheVariants as mark
-use Rattle.op_parse_decl.specs.InitialKnown.{known_initial, front_initials}
+use Rattle.op_parse_decl.specs.Deepening.{deeper_initials}
+use Rattle.op_parse_decl.specs.InitialKnown.{known_initial, front_initial, front_initials}
 use Rattle.op_parse_decl.specs.Initials.{InitialsBefore, FieldsBehind, no_fields_behind, fields_behind, RecordBehind}
 use Rattle.op_parse_decl.specs.Types.{SomeInitial, NoMoreExpression}
 use Rattle.op_scan.specs.declared.token.TokenKind.TheVariants as kind
@@ -21,7 +24,7 @@ use Rattle.op_tree.proofs.DenoterUnique.{unique_initials}
 use Rattle.op_tree.proofs.ExpressionUnique.{behind}
 use Rattle.op_tree.proofs.StatementUnique.{unique_name}
 use Rattle.op_parse_decl.specs.Known.{same_cut}
-use Rattle.op_tree.specs.DenoterGrammar.{AreFieldInitials, are_one_initial, are_initials, are_one_field_initial, are_field_initials}
+use Rattle.op_tree.specs.DenoterGrammar.{IsInitial, AreFieldInitials, are_one_initial, are_initials, are_one_field_initial, are_field_initials}
 use Rattle.op_tree.specs.Ends.{Stops}
 use Rattle.op_tree.specs.Initial.{Initial, initial_of, Initials, no_initials, initials, FieldInitials, no_field_initials, field_initials}
 use Rattle.op_tree.specs.Lists.{initials_of, field_initials_of}
@@ -41,11 +44,20 @@ items_split : Splits SomeInitial InitialsBefore mark.Comma mark.CloseParenthesis
 items_split d x ls r (p, are_one_initial {i = i} f) = ((i, None), r, (kind.CloseParenthesis at p ∷ r, (f, (refl, refl)), (p, refl)))
 items_split d x ls r (p, are_initials {i = i} {is = is} {p = q} {m = m} f g) = ((i, Some is), r, (kind.Comma at q ∷ m, (f, (refl, refl)), (q, m, refl, (p, g))))
 
+items_join : Joins SomeInitial InitialsBefore mark.Comma mark.CloseParenthesis
+items_join d (i, None) ls r (m, f, (p, e)) = (initials i no_initials, (p, are_one_initial (subst (λ z. IsInitial d i ls z) e f.0)))
+items_join d (i, Some is) ls r (m, f, (p, n, e, g)) = (initials i is, (g.0, are_initials (subst (λ z. IsInitial d i ls z) e f.0) g.1))
+
+pub fits_initial : Fits SomeInitial Stops
+fits_initial d i ks r p = let s = front_initial p.0 in (s.0, s.1, s.2, λ x c. (s.3 x, c))
+
 pub items_listed : Listed SomeInitial InitialsBefore mark.Comma mark.CloseParenthesis initial_of add_item initials_of
 items_listed = record {
   none = no_initials;
   known = known_initial;
   split = items_split;
+  join = items_join;
+  begins = λ d ks. hands_item SomeInitial InitialsBefore mark.Comma mark.CloseParenthesis Stops d ks items_join fits_initial (λ p r. (refl, refl));
   apart = λ h. absurd cc;
   one = λ d x ks r p f. (p, are_one_initial f.0);
   next = λ d x more ks m r p f g. (g.0, are_initials f.0 g.1);
@@ -57,12 +69,13 @@ known_items : Known InitialsBefore
 known_items = record {
   front = λ d is ks m f. let s = front_initials f.1 in (λ x. s.0 (kind.CloseParenthesis at f.0 ∷ x), cut_join s.1 (cut_one (kind.CloseParenthesis at f.0) cut_none), s.2, λ x h. (f.0, s.3 (kind.CloseParenthesis at f.0 ∷ x)));
   same = λ d d' is is' ks m m' f f'. ap behind (unique_initials f.1 f'.1 (refl, refl) (refl, refl) refl refl).1;
+  deepens = λ d is ks m f. (f.0, deeper_initials f.1);
 }
 
 pub items_refuse : (d : ℕ) (end : Place) (ks : List Terminal) (e : ParseError) → RefusesPart InitialsBefore d end ks e → RefusesPart (Seq InitialsBefore NoMoreExpression) d end ks e
 items_refuse d end ks e h = refuses_first InitialsBefore NoMoreExpression d end ks e h
 
-pub items_go_on : (d : ℕ) (end : Place) (is : Initials) (ks m : List Terminal) (e : ParseError) → InitialsBefore d is ks m → Refuses NoMoreExpression d end m e → RefusesPart (Seq InitialsBefore NoMoreExpression) d end ks e
+pub items_go_on : (d : ℕ) (end : Place) (is : Initials) (ks m : List Terminal) (e : ParseError) → InitialsBefore d is ks m → RefusesHere NoMoreExpression d end m e → RefusesPart (Seq InitialsBefore NoMoreExpression) d end ks e
 items_go_on d end is ks m e f h = refuses_after InitialsBefore NoMoreExpression d end is ks m e known_items f (refuses_part h)
 
 -- ---- the fields behind one
@@ -84,8 +97,12 @@ same_more d d' fs fs' ks r r' (fields_behind {i = i} {fs = gs} {m = m} {l = l} f
     let same = known_initial.same d d' i i' m l l' g (subst (λ y. SomeInitial d' i' y l') (sym (ap behind (unique_name f f').1)) g') in
     same_more d d' gs gs' l r r' h (subst (λ y. FieldsBehind d' gs' y r') (sym same) h')
 
+deepens_more : (d : ℕ) (fs : FieldInitials) (ks r : List Terminal) → FieldsBehind d fs ks r → FieldsBehind (suc d) fs ks r
+deepens_more d fs ks r no_fields_behind = no_fields_behind
+deepens_more d fs ks r (fields_behind {i = i} {fs = gs} {m = m} {l = l} f g h) = fields_behind f (known_initial.deepens d i m l g) (deepens_more d gs l r h)
+
 known_more : Known FieldsBehind
-known_more = record { front = front_more; same = same_more }
+known_more = record { front = front_more; same = same_more; deepens = deepens_more }
 
 abbrev ColonParts : Phrase (Position × (Initial × FieldInitials))
 ColonParts = Seq (Marked mark.Colon) (Seq SomeInitial FieldsBehind)
@@ -106,22 +123,22 @@ only_close : (ks : List Terminal) → NoMark mark.Semicolon ks → (d : ℕ) (fs
 only_close ks none d fs ls r s (no_fields_behind {p = p}) = (p, r, refl)
 only_close ks none d fs ls r s (fields_behind {p = p} f g h) = absurd (no_mark_same mark.Semicolon ks ls s none p _ refl)
 
-pub more_name : (d : ℕ) (end : Place) (p : Position) (all rest after : List Terminal) (xs : List FieldInitializer) (e : ParseError) → ReadingBy DecidesInPart add_field FieldsBehind d end all xs rest → rest ≡ kind.Semicolon at p ∷ after → Refuses SomeName d end after e → RefusesPart FieldsBehind d end all e
+pub more_name : (d : ℕ) (end : Place) (p : Position) (all rest after : List Terminal) (xs : List FieldInitializer) (e : ParseError) → ReadingBy DecidesInPart Untold add_field FieldsBehind d end all xs rest → rest ≡ kind.Semicolon at p ∷ after → Refuses SomeName d end after e → RefusesPart FieldsBehind d end all e
 more_name d end p all rest after xs e so_far is h = so_far.dies e (fields_refuse d end p rest after e is (refuses_first SomeName ColonParts d end after e (refuses_part h)))
 
-pub more_colon : (d : ℕ) (end : Place) (p : Position) (n : Name) (all rest after m : List Terminal) (xs : List FieldInitializer) (e : ParseError) → ReadingBy DecidesInPart add_field FieldsBehind d end all xs rest → rest ≡ kind.Semicolon at p ∷ after → IsName n after m → Refuses (Marked mark.Colon) d end m e → RefusesPart FieldsBehind d end all e
+pub more_colon : (d : ℕ) (end : Place) (p : Position) (n : Name) (all rest after m : List Terminal) (xs : List FieldInitializer) (e : ParseError) → ReadingBy DecidesInPart Untold add_field FieldsBehind d end all xs rest → rest ≡ kind.Semicolon at p ∷ after → IsName n after m → Refuses (Marked mark.Colon) d end m e → RefusesPart FieldsBehind d end all e
 more_colon d end p n all rest after m xs e so_far is f h = so_far.dies e (name_refuses d end p n rest after m e is f (refuses_first (Marked mark.Colon) (Seq SomeInitial FieldsBehind) d end m e (refuses_part h)))
 
-pub more_value : (d : ℕ) (end : Place) (p q : Position) (n : Name) (all rest after m k : List Terminal) (xs : List FieldInitializer) (e : ParseError) → ReadingBy DecidesInPart add_field FieldsBehind d end all xs rest → rest ≡ kind.Semicolon at p ∷ after → IsName n after m → m ≡ kind.Colon at q ∷ k → RefusesPart SomeInitial d end k e → RefusesPart FieldsBehind d end all e
+pub more_value : (d : ℕ) (end : Place) (p q : Position) (n : Name) (all rest after m k : List Terminal) (xs : List FieldInitializer) (e : ParseError) → ReadingBy DecidesInPart Untold add_field FieldsBehind d end all xs rest → rest ≡ kind.Semicolon at p ∷ after → IsName n after m → m ≡ kind.Colon at q ∷ k → RefusesPart SomeInitial d end k e → RefusesPart FieldsBehind d end all e
 more_value d end p q n all rest after m k xs e so_far is f c h = so_far.dies e (colon_refuses d end p q n rest after m k e is f c (refuses_first SomeInitial FieldsBehind d end k e h))
 
-pub more_goes_on : (d : ℕ) (end : Place) (p q : Position) (all rest after m k l : List Terminal) (xs : List FieldInitializer) (x : FieldInitializer) → ReadingBy DecidesInPart add_field FieldsBehind d end all xs rest → rest ≡ kind.Semicolon at p ∷ after → IsName x.name after m → m ≡ kind.Colon at q ∷ k → SomeInitial d (initial_of x.value) k l → ReadingBy DecidesInPart add_field FieldsBehind d end all (xs ++ (x ∷ [])) l
+pub more_goes_on : (d : ℕ) (end : Place) (p q : Position) (all rest after m k l : List Terminal) (xs : List FieldInitializer) (x : FieldInitializer) → ReadingBy DecidesInPart Untold add_field FieldsBehind d end all xs rest → rest ≡ kind.Semicolon at p ∷ after → IsName x.name after m → m ≡ kind.Colon at q ∷ k → SomeInitial d (initial_of x.value) k l → ReadingBy DecidesInPart Untold add_field FieldsBehind d end all (xs ++ (x ∷ [])) l
 more_goes_on d end p q all rest after m k l xs x so_far is f c g = reading_more add_field FieldsBehind d end all rest xs x l so_far (λ more r h. subst (λ z. FieldsBehind d (add_field x more) z r) (sym is) (fields_behind (subst (λ z. IsName x.name after z) c f) g h)) (λ e h. colon_refuses d end p q x.name rest after m k e is f c (refuses_after SomeInitial FieldsBehind d end (initial_of x.value) k l e known_initial g h))
 
-pub more_close : (d : ℕ) (end : Place) (all rest : List Terminal) (xs : List FieldInitializer) (e : ParseError) → ReadingBy DecidesInPart add_field FieldsBehind d end all xs rest → NoMark mark.Semicolon rest → Refuses (Marked mark.CloseParenthesis) d end rest e → RefusesPart FieldsBehind d end all e
+pub more_close : (d : ℕ) (end : Place) (all rest : List Terminal) (xs : List FieldInitializer) (e : ParseError) → ReadingBy DecidesInPart Untold add_field FieldsBehind d end all xs rest → NoMark mark.Semicolon rest → Refuses (Marked mark.CloseParenthesis) d end rest e → RefusesPart FieldsBehind d end all e
 more_close d end all rest xs e so_far none h = so_far.dies e (refuses_map (Marked mark.CloseParenthesis) FieldsBehind d end rest e (only_close rest none) (refuses_part h))
 
-pub more_ends : (d : ℕ) (end : Place) (p : Position) (all rest after : List Terminal) (xs : List FieldInitializer) → ReadingBy DecidesInPart add_field FieldsBehind d end all xs rest → rest ≡ kind.CloseParenthesis at p ∷ after → FieldsBehind d (field_initials_of xs) all after
+pub more_ends : (d : ℕ) (end : Place) (p : Position) (all rest after : List Terminal) (xs : List FieldInitializer) → ReadingBy DecidesInPart Untold add_field FieldsBehind d end all xs rest → rest ≡ kind.CloseParenthesis at p ∷ after → FieldsBehind d (field_initials_of xs) all after
 more_ends d end p all rest after xs so_far is = reading_ends add_field no_field_initials field_initials_of FieldsBehind d end all rest after xs refl (λ x xs. refl) so_far (subst (λ z. FieldsBehind d no_field_initials z after) (sym is) no_fields_behind)
 
 -- ---- a record
@@ -146,7 +163,7 @@ record_behind_value n q d end i ks m e f h = refuses_map (Seq SomeInitial (Seq F
 pub record_more_refuses : (n : Name) (q : Position) (d : ℕ) (end : Place) (i : Initial) (ks m : List Terminal) (e : ParseError) → SomeInitial d i ks m → RefusesPart FieldsBehind d end m e → RefusesPart (RecordBehind n q) d end ks e
 record_more_refuses n q d end i ks m e f h = record_behind_value n q d end i ks m e f (refuses_first FieldsBehind NoMoreExpression d end m e h)
 
-pub record_goes_on : (n : Name) (q : Position) (d : ℕ) (end : Place) (i : Initial) (fs : FieldInitials) (ks m r : List Terminal) (e : ParseError) → SomeInitial d i ks m → FieldsBehind d fs m r → Refuses NoMoreExpression d end r e → RefusesPart (RecordBehind n q) d end ks e
+pub record_goes_on : (n : Name) (q : Position) (d : ℕ) (end : Place) (i : Initial) (fs : FieldInitials) (ks m r : List Terminal) (e : ParseError) → SomeInitial d i ks m → FieldsBehind d fs m r → RefusesHere NoMoreExpression d end r e → RefusesPart (RecordBehind n q) d end ks e
 record_goes_on n q d end i fs ks m r e f g h = record_behind_value n q d end i ks m e f (refuses_after FieldsBehind NoMoreExpression d end fs m r e known_more g (refuses_part h))
 
 pub record_behind_whole : (n : Name) (q : Position) (d : ℕ) (i : Initial) (fs : FieldInitials) (ks m r : List Terminal) → SomeInitial d i ks m → FieldsBehind d fs m r → Stops r → RecordBehind n q d (field_initials n i fs) ks r

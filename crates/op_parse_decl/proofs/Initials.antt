@@ -8,14 +8,15 @@ use Rattle.op_parse_code.proofs.Factors.{designated_refuses, factor_designated}
 use Rattle.op_parse_code.proofs.Cuts.{IsCut, cut_one, cut_join, cut_none, cut_seen, same_behind, same_not, same_refl}
 use Rattle.op_parse_code.proofs.ExpressionFronts.{front_chain}
 use Rattle.op_parse_code.proofs.ExpressionKnown.{known_chain}
-use Rattle.op_parse_code.proofs.Refusing.{Some_, Seq, suc_same, with_token, with_token_in_grammar, with_front, with_front_in_grammar, inside_seen, dead_here, refuses_map, refuses_first, refuses_after, refuses_behind, refuses_inside, refuses_deeper, no_mark_same}
+use Rattle.op_parse_code.proofs.Refusing.{Some_, Seq, suc_same, with_token, with_token_in_grammar, with_front, with_front_in_grammar, inside_seen, dead_here, no_mark_same}
+use Rattle.op_parse_decl.proofs.Untold.{refuses_map, refuses_first, refuses_after, refuses_behind, refuses_inside, refuses_deeper}
 use Rattle.op_parse_code.specs.Refusal.{Phrase, SameHead, Dead, Decides, decides_there, Refuses, out_of_memory, syntax, nested, left_out, in_grammar, refused_at}
-use Rattle.op_parse_decl.specs.Refusal.{DecidesInPart, RefusesPart, TellsList, decides_in_code, decides_in_list, tells_of_bracket, tells_of_name, tells_of_value}
+use Rattle.op_parse_decl.specs.Refusal.{DecidesInPart, RefusesPart, TellsList, decides_in_code, decides_in_list, tells_of_bracket, tells_of_name, tells_of_value, RefusesHere}
 use Rattle.op_parse_code.specs.Whole.{Chain, Marked, NoMark, Operand, SomeSelectors}
 use Rattle.op_parse_code.specs.declared.error.ParseError.{ParseError}
 use Rattle.op_parse_code.specs.declared.mark.Mark.TheVariants as mark
 use Rattle.op_parse_decl.proofs.Combining.{refuses_part, same_sym, head_of}
-use Rattle.op_parse_decl.proofs.Deeper.{chain_at}
+use Rattle.op_parse_code.proofs.Deeper.{chain_at}
 use Rattle.op_parse_decl.proofs.Denoted.{by_expr}
 use Rattle.op_parse_decl.specs.InitialKnown.{known_initial}
 use Rattle.op_parse_decl.specs.Initials.{SomeValue, ValueOf, HasDepth, Within, FitsRoom, FitsItem, name_alone, InitialsBefore, RecordBehind}
@@ -142,7 +143,7 @@ dead_after_first k i d a p ks m q (l, h, f) (seen, e, never) =
 after_first : (k i : ℕ) (a : Initial) (p : Position) (ks m : List Terminal) (end : Place) (e : ParseError) → Within (suc k) i a ks m → RefusesPart (After k a ks m) (suc i) end m e → RefusesPart (Within k) (suc i) end (kind.OpenParenthesis at p ∷ ks) e
 after_first k i a p ks m end e f (out_of_memory x) = out_of_memory x
 after_first k i a p ks m end e f (syntax q x never) = syntax q x (λ d'. dead_after_first k i d' a p ks m q f (never d'))
-after_first k i a p ks m end e f (nested q z x w never) = nested q z x w (dead_after_first k i (suc i) a p ks m z f never)
+after_first k i a p ks m end e f (nested q z n x w never v t) = nested q z n x w (dead_after_first k i (suc i) a p ks m z f never) v tt
 after_first k i a p ks m end e (l, h, f) (left_out feature q z x g never) =
     let w = known_initial.front l a ks m f in
     let s = cut_seen w.1 in
@@ -156,7 +157,7 @@ after_first k i a p ks m end e (l, h, f) (in_grammar feature q x g) =
 under : {A B : Type 0} (P : Phrase A) (Q : Phrase B) (n d : ℕ) (end : Place) (t : Terminal) (ks : List Terminal) (e : ParseError) → ((d' : ℕ) (b : B) (ls r : List Terminal) → Q d' b (t ∷ ls) r → (i : ℕ) × (d' ≡ d → i ≡ n) × Some_ P i ls) → RefusesPart P n end ks e → RefusesPart Q d end (t ∷ ks) e
 under P Q n d end t ks e h (out_of_memory x) = out_of_memory x
 under P Q n d end t ks e h (syntax q x never) = syntax q x (λ d'. let first = never n in (t ∷ first.0, ap (λ z. t ∷ z) first.1, λ ls b r s f. let w = h d' b (first.0 ++ ls) r f in inside_seen (P w.0) ks q first.0 first.1 (never w.0) ls w.2.0 w.2.1 s w.2.2))
-under P Q n d end t ks e h (nested q z x w (seen, same, never)) = nested q z x w (t ∷ seen, ap (λ y. t ∷ y) same, λ ls b r s f. let v = h d b (seen ++ ls) r f in never ls v.2.0 v.2.1 s (subst (λ (y : ℕ). P y v.2.0 (seen ++ ls) v.2.1) (v.1 refl) v.2.2))
+under P Q n d end t ks e h (nested q z o x w (seen, same, never) g lives) = nested q z o x w (t ∷ seen, ap (λ y. t ∷ y) same, λ ls b r s f. let v = h d b (seen ++ ls) r f in never ls v.2.0 v.2.1 s (subst (λ (y : ℕ). P y v.2.0 (seen ++ ls) v.2.1) (v.1 refl) v.2.2)) g tt
 under P Q n d end t ks e h (left_out feature q m x f never) = left_out feature q m x (with_token t f) (λ d'. let first = never n in (t ∷ first.0, ap (λ z. t ∷ z) first.1, λ ls b r s g. let w = h d' b (first.0 ++ ls) r g in inside_seen (P w.0) ks m first.0 first.1 (never w.0) ls w.2.0 w.2.1 s w.2.2))
 under P Q n d end t ks e h (in_grammar feature q x f) = in_grammar feature q x (with_token_in_grammar t f)
 
@@ -182,7 +183,7 @@ list_refuses k i l a p u ks m after end e h f is g = after_first k i a p ks m en
     into d' b ls r (x, s, t) = let v = after_comma k d' x a u ls t in (x, λ e. omega (arith, h, v.0, e), v.1)
 
 -- an item that is too deep
-pub item_refuses : (k i l : ℕ) (a : Initial) (x : Expression) (p u : Position) (ks m after : List Terminal) (end : Place) (e : ParseError) → l + suc k ≡ suc i → Within (suc k) i a ks m → m ≡ kind.Comma at u ∷ after → a ≡ value x → Refuses ValueOf l end ks e → RefusesPart (Within k) (suc i) end (kind.OpenParenthesis at p ∷ ks) e
+pub item_refuses : (k i l : ℕ) (a : Initial) (x : Expression) (p u : Position) (ks m after : List Terminal) (end : Place) (e : ParseError) → l + suc k ≡ suc i → Within (suc k) i a ks m → m ≡ kind.Comma at u ∷ after → a ≡ value x → RefusesHere ValueOf l end ks e → RefusesPart (Within k) (suc i) end (kind.OpenParenthesis at p ∷ ks) e
 item_refuses k i l a x p u ks m after end e h f is same g = by g
   where
     whole : Within (suc k) i (value x) ks (kind.Comma at u ∷ after)
@@ -194,10 +195,10 @@ item_refuses k i l a x p u ks m after end e h f is same g = by g
     decided : (q n : List Terminal) → Decides q n → Dead (ValueOf l) ks n → DecidesInPart q (kind.Comma at u ∷ after)
     decided q n w (seen, e1, never) = decides_in_list (tells_of_value seen w (subst (λ z. IsInitial whole.0 (value x) z (kind.Comma at u ∷ after)) e1 whole.2.0))
 
-    by : Refuses ValueOf l end ks e → RefusesPart (Within k) (suc i) end (kind.OpenParenthesis at p ∷ ks) e
+    by : RefusesHere ValueOf l end ks e → RefusesPart (Within k) (suc i) end (kind.OpenParenthesis at p ∷ ks) e
     by (out_of_memory y) = out_of_memory y
     by (syntax q y never) = absurd (dead_none (ValueOf whole.0) ks q x _ whole.2 (never whole.0))
-    by (nested q n y w never) = nested q (kind.Comma at u ∷ after) y (decided q n w never) (dead_after_first k i (suc i) (value x) p ks (kind.Comma at u ∷ after) (kind.Comma at u ∷ after) whole (dead_token (After k (value x) ks (kind.Comma at u ∷ after) (suc i)) (kind.Comma at u) after (λ b ls r t. at_depth b ls r n never t)))
+    by (nested q n o y w never g lives) = nested q (kind.Comma at u ∷ after) (kind.Comma at u ∷ after) y (decided q n w never) (dead_after_first k i (suc i) (value x) p ks (kind.Comma at u ∷ after) (kind.Comma at u ∷ after) whole (dead_token (After k (value x) ks (kind.Comma at u ∷ after) (suc i)) (kind.Comma at u) after (λ b ls r t. at_depth b ls r n never t))) decides_there tt
     by (left_out feature q n y z never) = absurd (dead_none (ValueOf whole.0) ks n x _ whole.2 (never whole.0))
     by (in_grammar feature q y z) = in_grammar feature q y (with_token_in_grammar (kind.OpenParenthesis at p) z)
 
@@ -205,7 +206,7 @@ item_refuses k i l a x p u ks m after end e h f is same g = by g
 spent : (k i : ℕ) (a : Initial) (p : Position) (ks m after : List Terminal) (t : Terminal) (place : Place) (end : Place) (e : ParseError) → FitsRoom (room.Spent place) (suc k) i ks → Within (suc k) i a ks m → m ≡ t ∷ after → TellsList ks m → ((d l : ℕ) (ls : List Terminal) → Tail k d l a (t ∷ ls) → (n : ℕ) × (suc (suc n) + k ≡ suc d)) → e ≡ refused_at 61 0 place [] → RefusesPart (Within k) (suc i) end (kind.OpenParenthesis at p ∷ ks) e
 spent k i a p ks m after t place end e (h, tells) f is w deep x =
     let v = tells m w in
-    nested (v.0 ∷ v.1) m (x ∙ ap (λ (z : Place). refused_at 61 0 z []) v.2) (decides_in_list v.3) (dead_after_first k i (suc i) a p ks m m f (subst (λ z. Dead (After k a ks m (suc i)) z z) (sym is) (dead_token (After k a ks m (suc i)) t after (λ b ls r y. let n = deep (suc i) y.0 ls y.2 in absurd (omega (arith, h, n.1))))))
+    nested (v.0 ∷ v.1) m m (x ∙ ap (λ (z : Place). refused_at 61 0 z []) v.2) (decides_in_list v.3) (dead_after_first k i (suc i) a p ks m m f (subst (λ z. Dead (After k a ks m (suc i)) z z) (sym is) (dead_token (After k a ks m (suc i)) t after (λ b ls r y. let n = deep (suc i) y.0 ls y.2 in absurd (omega (arith, h, n.1)))))) decides_there tt
 
 pub list_too_deep : (k i : ℕ) (a : Initial) (p u : Position) (ks m after : List Terminal) (place : Place) (room' : Room) (end : Place) (e : ParseError) → FitsRoom room' (suc k) i ks → Within (suc k) i a ks m → m ≡ kind.Comma at u ∷ after → room' ≡ room.Spent place → e ≡ refused_at 61 0 place [] → RefusesPart (Within k) (suc i) end (kind.OpenParenthesis at p ∷ ks) e
 list_too_deep k i a p u ks m after place room' end e h f is same x = spent k i a p ks m after (kind.Comma at u) place end e (subst (λ z. FitsRoom z (suc k) i ks) same h) f is (subst (λ z. TellsList ks z) (sym is) (tells_of_value [] decides_there (subst (λ z. IsInitial f.0 a ks z) is f.2.0))) (λ d l ls t. (l, (after_comma k d l a u ls t).0)) x
@@ -254,7 +255,7 @@ after_close : (k d l : ℕ) (a : Initial) (u : Position) (ls : List Terminal) �
 after_close k d l a u ls single tail_expression = absurd single
 after_close k d l a u ls single (tail_one n st) = st
 
-pub one_refuses : (k d i : ℕ) (a : Initial) (p u : Position) (ks after : List Terminal) (end : Place) (e : ParseError) → d ≡ suc i → Within (suc k) i a ks (kind.CloseParenthesis at u ∷ after) → IsNoExpression (initials a no_initials) → ((d' : ℕ) → Refuses NoMoreExpression d' end after e) → RefusesPart (Within k) d end (kind.OpenParenthesis at p ∷ ks) e
+pub one_refuses : (k d i : ℕ) (a : Initial) (p u : Position) (ks after : List Terminal) (end : Place) (e : ParseError) → d ≡ suc i → Within (suc k) i a ks (kind.CloseParenthesis at u ∷ after) → IsNoExpression (initials a no_initials) → ((d' : ℕ) → RefusesHere NoMoreExpression d' end after e) → RefusesPart (Within k) d end (kind.OpenParenthesis at p ∷ ks) e
 one_refuses k d i a p u ks after end e z f single h = subst (λ (y : ℕ). RefusesPart (Within k) y end (kind.OpenParenthesis at p ∷ ks) e) (sym z) (after_first k i a p ks (kind.CloseParenthesis at u ∷ after) end e f (refuses_behind NoMoreExpression (After k a ks (kind.CloseParenthesis at u ∷ after)) (suc i) end (kind.CloseParenthesis at u) after e (λ d' b ls r x. ([], ls, (refl, after_close k d' x.0 a u ls single x.2))) (refuses_part (h (suc i)))))
 
 has_depth : (k i l : ℕ) (a : Initial) → IsNoExpression (initials a no_initials) → HasDepth (suc k) i l a → suc (suc l) + k ≡ suc (suc i)
@@ -314,10 +315,10 @@ dead_expression k d i x p q ks after z f (seen, e, never) dead = (seen, e, λ ls
         let there : kind.OpenParenthesis at p ∷ w.0 (kind.CloseParenthesis at q ∷ []) ≡ seen ++ (t ∷ more) = c.1 [] ∙ append-nil c.0 ∙ h in
         inside_seen (SomeValue (suc i)) (kind.OpenParenthesis at p ∷ ks) z seen e dead (t ∷ more) _ [] same (subst (λ y. IsChain Relational (suc i) (designated (designator (bracketed p x) no_selectors)) y []) there whole, (tt, tt))
 
-expression_refuses : (k i : ℕ) (x : Expression) (p q : Position) (ks after : List Terminal) (end : Place) (e : ParseError) → Within (suc k) i (value x) ks (kind.CloseParenthesis at q ∷ after) → Refuses SomeValue (suc i) end (kind.OpenParenthesis at p ∷ ks) e → RefusesPart (Within k) (suc i) end (kind.OpenParenthesis at p ∷ ks) e
+expression_refuses : (k i : ℕ) (x : Expression) (p q : Position) (ks after : List Terminal) (end : Place) (e : ParseError) → Within (suc k) i (value x) ks (kind.CloseParenthesis at q ∷ after) → RefusesHere SomeValue (suc i) end (kind.OpenParenthesis at p ∷ ks) e → RefusesPart (Within k) (suc i) end (kind.OpenParenthesis at p ∷ ks) e
 expression_refuses k i x p q ks after end e f (out_of_memory y) = out_of_memory y
 expression_refuses k i x p q ks after end e f (syntax z y never) = syntax z y (λ d. dead_expression k d i x p q ks after z (value_inside (suc k) i x ks _ f).0 (never d) (never (suc i)))
-expression_refuses k i x p q ks after end e f (nested z m y w never) = nested z m y (decides_in_code w) (dead_expression k (suc i) i x p q ks after m (value_inside (suc k) i x ks _ f).0 never never)
+expression_refuses k i x p q ks after end e f (nested z m n y w never v t) = nested z m n y (decides_in_code w) (dead_expression k (suc i) i x p q ks after m (value_inside (suc k) i x ks _ f).0 never never) v tt
 expression_refuses k i x p q ks after end e f (left_out feature z m y g never) = left_out feature z m y g (λ d. dead_expression k d i x p q ks after m (value_inside (suc k) i x ks _ f).0 (never d) (never (suc i)))
 expression_refuses k i x p q ks after end e f (in_grammar feature z y g) = in_grammar feature z y g
 
@@ -327,8 +328,8 @@ expression_whole k d x ks r f = (suc d, refl, (is_value f.0, f.1))
 pub root_whole : (k d i : ℕ) (a : Initial) (x : Expression) (p q : Position) (ks after : List Terminal) → d ≡ suc i → a ≡ value x → Within (suc k) i a ks (kind.CloseParenthesis at q ∷ after) → IsRoot d (bracketed p x) (kind.OpenParenthesis at p ∷ ks) after
 root_whole k d i a x p q ks after z same f = subst (λ (y : ℕ). IsRoot y (bracketed p x) (kind.OpenParenthesis at p ∷ ks) after) (sym z) (is_bracketed (value_inside (suc k) i x ks _ (subst (λ y. Within (suc k) i y ks (kind.CloseParenthesis at q ∷ after)) same f)).0)
 
-pub root_refuses : (k d i : ℕ) (a : Initial) (x : Expression) (p q : Position) (ks after : List Terminal) (end : Place) (e : ParseError) → d ≡ suc i → a ≡ value x → Within (suc k) i a ks (kind.CloseParenthesis at q ∷ after) → Refuses SomeValue d end (kind.OpenParenthesis at p ∷ ks) e → RefusesPart (Within k) d end (kind.OpenParenthesis at p ∷ ks) e
-root_refuses k d i a x p q ks after end e z same f h = subst (λ (y : ℕ). RefusesPart (Within k) y end (kind.OpenParenthesis at p ∷ ks) e) (sym z) (expression_refuses k i x p q ks after end e (subst (λ y. Within (suc k) i y ks (kind.CloseParenthesis at q ∷ after)) same f) (subst (λ (y : ℕ). Refuses SomeValue y end (kind.OpenParenthesis at p ∷ ks) e) z h))
+pub root_refuses : (k d i : ℕ) (a : Initial) (x : Expression) (p q : Position) (ks after : List Terminal) (end : Place) (e : ParseError) → d ≡ suc i → a ≡ value x → Within (suc k) i a ks (kind.CloseParenthesis at q ∷ after) → RefusesHere SomeValue d end (kind.OpenParenthesis at p ∷ ks) e → RefusesPart (Within k) d end (kind.OpenParenthesis at p ∷ ks) e
+root_refuses k d i a x p q ks after end e z same f h = subst (λ (y : ℕ). RefusesPart (Within k) y end (kind.OpenParenthesis at p ∷ ks) e) (sym z) (expression_refuses k i x p q ks after end e (subst (λ y. Within (suc k) i y ks (kind.CloseParenthesis at q ∷ after)) same f) (subst (λ (y : ℕ). RefusesHere SomeValue y end (kind.OpenParenthesis at p ∷ ks) e) z h))
 
 -- ---- lists and records
 
@@ -356,11 +357,11 @@ no_bracket k ks none d (value e) ls r s f = (e, r, value_inside k d e ls r f)
 no_bracket k ks none d (list p is) ls r s (l, h, (is_list f single, st)) = absurd (no_mark_same mark.OpenParenthesis ks ls s none p _ refl)
 no_bracket k ks none d (record_ p fs) ls r s (l, h, (is_record_value f, st)) = absurd (no_mark_same mark.OpenParenthesis ks ls s none p _ refl)
 
-pub value_refuses : (k d : ℕ) (end : Place) (ks : List Terminal) (e : ParseError) → NoMark mark.OpenParenthesis ks → Refuses SomeValue d end ks e → RefusesPart (Within k) d end ks e
+pub value_refuses : (k d : ℕ) (end : Place) (ks : List Terminal) (e : ParseError) → NoMark mark.OpenParenthesis ks → RefusesHere SomeValue d end ks e → RefusesPart (Within k) d end ks e
 value_refuses k d end ks e none h = refuses_map SomeValue (Within k) d end ks e (no_bracket k ks none) (refuses_part h)
 
 pub bracket_too_deep : (k d : ℕ) (end : Place) (p : Position) (ks m : List Terminal) (e : ParseError) → ks ≡ kind.OpenParenthesis at p ∷ m → d ≡ 0 → e ≡ refused_at 61 0 end ks → RefusesPart (Within k) d end ks e
-bracket_too_deep k d end p ks m e is z x = nested ks ks x (decides_in_code decides_there) (subst (λ y. Dead (Within k d) y y) (sym is) (dead_token (Within k d) (kind.OpenParenthesis at p) m (λ b ls r f. let o = opening k d b p ls r f in absurd (omega (arith, z, o.is_inner)))))
+bracket_too_deep k d end p ks m e is z x = nested ks ks ks x (decides_in_code decides_there) (subst (λ y. Dead (Within k d) y y) (sym is) (dead_token (Within k d) (kind.OpenParenthesis at p) m (λ b ls r f. let o = opening k d b p ls r f in absurd (omega (arith, z, o.is_inner))))) decides_there tt
 
 pub inside_refuses : (k d i : ℕ) (end : Place) (p : Position) (ks m : List Terminal) (e : ParseError) → ks ≡ kind.OpenParenthesis at p ∷ m → d ≡ suc i → RefusesPart (Within (suc k)) i end m e → RefusesPart (Within k) d end ks e
 inside_refuses k d i end p ks m e is z h = subst (λ (y : ℕ). RefusesPart (Within k) y end ks e) (sym z) (subst (λ y. RefusesPart (Within k) (suc i) end y e) (sym is) (refuses_inside (Within (suc k)) (Within k) i end (kind.OpenParenthesis at p) m e (λ d' b ls r f. let o = opening k d' b p ls r f in (o.inner, o.is_inner, (o.first, o.rest, o.fits))) h))
@@ -385,16 +386,16 @@ no_initial : {i : Initial} {ks r : List Terminal} → IsInitial 0 i ks r → ⊥
 no_initial f = elim f [ ]
 
 pub initial_too_deep : (d : ℕ) (end : Place) (ks : List Terminal) (e : ParseError) → d ≡ 0 → e ≡ refused_at 61 0 end ks → RefusesPart SomeInitial d end ks e
-initial_too_deep d end ks e z x = subst (λ (w : ℕ). RefusesPart SomeInitial w end ks e) (sym z) (nested ks ks x (decides_in_code decides_there) (dead_here (SomeInitial 0) ks (λ a ls r s f. no_initial f.0)))
+initial_too_deep d end ks e z x = subst (λ (w : ℕ). RefusesPart SomeInitial w end ks e) (sym z) (nested ks ks ks x (decides_in_code decides_there) (dead_here (SomeInitial 0) ks (λ a ls r s f. no_initial f.0)) decides_there tt)
 
-pub value_too_deep : (d : ℕ) (end : Place) (ks : List Terminal) (e : ParseError) → d ≡ 0 → e ≡ refused_at 61 0 end ks → Refuses ValueOf d end ks e
-value_too_deep d end ks e z x = subst (λ (w : ℕ). Refuses ValueOf w end ks e) (sym z) (nested ks ks x decides_there (dead_here (ValueOf 0) ks (λ a ls r s f. no_initial f.0)))
+pub value_too_deep : (d : ℕ) (end : Place) (ks : List Terminal) (e : ParseError) → d ≡ 0 → e ≡ refused_at 61 0 end ks → RefusesHere ValueOf d end ks e
+value_too_deep d end ks e z x = subst (λ (w : ℕ). RefusesHere ValueOf w end ks e) (sym z) (nested ks ks ks x decides_there (dead_here (ValueOf 0) ks (λ a ls r s f. no_initial f.0)) decides_there tt)
 
 value_of : (d : ℕ) (x : Expression) (ls r : List Terminal) → ValueOf d x ls r → (i : ℕ) × (d ≡ suc i) × Some_ SomeValue i ls
 value_of d x ls r (is_value {d = i} f, st) = (i, refl, (x, r, (f, st)))
 
-pub value_inside_refuses : (d i : ℕ) (end : Place) (ks : List Terminal) (e : ParseError) → d ≡ suc i → Refuses SomeValue i end ks e → Refuses ValueOf d end ks e
-value_inside_refuses d i end ks e z h = subst (λ (w : ℕ). Refuses ValueOf w end ks e) (sym z) (refuses_deeper SomeValue ValueOf i end ks e (λ d' b ls r s f. value_of d' b ls r f) h)
+pub value_inside_refuses : (d i : ℕ) (end : Place) (ks : List Terminal) (e : ParseError) → d ≡ suc i → RefusesHere SomeValue i end ks e → RefusesHere ValueOf d end ks e
+value_inside_refuses d i end ks e z h = subst (λ (w : ℕ). RefusesHere ValueOf w end ks e) (sym z) (refuses_deeper SomeValue ValueOf i end ks e (λ d' b ls r s f. value_of d' b ls r f) h)
 
 pub value_inside_whole : (d i : ℕ) (x : Expression) (ks r : List Terminal) → d ≡ suc i → SomeValue i x ks r → ValueOf d x ks r
 value_inside_whole d i x ks r z f = subst (λ (w : ℕ). ValueOf w x ks r) (sym z) (is_value f.0, f.1)
@@ -417,17 +418,17 @@ initial_whole d i (record_ p fs) ks r z (l, h, f) = let same : l ≡ d = omega (
 into_value : (d : ℕ) (x : Expression) (ls r : List Terminal) → SomeValue d x ls r → Some_ (Seq (Chain Relational) NoMoreExpression) d ls
 into_value d x ls r (f, st) = ((x, []), r, (r, (f, stop x r st), (refl, st)))
 
-pub value_chain : (d : ℕ) (end : Place) (ks : List Terminal) (e : ParseError) → Refuses (Chain Relational) d end ks e → Refuses SomeValue d end ks e
+pub value_chain : (d : ℕ) (end : Place) (ks : List Terminal) (e : ParseError) → Refuses (Chain Relational) d end ks e → RefusesHere SomeValue d end ks e
 value_chain d end ks e h = refuses_map (Seq (Chain Relational) NoMoreExpression) SomeValue d end ks e (λ d' b ls r s f. into_value d' b ls r f) (refuses_first (Chain Relational) NoMoreExpression d end ks e h)
 
-pub value_goes_on : (d : ℕ) (end : Place) (x : Expression) (ks m : List Terminal) (e : ParseError) → Chain Relational d x ks m → Refuses NoMoreExpression d end m e → Refuses SomeValue d end ks e
+pub value_goes_on : (d : ℕ) (end : Place) (x : Expression) (ks m : List Terminal) (e : ParseError) → Chain Relational d x ks m → RefusesHere NoMoreExpression d end m e → RefusesHere SomeValue d end ks e
 value_goes_on d end x ks m e f h = refuses_map (Seq (Chain Relational) NoMoreExpression) SomeValue d end ks e (λ d' b ls r s f. into_value d' b ls r f) (refuses_after (Chain Relational) NoMoreExpression d end x ks m e (known_chain Relational) f h)
 
 or_clash : {A : Type 0} (a b : Bool) → (a || b) ≡ true → a ≡ false → b ≡ false → A
 or_clash true b h f g = true_false f
 or_clash false b h f g = true_false (sym h ∙ g)
 
-pub expression_goes_on : (d : ℕ) (end : Place) (k : TokenKind) (p : Position) (ks : List Terminal) (e : ParseError) → continues_expression k ≡ true → e ≡ refused_at 9 0 end (k at p ∷ ks) → Refuses NoMoreExpression d end (k at p ∷ ks) e
+pub expression_goes_on : (d : ℕ) (end : Place) (k : TokenKind) (p : Position) (ks : List Terminal) (e : ParseError) → continues_expression k ≡ true → e ≡ refused_at 9 0 end (k at p ∷ ks) → RefusesHere NoMoreExpression d end (k at p ∷ ks) e
 expression_goes_on d end k p ks e h x = syntax (k at p ∷ ks) x (λ d'. dead_token (NoMoreExpression d') (k at p) ks (λ a ls r f. let st = subst Stops (sym f.0) f.1 in or_clash (binds Relational k) (begins_selector k) h st.0 st.1))
 
 -- ---- rooms
@@ -456,13 +457,13 @@ not_value (Record' position _ row) h = tt
 
 -- ---- an expression whose root is read
 
-pub simple_refuses : (d : ℕ) (end : Place) (ks : List Terminal) (e : ParseError) → Refuses (Chain Additive) d end ks e → Refuses SomeValue d end ks e
+pub simple_refuses : (d : ℕ) (end : Place) (ks : List Terminal) (e : ParseError) → Refuses (Chain Additive) d end ks e → RefusesHere SomeValue d end ks e
 simple_refuses d end ks e h = value_chain d end ks e (chain_operand Relational d end ks e (relational_refuses d end ks e h))
 
-pub term_refuses : (d : ℕ) (end : Place) (ks : List Terminal) (e : ParseError) → Refuses (Chain Multiplicative) d end ks e → Refuses SomeValue d end ks e
+pub term_refuses : (d : ℕ) (end : Place) (ks : List Terminal) (e : ParseError) → Refuses (Chain Multiplicative) d end ks e → RefusesHere SomeValue d end ks e
 term_refuses d end ks e h = simple_refuses d end ks e (chain_operand Additive d end ks e (additive_refuses d end ks e h))
 
-pub selectors_refuse : (d : ℕ) (end : Place) (root : Root) (ks m : List Terminal) (e : ParseError) → IsRoot d root ks m → Refuses SomeSelectors d end m e → Refuses SomeValue d end ks e
+pub selectors_refuse : (d : ℕ) (end : Place) (root : Root) (ks m : List Terminal) (e : ParseError) → IsRoot d root ks m → Refuses SomeSelectors d end m e → RefusesHere SomeValue d end ks e
 selectors_refuse d end root ks m e f h = term_refuses d end ks e (chain_operand Multiplicative d end ks e (multiplicative_refuses d end ks e (designated_refuses d end ks e (designator_begins (is_designator f are_no_selectors)) (designator_selectors d end root ks m e f h))))
 
 pub root_operand : (d : ℕ) (root : Root) (ss : Selectors) (ks m r : List Terminal) → IsRoot d root ks m → SomeSelectors d ss m r → Operand Multiplicative d (designated (designator root ss)) ks r

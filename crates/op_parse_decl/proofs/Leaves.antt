@@ -2,7 +2,8 @@
 use Rattle.std.proofs.Common.{◌≡◌, ℕ, List, [], ◌∷◌, Some, is_some, length, arith, refl, sym, ap, subst}
 use Rattle.op_base.specs.declared.place.Place.{Place}
 use Rattle.op_parse_code.proofs.Cuts.{same_not}
-use Rattle.op_parse_code.proofs.Refusing.{Some_, dead_here, refuses_behind}
+use Rattle.op_parse_code.proofs.Refusing.{Some_, dead_here}
+use Rattle.op_parse_decl.proofs.Untold.{refuses_behind}
 use Rattle.op_parse_code.specs.Refusal.{SameHead, Refuses, syntax, refused_at}
 use Rattle.op_parse_decl.proofs.Combining.{refuses_part}
 use Rattle.op_parse_decl.specs.Refusal.{RefusesPart}

@@ -9,7 +9,6 @@ pub mod Enumerations
 pub mod Denoted
 pub mod Forms
 pub mod Combining
-pub mod Deeper
 pub mod Initials
 pub mod InitialLists
 pub mod Routines
@@ -18,3 +17,5 @@ pub mod DeclaredForms
 pub mod Files
 pub mod Leaves
 pub mod Classes
+pub mod Untold
+pub mod Lives

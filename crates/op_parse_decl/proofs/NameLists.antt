@@ -2,9 +2,11 @@
 use Rattle.std.proofs.Common.{◌≡◌, ℕ, suc, List, [], ◌∷◌, ◌++◌, Option, Some, None, refl, sym, ap, subst, append_assoc}
 use Rattle.op_base.specs.declared.place.Place.{Place}
 use Rattle.op_parse_code.proofs.Lists.{SplitsOpen, open_item, open_more}
-use Rattle.op_parse_code.proofs.Refusing.{Some_, Seq, refuses_map, refuses_first, refuses_after, refuses_behind, refuses_inside, dead_here, no_mark_same}
+use Rattle.op_parse_code.proofs.Refusing.{Some_, Seq, dead_here, no_mark_same}
+use Rattle.op_parse_decl.proofs.Untold.{refuses_map, refuses_first, refuses_after, refuses_behind, refuses_inside}
 use Rattle.op_parse_code.proofs.StatementKnown.{known_name}
 use Rattle.op_parse_code.specs.Refusal.{Refuses, syntax, nested, decides_there, refused_at}
+use Rattle.op_parse_decl.specs.Refusal.{RefusesHere}
 use Rattle.op_parse_code.specs.Whole.{Marked, NoMark, SomeName}
 use Rattle.op_parse_code.specs.declared.error.ParseError.{ParseError}
 use Rattle.op_parse_code.specs.declared.mark.Mark.TheVariants as mark
@@ -23,24 +25,24 @@ use Rattle.op_tree.specs.declared.position.QualifiedName.{QualifiedName}
 -- ---- names with commas between them
 
 names_split : SplitsOpen SomeName SomeNames SomeNames mark.Comma
-names_split d x ls r (are_one_name {n = n} f, none) = ((n, None), r, (r, f, none))
+names_split d x ls r (are_one_name {n = n} f, none) = ((n, None), r, (r, f, (none, refl)))
 names_split d x ls r (are_names {n = n} {ns = ns} {p = p} {m = m} f g, none) = ((n, Some ns), r, (kind.Comma at p ∷ m, f, (p, m, refl, (g, none))))
 
 -- the names that are read so far, and what is left
 pub record Naming (all : List Terminal) (xs : List Name) (rest : List Terminal) : Type 0 where
   pub completes : (d : ℕ) (more : List Name) (r : List Terminal) → SomeNames d more rest r → SomeNames d (xs ++ more) all r
-  pub dies : (d : ℕ) (end : Place) (e : ParseError) → Refuses SomeNames d end rest e → Refuses SomeNames d end all e
+  pub dies : (d : ℕ) (end : Place) (e : ParseError) → RefusesHere SomeNames d end rest e → RefusesHere SomeNames d end all e
 
 pub naming_none : (all : List Terminal) → Naming all [] all
 naming_none all = record { completes = λ d more r x. x; dies = λ d end e x. x }
 
-pub naming_item : (d : ℕ) (end : Place) (all rest : List Terminal) (xs : List Name) (e : ParseError) → Naming all xs rest → Refuses SomeName d end rest e → Refuses SomeNames d end all e
-naming_item d end all rest xs e so_far h = so_far.dies d end e (open_item SomeName SomeNames SomeNames mark.Comma d end rest e names_split h)
+pub naming_item : (d : ℕ) (end : Place) (all rest : List Terminal) (xs : List Name) (e : ParseError) → Naming all xs rest → Refuses SomeName d end rest e → RefusesHere SomeNames d end all e
+naming_item d end all rest xs e so_far h = so_far.dies d end e (open_item SomeName SomeNames SomeNames mark.Comma d end rest e names_split (λ q x. tt) h)
 
 pub naming_more : (all rest m : List Terminal) (xs : List Name) (x : Name) (p : Position) (after : List Terminal) → Naming all xs rest → IsName x rest m → m ≡ kind.Comma at p ∷ after → Naming all (xs ++ (x ∷ [])) after
 naming_more all rest m xs x p after so_far f is = record {
   completes = λ d more r h. subst (λ z. SomeNames d z all r) (sym (append_assoc xs (x ∷ []) more)) (so_far.completes d (x ∷ more) r (are_names (subst (λ z. IsName x rest z) is f) h.0, h.1));
-  dies = λ d end e h. so_far.dies d end e (open_more SomeName SomeNames SomeNames mark.Comma d end x rest m after p e names_split known_name f is h);
+  dies = λ d end e h. so_far.dies d end e (open_more SomeName SomeNames SomeNames mark.Comma d end x rest m after p e names_split known_name f is (λ q x. tt) h);
 }
 
 pub naming_ends : (d : ℕ) (all rest m : List Terminal) (xs : List Name) (x : Name) → Naming all xs rest → IsName x rest m → NoMark mark.Comma m → SomeNames d (xs ++ (x ∷ [])) all m
@@ -57,22 +59,22 @@ into_brackets p d b ls r (are_bracketed_names {d = i} {q = q} f) = (i, refl, ((b
 into_open : (d : ℕ) (b : List Name) (ls r : List Terminal) → SomeBracketedNames d b ls r → Some_ (Marked mark.OpenParenthesis) d ls
 into_open d b ls r (are_bracketed_names {p = p} {ks = ks} f) = (p, ks, refl)
 
-pub brackets_missing : (d : ℕ) (end : Place) (ks : List Terminal) (e : ParseError) → Refuses (Marked mark.OpenParenthesis) d end ks e → Refuses SomeBracketedNames d end ks e
+pub brackets_missing : (d : ℕ) (end : Place) (ks : List Terminal) (e : ParseError) → Refuses (Marked mark.OpenParenthesis) d end ks e → RefusesHere SomeBracketedNames d end ks e
 brackets_missing d end ks e h = refuses_map (Marked mark.OpenParenthesis) SomeBracketedNames d end ks e (λ d' b ls r s x. into_open d' b ls r x) h
 
 no_room : (b : List Name) (ls r : List Terminal) → SomeBracketedNames 0 b ls r → ⊥
 no_room b ls r h = elim h [ ]
 
-pub brackets_too_deep : (d : ℕ) (end : Place) (ks : List Terminal) (e : ParseError) → d ≡ 0 → e ≡ refused_at 61 0 end ks → Refuses SomeBracketedNames d end ks e
-brackets_too_deep d end ks e z x = subst (λ (w : ℕ). Refuses SomeBracketedNames w end ks e) (sym z) (nested ks ks x decides_there (dead_here (SomeBracketedNames 0) ks (λ b ls r s f. no_room b ls r f)))
+pub brackets_too_deep : (d : ℕ) (end : Place) (ks : List Terminal) (e : ParseError) → d ≡ 0 → e ≡ refused_at 61 0 end ks → RefusesHere SomeBracketedNames d end ks e
+brackets_too_deep d end ks e z x = subst (λ (w : ℕ). RefusesHere SomeBracketedNames w end ks e) (sym z) (nested ks ks ks x decides_there (dead_here (SomeBracketedNames 0) ks (λ b ls r s f. no_room b ls r f)) decides_there tt)
 
-brackets_inside : (d i : ℕ) (end : Place) (p : Position) (ks all : List Terminal) (e : ParseError) → all ≡ kind.OpenParenthesis at p ∷ ks → d ≡ suc i → Refuses (Seq SomeNames (Marked mark.CloseParenthesis)) i end ks e → Refuses SomeBracketedNames d end all e
-brackets_inside d i end p ks all e is z h = subst (λ (w : ℕ). Refuses SomeBracketedNames w end all e) (sym z) (subst (λ w. Refuses SomeBracketedNames (suc i) end w e) (sym is) (refuses_inside (Seq SomeNames (Marked mark.CloseParenthesis)) SomeBracketedNames i end (kind.OpenParenthesis at p) ks e (into_brackets p) h))
+brackets_inside : (d i : ℕ) (end : Place) (p : Position) (ks all : List Terminal) (e : ParseError) → all ≡ kind.OpenParenthesis at p ∷ ks → d ≡ suc i → RefusesHere (Seq SomeNames (Marked mark.CloseParenthesis)) i end ks e → RefusesHere SomeBracketedNames d end all e
+brackets_inside d i end p ks all e is z h = subst (λ (w : ℕ). RefusesHere SomeBracketedNames w end all e) (sym z) (subst (λ w. RefusesHere SomeBracketedNames (suc i) end w e) (sym is) (refuses_inside (Seq SomeNames (Marked mark.CloseParenthesis)) SomeBracketedNames i end (kind.OpenParenthesis at p) ks e (into_brackets p) h))
 
-pub brackets_names : (d i : ℕ) (end : Place) (p : Position) (ks all : List Terminal) (e : ParseError) → all ≡ kind.OpenParenthesis at p ∷ ks → d ≡ suc i → Refuses SomeNames i end ks e → Refuses SomeBracketedNames d end all e
+pub brackets_names : (d i : ℕ) (end : Place) (p : Position) (ks all : List Terminal) (e : ParseError) → all ≡ kind.OpenParenthesis at p ∷ ks → d ≡ suc i → RefusesHere SomeNames i end ks e → RefusesHere SomeBracketedNames d end all e
 brackets_names d i end p ks all e is z h = brackets_inside d i end p ks all e is z (refuses_first SomeNames (Marked mark.CloseParenthesis) i end ks e h)
 
-pub brackets_open : (d i : ℕ) (end : Place) (p : Position) (ns : List Name) (ks all m : List Terminal) (e : ParseError) → all ≡ kind.OpenParenthesis at p ∷ ks → d ≡ suc i → SomeNames i ns ks m → Refuses (Marked mark.CloseParenthesis) i end m e → Refuses SomeBracketedNames d end all e
+pub brackets_open : (d i : ℕ) (end : Place) (p : Position) (ns : List Name) (ks all m : List Terminal) (e : ParseError) → all ≡ kind.OpenParenthesis at p ∷ ks → d ≡ suc i → SomeNames i ns ks m → Refuses (Marked mark.CloseParenthesis) i end m e → RefusesHere SomeBracketedNames d end all e
 brackets_open d i end p ns ks all m e is z f h = brackets_inside d i end p ks all e is z (refuses_after SomeNames (Marked mark.CloseParenthesis) i end ns ks m e known_names f h)
 
 pub brackets_whole : (d i : ℕ) (p q : Position) (ns : List Name) (ks all m r : List Terminal) → all ≡ kind.OpenParenthesis at p ∷ ks → d ≡ suc i → SomeNames i ns ks m → m ≡ kind.CloseParenthesis at q ∷ r → SomeBracketedNames d ns all r
@@ -89,24 +91,24 @@ into_qualified : (d : ℕ) (b : QualifiedName) (ls r : List Terminal) → SomeQu
 into_qualified d b ls r (is_unqualified {n = n} f, none) = ((n, None), r, (r, f, none))
 into_qualified d b ls r (is_qualified {unit = u} {n = n} {p = p} {m = m} f g, none) = ((u, Some n), r, (kind.Dot at p ∷ m, f, (p, m, refl, g, none)))
 
-pub qualified_first : (d : ℕ) (end : Place) (ks : List Terminal) (e : ParseError) → Refuses SomeName d end ks e → Refuses SomeQualified d end ks e
+pub qualified_first : (d : ℕ) (end : Place) (ks : List Terminal) (e : ParseError) → Refuses SomeName d end ks e → RefusesHere SomeQualified d end ks e
 qualified_first d end ks e h = refuses_map (Seq SomeName Behind) SomeQualified d end ks e (λ d' b ls r s x. into_qualified d' b ls r x) (refuses_first SomeName Behind d end ks e h)
 
 behind_dot : (p : Position) (d : ℕ) (x : Option Name) (ls r : List Terminal) → Behind d x (kind.Dot at p ∷ ls) r → Some_ (Seq SomeName NoDot) d ls
 behind_dot p d None ls r none = absurd (none p ls refl)
 behind_dot p d (Some n) ls r (q, m, e, f, none) = ((n, []), r, (r, subst (λ z. IsName n z r) (sym (ap behind e)) f, (refl, none)))
 
-qualified_behind : (d : ℕ) (end : Place) (n : Name) (ks m : List Terminal) (p : Position) (after : List Terminal) (e : ParseError) → IsName n ks m → m ≡ kind.Dot at p ∷ after → Refuses (Seq SomeName NoDot) d end after e → Refuses SomeQualified d end ks e
-qualified_behind d end n ks m p after e f is h = refuses_map (Seq SomeName Behind) SomeQualified d end ks e (λ d' b ls r s x. into_qualified d' b ls r x) (refuses_after SomeName Behind d end n ks m e known_name f (subst (λ z. Refuses Behind d end z e) (sym is) (refuses_behind (Seq SomeName NoDot) Behind d end (kind.Dot at p) after e (behind_dot p) h)))
+qualified_behind : (d : ℕ) (end : Place) (n : Name) (ks m : List Terminal) (p : Position) (after : List Terminal) (e : ParseError) → IsName n ks m → m ≡ kind.Dot at p ∷ after → RefusesHere (Seq SomeName NoDot) d end after e → RefusesHere SomeQualified d end ks e
+qualified_behind d end n ks m p after e f is h = refuses_map (Seq SomeName Behind) SomeQualified d end ks e (λ d' b ls r s x. into_qualified d' b ls r x) (refuses_after SomeName Behind d end n ks m e known_name f (subst (λ z. RefusesHere Behind d end z e) (sym is) (refuses_behind (Seq SomeName NoDot) Behind d end (kind.Dot at p) after e (behind_dot p) h)))
 
-pub qualified_second : (d : ℕ) (end : Place) (n : Name) (ks m : List Terminal) (p : Position) (after : List Terminal) (e : ParseError) → IsName n ks m → m ≡ kind.Dot at p ∷ after → Refuses SomeName d end after e → Refuses SomeQualified d end ks e
+pub qualified_second : (d : ℕ) (end : Place) (n : Name) (ks m : List Terminal) (p : Position) (after : List Terminal) (e : ParseError) → IsName n ks m → m ≡ kind.Dot at p ∷ after → Refuses SomeName d end after e → RefusesHere SomeQualified d end ks e
 qualified_second d end n ks m p after e f is h = qualified_behind d end n ks m p after e f is (refuses_first SomeName NoDot d end after e h)
 
-pub qualified_dot : (d : ℕ) (end : Place) (n n' : Name) (ks m : List Terminal) (p : Position) (after r : List Terminal) (e : ParseError) → IsName n ks m → m ≡ kind.Dot at p ∷ after → IsName n' after r → Refuses NoDot d end r e → Refuses SomeQualified d end ks e
+pub qualified_dot : (d : ℕ) (end : Place) (n n' : Name) (ks m : List Terminal) (p : Position) (after r : List Terminal) (e : ParseError) → IsName n ks m → m ≡ kind.Dot at p ∷ after → IsName n' after r → RefusesHere NoDot d end r e → RefusesHere SomeQualified d end ks e
 qualified_dot d end n n' ks m p after r e f is g h = qualified_behind d end n ks m p after e f is (refuses_after SomeName NoDot d end n' after r e known_name g h)
 
 pub qualified_whole : (d : ℕ) (n n' : Name) (ks m : List Terminal) (p : Position) (after r : List Terminal) → IsName n ks m → m ≡ kind.Dot at p ∷ after → IsName n' after r → NoMark mark.Dot r → SomeQualified d (record { unit = Some n; name = n' }) ks r
 qualified_whole d n n' ks m p after r f is g none = (is_qualified (subst (λ z. IsName n ks z) is f) g, none)
 
-pub dot_stands : (d : ℕ) (end : Place) (p : Position) (ks after : List Terminal) (e : ParseError) → ks ≡ kind.Dot at p ∷ after → e ≡ refused_at 9 0 end ks → Refuses NoDot d end ks e
+pub dot_stands : (d : ℕ) (end : Place) (p : Position) (ks after : List Terminal) (e : ParseError) → ks ≡ kind.Dot at p ∷ after → e ≡ refused_at 9 0 end ks → RefusesHere NoDot d end ks e
 dot_stands d end p ks after e is x = syntax ks x (λ d'. dead_here (NoDot d') ks (λ a ls r s f. no_mark_same mark.Dot ls ks (same_sym ks ls s) (subst (λ z. NoMark mark.Dot z) (sym f.0) f.1) p after is))

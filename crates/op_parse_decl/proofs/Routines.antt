@@ -4,7 +4,8 @@ use Rattle.std.specs.Str.{bytes_eq}
 use Rattle.op_base.specs.declared.place.Place.{Place}
 use Rattle.op_parse_code.proofs.Cuts.{same_not}
 use Rattle.op_parse_code.proofs.Names.{word_kind}
-use Rattle.op_parse_code.proofs.Refusing.{Some_, refuses_map, refuses_behind}
+use Rattle.op_parse_code.proofs.Refusing.{Some_}
+use Rattle.op_parse_decl.proofs.Untold.{refuses_map, refuses_behind}
 use Rattle.op_parse_code.specs.Opening.{is_word, spelled}
 use Rattle.op_parse_code.specs.Refusal.{Phrase, SameHead}
 use Rattle.op_parse_decl.specs.Refusal.{RefusesPart}

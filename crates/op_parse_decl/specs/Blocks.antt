@@ -1,5 +1,6 @@
 -- Declarations in a row and the bodies of routines: what they are made of, and what is known of them.
 use Rattle.std.proofs.Common.{◌≡◌, ℕ, suc, Bool, true, false, ◌||◌, codes, List, [], ◌∷◌, is_some, map, refl, sym, ap, ◌∙◌, subst}
+use Rattle.op_parse_code.proofs.Deeper.{deeper_statements}
 use Rattle.op_parse_code.proofs.Cuts.{cut_none, cut_one, cut_join}
 use Rattle.op_parse_code.proofs.Refusing.{Known}
 use Rattle.op_parse_code.proofs.StatementFronts.{front_statements}
@@ -7,6 +8,7 @@ use Rattle.op_parse_code.proofs.StatementKnown.{known_name}
 use Rattle.op_parse_code.specs.Opening.{is_identifier}
 use Rattle.op_parse_code.specs.Refusal.{Phrase}
 use Rattle.op_parse_code.specs.declared.mark.Mark.TheVariants as mark
+use Rattle.op_parse_decl.specs.HeadingParts.{known_heading}
 use Rattle.op_parse_decl.specs.Combined.{Both, both, Then, then_, Repeats, no_more, one_more, Or, this, that, Choice, chosen, otherwise, Deeper, deeper}
 use Rattle.op_parse_decl.specs.DeclarationParts.{made_constant, made_variables, made_type, made_definition, made_data}
 use Rattle.op_parse_decl.specs.Declarations.{DefinitionBefore, SomeData, WholeMethod, is_directive, begins_declaration, InterfaceDeclaration, interface_data, interface_heading, BlockDeclaration, block_data, block_routine, listed, AllOf, BodyBefore}
@@ -106,7 +108,7 @@ block_out (declarations e es) (one_more h (block_data f) more) = data_declared f
 block_out (declarations e es) (one_more h (block_routine f) more) = routine_declared f (block_out es more)
 
 pub as_all : (P : Phrase Declaration) → As (Repeats begins_declaration P) (AllOf P)
-as_all P d es ks r f = (listed es, f, λ ls s x. x)
+as_all P d es ks r f = (listed es, f, λ i ls s x. x)
 
 pub listed_of : (xs : List RustDeclaration) → map declaration_of xs ≡ listed (declarations_of xs)
 listed_of [] = refl
@@ -124,8 +126,8 @@ pub heading_of_parts : {d : ℕ} {a : Method} {ks r : List Terminal} → DataOrH
 heading_of_parts (otherwise h f) = interface_heading f
 
 pub made_interface_declaration : As DataOrHeading InterfaceDeclaration
-made_interface_declaration d e ks r (interface_data f) = (this e, chosen (data_begins f.0) f, λ ls s x. data_of_parts x)
-made_interface_declaration d e ks r (interface_heading {a = a} f) = (that a, otherwise (apart no_data ks (method_begins f.0)) f, λ ls s x. heading_of_parts x)
+made_interface_declaration d e ks r (interface_data f) = (this e, chosen (data_begins f.0) f, λ i ls s x. data_of_parts x)
+made_interface_declaration d e ks r (interface_heading {a = a} f) = (that a, otherwise (apart no_data ks (method_begins f.0)) f, λ i ls s x. heading_of_parts x)
 
 -- ---- a declaration of any other part
 
@@ -153,8 +155,8 @@ body_no_directive {ks = ks} (is_body es (is_begin_end ss)) = neither no_directiv
 body_no_directive (is_forward_body {word = word} e) = forward_is_none word e
 
 pub made_block_declaration : As DataOrRoutine BlockDeclaration
-made_block_declaration d e ks r (block_data f) = (this e, chosen (data_begins f.0) f, λ ls s x. data_in_block x)
-made_block_declaration d e ks r (block_routine (is_routine {h = h} {ws = ws} {b = b} {q = q} f g t)) = (that (both (record { heading = h; directives = ws }) b), otherwise (apart no_data ks (heading_begins f)) (deeper (then_ (is_method f g, body_no_directive t) (q, t))), λ ls s x. routine_in_block x)
+made_block_declaration d e ks r (block_data f) = (this e, chosen (data_begins f.0) f, λ i ls s x. data_in_block x)
+made_block_declaration d e ks r (block_routine (is_routine {h = h} {ws = ws} {b = b} {q = q} f g t)) = (that (both (record { heading = h; directives = ws }) b), otherwise (apart no_data ks (heading_begins f)) (deeper (then_ (is_method f g, body_no_directive t) (q, t))), λ i ls s x. routine_in_block x)
 
 -- ---- what is known of them
 
@@ -187,8 +189,21 @@ same_body (is_body es (is_begin_end ss)) (is_forward_body e) = true_false (body_
 same_body (is_forward_body e) (is_body es (is_begin_end ss)) = true_false (body_no_name es refl)
 same_body (is_forward_body e) (is_forward_body e') = refl
 
+mutual
+  deeper_declarations : {d : ℕ} {es : Declarations} {ks r : List Terminal} → AreDeclarations d es ks r → EndsDeclarations r → AreDeclarations (suc d) es ks r
+  deeper_declarations are_no_declarations h = are_no_declarations
+  deeper_declarations {d = d} {ks = ks} (data_declared {e = e} {m = m} f more) h = data_declared (known_data.deepens d e ks m (f, body_no_name more h)).0 (deeper_declarations more h)
+  deeper_declarations (routine_declared f more) h = routine_declared (deeper_routine f) (deeper_declarations more h)
+
+  deeper_routine : {d : ℕ} {e : Declaration} {ks r : List Terminal} → IsRoutine d e ks r → IsRoutine (suc d) e ks r
+  deeper_routine {ks = ks} (is_routine {d = d} {h = h} {p = p} {m = m} f g t) = is_routine (known_heading.deepens d h ks m (p, f)).1 g (deeper_body t)
+
+  deeper_body : {d : ℕ} {b : Body} {q : Position} {ks r : List Terminal} → IsBody d b ks (kind.Semicolon at q ∷ r) → IsBody (suc d) b ks (kind.Semicolon at q ∷ r)
+  deeper_body (is_forward_body e) = is_forward_body e
+  deeper_body (is_body f (is_begin_end g)) = is_body (deeper_declarations f refl) (is_begin_end (deeper_statements g))
+
 known_body : Known BodyBefore
-known_body = record { front = λ d b ks r p. front_body p.1; same = λ d d' b b' ks r r' p p'. same_body p.1 p'.1 }
+known_body = record { front = λ d b ks r p. front_body p.1; same = λ d d' b b' ks r r' p p'. same_body p.1 p'.1; deepens = λ d b ks r p. (p.0, deeper_body p.1) }
 
 pub known_block_declaration : Known BlockDeclaration
 known_block_declaration = known_as made_block_declaration (known_choice known_data (known_deeper (known_then known_method known_body)))

@@ -1,9 +1,10 @@
 -- Classes stand whatever follows that begins so, and end at one place.
-use Rattle.std.proofs.Common.{◌≡◌, ℕ, false, List, [], ◌∷◌, refl, sym, ap, ◌∙◌, subst}
+use Rattle.std.proofs.Common.{◌≡◌, ℕ, suc, false, List, [], ◌∷◌, refl, sym, ap, ◌∙◌, subst}
 use Rattle.op_parse_code.proofs.Cuts.{IsCut, cut_none, cut_one, cut_join}
 use Rattle.op_parse_code.proofs.Refusing.{Known}
 use Rattle.op_parse_code.specs.Refusal.{Phrase, SameHead}
 use Rattle.op_parse_code.specs.declared.mark.Mark.TheVariants as mark
+use Rattle.op_parse_decl.specs.Deepening.{deeper_denoter}
 use Rattle.op_parse_decl.specs.Classes.{SectionsBefore}
 use Rattle.op_parse_decl.specs.Combined.{Both, both, Then, then_, Or, this, that, Choice, chosen, otherwise, Nothing, nothing, Fork, marked, unmarked}
 use Rattle.op_parse_decl.specs.Declarations.{DefinitionBehind}
@@ -86,6 +87,25 @@ front_body : {d : ℕ} {ss : List Section} {q : Position} {ks r : List Terminal}
 front_body {q = q} (begins_with_visibility {p = p} ss) = front_ends p q (front_sections ss) (λ xs zs f. (q, begins_with_visibility f))
 front_body {d = d} {q = q} (begins_with_members {a = a} {as_ = as_} {ss = ss} {p = p} f more) = front_ends {P = λ xs zs. (m : List Terminal) × AreMembers d (a ∷ as_) xs m × AreSections d ss m zs} p q (front_pair (front_members f) (front_sections more) (λ xs ys zs g h. (ys, g, h))) (λ xs zs g. (q, begins_with_members g.1 g.2))
 
+-- ---- at any greater depth
+
+deeper_member : {d : ℕ} {a : Member} {ks r : List Terminal} → IsMember d a ks r → IsMember (suc d) a ks r
+deeper_member (are_fields ns t) = are_fields ns (deeper_denoter t)
+deeper_member {d = d} {ks = ks} (is_class_method (is_method {h = h} {p = p} {m = m} f ws)) = is_class_method (is_method (known_heading.deepens d h ks m (p, f)).1 ws)
+deeper_member {d = d} {ks = ks} {r = r} (is_class_property {a = a} f) = is_class_property (known_property.deepens d a ks r f)
+
+deeper_members : {d : ℕ} {as_ : List Member} {ks r : List Terminal} → AreMembers d as_ ks r → AreMembers (suc d) as_ ks r
+deeper_members are_no_members = are_no_members
+deeper_members (are_members f more) = are_members (deeper_member f) (deeper_members more)
+
+deeper_sections : {d : ℕ} {ss : List Section} {ks r : List Terminal} → AreSections d ss ks r → AreSections (suc d) ss ks r
+deeper_sections are_no_sections = are_no_sections
+deeper_sections (are_sections v f more) = are_sections v (deeper_members f) (deeper_sections more)
+
+deeper_body : {d : ℕ} {ss : List Section} {ks r : List Terminal} → IsClassBody d ss ks r → IsClassBody (suc d) ss ks r
+deeper_body (begins_with_visibility ss) = begins_with_visibility (deeper_sections ss)
+deeper_body (begins_with_members f more) = begins_with_members (deeper_members f) (deeper_sections more)
+
 -- a place for the word `class`, where any does
 here : Position
 here = record { place = record { file = 0; line = 0; col = 0 }; switches = record { h = false; q = false; r = false } }
@@ -94,6 +114,7 @@ pub known_sections : Known SectionsBefore
 known_sections = record {
   front = λ d ss ks m b. let s = front_body b.1 in (s.front, s.is_cut, s.reaches, s.stands);
   same = λ d d' ss ss' ks m m' b b'. (unique_class (has_body_alone {p = here} b.1) (has_body_alone {p = here} b'.1)).1;
+  deepens = λ d ss ks m b. (b.0, deeper_body b.1);
 }
 
 -- ---- what stands behind the word `class`
@@ -134,13 +155,13 @@ no_list {ks = t ∷ ks} b = at_kind t.kind t.position b
     at_kind kind.OpenParenthesis p (begins_with_members (are_members a more) ss) = no_member a
     at_kind other p b = refl
 
-class_in : {d : ℕ} {t : TypeDefinition} {p q : Position} {ks r : List Terminal} → IsDefinition d t (kind.Class at p ∷ ks) (kind.Semicolon at q ∷ r) → (a : _) × ClassParts d a ks r × ((ls s : List Terminal) → ClassParts d a ls s → DefinitionBehind kind.Class d t ls s)
+class_in : {d : ℕ} {t : TypeDefinition} {p q : Position} {ks r : List Terminal} → IsDefinition d t (kind.Class at p ∷ ks) (kind.Semicolon at q ∷ r) → (a : _) × ClassParts d a ks r × ((i : ℕ) (ls s : List Terminal) → ClassParts i a ls s → DefinitionBehind kind.Class i t ls s)
 class_in (denotes_type f) = class_no_type f
 class_in (is_interface i) = elim i [ ]
-class_in is_forward_class = (both (that tt) (this tt), then_ (otherwise refl nothing) (marked nothing), λ ls s x. forward_of_parts x)
-class_in {q = q} (is_class (has_body_alone {ss = ss} b)) = (both (that tt) (that ss), then_ (otherwise (no_list b) nothing) (unmarked (λ p s h. no_body b (sym h)) (q, b)), λ ls s x. body_of_parts x)
-class_in (is_class (has_list_alone (are_bracketed_names {ns = ns} f))) = (both (this ns) (this tt), then_ (chosen refl (are_bracketed_names f)) (marked nothing), λ ls s x. list_of_parts x)
-class_in {q = q} (is_class (has_list_and_body {ss = ss} (are_bracketed_names {ns = ns} f) b)) = (both (this ns) (that ss), then_ (chosen refl (are_bracketed_names f)) (unmarked (λ p s h. no_body b (sym h)) (q, b)), λ ls s x. class_of_parts x)
+class_in is_forward_class = (both (that tt) (this tt), then_ (otherwise refl nothing) (marked nothing), λ i ls s x. forward_of_parts x)
+class_in {q = q} (is_class (has_body_alone {ss = ss} b)) = (both (that tt) (that ss), then_ (otherwise (no_list b) nothing) (unmarked (λ p s h. no_body b (sym h)) (q, b)), λ i ls s x. body_of_parts x)
+class_in (is_class (has_list_alone (are_bracketed_names {ns = ns} f))) = (both (this ns) (this tt), then_ (chosen refl (are_bracketed_names f)) (marked nothing), λ i ls s x. list_of_parts x)
+class_in {q = q} (is_class (has_list_and_body {ss = ss} (are_bracketed_names {ns = ns} f) b)) = (both (this ns) (that ss), then_ (chosen refl (are_bracketed_names f)) (unmarked (λ p s h. no_body b (sym h)) (q, b)), λ i ls s x. class_of_parts x)
 
 pub made_class : As ClassParts (DefinitionBehind kind.Class)
 made_class d t ks r f = class_in (f here).1

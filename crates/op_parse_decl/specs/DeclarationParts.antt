@@ -64,7 +64,7 @@ pub constant_of_parts : {d : ℕ} {n : Name} {t : Option Denoter} {i : Initial} 
 constant_of_parts (then_ n (then_ t (then_ stands (then_ i stands)))) = is_constant n (type_out t) i.0
 
 pub made_constant : As ConstantParts IsConstant
-made_constant d c ks r (is_constant {n = n} {t = t} {i = i} {p = p} {q = q} f g h) = (both n (both t (both tt (both i tt))), then_ f (then_ (type_in (no_mark_by mark.Colon is_colon refl refl) (record { operator = refl; selector = refl; range = refl }) g) (then_ stands (then_ (h, (refl, refl)) stands))), λ ls s x. constant_of_parts x)
+made_constant d c ks r (is_constant {n = n} {t = t} {i = i} {p = p} {q = q} f g h) = (both n (both t (both tt (both i tt))), then_ f (then_ (type_in (no_mark_by mark.Colon is_colon refl refl) (record { operator = refl; selector = refl; range = refl }) g) (then_ stands (then_ (h, (refl, refl)) stands))), λ i ls s x. constant_of_parts x)
 
 -- ---- variables
 
@@ -75,7 +75,7 @@ pub variables_of_parts : {d : ℕ} {ns : List Name} {t : Denoter} {i : Option In
 variables_of_parts (then_ n (then_ stands (then_ t (then_ i stands)))) = are_variables_of_one_type n.0 t.0 (value_out i)
 
 pub made_variables : As VariablesParts AreVariablesOfOneType
-made_variables d v ks r (are_variables_of_one_type {ns = ns} {t = t} {i = i} {p = p} {q = q} f g h) = (both ns (both tt (both t (both i tt))), then_ (f, no_mark_by mark.Comma is_comma refl refl) (then_ stands (then_ (g, value_stops h) (then_ (value_in h) stands))), λ ls s x. variables_of_parts x)
+made_variables d v ks r (are_variables_of_one_type {ns = ns} {t = t} {i = i} {p = p} {q = q} f g h) = (both ns (both tt (both t (both i tt))), then_ (f, no_mark_by mark.Comma is_comma refl refl) (then_ stands (then_ (g, value_stops h) (then_ (value_in h) stands))), λ i ls s x. variables_of_parts x)
 
 -- ---- types
 
@@ -86,7 +86,7 @@ pub type_of_parts : {d : ℕ} {n : Name} {t : TypeDefinition} {ks r : List Termi
 type_of_parts (then_ n (then_ stands t)) = is_type_declaration n t.1
 
 pub made_type : As TypeParts IsTypeDeclaration
-made_type d c ks r (is_type_declaration {n = n} {t = t} {q = q} f g) = (both n (both tt t), then_ f (then_ stands (q, g)), λ ls s x. type_of_parts x)
+made_type d c ks r (is_type_declaration {n = n} {t = t} {q = q} f g) = (both n (both tt t), then_ f (then_ stands (q, g)), λ i ls s x. type_of_parts x)
 
 abbrev pub DefinitionParts : Phrase (Or TypeDefinition (Or TypeDefinition (Both Denoter (Unit {0}))))
 DefinitionParts = Fork mark.Class (DefinitionBehind kind.Class) (Ahead mark.Interface InterfaceBefore (Then SomeDenoter (Stands mark.Semicolon)))
@@ -130,14 +130,14 @@ denoter_no_object (is_set t) = refl
 denoter_no_object (is_unpacked {k = k} s) = structure_no_object k (structure_begins s)
 denoter_no_object (is_packed s) = refl
 
-class_in : {d : ℕ} {t : TypeDefinition} {ks r : List Terminal} → DefinitionParts d (this t) ks r → (a : _) × DefinitionParts d a ks r × ((ls s : List Terminal) → DefinitionParts d a ls s → DefinitionBefore d t ls s)
-class_in {t = t} f = (this t, f, λ ls s x. class_of_parts x)
+class_in : {d : ℕ} {t : TypeDefinition} {ks r : List Terminal} → DefinitionParts d (this t) ks r → (a : _) × DefinitionParts d a ks r × ((i : ℕ) (ls s : List Terminal) → DefinitionParts i a ls s → DefinitionBefore i t ls s)
+class_in {t = t} f = (this t, f, λ i ls s x. class_of_parts x)
 
-interface_in : {d : ℕ} {t : TypeDefinition} {p : Position} {ks r : List Terminal} → DefinitionBefore d t (kind.Interface at p ∷ ks) r → (a : _) × DefinitionParts d a (kind.Interface at p ∷ ks) r × ((ls s : List Terminal) → DefinitionParts d a ls s → DefinitionBefore d t ls s)
-interface_in {t = t} f = (that (this t), unmarked (no_mark_by mark.Class is_class_word refl refl) (is_ahead mark_ahead (mark_ahead, f)), λ ls s x. interface_of_parts x)
+interface_in : {d : ℕ} {t : TypeDefinition} {p : Position} {ks r : List Terminal} → DefinitionBefore d t (kind.Interface at p ∷ ks) r → (a : _) × DefinitionParts d a (kind.Interface at p ∷ ks) r × ((i : ℕ) (ls s : List Terminal) → DefinitionParts i a ls s → DefinitionBefore i t ls s)
+interface_in {t = t} f = (that (this t), unmarked (no_mark_by mark.Class is_class_word refl refl) (is_ahead mark_ahead (mark_ahead, f)), λ i ls s x. interface_of_parts x)
 
 pub made_definition : As DefinitionParts DefinitionBefore
-made_definition d t ks r (q, denotes_type {t = x} f) = (that (that (both x tt)), unmarked (no_mark_by mark.Class begins_object refl (denoter_no_object f)) (not_ahead (no_mark_by mark.Interface begins_object refl (denoter_no_object f)) (then_ (f, record { operator = refl; selector = refl; range = refl }) stands)), λ ls s x. denoter_of_parts x)
+made_definition d t ks r (q, denotes_type {t = x} f) = (that (that (both x tt)), unmarked (no_mark_by mark.Class begins_object refl (denoter_no_object f)) (not_ahead (no_mark_by mark.Interface begins_object refl (denoter_no_object f)) (then_ (f, record { operator = refl; selector = refl; range = refl }) stands)), λ i ls s x. denoter_of_parts x)
 made_definition d t ks r (q, is_forward_class) = class_in (marked (λ p. (q, is_forward_class)))
 made_definition d t ks r (q, is_class (has_body_alone b)) = class_in (marked (λ p. (q, is_class (has_body_alone b))))
 made_definition d t ks r (q, is_class (has_list_alone a)) = class_in (marked (λ p. (q, is_class (has_list_alone a))))
@@ -198,9 +198,9 @@ is_var_word kind.Var = true
 is_var_word other = false
 
 pub made_data : As DataParts SomeData
-made_data d e ks r (declares_constants {cs = cs} f, n) = (this cs, marked (constants_in f n), λ ls s x. constants_of_parts x)
-made_data d e ks r (declares_variables {vs = cs} f, n) = (that (this cs), unmarked (no_mark_by mark.Const_ is_const_word refl refl) (marked (variables_in f n)), λ ls s x. variable_list_of_parts x)
-made_data d e ks r (declares_types {ts = cs} f, n) = (that (that (both tt cs)), unmarked (no_mark_by mark.Const_ is_const_word refl refl) (unmarked (no_mark_by mark.Var is_var_word refl refl) (then_ stands (types_in f n))), λ ls s x. types_of_parts x)
+made_data d e ks r (declares_constants {cs = cs} f, n) = (this cs, marked (constants_in f n), λ i ls s x. constants_of_parts x)
+made_data d e ks r (declares_variables {vs = cs} f, n) = (that (this cs), unmarked (no_mark_by mark.Const_ is_const_word refl refl) (marked (variables_in f n)), λ i ls s x. variable_list_of_parts x)
+made_data d e ks r (declares_types {ts = cs} f, n) = (that (that (both tt cs)), unmarked (no_mark_by mark.Const_ is_const_word refl refl) (unmarked (no_mark_by mark.Var is_var_word refl refl) (then_ stands (types_in f n))), λ i ls s x. types_of_parts x)
 
 -- ---- headings with their directives
 
@@ -219,7 +219,7 @@ pub method_of_parts : {d : ℕ} {h : Heading} {ws : List Directive} {ks r : List
 method_of_parts (then_ h ws) = let w = directives_out ws in (is_method h.1 w.0, w.1)
 
 pub made_method : As MethodParts WholeMethod
-made_method d a ks r (is_method {h = h} {ws = ws} {p = p} f g, n) = (both h ws, then_ (p, f) (directives_in g n), λ ls s x. method_of_parts x)
+made_method d a ks r (is_method {h = h} {ws = ws} {p = p} f g, n) = (both h ws, then_ (p, f) (directives_in g n), λ i ls s x. method_of_parts x)
 
 map_same : (ws : List Directive) → map (λ w. w) ws ≡ ws
 map_same [] = refl

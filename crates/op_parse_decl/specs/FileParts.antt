@@ -43,8 +43,8 @@ pub no_uses_of_parts : {d : ℕ} {ks r : List Terminal} → UsesParts d None ks 
 no_uses_of_parts (no_mark none) = no_uses none
 
 pub made_uses : As UsesParts SomeUses
-made_uses d ns ks r (no_uses none) = (None, no_mark none, λ ls s x. no_uses_of_parts x)
-made_uses d ns ks r (some_uses {q = q} n) = (Some (both ns tt), behind_mark (then_ (n, no_mark_by mark.Comma is_comma refl refl) stands), λ ls s x. uses_of_parts x)
+made_uses d ns ks r (no_uses none) = (None, no_mark none, λ i ls s x. no_uses_of_parts x)
+made_uses d ns ks r (some_uses {q = q} n) = (Some (both ns tt), behind_mark (then_ (n, no_mark_by mark.Comma is_comma refl refl) stands), λ i ls s x. uses_of_parts x)
 
 -- ---- the heading of a program
 
@@ -61,9 +61,9 @@ pub name_of_parts : {d : ℕ} {n : Name} {ks r : List Terminal} → HeadingParts
 name_of_parts (behind_mark (then_ n (then_ (otherwise h nothing) stands))) = some_program_heading (has_name n)
 
 pub made_heading : As HeadingParts SomeProgramHeading
-made_heading d h ks r (no_heading none) = (None, no_mark none, λ ls s x. no_heading_of_parts x)
-made_heading d h ks r (some_program_heading (has_name {n = n} f)) = (Some (both n (both (that tt) tt)), behind_mark (then_ f (then_ (otherwise refl nothing) stands)), λ ls s x. name_of_parts x)
-made_heading d h ks r (some_program_heading (has_name_and_list {n = n} {ns = ns} f (are_bracketed_names g))) = (Some (both n (both (this ns) tt)), behind_mark (then_ f (then_ (chosen refl (are_bracketed_names g)) stands)), λ ls s x. names_of_parts x)
+made_heading d h ks r (no_heading none) = (None, no_mark none, λ i ls s x. no_heading_of_parts x)
+made_heading d h ks r (some_program_heading (has_name {n = n} f)) = (Some (both n (both (that tt) tt)), behind_mark (then_ f (then_ (otherwise refl nothing) stands)), λ i ls s x. name_of_parts x)
+made_heading d h ks r (some_program_heading (has_name_and_list {n = n} {ns = ns} f (are_bracketed_names g))) = (Some (both n (both (this ns) tt)), behind_mark (then_ f (then_ (chosen refl (are_bracketed_names g)) stands)), λ i ls s x. names_of_parts x)
 
 -- ---- what a unit does
 
@@ -110,11 +110,11 @@ pub block_in_parts : {d : ℕ} {ss : Statements} {ks r : List Terminal} → IsBl
 block_in_parts (is_begin_end ss) = then_ stands (last_in ss)
 
 pub made_tail : As TailParts IsTail
-made_tail d t ks r has_end_alone = (this tt, marked nothing, λ ls s x. end_of_parts x)
-made_tail d t ks r (has_finalization {ss = ss} f) = (that (this (both ss tt)), unmarked (no_mark_by mark.End is_end refl refl) (marked (last_in f)), λ ls s x. finalization_of_parts x)
-made_tail d t ks r (has_both {ss = ss} {ts = ts} f g) = (that (that (this (both ss (this (both ts tt))))), unmarked (no_mark_by mark.End is_end refl refl) (unmarked (no_mark_by mark.Finalization is_finalization refl refl) (marked (then_ (f, ends_all f refl refl refl) (marked (last_in g))))), λ ls s x. both_of_parts x)
-made_tail d t ks r (has_initialization {ss = ss} f) = (that (that (this (both ss (that tt)))), unmarked (no_mark_by mark.End is_end refl refl) (unmarked (no_mark_by mark.Finalization is_finalization refl refl) (marked (then_ (f, ends_all f refl refl refl) (unmarked (no_mark_by mark.Finalization is_finalization refl refl) stands)))), λ ls s x. initialization_of_parts x)
-made_tail d t ks r (has_block {ss = ss} (is_begin_end f)) = (that (that (that (both tt (both ss tt)))), unmarked (no_mark_by mark.End is_end refl refl) (unmarked (no_mark_by mark.Finalization is_finalization refl refl) (unmarked (no_mark_by mark.Initialization is_initialization refl refl) (block_in_parts (is_begin_end f)))), λ ls s x. block_of_parts x)
+made_tail d t ks r has_end_alone = (this tt, marked nothing, λ i ls s x. end_of_parts x)
+made_tail d t ks r (has_finalization {ss = ss} f) = (that (this (both ss tt)), unmarked (no_mark_by mark.End is_end refl refl) (marked (last_in f)), λ i ls s x. finalization_of_parts x)
+made_tail d t ks r (has_both {ss = ss} {ts = ts} f g) = (that (that (this (both ss (this (both ts tt))))), unmarked (no_mark_by mark.End is_end refl refl) (unmarked (no_mark_by mark.Finalization is_finalization refl refl) (marked (then_ (f, ends_all f refl refl refl) (marked (last_in g))))), λ i ls s x. both_of_parts x)
+made_tail d t ks r (has_initialization {ss = ss} f) = (that (that (this (both ss (that tt)))), unmarked (no_mark_by mark.End is_end refl refl) (unmarked (no_mark_by mark.Finalization is_finalization refl refl) (marked (then_ (f, ends_all f refl refl refl) (unmarked (no_mark_by mark.Finalization is_finalization refl refl) stands)))), λ i ls s x. initialization_of_parts x)
+made_tail d t ks r (has_block {ss = ss} (is_begin_end f)) = (that (that (that (both tt (both ss tt)))), unmarked (no_mark_by mark.End is_end refl refl) (unmarked (no_mark_by mark.Finalization is_finalization refl refl) (unmarked (no_mark_by mark.Initialization is_initialization refl refl) (block_in_parts (is_begin_end f)))), λ i ls s x. block_of_parts x)
 
 -- ---- files
 
@@ -197,7 +197,7 @@ program_of_parts {ds = ds} (then_ (stands_here b) (then_ h (then_ us (then_ es (
 pub made_program : As ProgramParts SomeProgram
 made_program d f ks r (is_program {h = h} {ns = ns} {ds = ds} {p = p} b f1 us es (is_begin_end {ss = ss} g)) =
     let n = body_opens_none es (is_begin_end g) in
-    (both p (both h (both ns (both ds (both (both tt (both ss tt)) tt)))), then_ (stands_here b) (then_ (heading_in f1 (uses_open_none us n)) (then_ (uses_in us n) (then_ (block_in es refl) (then_ (block_in_parts (is_begin_end g)) stands)))), λ ls s x. program_of_parts x)
+    (both p (both h (both ns (both ds (both (both tt (both ss tt)) tt)))), then_ (stands_here b) (then_ (heading_in f1 (uses_open_none us n)) (then_ (uses_in us n) (then_ (block_in es refl) (then_ (block_in_parts (is_begin_end g)) stands)))), λ i ls s x. program_of_parts x)
 
 -- ---- a unit
 
@@ -219,4 +219,4 @@ made_unit d f ks r (is_unit {n = n} {ns = ns} {ls = vs} {es = es} {ds = ds} {t =
     let k = tail_opens_none e in
     let ins = interface_in is refl in
     let blocks = block_in bs k.1 in
-    (both (both (both p tt) (both n (both tt tt))) (both (both ns (both (listed es) tt)) (both (both vs ds) (both t tt))), then_ (then_ (then_ (stands_here refl) stands) (then_ f1 (then_ stands stands))) (then_ (then_ (uses_in us (begin_none declares_none ins refl)) (then_ ins stands)) (then_ (then_ (uses_in ws (begin_none declares_none blocks k.0)) blocks) (then_ e stands))), λ ls s x. unit_of_parts es x)
+    (both (both (both p tt) (both n (both tt tt))) (both (both ns (both (listed es) tt)) (both (both vs ds) (both t tt))), then_ (then_ (then_ (stands_here refl) stands) (then_ f1 (then_ stands stands))) (then_ (then_ (uses_in us (begin_none declares_none ins refl)) (then_ ins stands)) (then_ (then_ (uses_in ws (begin_none declares_none blocks k.0)) blocks) (then_ e stands))), λ i ls s x. unit_of_parts es x)

@@ -1,5 +1,5 @@
 -- The parts of headings that are no others put together: each stands whatever follows that begins so, and ends at one place.
-use Rattle.std.proofs.Common.{◌≡◌, ℕ, List, ◌∷◌, refl, ap, ◌∙◌}
+use Rattle.std.proofs.Common.{◌≡◌, ℕ, suc, List, ◌∷◌, refl, ap, ◌∙◌}
 use Rattle.op_parse_code.proofs.Cuts.{cut_none, cut_one, cut_join, Front}
 use Rattle.op_parse_code.proofs.Refusing.{Known, no_mark_same}
 use Rattle.op_parse_code.proofs.StatementFronts.{front_qualified}
@@ -24,8 +24,11 @@ front_kind d sort ks r (is_routine_kind {k = k} {p = p} e) = (λ x. k at p ∷ x
 same_kind : (d d' : ℕ) (sort sort' : RoutineKind) (ks r r' : List Terminal) → IsRoutineKind d sort ks r → IsRoutineKind d' sort' ks r' → r ≡ r'
 same_kind d d' sort sort' ks r r' (is_routine_kind e) (is_routine_kind e') = refl
 
+deepens_kind : (d : ℕ) (sort : RoutineKind) (ks r : List Terminal) → IsRoutineKind d sort ks r → IsRoutineKind (suc d) sort ks r
+deepens_kind d sort ks r (is_routine_kind e) = is_routine_kind e
+
 pub known_routine_kind : Known IsRoutineKind
-known_routine_kind = record { front = front_kind; same = same_kind }
+known_routine_kind = record { front = front_kind; same = same_kind; deepens = deepens_kind }
 
 front_mode : {m : ParameterMode} {ks r : List Terminal} → IsMode m ks r → Front (IsMode m) ks r
 front_mode by_value = (λ x. x, cut_none, refl, λ x. by_value)
@@ -42,8 +45,11 @@ front_moded d a ks r (some_moded {p = p} m n) =
 same_moded : (d d' : ℕ) (a a' : Both ParameterMode (List Name)) (ks r r' : List Terminal) → SomeModed d a ks r → SomeModed d' a' ks r' → r ≡ r'
 same_moded d d' a a' ks r r' (some_moded m n) (some_moded m' n') = (unique_moded m n m' n').2
 
+deepens_moded : (d : ℕ) (a : Both ParameterMode (List Name)) (ks r : List Terminal) → SomeModed d a ks r → SomeModed (suc d) a ks r
+deepens_moded d a ks r (some_moded m n) = some_moded m n
+
 pub known_moded : Known SomeModed
-known_moded = record { front = front_moded; same = same_moded }
+known_moded = record { front = front_moded; same = same_moded; deepens = deepens_moded }
 
 front_type : {t : ParameterType} {ks r : List Terminal} → IsParameterType t ks r → Front (IsParameterType t) ks r
 front_type (is_named q) = let s = front_qualified q in (s.0, s.1, s.2, λ x. is_named (s.3 x))
@@ -53,4 +59,5 @@ pub known_parameter_type : Known SomeParameterType
 known_parameter_type = record {
   front = λ d t ks m p. let s = front_type p.0 in (s.0, s.1, s.2, λ x h. (s.3 x, no_mark_same mark.Dot m x h p.1));
   same = λ d d' t t' ks m m' p p'. (unique_parameter_type p.0 p'.0 (not_dot m p.1) (not_dot m' p'.1)).1;
+  deepens = λ d t ks m p. p;
 }

@@ -52,8 +52,8 @@ no_array (is_named (is_qualified is_name n)) = no_mark_by mark.Array is_array re
 no_array is_string = no_mark_by mark.Array is_array refl refl
 
 pub made_parameter : As ParameterParts SomeParameter
-made_parameter d a ks r (is_parameter {mode = m} {ns = ns} {t = t} f n is_no_array g, none) = (both (both m ns) (both None t), then_ (some_moded f n) (then_ (no_mark (no_array g)) (g, none)), λ ls s x. closed_of_parts x)
-made_parameter d a ks r (is_parameter {mode = m} {ns = ns} {t = t} f n is_open_array g, none) = (both (both m ns) (both (Some tt) t), then_ (some_moded f n) (then_ (behind_mark stands) (g, none)), λ ls s x. open_of_parts x)
+made_parameter d a ks r (is_parameter {mode = m} {ns = ns} {t = t} f n is_no_array g, none) = (both (both m ns) (both None t), then_ (some_moded f n) (then_ (no_mark (no_array g)) (g, none)), λ i ls s x. closed_of_parts x)
+made_parameter d a ks r (is_parameter {mode = m} {ns = ns} {t = t} f n is_open_array g, none) = (both (both m ns) (both (Some tt) t), then_ (some_moded f n) (then_ (behind_mark stands) (g, none)), λ i ls s x. open_of_parts x)
 
 -- ---- parameters in their brackets
 
@@ -85,9 +85,9 @@ pub given_of_list : {d : ℕ} (as_ : List Parameter) {ks r : List Terminal} → 
 given_of_list {d = d} as_ {ks = ks} {r = r} x = given_of_parts (subst (λ z. PartParts d (this (both (both tt (that z)) tt)) ks r) (map-id as_) x)
 
 pub made_part : As PartParts SomeParameterPart
-made_part d as_ ks r (part_missing none) = (that tt, not_ahead none nothing, λ ls s x. missing_of_parts x)
-made_part d as_ ks r part_empty = (this (both (both tt (this tt)) tt), is_ahead mark_ahead (deeper (then_ (then_ stands (is_ahead mark_ahead nothing)) stands)), λ ls s x. empty_of_parts x)
-made_part d as_ ks r (part_given {q = q} f) = (this (both (both tt (that as_)) tt), is_ahead mark_ahead (deeper (then_ (then_ stands (not_ahead (λ p z e. no_parameters (subst (λ y. AreParameters as_ y (kind.CloseParenthesis at q ∷ r)) e f)) (parameters_in f))) stands)), λ ls s x. given_of_parts x)
+made_part d as_ ks r (part_missing none) = (that tt, not_ahead none nothing, λ i ls s x. missing_of_parts x)
+made_part d as_ ks r part_empty = (this (both (both tt (this tt)) tt), is_ahead mark_ahead (deeper (then_ (then_ stands (is_ahead mark_ahead nothing)) stands)), λ i ls s x. empty_of_parts x)
+made_part d as_ ks r (part_given {q = q} f) = (this (both (both tt (that as_)) tt), is_ahead mark_ahead (deeper (then_ (then_ stands (not_ahead (λ p z e. no_parameters (subst (λ y. AreParameters as_ y (kind.CloseParenthesis at q ∷ r)) e f)) (parameters_in f))) stands)), λ i ls s x. given_of_parts x)
 
 -- ---- names of routines
 
@@ -101,8 +101,8 @@ pub class_of_parts : {d : ℕ} {c n : Name} {ks r : List Terminal} → NameParts
 class_of_parts (then_ f (behind_mark g)) = routine_of_class f g
 
 pub made_name : As NameParts SomeRoutineName
-made_name d x ks r (routine_alone {n = n} f none) = (both n None, then_ f (no_mark none), λ ls s x. alone_of_parts x)
-made_name d x ks r (routine_of_class {c = c} {n = n} f g) = (both c (Some n), then_ f (behind_mark g), λ ls s x. class_of_parts x)
+made_name d x ks r (routine_alone {n = n} f none) = (both n None, then_ f (no_mark none), λ i ls s x. alone_of_parts x)
+made_name d x ks r (routine_of_class {c = c} {n = n} f g) = (both c (Some n), then_ f (behind_mark g), λ i ls s x. class_of_parts x)
 
 -- ---- headings
 
@@ -133,7 +133,7 @@ heading_of_parts (then_ (is_routine_kind e) (then_ f (then_ a (then_ g (stands {
 pub made_heading : As HeadingParts SomeHeading
 made_heading d h ks r (u, is_heading {sort = sort} {c = c} {n = n} {as_ = as_} {t = t} {m1 = m} e f a g) =
     let s = type_part_no_selector g in
-    (both sort (both (both c n) (both as_ (both t tt))), then_ (is_routine_kind e) (then_ (name_in f (no_mark_by mark.Dot is_dot refl (part_no_dot a (no_dot m s)))) (then_ (part_in a (no_mark_by mark.OpenParenthesis begins_selector refl s)) (then_ (type_in (no_mark_by mark.Colon is_colon refl refl) (record { operator = refl; selector = refl; range = refl }) g) stands))), λ ls s x. heading_of_parts x)
+    (both sort (both (both c n) (both as_ (both t tt))), then_ (is_routine_kind e) (then_ (name_in f (no_mark_by mark.Dot is_dot refl (part_no_dot a (no_dot m s)))) (then_ (part_in a (no_mark_by mark.OpenParenthesis begins_selector refl s)) (then_ (type_in (no_mark_by mark.Colon is_colon refl refl) (record { operator = refl; selector = refl; range = refl }) g) stands))), λ i ls s x. heading_of_parts x)
 
 known_parameter : Known SomeParameter
 known_parameter = known_as made_parameter (known_then known_moded (known_then (known_behind (known_stands mark.Of)) known_parameter_type))

@@ -4,6 +4,7 @@ use Rattle.op_parse_code.proofs.Cuts.{cut_none, cut_one, cut_join, Front, same_n
 use Rattle.op_parse_code.proofs.ExpressionFronts.{front_chain}
 use Rattle.op_parse_code.proofs.Refusing.{Known}
 use Rattle.op_parse_code.proofs.StatementFronts.{front_name}
+use Rattle.op_parse_decl.specs.Deepening.{deeper_initial}
 use Rattle.op_parse_decl.specs.Types.{SomeInitial}
 use Rattle.op_scan.specs.declared.token.TokenKind.TheVariants as kind
 use Rattle.op_tree.proofs.DenoterUnique.{unique_initial}
@@ -43,4 +44,5 @@ pub known_initial : Known SomeInitial
 known_initial = record {
   front = λ d i ks m p. let s = front_initial p.0 in (s.0, s.1, s.2, λ x h. (s.3 x, (same_not _ m x h p.1.0, same_not _ m x h p.1.1)));
   same = λ d d' i i' ks m m' p p'. (unique_initial p.0 p'.0 p.1 p'.1).1;
+  deepens = λ d i ks m p. (deeper_initial p.0, p.1);
 }

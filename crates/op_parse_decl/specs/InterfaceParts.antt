@@ -1,5 +1,5 @@
 -- What interfaces are made of.
-use Rattle.std.proofs.Common.{◌≡◌, ℕ, true, false, List, [], ◌∷◌, Option, Some, None, refl}
+use Rattle.std.proofs.Common.{◌≡◌, ℕ, suc, true, false, List, [], ◌∷◌, Option, Some, None, refl}
 use Rattle.op_parse_code.proofs.Cuts.{cut_none, cut_one}
 use Rattle.op_parse_code.proofs.Refusing.{Known}
 use Rattle.op_parse_code.proofs.StatementKnown.{known_name}
@@ -36,8 +36,11 @@ front_literal d text ks r (literal {p = p}) = (λ x. kind.CharacterString text a
 same_literal : (d d' : ℕ) (text text' : List ℕ) (ks r r' : List Terminal) → IsLiteral d text ks r → IsLiteral d' text' ks r' → r ≡ r'
 same_literal d d' text text' ks r r' literal literal = refl
 
+deepens_literal : (d : ℕ) (text : List ℕ) (ks r : List Terminal) → IsLiteral d text ks r → IsLiteral (suc d) text ks r
+deepens_literal d text ks r literal = literal
+
 pub known_literal : Known IsLiteral
-known_literal = record { front = front_literal; same = same_literal }
+known_literal = record { front = front_literal; same = same_literal; deepens = deepens_literal }
 
 -- ---- the word, the ancestor and the text
 
@@ -63,10 +66,10 @@ pub head_of_both : {d : ℕ} {n : Name} {text : List ℕ} {ks r : List Terminal}
 head_of_both (then_ stands (then_ (is_ahead h (deeper (then_ stands (then_ n stands)))) (is_ahead h' (deeper (then_ stands (then_ literal stands)))))) = some_head (an_ancestor n) an_identifier
 
 pub made_head : As HeadParts SomeInterfaceHead
-made_head d x ks r (some_head (no_ancestor none) (no_identifier none')) = (both tt (both (that tt) (that tt)), then_ stands (then_ (not_ahead none nothing) (not_ahead none' nothing)), λ ls s x. head_of_none x)
-made_head d x ks r (some_head (no_ancestor none) (an_identifier {text = text})) = (both tt (both (that tt) (this (both tt (both text tt)))), then_ stands (then_ (not_ahead none nothing) (is_ahead mark_ahead (deeper (then_ stands (then_ literal stands))))), λ ls s x. head_of_text x)
-made_head d x ks r (some_head (an_ancestor {n = n} f) (no_identifier none)) = (both tt (both (this (both tt (both n tt))) (that tt)), then_ stands (then_ (is_ahead mark_ahead (deeper (then_ stands (then_ f stands)))) (not_ahead none nothing)), λ ls s x. head_of_name x)
-made_head d x ks r (some_head (an_ancestor {n = n} f) (an_identifier {text = text})) = (both tt (both (this (both tt (both n tt))) (this (both tt (both text tt)))), then_ stands (then_ (is_ahead mark_ahead (deeper (then_ stands (then_ f stands)))) (is_ahead mark_ahead (deeper (then_ stands (then_ literal stands))))), λ ls s x. head_of_both x)
+made_head d x ks r (some_head (no_ancestor none) (no_identifier none')) = (both tt (both (that tt) (that tt)), then_ stands (then_ (not_ahead none nothing) (not_ahead none' nothing)), λ i ls s x. head_of_none x)
+made_head d x ks r (some_head (no_ancestor none) (an_identifier {text = text})) = (both tt (both (that tt) (this (both tt (both text tt)))), then_ stands (then_ (not_ahead none nothing) (is_ahead mark_ahead (deeper (then_ stands (then_ literal stands))))), λ i ls s x. head_of_text x)
+made_head d x ks r (some_head (an_ancestor {n = n} f) (no_identifier none)) = (both tt (both (this (both tt (both n tt))) (that tt)), then_ stands (then_ (is_ahead mark_ahead (deeper (then_ stands (then_ f stands)))) (not_ahead none nothing)), λ i ls s x. head_of_name x)
+made_head d x ks r (some_head (an_ancestor {n = n} f) (an_identifier {text = text})) = (both tt (both (this (both tt (both n tt))) (this (both tt (both text tt)))), then_ stands (then_ (is_ahead mark_ahead (deeper (then_ stands (then_ f stands)))) (is_ahead mark_ahead (deeper (then_ stands (then_ literal stands))))), λ i ls s x. head_of_both x)
 
 pub known_head : Known SomeInterfaceHead
 known_head = known_as made_head (known_then (known_stands mark.Interface) (known_then (known_ahead (known_deeper (known_then (known_stands mark.OpenParenthesis) (known_then known_name (known_stands mark.CloseParenthesis)))) known_nothing) (known_ahead (known_deeper (known_then (known_stands mark.OpenBracket) (known_then known_literal (known_stands mark.CloseBracket)))) known_nothing)))
@@ -143,10 +146,10 @@ before_methods {ks = ks} a = apart methods_no_selector ks (methods_begin a refl)
 pub made_interface : As InterfaceParts InterfaceBefore
 made_interface d t ks r (mark_ahead, (q, denotes_type f)) = true_false (denoter_no_object f)
 made_interface d t ks r (mark_ahead, (q, is_class c)) = elim c [ ]
-made_interface d t ks r (mark_ahead, (q, is_forward_interface {text = text} i)) = (both (both None text) (this tt), then_ (head_alone i refl) (marked nothing), λ ls s x. ends_of_parts None x)
-made_interface d t ks r (mark_ahead, (q, is_interface (has_methods_alone {text = text} {as_ = as_} i a))) = (both (both None text) (that (both as_ (both tt tt))), then_ (head_alone i (before_methods a)) (close_in a), λ ls s x. methods_of_parts None x)
-made_interface d t ks r (mark_ahead, (q, is_interface (has_ancestor_alone {n = n} {text = text} b i))) = (both (both (Some n) text) (this tt), then_ (head_named b i refl) (marked nothing), λ ls s x. ends_of_parts (Some n) x)
-made_interface d t ks r (mark_ahead, (q, is_interface (has_ancestor_and_methods {n = n} {text = text} {as_ = as_} b i a))) = (both (both (Some n) text) (that (both as_ (both tt tt))), then_ (head_named b i (before_methods a)) (close_in a), λ ls s x. methods_of_parts (Some n) x)
+made_interface d t ks r (mark_ahead, (q, is_forward_interface {text = text} i)) = (both (both None text) (this tt), then_ (head_alone i refl) (marked nothing), λ i ls s x. ends_of_parts None x)
+made_interface d t ks r (mark_ahead, (q, is_interface (has_methods_alone {text = text} {as_ = as_} i a))) = (both (both None text) (that (both as_ (both tt tt))), then_ (head_alone i (before_methods a)) (close_in a), λ i ls s x. methods_of_parts None x)
+made_interface d t ks r (mark_ahead, (q, is_interface (has_ancestor_alone {n = n} {text = text} b i))) = (both (both (Some n) text) (this tt), then_ (head_named b i refl) (marked nothing), λ i ls s x. ends_of_parts (Some n) x)
+made_interface d t ks r (mark_ahead, (q, is_interface (has_ancestor_and_methods {n = n} {text = text} {as_ = as_} b i a))) = (both (both (Some n) text) (that (both as_ (both tt tt))), then_ (head_named b i (before_methods a)) (close_in a), λ i ls s x. methods_of_parts (Some n) x)
 
 pub known_interface : Known InterfaceBefore
 known_interface = known_as made_interface (known_then known_head (known_fork known_nothing (known_then known_methods (known_then (known_stands mark.End) (known_stands mark.Semicolon)))))

@@ -1,5 +1,5 @@
 -- What is known of phrases that are put together: they stand whatever follows that begins so, and end at one place.
-use Rattle.std.proofs.Common.{◌≡◌, ℕ, Bool, true, List, [], ◌∷◌, Option, Some, None, refl, sym, ap, ◌∙◌, subst}
+use Rattle.std.proofs.Common.{◌≡◌, ℕ, suc, Bool, true, List, [], ◌∷◌, Option, Some, None, refl, sym, ap, ◌∙◌, subst}
 use Rattle.op_parse_code.proofs.Cuts.{IsCut, cut_none, cut_one, cut_join, same_not}
 use Rattle.op_parse_code.proofs.Factors.{same_begins}
 use Rattle.op_parse_code.proofs.Refusing.{Known, no_mark_same}
@@ -21,13 +21,56 @@ same_cut (cut_one t k) r x s = refl
 
 -- Each part of Q is one of P, at the same tokens, and stands wherever that does.
 abbrev pub As : {A B : Type 0} → Phrase A → Phrase B → Type 0
-As {A} {B} P Q = (d : ℕ) (b : B) (ks r : List Terminal) → Q d b ks r → (a : A) × P d a ks r × ((ls s : List Terminal) → P d a ls s → Q d b ls s)
+As {A} {B} P Q = (d : ℕ) (b : B) (ks r : List Terminal) → Q d b ks r → (a : A) × P d a ks r × ((i : ℕ) (ls s : List Terminal) → P i a ls s → Q i b ls s)
 
 pub known_as : {A B : Type 0} {P : Phrase A} {Q : Phrase B} → As P Q → Known P → Known Q
 known_as as_ known = record {
-  front = λ d b ks m q. let w = as_ d b ks m q in let f = known.front d w.0 ks m w.1 in (f.0, f.1, f.2, λ x s. w.2 (f.0 x) x (f.3 x s));
+  front = λ d b ks m q. let w = as_ d b ks m q in let f = known.front d w.0 ks m w.1 in (f.0, f.1, f.2, λ x s. w.2 d (f.0 x) x (f.3 x s));
   same = λ d d' b b' ks m m' q q'. let w = as_ d b ks m q in let w' = as_ d' b' ks m' q' in known.same d d' w.0 w'.0 ks m m' w.1 w'.1;
+  deepens = λ d b ks m q. let w = as_ d b ks m q in w.2 (suc d) ks m (known.deepens d w.0 ks m w.1);
 }
+
+-- ---- at any greater depth
+
+-- what stands at a depth does at the next one
+abbrev pub Deepens : {A : Type 0} → Phrase A → Type 0
+Deepens {A} P = (d : ℕ) (a : A) (ks r : List Terminal) → P d a ks r → P (suc d) a ks r
+
+deepens_stands : {m : Mark} → Deepens (Stands m)
+deepens_stands d u ks r stands = stands
+
+deepens_then : {A B : Type 0} {P : Phrase A} {Q : Phrase B} → Known P → Known Q → Deepens (Then P Q)
+deepens_then one two d x ks r (then_ {a = a} {b = b} {m = m} p q) = then_ (one.deepens d a ks m p) (two.deepens d b m r q)
+
+deepens_behind : {A : Type 0} {m : Mark} {P : Phrase A} → Known P → Deepens (Behind m P)
+deepens_behind known d x ks r (no_mark none) = no_mark none
+deepens_behind known d x ks r (behind_mark {a = a} {ks = z} q) = behind_mark (known.deepens d a z r q)
+
+deepens_repeats : {A : Type 0} {test : TokenKind → Bool} {P : Phrase A} → Known P → Deepens (Repeats test P)
+deepens_repeats known d x ks r (no_more h) = no_more h
+deepens_repeats known d x ks r (one_more {a = a} {as_ = as_} {m = m} h p more) = one_more h (known.deepens d a ks m p) (deepens_repeats known d as_ m r more)
+
+deepens_choice : {A B : Type 0} {test : TokenKind → Bool} {P : Phrase A} {Q : Phrase B} → Known P → Known Q → Deepens (Choice test P Q)
+deepens_choice one two d x ks r (chosen {a = a} h p) = chosen h (one.deepens d a ks r p)
+deepens_choice one two d x ks r (otherwise {b = b} h q) = otherwise h (two.deepens d b ks r q)
+
+deepens_deeper : {A : Type 0} {P : Phrase A} → Known P → Deepens (Deeper P)
+deepens_deeper known d x ks r (deeper {d = i} {a = a} p) = deeper (known.deepens i a ks r p)
+
+deepens_nothing : Deepens Nothing
+deepens_nothing d x ks r nothing = nothing
+
+deepens_fork : {A B : Type 0} {m : Mark} {P : Phrase A} {Q : Phrase B} → Known P → Known Q → Deepens (Fork m P Q)
+deepens_fork one two d x ks r (marked {a = a} {ks = z} p) = marked (one.deepens d a z r p)
+deepens_fork one two d x ks r (unmarked {b = b} none q) = unmarked none (two.deepens d b ks r q)
+
+deepens_ahead : {A B : Type 0} {m : Mark} {P : Phrase A} {Q : Phrase B} → Known P → Known Q → Deepens (Ahead m P Q)
+deepens_ahead one two d x ks r (is_ahead {a = a} h p) = is_ahead h (one.deepens d a ks r p)
+deepens_ahead one two d x ks r (not_ahead {b = b} none q) = not_ahead none (two.deepens d b ks r q)
+
+deepens_separated : {A : Type 0} {m : Mark} {P : Phrase A} → Known P → Deepens (Separated m P)
+deepens_separated known d x ks r (last_part {a = a} p none) = last_part (known.deepens d a ks r p) none
+deepens_separated {m = m} known d x ks r (and_more {a = a} {as_ = as_} {p = q} {z = z} p more) = and_more (known.deepens d a ks (kind_of m at q ∷ z) p) (deepens_separated known d as_ z r more)
 
 -- a mark that passes a test does not stand where the first token fails it
 pub no_mark_by : (m : Mark) (test : TokenKind → Bool) {ks : List Terminal} → test (kind_of m) ≡ true → IsNot test ks → NoMark m ks
@@ -40,7 +83,7 @@ front_stands : {m : Mark} (d : ℕ) (u : Unit {0}) (ks r : List Terminal) → St
 front_stands {m = m} d u ks r (stands {p = p}) = (λ x. kind_of m at p ∷ x, cut_one (kind_of m at p) cut_none, refl, λ x h. stands)
 
 pub known_stands : (m : Mark) → Known (Stands m)
-known_stands m = record { front = front_stands; same = λ d d' u u' ks r r' p p'. ap behind (sym (mark_stands p).1 ∙ (mark_stands p').1) }
+known_stands m = record { front = front_stands; same = λ d d' u u' ks r r' p p'. ap behind (sym (mark_stands p).1 ∙ (mark_stands p').1); deepens = deepens_stands }
 
 -- tokens in front of others, with which the part stands before any others that begin so
 abbrev pub Stays : (List Terminal → List Terminal → Type 0) → List Terminal → List Terminal → Type 0
@@ -58,7 +101,7 @@ same_then {Q = Q} one two d d' x x' ks r r' (then_ {a = a} {b = b} {m = m} p q) 
     two.same d d' b b' m r r' q (subst (λ y. Q d' b' y r') (sym e) q')
 
 pub known_then : {A B : Type 0} {P : Phrase A} {Q : Phrase B} → Known P → Known Q → Known (Then P Q)
-known_then one two = record { front = front_then one two; same = same_then one two }
+known_then one two = record { front = front_then one two; same = same_then one two; deepens = deepens_then one two }
 
 front_behind : {A : Type 0} {m : Mark} {P : Phrase A} → Known P → (d : ℕ) (x : Option A) (ks r : List Terminal) → Behind m P d x ks r → (f : List Terminal → List Terminal) × IsCut f × (ks ≡ f r) × ((z : List Terminal) → SameHead r z → Behind m P d x (f z) z)
 front_behind {m = m} known d None ks r (no_mark none) = (λ z. z, cut_none, refl, λ z s. no_mark (no_mark_same m ks z s none))
@@ -82,7 +125,7 @@ same_optional m known d d' (Some a) None ks r r' (p, z, e, q) (none, e') = absur
 same_optional m {P = P} known d d' (Some a) (Some a') ks r r' (p, z, e, q) (p', z', e', q') = known.same d d' a a' z r r' q (subst (λ y. P d' a' y r') (ap behind (sym e' ∙ e)) q')
 
 pub known_behind : {A : Type 0} {m : Mark} {P : Phrase A} → Known P → Known (Behind m P)
-known_behind {m = m} known = record { front = front_behind known; same = λ d d' x x' ks r r' p p'. same_optional m known d d' x x' ks r r' (may_stand x p) (may_stand x' p') }
+known_behind {m = m} known = record { front = front_behind known; same = λ d d' x x' ks r r' p p'. same_optional m known d d' x x' ks r r' (may_stand x p) (may_stand x' p'); deepens = deepens_behind known }
 
 front_repeats : {A : Type 0} {test : TokenKind → Bool} {P : Phrase A} → Known P → (d : ℕ) (as_ : List A) (ks r : List Terminal) → Repeats test P d as_ ks r → (f : List Terminal → List Terminal) × IsCut f × (ks ≡ f r) × ((z : List Terminal) → SameHead r z → Repeats test P d as_ (f z) z)
 front_repeats {test = test} known d [] ks r (no_more h) = (λ z. z, cut_none, refl, λ z s. no_more (same_not test ks z s h))
@@ -101,7 +144,7 @@ same_repeats {test = test} {P = P} known d d' (a ∷ as_) (a' ∷ as') ks r r' (
     same_repeats known d d' as_ as' m r r' more (subst (λ y. Repeats test P d' as' y r') (sym e) more')
 
 pub known_repeats : {A : Type 0} {test : TokenKind → Bool} {P : Phrase A} → Known P → Known (Repeats test P)
-known_repeats known = record { front = front_repeats known; same = same_repeats known }
+known_repeats known = record { front = front_repeats known; same = same_repeats known; deepens = deepens_repeats known }
 
 front_choice : {A B : Type 0} {test : TokenKind → Bool} {P : Phrase A} {Q : Phrase B} → Known P → Known Q → (d : ℕ) (x : Or A B) (ks r : List Terminal) → Choice test P Q d x ks r → (f : List Terminal → List Terminal) × IsCut f × (ks ≡ f r) × ((z : List Terminal) → SameHead r z → Choice test P Q d x (f z) z)
 front_choice {test = test} known known' d (this a) ks r (chosen h p) =
@@ -118,7 +161,7 @@ same_choice {test = test} known known' d d' (that b) (this a) ks r r' (otherwise
 same_choice known known' d d' (that b) (that b') ks r r' (otherwise h p) (otherwise h' p') = known'.same d d' b b' ks r r' p p'
 
 pub known_choice : {A B : Type 0} {test : TokenKind → Bool} {P : Phrase A} {Q : Phrase B} → Known P → Known Q → Known (Choice test P Q)
-known_choice known known' = record { front = front_choice known known'; same = same_choice known known' }
+known_choice known known' = record { front = front_choice known known'; same = same_choice known known'; deepens = deepens_choice known known' }
 
 front_deeper : {A : Type 0} {P : Phrase A} → Known P → (d : ℕ) (x : A) (ks r : List Terminal) → Deeper P d x ks r → (f : List Terminal → List Terminal) × IsCut f × (ks ≡ f r) × ((z : List Terminal) → SameHead r z → Deeper P d x (f z) z)
 front_deeper known d x ks r (deeper {d = i} p) = let f = known.front i x ks r p in (f.0, f.1, f.2, λ z s. deeper (f.3 z s))
@@ -127,7 +170,7 @@ same_deeper : {A : Type 0} {P : Phrase A} → Known P → (d d' : ℕ) (x x' : A
 same_deeper known d d' x x' ks r r' (deeper {d = i} p) (deeper {d = i'} p') = known.same i i' x x' ks r r' p p'
 
 pub known_deeper : {A : Type 0} {P : Phrase A} → Known P → Known (Deeper P)
-known_deeper known = record { front = front_deeper known; same = same_deeper known }
+known_deeper known = record { front = front_deeper known; same = same_deeper known; deepens = deepens_deeper known }
 
 front_nothing : (d : ℕ) (x : Unit {0}) (ks r : List Terminal) → Nothing d x ks r → (f : List Terminal → List Terminal) × IsCut f × (ks ≡ f r) × ((z : List Terminal) → SameHead r z → Nothing d x (f z) z)
 front_nothing d x ks r nothing = (λ z. z, cut_none, refl, λ z s. nothing)
@@ -136,7 +179,7 @@ same_nothing : (d d' : ℕ) (x x' : Unit {0}) (ks r r' : List Terminal) → Noth
 same_nothing d d' x x' ks r r' nothing nothing = refl
 
 pub known_nothing : Known Nothing
-known_nothing = record { front = front_nothing; same = same_nothing }
+known_nothing = record { front = front_nothing; same = same_nothing; deepens = deepens_nothing }
 
 -- the mark with the part behind it, or no mark and the other part
 abbrev pub Forked : {A B : Type 0} → Mark → Phrase A → Phrase B → Phrase (Or A B)
@@ -162,12 +205,13 @@ same_fork m P Q known known' d d' (that b) (this a) ks r r' (none, q) (p, z, e, 
 same_fork m P Q known known' d d' (that b) (that b') ks r r' (none, q) (none', q') = known'.same d d' b b' ks r r' q q'
 
 pub known_fork : {A B : Type 0} {m : Mark} {P : Phrase A} {Q : Phrase B} → Known P → Known Q → Known (Fork m P Q)
-known_fork {m = m} {P = P} {Q = Q} known known' = record { front = front_fork known known'; same = λ d d' x x' ks r r' p p'. same_fork m P Q known known' d d' x x' ks r r' (forked x p) (forked x' p') }
+known_fork {m = m} {P = P} {Q = Q} known known' = record { front = front_fork known known'; same = λ d d' x x' ks r r' p p'. same_fork m P Q known known' d d' x x' ks r r' (forked x p) (forked x' p'); deepens = deepens_fork known known' }
 
 pub known_several : {A : Type 0} {test : TokenKind → Bool} {P : Phrase A} → Known P → Known (Several test P)
 known_several {test = test} known = record {
   front = λ d as_ ks r p. let f = front_repeats known d as_ ks r p.1 in (f.0, f.1, f.2, λ x s. (same_begins test ks (f.0 x) (subst (λ y. SameHead y (f.0 x)) (sym f.2) (same_cut f.1 r x s)) p.0, f.3 x s));
   same = λ d d' as_ as' ks r r' p p'. same_repeats known d d' as_ as' ks r r' p.1 p'.1;
+  deepens = λ d as_ ks r p. (p.0, deepens_repeats known d as_ ks r p.1);
 }
 
 -- ---- a part where a mark stands
@@ -194,7 +238,7 @@ same_ahead known known' d d' (that b) (this a) ks r r' (not_ahead none p) (is_ah
 same_ahead known known' d d' (that b) (that b') ks r r' (not_ahead none p) (not_ahead none' p') = known'.same d d' b b' ks r r' p p'
 
 pub known_ahead : {A B : Type 0} {m : Mark} {P : Phrase A} {Q : Phrase B} → Known P → Known Q → Known (Ahead m P Q)
-known_ahead known known' = record { front = front_ahead known known'; same = same_ahead known known' }
+known_ahead known known' = record { front = front_ahead known known'; same = same_ahead known known'; deepens = deepens_ahead known known' }
 
 -- ---- parts with a mark between them
 
@@ -216,4 +260,4 @@ same_separated {m = m} {P = P} known d d' xs xs' ks r r' (and_more {a = a} {as_ 
     same_separated known d d' as_ as' y r r' more (subst (λ x. Separated m P d' as' x r') (sym e) more')
 
 pub known_separated : {A : Type 0} {m : Mark} {P : Phrase A} → Known P → Known (Separated m P)
-known_separated known = record { front = front_separated known; same = same_separated known }
+known_separated known = record { front = front_separated known; same = same_separated known; deepens = deepens_separated known }

@@ -1,5 +1,5 @@
 -- Single tokens and directives: each stands whatever follows that begins so, and ends at one place.
-use Rattle.std.proofs.Common.{◌≡◌, ℕ, List, [], ◌∷◌, refl, subst}
+use Rattle.std.proofs.Common.{◌≡◌, ℕ, suc, List, [], ◌∷◌, refl, subst}
 use Rattle.op_parse_code.proofs.Cuts.{IsCut, cut_none, cut_one}
 use Rattle.op_parse_code.proofs.Refusing.{Known}
 use Rattle.op_parse_code.specs.Refusal.{SameHead}
@@ -17,8 +17,11 @@ front_directive d w ks r (are_directives {word = word} {p = p} {q = q} e are_no_
 same_directive : (d d' : ℕ) (w w' : Directive) (ks r r' : List Terminal) → OneDirective d w ks r → OneDirective d' w' ks r' → r ≡ r'
 same_directive d d' w w' ks r r' (are_directives e are_no_directives) (are_directives e' are_no_directives) = refl
 
+deepens_directive : (d : ℕ) (w : Directive) (ks r : List Terminal) → OneDirective d w ks r → OneDirective (suc d) w ks r
+deepens_directive d w ks r f = f
+
 pub known_directive : Known OneDirective
-known_directive = record { front = front_directive; same = same_directive }
+known_directive = record { front = front_directive; same = same_directive; deepens = deepens_directive }
 
 begin_at : (p : Position) (ks ls : List Terminal) → SameHead ks ls → BeginAt p ks → BeginAt p ls
 begin_at p [] ls s h = absurd h
@@ -31,5 +34,8 @@ front_here d p ks r (stands_here h) = (λ x. x, cut_none, refl, λ x s. stands_h
 same_here : (d d' : ℕ) (p p' : Position) (ks r r' : List Terminal) → StandsHere d p ks r → StandsHere d' p' ks r' → r ≡ r'
 same_here d d' p p' ks r r' (stands_here h) (stands_here h') = refl
 
+deepens_here : (d : ℕ) (p : Position) (ks r : List Terminal) → StandsHere d p ks r → StandsHere (suc d) p ks r
+deepens_here d p ks r (stands_here h) = stands_here h
+
 pub known_here : Known StandsHere
-known_here = record { front = front_here; same = same_here }
+known_here = record { front = front_here; same = same_here; deepens = deepens_here }

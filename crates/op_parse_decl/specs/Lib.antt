@@ -2,6 +2,7 @@ pub mod Refusal
 pub mod Combined
 pub mod Known
 pub mod Declarations
+pub mod Deepening
 pub mod Types
 pub mod Initials
 pub mod InitialKnown
@@ -10,6 +11,7 @@ pub mod Opening
 pub mod Fronts
 pub mod KnownTypes
 pub mod DeclarationParts
+pub mod Begun
 pub mod Blocks
 pub mod Either
 pub mod HeadingKnown

@@ -1,5 +1,5 @@
 -- Properties, and what they are made of.
-use Rattle.std.proofs.Common.{◌≡◌, ℕ, false, List, ◌∷◌, codes, Option, Some, None, map, refl, sym, ap, ◌∙◌, subst}
+use Rattle.std.proofs.Common.{◌≡◌, ℕ, suc, false, List, ◌∷◌, codes, Option, Some, None, map, refl, sym, ap, ◌∙◌, subst}
 use Rattle.std.proofs.lemmas.Slice.Eq.{bytes_eq-Decides}
 use Rattle.std.specs.Char.{to_ascii_lowercase}
 use Rattle.std.specs.Str.{bytes_eq}
@@ -48,8 +48,12 @@ same_accessor word d d' None (Some n') ks r r' (e, none) (has_accessor {text = t
 same_accessor word d d' (Some n) None ks r r' (has_accessor {text = text} w f) (e, none) = word_is word text w none
 same_accessor word d d' (Some n) (Some n') ks r r' (has_accessor w f) (has_accessor w' f') = (unique_name f f').1
 
+deepens_accessor : (word : List ℕ) (d : ℕ) (n : Option Name) (ks r : List Terminal) → SomeAccessor word d n ks r → SomeAccessor word (suc d) n ks r
+deepens_accessor word d None ks r f = f
+deepens_accessor word d (Some n) ks r f = f
+
 pub known_accessor : (word : List ℕ) → Known (SomeAccessor word)
-known_accessor word = record { front = front_accessor word; same = same_accessor word }
+known_accessor word = record { front = front_accessor word; same = same_accessor word; deepens = deepens_accessor word }
 
 pub known_accessors : Known SomeAccessors
 known_accessors = known_then (known_accessor (codes "read")) (known_accessor (codes "write"))
@@ -90,7 +94,7 @@ pub property_of_parts : {d : ℕ} {n : Name} {t : Denoter} {read write : Option 
 property_of_parts {d = d} {read = read} {write = write} (then_ (then_ (then_ (then_ stands f) stands) t) (then_ (then_ a b) stands)) = is_property f t.0 (accessor_out (codes "read") d read a) (accessor_out (codes "write") d write b)
 
 pub made_property : As PropertyParts IsProperty
-made_property d x ks r (is_property {n = n} {t = t} {read = read} {write = write} f g a b) = (both (both (both (both tt n) tt) t) (both (both read write) tt), then_ (then_ (then_ (then_ stands f) stands) (g, accessor_stops a (accessor_stops b (record { operator = refl; selector = refl; range = refl })))) (then_ (then_ (read_in d a b) (write_in d b)) stands), λ ls s x. property_of_parts x)
+made_property d x ks r (is_property {n = n} {t = t} {read = read} {write = write} f g a b) = (both (both (both (both tt n) tt) t) (both (both read write) tt), then_ (then_ (then_ (then_ stands f) stands) (g, accessor_stops a (accessor_stops b (record { operator = refl; selector = refl; range = refl })))) (then_ (then_ (read_in d a b) (write_in d b)) stands), λ i ls s x. property_of_parts x)
 
 pub known_property : Known IsProperty
 known_property = known_as made_property (known_then (known_then (known_then (known_then (known_stands mark.Property) known_name) (known_stands mark.Colon)) known_denoter) (known_then known_accessors (known_stands mark.Semicolon)))

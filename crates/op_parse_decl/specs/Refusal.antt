@@ -1,7 +1,7 @@
 -- What a refusal of a part of a file says.
 use Rattle.std.specs.Prelude.{ℕ, List, ◌∷◌, ◌++◌}
 use Rattle.op_base.specs.declared.place.Place.{Place}
-use Rattle.op_parse_code.specs.Refusal.{Phrase, Decides, RefusesBy}
+use Rattle.op_parse_code.specs.Refusal.{Phrase, Shown, Decides, RefusesBy}
 use Rattle.op_parse_code.specs.declared.error.ParseError.{ParseError}
 use Rattle.op_scan.specs.declared.token.TokenKind.TheVariants as kind
 use Rattle.op_tree.specs.DenoterGrammar.{IsInitial}
@@ -22,6 +22,14 @@ pub data DecidesInPart : List Terminal → List Terminal → Type 0 where
   decides_in_code : {q m : List Terminal} → Decides q m → DecidesInPart q m
   decides_in_list : {q m : List Terminal} → TellsList q m → DecidesInPart q m
 
+-- Nothing is shown of the tokens before one that is nested too deep.
+abbrev pub Untold : Shown
+Untold d ks q = Unit {0}
+
+-- why the tokens have no name, type or expression of this sort at this depth
+abbrev pub RefusesHere : {A : Type 0} → Phrase A → ℕ → Place → List Terminal → ParseError → Type 0
+RefusesHere {A} P d end ks e = RefusesBy Decides Untold P d end ks e
+
 -- why the tokens have no part of a file of this sort at this depth
 abbrev pub RefusesPart : {A : Type 0} → Phrase A → ℕ → Place → List Terminal → ParseError → Type 0
-RefusesPart {A} P d end ks e = RefusesBy DecidesInPart P d end ks e
+RefusesPart {A} P d end ks e = RefusesBy DecidesInPart Untold P d end ks e

@@ -4,7 +4,7 @@ ghost use Rattle.op_base.specs.declared.place.Place.{Place};
 ghost use Rattle.op_parse_code.proofs.Refusing.{Seq};
 ghost use Rattle.op_parse_code.specs.Opening.{NotTighter};
 ghost use Rattle.op_parse_code.specs.Refusal.{Refuses, refused_at};
-ghost use Rattle.op_parse_decl.specs.Refusal.{RefusesPart};
+ghost use Rattle.op_parse_decl.specs.Refusal.{RefusesPart, RefusesHere};
 ghost use Rattle.op_parse_code.specs.Whole.{Chain, NoMark, Operand};
 ghost use Rattle.op_parse_code.specs.declared.mark.Mark.TheVariants as mark;
 ghost use Rattle.op_parse_decl.specs.Initials.{Around, AroundFirst, AroundOne, FieldsBehind, FitsItem, FitsRoom, InitialsBefore, RecordBehind, SomeValue, ValueOf, Within};
@@ -127,7 +127,7 @@ fn listed(room: Room) -> Result<u32, ParseError>
 /// An expression, before what belongs to none.
 fn value<'a>(setting: Setting, tokens: &'a [Token]) -> Answer<'a, Expr>
     ensures whole { IfOk result (λ f. SomeValue setting.left (expr_of f.0) (terminals tokens.now) (terminals f.1.now)) }
-    ensures refused { IfErr result (Refuses SomeValue setting.left setting.end (terminals tokens.now)) }
+    ensures refused { IfErr result (RefusesHere SomeValue setting.left setting.end (terminals tokens.now)) }
     ensures shorter { IfOk result (λ f. length f.1.now < length tokens.now) }
 {
     let (value, rest) = chain(
@@ -202,7 +202,7 @@ fn list_or_record<'a>(
 /// An expression at the front is not too deep for an item of a list: that is seen when it is read again, to that depth.
 fn fits(setting: Setting, first: &Initializer, tokens: &[Token]) -> Result<(), ParseError>
     ensures fits { IfOk result (λ _. FitsItem setting.left (initial_of first.now) (terminals tokens.now)) }
-    ensures refused { IfErr result (λ e. (x : Expression) × (initial_of first.now ≡ value x) × Refuses ValueOf setting.left setting.end (terminals tokens.now) e) }
+    ensures refused { IfErr result (λ e. (x : Expression) × (initial_of first.now ≡ value x) × RefusesHere ValueOf setting.left setting.end (terminals tokens.now) e) }
 {
     match first {
         Initializer::Value(_) => {
@@ -296,7 +296,7 @@ fn more_fields<'a>(setting: Setting, tokens: &'a [Token]) -> Answer<'a, Vec<Fiel
 /// The expression that begins with a root in brackets, from the tokens behind the root.
 fn behind_root<'a>(setting: Setting, root: Root, tokens: &'a [Token]) -> Answer<'a, Expr>
     ensures whole { IfOk result (λ f. (ks : List Terminal) → IsRoot setting.left (root_of root) ks (terminals tokens.now) → SomeValue setting.left (expr_of f.0) ks (terminals f.1.now)) }
-    ensures refused { IfErr result (λ e. (ks : List Terminal) → IsRoot setting.left (root_of root) ks (terminals tokens.now) → Refuses SomeValue setting.left setting.end ks e) }
+    ensures refused { IfErr result (λ e. (ks : List Terminal) → IsRoot setting.left (root_of root) ks (terminals tokens.now) → RefusesHere SomeValue setting.left setting.end ks e) }
     ensures shorter { IfOk result (λ f. length f.1.now ≤ length tokens.now) }
 {
     let (selectors, rest) = selectors(setting.alloc, setting.left, setting.end, tokens)?;

@@ -1,6 +1,6 @@
 //! Lists of names.
 ghost use Rattle.std.specs.Prelude.{ℕ, ◌<◌, IfOk, IfErr, length};
-ghost use Rattle.op_parse_code.specs.Refusal.{Refuses};
+ghost use Rattle.op_parse_decl.specs.Refusal.{RefusesHere};
 ghost use Rattle.op_parse_decl.specs.Types.{SomeBracketedNames, SomeNames, SomeQualified};
 ghost use Rattle.op_tree.specs.Terminal.{terminals};
 
@@ -13,7 +13,7 @@ use op_tree::{Names, QualifiedName};
 /// Names with commas between them.
 pub fn names<'a>(setting: Setting, tokens: &'a [Token]) -> Answer<'a, Names>
     ensures whole { IfOk result (λ f. (d : ℕ) → SomeNames d f.0 (terminals tokens.now) (terminals f.1.now)) }
-    ensures refused { IfErr result (λ e. (d : ℕ) → Refuses SomeNames d setting.end (terminals tokens.now) e) }
+    ensures refused { IfErr result (λ e. (d : ℕ) → RefusesHere SomeNames d setting.end (terminals tokens.now) e) }
     ensures shorter { IfOk result (λ f. length f.1.now < length tokens.now) }
 {
     let mut names = Vec::new(setting.alloc);
@@ -31,7 +31,7 @@ pub fn names<'a>(setting: Setting, tokens: &'a [Token]) -> Answer<'a, Names>
 /// Names in brackets, at least one.
 pub fn bracketed_names<'a>(setting: Setting, tokens: &'a [Token]) -> Answer<'a, Names>
     ensures whole { IfOk result (λ f. SomeBracketedNames setting.left f.0 (terminals tokens.now) (terminals f.1.now)) }
-    ensures refused { IfErr result (Refuses SomeBracketedNames setting.left setting.end (terminals tokens.now)) }
+    ensures refused { IfErr result (RefusesHere SomeBracketedNames setting.left setting.end (terminals tokens.now)) }
     ensures shorter { IfOk result (λ f. length f.1.now < length tokens.now) }
 {
     let rest = after_mark(Mark::OpenParenthesis, setting.end, tokens)?;
@@ -44,7 +44,7 @@ pub fn bracketed_names<'a>(setting: Setting, tokens: &'a [Token]) -> Answer<'a, 
 /// A name, or a unit's name, a dot and a name.
 pub fn qualified<'a>(setting: Setting, tokens: &'a [Token]) -> Answer<'a, QualifiedName>
     ensures whole { IfOk result (λ f. (d : ℕ) → SomeQualified d f.0 (terminals tokens.now) (terminals f.1.now)) }
-    ensures refused { IfErr result (λ e. (d : ℕ) → Refuses SomeQualified d setting.end (terminals tokens.now) e) }
+    ensures refused { IfErr result (λ e. (d : ℕ) → RefusesHere SomeQualified d setting.end (terminals tokens.now) e) }
     ensures shorter { IfOk result (λ f. length f.1.now < length tokens.now) }
 {
     let (first, rest) = name(setting.alloc, setting.end, tokens)?;

@@ -1,6 +1,6 @@
 //! What may not follow a part.
 ghost use Rattle.std.specs.Prelude.{◌≡◌, ℕ, IfOk, IfErr};
-ghost use Rattle.op_parse_code.specs.Refusal.{Refuses};
+ghost use Rattle.op_parse_decl.specs.Refusal.{RefusesHere};
 ghost use Rattle.op_parse_code.specs.Whole.{NoMark};
 ghost use Rattle.op_parse_code.specs.declared.mark.Mark.TheVariants as mark;
 ghost use Rattle.op_parse_decl.specs.Opening.{continues_expression, continues_type};
@@ -18,7 +18,7 @@ use op_tree::{Level, operator_of};
 /// A type must not go on there.
 pub fn stop_type(end: Place, tokens: &[Token]) -> Result<(), ParseError>
     ensures stops { IfOk result (λ _. StopsDenoter (terminals tokens.now)) }
-    ensures refused { IfErr result (λ e. (d : ℕ) → Refuses NoMoreType d end (terminals tokens.now) e) }
+    ensures refused { IfErr result (λ e. (d : ℕ) → RefusesHere NoMoreType d end (terminals tokens.now) e) }
 {
     let Some((first, _)) = tokens.split_first() else {
         return Ok(());
@@ -32,7 +32,7 @@ pub fn stop_type(end: Place, tokens: &[Token]) -> Result<(), ParseError>
 /// An expression must not go on there.
 pub fn stop_expression(end: Place, tokens: &[Token]) -> Result<(), ParseError>
     ensures stops { IfOk result (λ _. Stops (terminals tokens.now)) }
-    ensures refused { IfErr result (λ e. (d : ℕ) → Refuses NoMoreExpression d end (terminals tokens.now) e) }
+    ensures refused { IfErr result (λ e. (d : ℕ) → RefusesHere NoMoreExpression d end (terminals tokens.now) e) }
 {
     let Some((first, _)) = tokens.split_first() else {
         return Ok(());
@@ -46,7 +46,7 @@ pub fn stop_expression(end: Place, tokens: &[Token]) -> Result<(), ParseError>
 /// No dot may stand there.
 pub fn no_dot(end: Place, tokens: &[Token]) -> Result<(), ParseError>
     ensures stops { IfOk result (λ _. NoMark mark.Dot (terminals tokens.now)) }
-    ensures refused { IfErr result (λ e. (d : ℕ) → Refuses NoDot d end (terminals tokens.now) e) }
+    ensures refused { IfErr result (λ e. (d : ℕ) → RefusesHere NoDot d end (terminals tokens.now) e) }
 {
     match behind_mark(Mark::Dot, tokens) {
         None => Ok(()),

@@ -6,9 +6,8 @@ ghost use Rattle.op_typing.specs.SimpleTests.{begins_itself, is_counted, is_none
 
 use crate::statement::are_plain_statements;
 use crate::types::{is_counted, is_plain_result, is_plain_type, is_solid_type};
-use op_core::{Body, Core, Owner, Role, Routine, RoutineId, TypeId, Unit, Variable};
+use op_core::{Body, Core, Owner, Role, Routine, RoutineId, TypeId, Unit, Variable, is_managed};
 use op_tree::ParameterMode;
-use op_types::is_managed;
 
 /// A routine has no more parameters.
 const MOST_PARAMETERS: u32 = 64;

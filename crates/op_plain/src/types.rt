@@ -5,8 +5,7 @@ ghost use Rattle.op_plain.specs.Plain.{is_plain_constant, is_plain_result, is_pl
 ghost use Rattle.op_typing.specs.Simple.{asks_text};
 ghost use Rattle.op_typing.specs.SimpleTests.{is_counted, is_short_text, is_solid_type};
 
-use op_core::{Const, Core, CoreType, Function, TypeId};
-use op_types::{is_managed, type_at, values_of};
+use op_core::{Const, Core, CoreType, Function, TypeId, is_managed, type_at, values_of};
 
 /// A text has less bytes, and an array less elements.
 const MOST: u64 = 1 << 31;

@@ -11,16 +11,24 @@ const CONSTANTS: [u8; 88] = [
 #[test]
 fn descriptors_are_read(rt: HostRuntime) {
     let constants = &CONSTANTS;
-    assert!(rt; matches!(type_kind(constants, 0), DescKind::Chars));
-    assert!(rt; matches!(type_kind(constants, 12), DescKind::Fields));
-    assert_eq!(rt; type_size(constants, 12), 12);
-    assert_eq!(rt; type_parts(constants, 12), 2);
+    let kinds = (
+        type_kind(constants, 0),
+        type_kind(constants, 12),
+        type_kind(constants, 40),
+    );
+    assert!(rt; matches!(kinds, (DescKind::Chars, DescKind::Fields, DescKind::Repeat)));
     let field = type_part(constants, 12, 1);
-    assert_eq!(rt; (field.offset, field.inner), (8, 0));
-    assert!(rt; matches!(type_kind(constants, 40), DescKind::Repeat));
-    assert_eq!(rt; type_parts(constants, 40), 3);
     let element = type_part(constants, 40, 2);
-    assert_eq!(rt; (element.offset, element.inner), (8, 0));
-    assert_eq!(rt; class_name(constants, 60), b"TFoo".as_slice());
-    assert_eq!(rt; class_fields(constants, 60), 12);
+    let numbers = [
+        type_size(constants, 12),
+        type_parts(constants, 12),
+        field.offset,
+        field.inner,
+        type_parts(constants, 40),
+        element.offset,
+        element.inner,
+        class_fields(constants, 60),
+    ];
+    assert!(rt; numbers == [12, 2, 8, 0, 3, 8, 0, 12]);
+    assert!(rt; class_name(constants, 60) == b"TFoo".as_slice());
 }

@@ -11,7 +11,7 @@ use Rattle.op_rv.specs.Step.{after}
 use Rattle.op_select.specs.Going.{IsSafe}
 use Rattle.op_select.specs.RiscvMachine.{riscv_machine}
 use Rattle.op_simulation.specs.System.{run}
-use Rattle.op_tool.specs.Command.{Asked}
+use Rattle.op_command.specs.Command.{Asked}
 use Rattle.op_tool.specs.Compiles.{Made, meant}
 use Rattle.op_tool.specs.Effects.{Effect}
 use Rattle.op_tool.specs.ImageRun.{OwesImage}

@@ -2,12 +2,12 @@
 use Rattle.std.proofs.Common.{◌≡◌, ℕ, Option, List, [], codes, inl, refl}
 use Rattle.op_emu.specs.Acts.{streams, faults}
 use Rattle.op_link.specs.declared.memory_map.Settings.{Settings}
-use Rattle.op_tool.specs.Command.{Asked}
+use Rattle.op_command.specs.Command.{Asked}
 use Rattle.op_tool.specs.Compiles.{FailsAs, FailsToCheck}
 use Rattle.op_tool.specs.Effects.{Effect, OnlyReports, Says, line}
 use Rattle.op_tool.specs.Owes.{Call, OwesBuild, OwesCheck, OwesCommand, OwesError, OwesExec, OwesList, ReportsError}
-use Rattle.op_tool.specs.declared.command.Verb.{Verb}
-use Rattle.op_tool.specs.declared.command.Verb.TheVariants as verb
+use Rattle.op_command.specs.declared.command.Verb.{Verb}
+use Rattle.op_command.specs.declared.command.Verb.TheVariants as verb
 use Rattle.op_tool.specs.declared.compiler.CompileError.{CompileError}
 use Rattle.op_tool.specs.declared.compiler.CompileError.TheVariants as errors
 use Rattle.op_tool.specs.declared.finish.Finish.{Finish}

@@ -1,15 +1,12 @@
 pub mod After
+pub mod Commands
 pub mod Compiling
 pub mod Executing
 pub mod Failing
 pub mod Grows
 pub mod Large
-pub mod Numbers
 pub mod Orders
-pub mod Parsing
-pub mod Reading
 pub mod Running
 pub mod RunningFiles
 pub mod Saying
-pub mod Telling
 pub mod Words

@@ -1,7 +1,7 @@
 -- What a call leaves as it was, by its words and its answer.
 use Rattle.std.specs.Prelude.{◌≡◌, ℕ, Bool, true, false, List, IsTrue}
 use Rattle.op_base.specs.Outside.{Rose}
-use Rattle.op_tool.specs.Command.{Asked, IsCommand, IsNoCommand, runs_image}
+use Rattle.op_command.specs.Command.{Asked, IsCommand, IsNoCommand, runs_image}
 use Rattle.op_tool.specs.declared.finish.Finish.{Finish}
 use Rattle.op_tool.specs.declared.finish.Finish.TheVariants.{Ended, Usage, Refused, ReadFault, WriteFault, Spent, NoMemory, BadImage, Faulted, Limit}
 

@@ -1,9 +1,6 @@
-pub mod Command
 pub mod Compiles
 pub mod Effects
 pub mod ImageRun
 pub mod Leaves
-pub mod Line
 pub mod Owes
-pub mod Reading
 pub mod Status

@@ -11,12 +11,12 @@ use Rattle.op_core.specs.declared.program.Core.{Core}
 use Rattle.op_correctness.specs.Agrees.{EndsAsMeant}
 use Rattle.op_link.specs.declared.memory_map.Settings.{Settings}
 use Rattle.op_listing.specs.Listing.{listing_of}
-use Rattle.op_tool.specs.Command.{Asked, IsCommand, IsNoCommand}
+use Rattle.op_command.specs.Command.{Asked, IsCommand, IsNoCommand}
 use Rattle.op_tool.specs.Compiles.{IsAccepted, IsBroken, IsRefused, IsTooLarge, Made, file_missing, main_start, meant}
 use Rattle.op_tool.specs.Effects.{Effect, OnlyReports, OnlyWrites, ReportIs, line}
 use Rattle.op_tool.specs.ImageRun.{OwesImage}
-use Rattle.op_tool.specs.declared.command.Verb.{Verb}
-use Rattle.op_tool.specs.declared.command.Verb.TheVariants as verb
+use Rattle.op_command.specs.declared.command.Verb.{Verb}
+use Rattle.op_command.specs.declared.command.Verb.TheVariants as verb
 use Rattle.op_tool.specs.declared.compiler.CompileError.{CompileError}
 use Rattle.op_tool.specs.declared.compiler.CompileError.TheVariants as errors
 use Rattle.op_tool.specs.declared.finish.Finish.{Finish}

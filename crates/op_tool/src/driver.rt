@@ -2,20 +2,19 @@
 ghost use Rattle.std.specs.Prelude.{◌≡◌, ◌≤◌, IsTrue, List, Option, ℕ, [], map, string_bytes};
 ghost use Rattle.op_emu.specs.Acts.{streams, faults, Rises};
 ghost use Rattle.op_link.specs.Memory.{are_in_range};
-ghost use Rattle.op_tool.specs.Command.{IsNoCommand};
+ghost use Rattle.op_command.specs.Command.{IsNoCommand};
 ghost use Rattle.op_tool.specs.Effects.{Says};
 ghost use Rattle.op_tool.specs.Leaves.{LeavesErrors, LeavesInput, LeavesOutput, RunsNothing, only_reports};
 ghost use Rattle.op_tool.specs.Owes.{call, Owes, OwesBuild, OwesCheck, OwesExec, OwesList, OwesRun};
-ghost use Rattle.op_tool.specs.Reading.{asked_of};
+ghost use Rattle.op_command.specs.Reading.{asked_of};
 ghost use Rattle.op_tool.specs.declared.finish.Finish.{Finish};
 
-use crate::command::{Command, Verb};
 use crate::compiler::{MAIN_START, checked};
 use crate::image_run::run_image;
-use crate::line::command_of;
 use crate::report::{report, report_bad_image, report_error, report_no_memory, report_refusal};
 use crate::{Finish, compile};
 use op_base::{FILE_MISSING, FileAnswer, Files, NoMemory, Put, Refusal, Sink, Source};
+use op_command::{Command, Verb, command_of};
 use op_listing::listing;
 use std::alloc::Global;
 

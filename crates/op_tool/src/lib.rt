@@ -1,12 +1,10 @@
 //! The compiler as one call: `tool` does what the words of the command line say, over files and streams.
 #![tactic(auto)]
 
-mod command;
 mod compiler;
 mod driver;
 mod finish;
 mod image_run;
-mod line;
 mod report;
 
 pub use compiler::{CompileError, compile};

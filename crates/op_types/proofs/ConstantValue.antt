@@ -1,18 +1,32 @@
 -- A constant expression has a value, or breaks a rule, or a name in it is spoiled.
-use Rattle.std.proofs.Common.{◌≡◌, ◌⊎◌, inl, inr, ℕ, Bool, true, false, List, [], ◌∷◌, Option, Some, None, is_some, if◌then◌else◌, refl}
+use Rattle.std.proofs.Common.{◌≡◌, ◌⊎◌, inl, inr, ℕ, pos, neg_ℤ, Bool, true, false, ◌&&◌, List, Option, Some, None, is_some, if◌then◌else◌, refl}
+use Rattle.std.specs.Option.{option_map}
 use Rattle.op_base.specs.declared.place.Place.{Place}
-use Rattle.op_base.specs.declared.rule.Refusal.{Refusal}
-use Rattle.op_core.specs.Faults.{broken}
-use Rattle.op_core.specs.Relations.{Either, Entry, Fails, Lacks, Never, Only, Through, Where}
+use Rattle.op_base.specs.declared.rule.Rule.{Rule}
+use Rattle.op_core.proofs.Completing.{whole_after, whole_behind, whole_fine, whole_rule}
+use Rattle.op_core.specs.Faults.{Checked, Faults, FirstIs, after, behind, front, with_part}
+use Rattle.op_core.specs.Relations.{Always, Filled, IsWhole, faulty, filled, typed}
+use Rattle.op_core.specs.Sizes.{type_at}
+use Rattle.op_core.specs.declared.constant.Const.{Const}
 use Rattle.op_core.specs.declared.ids.TypeId.{TypeId}
 use Rattle.op_core.specs.declared.operation.Function.{Function}
 use Rattle.op_core.specs.declared.operation.Function.TheVariants.{Low}
 use Rattle.op_core.specs.declared.program.Core.{Core}
+use Rattle.op_judgement.specs.Judgement.{Judgement, both_typed, by_entry, by_test, checked, fine, followed, of_two, through, with_part as when}
+use Rattle.op_judgement.specs.Rules.{no_cast, no_operator, no_set_element, not_assignable, not_ordinal, number_too_large, out_of_range}
 use Rattle.op_tree.specs.Expression.{Expression, chain, prefixed, number, nil, set, literal, designated, inherited, Operations, no_operations, operation, Elements, no_elements, elements, Element, one, range, Designator, designator, named, bracketed, no_selectors, selectors, member, call, Arguments, no_arguments, arguments, value}
-use Rattle.op_tree.specs.declared.operator.PrefixOperator.TheVariants.{Minus}
+use Rattle.op_tree.specs.declared.operator.Operator.{Operator}
+use Rattle.op_tree.specs.declared.operator.PrefixOperator.{PrefixOperator}
 use Rattle.op_tree.specs.declared.position.Name.{Name}
-use Rattle.op_types.specs.ConstantRules.{ArgumentBreaks, ArgumentIs, ArgumentIsConstant, ArgumentIsSpoiled, BoundBreaks, BoundIs, BreaksBehind, CallBreaks, CallIs, CallIsConstant, ConstantBreaks, DesignatorBreaks, DesignatorIs, DesignatorIsConstant, DesignatorIsSpoiled, ElementBreaks, ElementIs, ElementIsConstant, ElementIsSpoiled, ElementsAreConstant, ElementsAreSpoiled, Evaluates, EvaluatesBehind, GatheringBreaks, Gathers, IsConstant, IsSpoiled, LiteralIs, MembersAre, MembersBreak, NameBreaks, NameIs, NameIsConstant, OfQualified, OperandsAreConstant, OperandsAreSpoiled, UseBreaks, UseIs}
-use Rattle.op_types.specs.Constants.{behind_name, joined_name, no_members, start_of, type_named, use_of, use_of_function}
+use Rattle.op_types.specs.Answered.{ArgumentIsSpoiled, DesignatorIsSpoiled, ElementIsSpoiled, ElementsAreSpoiled, IsSpoiled, OperandsAreSpoiled}
+use Rattle.op_types.specs.Assignable.{assignable, true_of}
+use Rattle.op_types.specs.ConstantParts.{behind_name, boxed, is_folded, is_ordinal, joined, joined_name, made, no_members, nodes, number_behind, rule_of, start_of, start_of_element, type_named, use_of, use_of_function}
+use Rattle.op_types.specs.Folding.{all_between, are_constant_elements, are_constant_operands, argument_means, bound_means, call_means, constant, designated_constant, element, element_means, entered, from_to, gathered_means, is_constant, is_constant_argument, is_constant_call, is_constant_designator, is_constant_element, is_constant_name, members, name_means, operation_means, operations, operator_means, or_number, pair, prefix_means, range_means, single_means, union, united, use_means}
+use Rattle.op_types.specs.Operators as table
+use Rattle.op_types.specs.Sets.{common_set}
+use Rattle.op_types.specs.Sorts.{are_sets, sort_of}
+use Rattle.op_types.specs.Values.{applied, before, bound_of, cast, contains, number_of, operated, within}
+use Rattle.op_types.specs.declared.constant.Weight.{Weight}
 use Rattle.op_types.specs.Names.{Named, lower, meaning_of}
 use Rattle.op_types.specs.declared.constant.Applied.{Applied}
 use Rattle.op_types.specs.declared.constant.Applied.TheVariants.{Cast, Function as Function'}
@@ -23,101 +37,165 @@ use Rattle.op_types.specs.declared.visible.BuiltIn.TheVariants.{Chr, Function as
 use Rattle.op_types.specs.declared.visible.Meaning.{Meaning}
 use Rattle.op_types.specs.declared.visible.Meaning.TheVariants.{Constant as ConstantNamed, TypeName, Unit as UnitNamed, BuiltIn as BuiltInNamed, Spoiled}
 
-pub data Total {A : Type 0} (T : A → Type 0) (P : Refusal → Type 0) (S : Type 0) : Type 1 where
-  has : (a : A) → T a → Total T P S
-  breaks : (r : Refusal) → P r → Total T P S
-  spoiled : S → Total T P S
+-- it has a meaning or breaks a rule, or it is so
+pub data Told {A : Type 0} (S : Type 0) (c : Checked A) : Type 1 where
+  whole : IsWhole c → Told S c
+  spoiled : S → Told S c
+
+false_is : false ≡ true → ⊥
+false_is e = absurd (cc)
+
+pub both_true : (a b : Bool) → (a && b) ≡ true → (a ≡ true) × (b ≡ true)
+both_true true b e = (refl, e)
+both_true false b e = absurd (false_is e)
+
+-- without a meaning, and without a rule that is broken
+pub silent : {c : Checked Constant} {S : Type 0} → Told S c → None ≡ option_map (λ a. a.value) c.typed → FirstIs c.faults None → S
+silent (whole (typed h)) e first = absurd (valued h e)
+  where
+    valued : {o : Option Constant} → Filled Always o → None ≡ option_map (λ a. a.value) o → ⊥
+    valued (filled a p) e = absurd (cc)
+silent (whole (faulty r i)) e first = absurd (first r i)
+silent (spoiled s) e first = s
 
 -- ---- parts
 
-total_as : {A : Type 0} {T : A → Type 0} {P Q : Refusal → Type 0} {S R : Type 0} → Total T P S → ((r : Refusal) → P r → Q r) → (S → R) → Total T Q R
-total_as (has a t) f g = has a t
-total_as (breaks r p) f g = breaks r (f r p)
-total_as (spoiled s) f g = spoiled (g s)
+told_as : {A S R : Type 0} {c : Checked A} → Told S c → (S → R) → Told R c
+told_as (whole h) g = whole h
+told_as (spoiled s) g = spoiled (g s)
 
-behind_one : {A B : Type 0} {T : A → Type 0} {U : A → B → Type 0} {P : Refusal → Type 0} {Q : A → Refusal → Type 0} {S : Type 0} (a : A) → T a → Total (U a) (Q a) S → Total (Through T U) (Either P (Through T Q)) S
-behind_one a t (has b u) = has b (a, t, u)
-behind_one a t (breaks r q) = breaks r (inr (a, t, q))
-behind_one a t (spoiled s) = spoiled s
+told_after : {A S : Type 0} {faults : Faults} {c : Checked A} → Told S c → Told S (after faults c)
+told_after (whole h) = whole (whole_after h)
+told_after (spoiled s) = spoiled s
 
-total_through : {A B : Type 0} {T : A → Type 0} {U : A → B → Type 0} {P : Refusal → Type 0} {Q : A → Refusal → Type 0} {S : Type 0} → Total T P S → ((a : A) → Total (U a) (Q a) S) → Total (Through T U) (Either P (Through T Q)) S
-total_through (has a t) g = behind_one a t (g a)
-total_through (breaks r p) g = breaks r (inl p)
-total_through (spoiled s) g = spoiled s
+told_followed : {A B S : Type 0} (c : Checked A) (f : Option A → Checked B) → Told S c → ((o : Option A) → Filled Always o → Told S (f o)) → Told S (after c.faults (f c.typed))
+told_followed c f (whole (typed h)) g = told_after (g c.typed h)
+told_followed c f (whole (faulty r i)) g = whole (faulty r (front i))
+told_followed c f (spoiled s) g = spoiled s
 
-total_made : {A B : Type 0} {T : A → Type 0} {f : A → B} {P : Refusal → Type 0} {S : Type 0} → Total T P S → Total (Through T (λ a. Only (f a))) P S
-total_made {f} (has a t) = has (f a) (a, t, refl)
-total_made (breaks r p) = breaks r p
-total_made (spoiled s) = spoiled s
+told_with : {A B S : Type 0} (f : A → Checked B) {o : Option A} → Filled Always o → ((a : A) → Told S (f a)) → Told S (with_part f o)
+told_with f (filled a p) g = g a
 
-total_entry : {A B : Type 0} {number : ℕ} {place : Place} {o : Option A} {U : A → B → Type 0} {Q : A → Refusal → Type 0} {S : Type 0} → ((a : A) → Total (U a) (Q a) S) → Total (Through (Entry o) U) (Either (Lacks o number place) (Through (Entry o) Q)) S
-total_entry {number} {place} {o = None} g = breaks (broken number place) (inl (refl, refl))
-total_entry {o = Some a} g = behind_one a refl (g a)
+told_through : {A B S : Type 0} (j : Judgement A) (f : A → Judgement B) → Told S (checked j) → ((a : A) → IsWhole (checked (f a))) → Told S (checked (through j f))
+told_through j f h g = told_followed (checked j) (with_part (λ a. checked (f a))) h (λ o k. told_with (λ a. checked (f a)) k (λ a. whole (g a)))
 
-total_entry_fine : {A B : Type 0} {number : ℕ} {place : Place} {f : A → B} {o : Option A} {S : Type 0} → Total (Through (Entry o) (λ a. Only (f a))) (Lacks o number place) S
-total_entry_fine {number} {place} {o = None} = breaks (broken number place) (refl, refl)
-total_entry_fine {f} {o = Some a} = has (f a) (a, refl, refl)
+-- of two parts, each of which may have no meaning
+told_two : {A B C S : Type 0} (j : Judgement A) (k : Judgement B) (f : Option A → Option B → Judgement C) → Told S (checked j) → Told S (checked k) → ((o : Option A) (q : Option B) → Filled Always o → Filled Always q → IsWhole (checked (f o q))) → Told S (checked (followed j (λ a. followed k (f a))))
+told_two j k f h i g =
+    told_followed (checked j) (λ o. checked (followed k (f o))) h (λ o m. told_followed (checked k) (λ q. checked (f o q)) i (λ q n. whole (g o q m n)))
 
-total_test : {A : Type 0} {number : ℕ} {place : Place} {b : Bool} {T : A → Type 0} {P : Refusal → Type 0} {S : Type 0} → Total T P S → Total (Where (b ≡ true) T) (Either (Fails b number place) (Where (b ≡ true) P)) S
-total_test {number} {place} {b = false} h = breaks (broken number place) (inl (refl, refl))
-total_test {b = true} (has a t) = has a (refl, t)
-total_test {b = true} (breaks r p) = breaks r (inr (refl, p))
-total_test {b = true} (spoiled s) = spoiled s
+whole_pair : {A B : Type 0} (j : Judgement A) (k : Judgement B) → IsWhole (checked j) → IsWhole (checked k) → IsWhole (checked (of_two pair j k))
+whole_pair j k (typed h) (typed i) = typed (both h i)
+  where
+    both : {A B : Type 0} {o : Option A} {q : Option B} → Filled Always o → Filled Always q → Filled Always (both_typed pair o q)
+    both (filled a p) (filled b q) = filled (pair a b) tt
+whole_pair j k (typed h) (faulty r i) = faulty r (behind i)
+whole_pair j k (faulty r i) h = faulty r (front i)
 
-total_test_fine : {A : Type 0} {number : ℕ} {place : Place} {b : Bool} {x : A} {S : Type 0} → Total (Where (b ≡ true) (Only x)) (Fails b number place) S
-total_test_fine {number} {place} {b = false} = breaks (broken number place) (refl, refl)
-total_test_fine {b = true} {x} = has x (refl, refl)
+whole_some : {A B : Type 0} (f : A → Checked B) {o : Option A} → Filled Always o → ((a : A) → IsWhole (f a)) → IsWhole (with_part f o)
+whole_some f (filled a p) g = g a
 
--- of two parts
-behind_two : {T U : Constant → Type 0} {V : Constant → Constant → Constant → Type 0} {P Q : Refusal → Type 0} {R : Constant → Constant → Refusal → Type 0} {S : Type 0} (a b : Constant) → T a → U b → Total (V a b) (R a b) S → Total (Through T (λ a. Through U (V a))) (Either (Either P Q) (Through T (λ a. Through U (R a)))) S
-behind_two a b t u (has c v) = has c (a, t, (b, u, v))
-behind_two a b t u (breaks r w) = breaks r (inr (a, t, (b, u, w)))
-behind_two a b t u (spoiled s) = spoiled s
+told_changed : {A B S : Type 0} (f : A → B) (c : Checked A) → Told S c → Told S (record { typed = option_map f c.typed; faults = c.faults })
+told_changed f c (whole (typed h)) = whole (typed (mapped f h))
+  where
+    mapped : {A B : Type 0} (f : A → B) {o : Option A} → Filled Always o → Filled Always (option_map f o)
+    mapped f (filled a p) = filled (f a) tt
+told_changed f c (whole (faulty r i)) = whole (faulty r i)
+told_changed f c (spoiled s) = spoiled s
 
-total_two : {T U : Constant → Type 0} {V : Constant → Constant → Constant → Type 0} {P Q : Refusal → Type 0} {R : Constant → Constant → Refusal → Type 0} {S : Type 0} → Total T P S → Total U Q S → ((a b : Constant) → Total (V a b) (R a b) S) → Total (Through T (λ a. Through U (V a))) (Either (Either P Q) (Through T (λ a. Through U (R a)))) S
-total_two (has a t) (has b u) g = behind_two a b t u (g a b)
-total_two (has a t) (breaks r q) g = breaks r (inl (inr q))
-total_two (has a t) (spoiled s) g = spoiled s
-total_two (breaks r p) k g = breaks r (inl (inl p))
-total_two (spoiled s) k g = spoiled s
+-- ---- what always has a meaning or breaks a rule
+
+entered_whole : (rule : Rule) (place : Place) (of : TypeId) (w : Weight) (v : Option Const) → IsWhole (checked (entered rule place of w v))
+entered_whole rule place of w None = whole_rule
+entered_whole rule place of w (Some v) = whole_fine
+
+entry_whole : {A B : Type 0} (rule : Rule) (place : Place) (g : A → Judgement B) (o : Option A) → ((a : A) → IsWhole (checked (g a))) → IsWhole (checked (by_entry rule place g o))
+entry_whole rule place g None h = whole_rule
+entry_whole rule place g (Some a) h = h a
+
+test_whole : {A : Type 0} (rule : Rule) (place : Place) (j : Judgement A) (b : Bool) → IsWhole (checked j) → IsWhole (checked (by_test rule place j b))
+test_whole rule place j true h = h
+test_whole rule place j false h = whole_rule
+
+prefix_whole : (core : Core) (place : Place) (o : PrefixOperator) (a : Constant) → IsWhole (checked (prefix_means core place o a))
+prefix_whole core place o a =
+    let w = joined a.weight (nodes 0) in
+    entry_whole no_operator place (λ of. entered out_of_range place of w (before o of (number_of a.value))) (table.prefixed o (sort_of core a.of)) (λ of. entered_whole out_of_range place of w (before o of (number_of a.value)))
+
+operator_whole : (core : Core) (start : Place) (o : Operator) (place : Place) (a b : Constant) → IsWhole (checked (operator_means core start o place a b))
+operator_whole core start o place a b =
+    let w = joined a.weight b.weight in
+    let v = operated o (sort_of core a.of) (sort_of core b.of) a.value b.value in
+    entry_whole no_operator place (λ of. entered out_of_range start of w v) (table.operation o (sort_of core a.of) (sort_of core b.of) (common_set core a.of b.of)) (λ of. entered_whole out_of_range start of w v)
+
+operation_whole : (core : Core) (start : Place) (o : Operator) (place : Place) (a b : Option Constant) → Filled Always a → Filled Always b → IsWhole (checked (operation_means core start o place a b))
+operation_whole core start o place a b h k =
+    whole_some (λ a. checked (when (operator_means core start o place a) b)) h (λ a. whole_some (λ b. checked (operator_means core start o place a b)) k (λ b. operator_whole core start o place a b))
+
+use_whole : (core : Core) (what : Applied) (place at : Place) (a : Constant) → IsWhole (checked (use_means core what place at a))
+use_whole core (Cast of) place at a =
+    let w = joined a.weight (nodes 0) in
+    let v = cast (type_at core of) (number_of a.value) in
+    test_whole no_cast place (entered out_of_range place of w v) (is_ordinal (sort_of core a.of)) (entered_whole out_of_range place of w v)
+use_whole core (Function' f) place at a =
+    let w = joined a.weight (nodes 0) in
+    let v = applied core f a.of a.value in
+    entry_whole (rule_of f) at (λ of. entered out_of_range place of w v) (table.application f (sort_of core a.of) a.of) (λ of. entered_whole out_of_range place of w v)
+
+bound_whole : (core : Core) (f : Function) (of : TypeId × Place) → IsWhole (checked (bound_means core f of))
+bound_whole core f of = entry_whole not_ordinal of.1 (λ b. fine (made b.0 b.1 (nodes 2))) (bound_of core f of.0) (λ b. whole_fine)
+
+-- ---- sets
+
+element_whole : (core : Core) (at : Place) (a : Constant) → IsWhole (checked (element_means core at a))
+element_whole core at a =
+    test_whole not_ordinal at (by_test no_set_element at (fine a) (contains (pos 0, pos 31) (number_of a.value))) (is_ordinal (sort_of core a.of)) (test_whole no_set_element at (fine a) (contains (pos 0, pos 31) (number_of a.value)) whole_fine)
+
+elements_whole : (core : Core) (at : Place) (a : Option Constant) → Filled Always a → IsWhole (checked (when (element_means core at) a))
+elements_whole core at a h = whole_some (λ a. checked (element_means core at a)) h (element_whole core at)
+
+single_whole : (core : Core) (at : Place) (a : Option Constant) → Filled Always a → IsWhole (checked (single_means core at a))
+single_whole core at a h = whole_behind (elements_whole core at a h) (λ a _. whole_fine)
+
+from_to_whole : (core : Core) (at : Place) (a b : Constant) → IsWhole (checked (from_to core at a b))
+from_to_whole core at a b = test_whole not_assignable at (fine (all_between core a b)) (assignable core b.of a.of) whole_fine
+
+range_whole : (core : Core) (at at' : Place) (a b : Option Constant) → Filled Always a → Filled Always b → IsWhole (checked (range_means core at a at' b))
+range_whole core at at' a b h k =
+    whole_behind (whole_pair (when (element_means core at) a) (when (element_means core at') b) (elements_whole core at a h) (elements_whole core at' b k)) (λ ab _. from_to_whole core at' ab.0 ab.1)
+
+gathered_whole : (core : Core) (at : Place) (a b : Option Constant) → Filled Always a → Filled Always b → IsWhole (checked (gathered_means core at a b))
+gathered_whole core at a b h k =
+    whole_some (λ a. checked (when (united core at a) b)) h (λ a. whole_some (λ b. checked (united core at a b)) k (λ b. test_whole not_assignable at (fine (union core a b)) (are_sets (sort_of core a.of) (sort_of core b.of)) whole_fine))
 
 -- ---- names and calls
 
-name_value : (place : Place) (m : Option Meaning) → NameIsConstant m → Total (NameIs m) (NameBreaks place m) (m ≡ Some Spoiled)
-name_value place None c = breaks (broken 15 place) refl
-name_value place (Some Spoiled) c = spoiled refl
-name_value place (Some (ConstantNamed x)) c = has _ refl
-name_value place (Some m) c = absurd c
-
-at_entry : {Q : Type 0} {T : Q → Constant → Type 0} {P : Q → Refusal → Type 0} {S : Type 0} (q : Q) → Total (T q) (P q) S → Total (Through (Entry (Some q)) T) (Through (Entry (Some q)) P) S
-at_entry q (has a t) = has a (q, refl, t)
-at_entry q (breaks r p) = breaks r (q, refl, p)
-at_entry q (spoiled s) = spoiled s
+name_told : (place : Place) (m : Option Meaning) → is_constant_name m ≡ true → Told (m ≡ Some Spoiled) (checked (name_means place m))
+name_told place None c = whole whole_rule
+name_told place (Some Spoiled) c = spoiled refl
+name_told place (Some (ConstantNamed x)) c = whole whole_fine
+name_told place (Some m) c = absurd (false_is c)
 
 not_known : {Z S : Type 0} → (None ≡ Some Spoiled) ⊎ S → Z ⊎ S
 not_known (inl e) = absurd (cc)
 not_known (inr s) = inr s
 
 -- of what a name behind another stands for
-qualified_value : {S : Type 0} {C : Option Meaning × Place → Type 0} {T : Option Meaning × Place → Constant → Type 0} {P : Option Meaning × Place → Refusal → Type 0} (names : List Named) (n m : Name) (o : Option Meaning) → ((q : Option Meaning × Place) → C q → Total (T q) (P q) ((q.0 ≡ Some Spoiled) ⊎ S)) → OfQualified C (behind_name names n m o) → Total (Through (Entry (behind_name names n m o)) T) (Through (Entry (behind_name names n m o)) P) ((meaning_of names (joined_name n.text m.text) ≡ Some Spoiled) ⊎ S)
-qualified_value names n m (Some (UnitNamed id)) h c = at_entry (meaning_of names (joined_name n.text m.text), m.position.place) (h (meaning_of names (joined_name n.text m.text), m.position.place) c)
-qualified_value names n m None h c = total_as (at_entry (None, n.position.place) (h (None, n.position.place) c)) (λ r p. p) not_known
-qualified_value names n m (Some o) h c = absurd c
+qualified_told : {S : Type 0} (names : List Named) (n m : Name) (o : Option Meaning) (test : Option Meaning × Place → Bool) (f : Option Meaning × Place → Judgement Constant) → ((q : Option Meaning × Place) → test q ≡ true → Told ((q.0 ≡ Some Spoiled) ⊎ S) (checked (f q))) → true_of test (behind_name names n m o) ≡ true → Told ((meaning_of names (joined_name n.text m.text) ≡ Some Spoiled) ⊎ S) (checked (when f (behind_name names n m o)))
+qualified_told names n m (Some (UnitNamed id)) test f h c = h (meaning_of names (joined_name n.text m.text), m.position.place) c
+qualified_told names n m None test f h c = told_as (h (None, n.position.place) c) not_known
+qualified_told names n m (Some o) test f h c = absurd (false_is c)
 
-use_value : {S : Type 0} (core : Core) (what : Applied) (place at : Place) (a : Constant) → Total (UseIs core what a) (UseBreaks core what place at a) S
-use_value core (Cast of) place at a = total_test total_entry_fine
-use_value core (Function' f) place at a = total_entry (λ of. total_entry_fine)
+bound_told : {S : Type 0} (core : Core) (f : Function) (of : Option (TypeId × Place)) → is_some of ≡ true → Told S (checked (when (bound_means core f) of))
+bound_told core f None e = absurd (false_is e)
+bound_told core f (Some of) e = whole (bound_whole core f of)
 
-bound_value : {S : Type 0} (core : Core) (f : Function) (of : Option (TypeId × Place)) → is_some of ≡ true → Total (Through (Entry of) (λ of. BoundIs core f of.0)) (Through (Entry of) (λ of. BoundBreaks core f of.0 of.1)) S
-bound_value core f None e = absurd (cc)
-bound_value core f (Some of) e = at_entry of total_entry_fine
-
-call_value : {C S : Type 0} {T : Constant → Type 0} {B : Applied → Refusal → Type 0} (core : Core) (place : Place) (of : Option (TypeId × Place)) (u : Option Use) → CallIsConstant of C u → ((what : Applied) → C → Total (Through T (UseIs core what)) (B what) S) → Total (CallIs core of T u) (CallBreaks core place of B u) ((u ≡ Some Silent) ⊎ S)
-call_value core place of None c g = absurd c
-call_value core place of (Some Unknown) c g = breaks (broken 15 place) refl
-call_value core place of (Some Silent) c g = spoiled (inl refl)
-call_value core place of (Some (Bound f)) c g = bound_value core f of c
-call_value core place of (Some (Apply what)) c g = total_as (g what c) (λ r p. p) inr
+call_told : {S : Type 0} (core : Core) (place : Place) (of : Option (TypeId × Place)) (b : Bool) (g : Applied → Judgement Constant) (u : Option Use) → is_constant_call of b u ≡ true → ((what : Applied) → b ≡ true → Told S (checked (g what))) → Told ((u ≡ Some Silent) ⊎ S) (checked (call_means core place of g u))
+call_told core place of b g None c h = absurd (false_is c)
+call_told core place of b g (Some Unknown) c h = whole whole_rule
+call_told core place of b g (Some Silent) c h = spoiled (inl refl)
+call_told core place of b g (Some (Bound f)) c h = bound_told core f of c
+call_told core place of b g (Some (Apply what)) c h = told_as (h what c) inr
 
 function_speaks : (f : Function) → use_of_function f ≡ Some Silent → ⊥
 function_speaks Low e = absurd (cc)
@@ -135,28 +213,11 @@ silent_is core (Some (BuiltInNamed (FunctionNamed f))) e = absurd (function_spea
 silent_is core (Some (BuiltInNamed Chr)) e = absurd (cc)
 silent_is core m e = absurd (cc)
 
+spoiled_call : {S : Type 0} (core : Core) (m : Option Meaning) → (use_of core m ≡ Some Silent) ⊎ S → (m ≡ Some Spoiled) ⊎ S
+spoiled_call core m (inl e) = inl (silent_is core m e)
+spoiled_call core m (inr s) = inr s
+
 -- ---- expressions
-
-literal_value : {S : Type 0} (text : List ℕ) → Total (LiteralIs text) Never S
-literal_value [] = has _ refl
-literal_value (b ∷ []) = has _ refl
-literal_value (b ∷ c ∷ text) = has _ refl
-
-element_value : {T : Constant → Type 0} {P : Refusal → Type 0} {S : Type 0} (core : Core) (at : Place) → Total T P S → Total (Through T (ElementIs core)) (Either P (Through T (ElementBreaks core at))) S
-element_value core at h = total_through h (λ a. total_test total_test_fine)
-
-of_range : {P Q R S U : Type 0} → ((P ⊎ Q) ⊎ (R ⊎ S)) ⊎ U → (P ⊎ R) ⊎ ((Q ⊎ S) ⊎ U)
-of_range (inl (inl (inl p))) = inl (inl p)
-of_range (inl (inl (inr q))) = inr (inl (inl q))
-of_range (inl (inr (inl r))) = inl (inr r)
-of_range (inl (inr (inr s))) = inr (inl (inr s))
-of_range (inr u) = inr (inr u)
-
-of_list : {P Q R S : Type 0} → ((P ⊎ Q) ⊎ R) ⊎ S → P ⊎ ((Q ⊎ R) ⊎ S)
-of_list (inl (inl (inl p))) = inl p
-of_list (inl (inl (inr q))) = inr (inl (inl q))
-of_list (inl (inr r)) = inr (inl (inr r))
-of_list (inr s) = inr (inr s)
 
 regrouped : {P Q R : Type 0} → (P ⊎ Q) ⊎ R → P ⊎ (Q ⊎ R)
 regrouped (inl (inl p)) = inl p
@@ -167,57 +228,63 @@ first_only : {P : Type 0} → P ⊎ ⊥ → P
 first_only (inl p) = p
 first_only (inr never) = absurd never
 
-unless : {P : Type 0} → ⊥ ⊎ P → P
-unless (inl never) = absurd never
-unless (inr p) = p
+last_only : {P : Type 0} → ⊥ ⊎ P → P
+last_only (inl never) = absurd never
+last_only (inr p) = p
 
-spoiled_call : {S : Type 0} (core : Core) (m : Option Meaning) → (use_of core m ≡ Some Silent) ⊎ S → (m ≡ Some Spoiled) ⊎ S
-spoiled_call core m (inl e) = inl (silent_is core m e)
-spoiled_call core m (inr s) = inr s
+numbered : {S : Type 0} (n : Option (ℕ × Place)) (j : Judgement Constant) → Told S (checked j) → Told S (checked (or_number n j))
+numbered None j h = h
+numbered (Some n) j h = whole (entered_whole number_too_large n.1 table.integer (nodes 2) (within (neg_ℤ (pos n.0))))
 
 mutual
-  pub has_value : (core : Core) (names : List Named) (e : Expression) → IsConstant core names e → Total (Evaluates core names e) (ConstantBreaks core names e) (IsSpoiled names e)
-  has_value core names (chain first rest) c = behind_value core names (start_of first) (Evaluates core names first) (ConstantBreaks core names first) (IsSpoiled names first) rest c.1 (has_value core names first c.0)
-  has_value core names (prefixed Minus p (number n q)) c = total_entry_fine
-  has_value core names (prefixed o p e) c = total_through (has_value core names e c) (λ a. total_entry (λ of. total_entry_fine))
-  has_value core names (number n p) c = total_entry_fine
-  has_value core names (nil p) c = has _ refl
-  has_value core names (set p es) c = total_made (total_as (gathered_value core names (Only no_members) Never ⊥ es c (has no_members refl)) (λ r. unless) unless)
-  has_value core names (literal text p no_selectors) c = literal_value text
-  has_value core names (literal text p (selectors s ss)) c = absurd c
-  has_value core names (designated d) c = designator_value core names d c
-  has_value core names (inherited p d) c = absurd c
+  pub has_value : (core : Core) (names : List Named) (e : Expression) → is_constant core names e ≡ true → Told (IsSpoiled names e) (checked (constant core names e))
+  has_value core names (chain first rest) c =
+      let k = both_true (is_constant core names first) (are_constant_operands core names rest) c in
+      behind_told core names (start_of first) (constant core names first) (IsSpoiled names first) rest k.1 (has_value core names first k.0)
+  has_value core names (prefixed o p e) c =
+      numbered (number_behind o e) (through (constant core names e) (prefix_means core p.place o)) (told_through (constant core names e) (prefix_means core p.place o) (has_value core names e c) (λ a. prefix_whole core p.place o a))
+  has_value core names (number n p) c = whole (entered_whole number_too_large p.place table.integer (nodes 1) (within (pos n)))
+  has_value core names (nil p) c = whole whole_fine
+  has_value core names (set p es) c =
+      told_changed boxed (checked (members core names (fine no_members) es)) (told_as (gathered_told core names (fine no_members) ⊥ es c (whole whole_fine)) last_only)
+  has_value core names (literal text p no_selectors) c = whole whole_fine
+  has_value core names (literal text p (selectors s ss)) c = absurd (false_is c)
+  has_value core names (designated d) c = designator_told core names d c
+  has_value core names (inherited p d) c = absurd (false_is c)
 
-  behind_value : (core : Core) (names : List Named) (start : Place) (T : Constant → Type 0) (P : Refusal → Type 0) (S : Type 0) (rest : Operations) → OperandsAreConstant core names rest → Total T P S → Total (EvaluatesBehind core names T rest) (Either P (BreaksBehind core names start T rest)) (S ⊎ OperandsAreSpoiled names rest)
-  behind_value core names start T P S no_operations c h = total_as h (λ r. inl) inl
-  behind_value core names start T P S (operation o p e others) c h =
-      total_as (behind_value core names start _ _ (S ⊎ IsSpoiled names e) others c.1.1
-      (total_two (total_as h (λ r p. p) inl) (total_as (has_value core names e c.1.0) (λ r p. p) inr) (λ a b. total_entry (λ of. total_entry_fine)))) (λ r. of_list) regrouped
+  behind_told : (core : Core) (names : List Named) (start : Place) (a : Judgement Constant) (S : Type 0) (rest : Operations) → are_constant_operands core names rest ≡ true → Told S (checked a) → Told (S ⊎ OperandsAreSpoiled names rest) (checked (operations core names start a rest))
+  behind_told core names start a S no_operations c h = told_as h inl
+  behind_told core names start a S (operation o p e others) c h =
+      let k = both_true (is_constant core names e) (are_constant_operands core names others) (both_true (is_folded o) _ c).1 in
+      told_as (behind_told core names start (followed a (λ a. followed (constant core names e) (operation_means core start o p.place a))) (S ⊎ IsSpoiled names e) others k.1
+      (told_two a (constant core names e) (operation_means core start o p.place) (told_as h inl) (told_as (has_value core names e k.0) inr) (operation_whole core start o p.place))) regrouped
 
-  gathered_value : (core : Core) (names : List Named) (T : Constant → Type 0) (P : Refusal → Type 0) (S : Type 0) (es : Elements) → ElementsAreConstant core names es → Total T P S → Total (Gathers core names T es) (Either P (GatheringBreaks core names T es)) (S ⊎ ElementsAreSpoiled names es)
-  gathered_value core names T P S no_elements c h = total_as h (λ r. inl) inl
-  gathered_value core names T P S (elements e es) c h =
-      total_as (gathered_value core names _ _ (S ⊎ ElementIsSpoiled names e) es c.1
-      (total_two (total_as h (λ r p. p) inl) (total_as (members_value core names e c.0) (λ r p. p) inr) (λ a b. total_test_fine))) (λ r. of_list) regrouped
+  gathered_told : (core : Core) (names : List Named) (a : Judgement Constant) (S : Type 0) (es : Elements) → are_constant_elements core names es ≡ true → Told S (checked a) → Told (S ⊎ ElementsAreSpoiled names es) (checked (members core names a es))
+  gathered_told core names a S no_elements c h = told_as h inl
+  gathered_told core names a S (elements e es) c h =
+      let k = both_true (is_constant_element core names e) (are_constant_elements core names es) c in
+      told_as (gathered_told core names (followed a (λ a. followed (element core names e) (gathered_means core (start_of_element e) a))) (S ⊎ ElementIsSpoiled names e) es k.1
+      (told_two a (element core names e) (gathered_means core (start_of_element e)) (told_as h inl) (told_as (members_told core names e k.0) inr) (gathered_whole core (start_of_element e)))) regrouped
 
-  members_value : (core : Core) (names : List Named) (e : Element) → ElementIsConstant core names e → Total (MembersAre core names e) (MembersBreak core names e) (ElementIsSpoiled names e)
-  members_value core names (one e) c = total_made (element_value core (start_of e) (has_value core names e c))
-  members_value core names (range e f) c =
-      total_as (total_two (total_as (element_value core (start_of e) (has_value core names e c.0)) (λ r p. p) inl)
-      (total_as (element_value core (start_of f) (has_value core names f c.1)) (λ r p. p) inr) (λ a b. total_test_fine)) (λ r. of_range) (λ s. s)
+  members_told : (core : Core) (names : List Named) (e : Element) → is_constant_element core names e ≡ true → Told (ElementIsSpoiled names e) (checked (element core names e))
+  members_told core names (one e) c =
+      told_followed (checked (constant core names e)) (λ o. checked (single_means core (start_of e) o)) (has_value core names e c) (λ o k. whole (single_whole core (start_of e) o k))
+  members_told core names (range e f) c =
+      let k = both_true (is_constant core names e) (is_constant core names f) c in
+      told_two (constant core names e) (constant core names f) (λ a. range_means core (start_of e) a (start_of f)) (told_as (has_value core names e k.0) inl) (told_as (has_value core names f k.1) inr) (range_whole core (start_of e) (start_of f))
 
-  designator_value : (core : Core) (names : List Named) (d : Designator) → DesignatorIsConstant core names d → Total (DesignatorIs core names d) (DesignatorBreaks core names d) (DesignatorIsSpoiled names d)
-  designator_value core names (designator (named n) no_selectors) c = name_value n.position.place (meaning_of names (lower n.text)) c
-  designator_value core names (designator (named n) (selectors (member m) no_selectors)) c =
-      total_as (qualified_value names n m (meaning_of names (lower n.text)) (λ q k. total_as (name_value q.1 q.0 k) (λ r p. p) inl) c) (λ r p. p) first_only
-  designator_value core names (designator (named n) (selectors (call args) no_selectors)) c =
-      total_as (call_value core n.position.place (type_named names args) (use_of core (meaning_of names (lower n.text))) c (argument_value core names n.position.place args)) (λ r p. p) (spoiled_call core (meaning_of names (lower n.text)))
-  designator_value core names (designator (named n) (selectors (member m) (selectors (call args) no_selectors))) c =
-      qualified_value names n m (meaning_of names (lower n.text)) (λ q k.
-      total_as (call_value core q.1 (type_named names args) (use_of core q.0) k (argument_value core names q.1 args)) (λ r p. p) (spoiled_call core q.0)) c
-  designator_value core names (designator (bracketed p e) no_selectors) c = total_made (has_value core names e c)
-  designator_value core names d c = absurd c
+  designator_told : (core : Core) (names : List Named) (d : Designator) → is_constant_designator core names d ≡ true → Told (DesignatorIsSpoiled names d) (checked (designated_constant core names d))
+  designator_told core names (designator (named n) no_selectors) c = name_told n.position.place (meaning_of names (lower n.text)) c
+  designator_told core names (designator (named n) (selectors (member m) no_selectors)) c =
+      told_as (qualified_told names n m (meaning_of names (lower n.text)) (λ q. is_constant_name q.0) (λ q. name_means q.1 q.0) (λ q k. told_as (name_told q.1 q.0 k) inl) c) first_only
+  designator_told core names (designator (named n) (selectors (call args) no_selectors)) c =
+      told_as (call_told core n.position.place (type_named names args) (is_constant_argument core names args) (argument_means core names n.position.place args) (use_of core (meaning_of names (lower n.text))) c (argument_told core names n.position.place args)) (spoiled_call core (meaning_of names (lower n.text)))
+  designator_told core names (designator (named n) (selectors (member m) (selectors (call args) no_selectors))) c =
+      qualified_told names n m (meaning_of names (lower n.text)) (λ q. is_constant_call (type_named names args) (is_constant_argument core names args) (use_of core q.0)) (λ q. call_means core q.1 (type_named names args) (argument_means core names q.1 args) (use_of core q.0)) (λ q k.
+      told_as (call_told core q.1 (type_named names args) (is_constant_argument core names args) (argument_means core names q.1 args) (use_of core q.0) k (argument_told core names q.1 args)) (spoiled_call core q.0)) c
+  designator_told core names (designator (bracketed p e) no_selectors) c = told_changed boxed (checked (constant core names e)) (has_value core names e c)
+  designator_told core names d c = absurd (false_is c)
 
-  argument_value : (core : Core) (names : List Named) (place : Place) (args : Arguments) (what : Applied) → ArgumentIsConstant core names args → Total (Through (ArgumentIs core names args) (UseIs core what)) (ArgumentBreaks core names place args what) (ArgumentIsSpoiled names args)
-  argument_value core names place (arguments (value e) no_arguments) what c = total_through (has_value core names e c) (use_value core what place (start_of e))
-  argument_value core names place args what c = breaks (broken 26 place) refl
+  argument_told : (core : Core) (names : List Named) (place : Place) (args : Arguments) (what : Applied) → is_constant_argument core names args ≡ true → Told (ArgumentIsSpoiled names args) (checked (argument_means core names place args what))
+  argument_told core names place (arguments (value e) no_arguments) what c = told_through (constant core names e) (use_means core what place (start_of e)) (has_value core names e c) (λ a. use_whole core what place (start_of e) a)
+  argument_told core names place args what c = whole whole_rule

@@ -2,7 +2,8 @@
 use Rattle.std.proofs.Common.{◌≡◌, ℤ, pos, negsuc, ◌*ℤ◌, ◌-ℤ◌, ◌+ℤ◌, ◌≤ℤ◌, ◌≤◌, ◌<◌, ap, subst, ◌∙◌, arith, to_z-of_z, SFits, w32, w64, of_z, to_z, unsigned_abs}
 use Rattle.std.proofs.lemmas.Int.{fits_signed_mul, ints}
 use Rattle.std.specs.Int.{IsNonNegative, int_rem_euclid}
-use Rattle.op_types.specs.Values.{IsRange, low_bits}
+use Rattle.op_core.specs.Sizes.{IsOrdinalRange}
+use Rattle.op_types.specs.Values.{low_bits}
 
 wide : (a : ℤ) → SFits w32 a → SFits w64 a
 wide a f = record { sfits = omega (arith, f.sfits) }
@@ -25,7 +26,7 @@ abbrev again : ℤ → ℤ
 again z = to_z w64 (of_z w64 z)
 
 -- the number from low to high that differs by a multiple of how many there are, in 64 bits
-pub low_is : (low high n r : ℤ) → SFits w64 low → SFits w64 high → SFits w32 n → SFits w64 r → IsRange (low, high) → low ≤ℤ high → r ≡ int_rem_euclid (again (again (to_z w32 (of_z w32 n)) -ℤ again low)) (again (again (again high -ℤ again low) +ℤ pos 1)) → IsNonNegative r → unsigned_abs r < unsigned_abs (again (again (again high -ℤ again low) +ℤ pos 1)) → again (again low +ℤ again r) ≡ low_bits low high n
+pub low_is : (low high n r : ℤ) → SFits w64 low → SFits w64 high → SFits w32 n → SFits w64 r → IsOrdinalRange (low, high) → low ≤ℤ high → r ≡ int_rem_euclid (again (again (to_z w32 (of_z w32 n)) -ℤ again low)) (again (again (again high -ℤ again low) +ℤ pos 1)) → IsNonNegative r → unsigned_abs r < unsigned_abs (again (again (again high -ℤ again low) +ℤ pos 1)) → again (again low +ℤ again r) ≡ low_bits low high n
 low_is low high n r fl fh fn fr small order is from below =
     let el : again low ≡ low = to_z-of_z fl in
     let eh : again high ≡ high = to_z-of_z fh in

@@ -1,7 +1,10 @@
+pub mod Answered
 pub mod Assignable
+pub mod ConstantParts
 pub mod ConstantRules
 pub mod Constants
 pub mod Entering
+pub mod Folding
 pub mod Names
 pub mod Operators
 pub mod Sets

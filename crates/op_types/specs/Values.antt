@@ -28,10 +28,6 @@ use Rattle.op_types.specs.declared.sort.Sort.{Sort}
 abbrev pub contains : ℤ × ℤ → ℤ → Bool
 contains r n = int_le r.0 n && int_le n r.1
 
--- ordinal types range so
-abbrev pub IsRange : ℤ × ℤ → Type 0
-IsRange r = (negsuc 2147483647 ≤ℤ r.0) × (r.0 ≤ℤ pos 4294967295) × (negsuc 4294967295 ≤ℤ r.1) × (r.1 ≤ℤ pos 4294967295)
-
 -- a number of 32 bits with a sign
 abbrev pub within : ℤ → Option Const
 within n = if contains (negsuc 2147483647, pos 2147483647) n then Some (Ordinal n) else None

@@ -1,19 +1,22 @@
 //! Constant expressions (Free Pascal Reference Guide, "Ordinary constants").
 ghost use Rattle.std.specs.Prelude.{◌≡◌, Some, IfOk};
 ghost use Rattle.std.specs.Option.{option_copied, option_map};
+ghost use Rattle.op_judgement.specs.Judgement.{fine, with_part};
 ghost use Rattle.op_tree.specs.Expression.{argument_of, arguments, call, designator, element_of, expr_of, member, named, no_arguments, no_selectors, prefixed, selector_of, selectors};
 ghost use Rattle.op_tree.specs.Lists.{arguments_of, operations_of};
 ghost use Rattle.op_tree.specs.Statement.{designator_of, elements_of};
-ghost use Rattle.op_types.specs.ConstantRules.{Folds};
-ghost use Rattle.op_types.specs.Constants.{FoldIs, Gives, GivesBehind, call_means, constant, designated_constant, element, in_brackets, members, no_members, sole, sole_means, type_named, use_means, use_of};
+ghost use Rattle.op_types.specs.Answered.{FoldIs, Folds};
+ghost use Rattle.op_types.specs.ConstantParts.{no_members, type_named, use_of};
+ghost use Rattle.op_types.specs.Constants as readings;
+ghost use Rattle.op_types.specs.Folding.{Finds, are_constant_elements, are_constant_operands, argument_means, call_means, constant, designated_constant, element, in_brackets, is_constant, is_constant_argument, is_constant_call, is_constant_designator, is_constant_element, members, operations};
 
 use crate::part::{
-    in_brackets, is_folded, made, no_members, nodes, number_behind, refuse, start_of,
-    start_of_element,
+    in_brackets, is_folded, made, no_members, nodes, number_behind, start_of, start_of_element,
 };
 use crate::{Meaning, Setting, Visible};
 use op_base::{NoMemory, Place};
 use op_core::{CheckError, Const, Core, FirstRefusal, Function, TypeId};
+use op_judgement::{refuse, rules};
 use op_tree::{
     Argument, Designator, Element, Expr, Name, Operation, Position, PrefixOperator, Root, Selector,
 };
@@ -66,7 +69,7 @@ pub fn fold(
     visible: &Visible,
     e: &Expr,
 ) -> Result<Option<Const>, CheckError>
-    ensures folded { FoldIs (constant core.now visible.now (expr_of e.now)) result }
+    ensures folded { FoldIs (is_constant core.now visible.now (expr_of e.now)) (constant core.now visible.now (expr_of e.now)) result }
     ensures law { Folds core.now visible.now (expr_of e.now) result }
 {
     let mut sink = FirstRefusal::new();
@@ -75,7 +78,7 @@ pub fn fold(
         core,
         visible,
     };
-    match setting.constant(&mut sink, e)? {
+    match setting.expression(&mut sink, e)? {
         None => Ok(None),
         Some(typed) => sink.or_typed(value_of(typed)),
     }
@@ -92,15 +95,22 @@ fn value_of(typed: Option<Constant>) -> Option<Const>
 
 impl<'a> Setting<'a> {
     /// What a constant expression means; its faults go into the sink.
-    #[cycle(folding)]
     pub fn constant(self, sink: &mut FirstRefusal, e: &Expr) -> Folded
-        ensures { IfOk result (Gives (constant self.entry.core.now self.entry.visible.now (expr_of e.now)) sink.old sink.new) }
+        ensures { IfOk result (readings.Gives (readings.constant self.entry.core.now self.entry.visible.now (expr_of e.now)) sink.old sink.new) }
+    {
+        let folded = self.expression(sink, e)?;
+        Ok(folded)
+    }
+
+    #[cycle(folding)]
+    fn expression(self, sink: &mut FirstRefusal, e: &Expr) -> Folded
+        ensures { IfOk result (Finds (is_constant self.entry.core.now self.entry.visible.now (expr_of e.now)) (constant self.entry.core.now self.entry.visible.now (expr_of e.now)) sink.old sink.new) }
     {
         match e {
-            Expr::Chain { first, rest } => {
-                let a = self.constant(sink, first)?;
-                self.operations(sink, start_of(first), a, rest)
-            }
+            Expr::Chain { first, rest } => match self.expression(sink, first)? {
+                None => Ok(None),
+                Some(a) => self.operations(sink, start_of(first), a, rest),
+            },
             Expr::Prefix {
                 operator,
                 position,
@@ -127,16 +137,14 @@ impl<'a> Setting<'a> {
         self,
         sink: &mut FirstRefusal,
         start: Place,
-        first: Option<Option<Constant>>,
+        first: Option<Constant>,
         rest: &[Operation],
     ) -> Folded
-        ensures { IfOk result (GivesBehind self.entry.core.now self.entry.visible.now start first (operations_of rest.now) sink.old sink.new) }
+        ensures { IfOk result (Finds (are_constant_operands self.entry.core.now self.entry.visible.now (operations_of rest.now)) (operations self.entry.core.now self.entry.visible.now start (with_part fine first) (operations_of rest.now)) sink.old sink.new) }
     {
-        let Some(mut a) = first else {
-            return Ok(None);
-        };
+        let mut a = first;
         for operation in rest {
-            let Some(b) = self.constant(sink, &operation.operand)? else {
+            let Some(b) = self.expression(sink, &operation.operand)? else {
                 return Ok(None);
             };
             if !is_folded(operation.operator) {
@@ -150,7 +158,7 @@ impl<'a> Setting<'a> {
 
     #[cycle(folding)]
     fn set(self, sink: &mut FirstRefusal, elements: &[Element]) -> Folded
-        ensures { IfOk result (Gives (option_map in_brackets (members self.entry.core.now self.entry.visible.now (Some no_members) (elements_of elements.now))) sink.old sink.new) }
+        ensures { IfOk result (Finds (are_constant_elements self.entry.core.now self.entry.visible.now (elements_of elements.now)) (in_brackets (members self.entry.core.now self.entry.visible.now (fine no_members) (elements_of elements.now))) sink.old sink.new) }
     {
         match self.members(sink, elements)? {
             None => Ok(None),
@@ -161,7 +169,7 @@ impl<'a> Setting<'a> {
     /// The elements of a set.
     #[cycle(folding)]
     fn members(self, sink: &mut FirstRefusal, elements: &[Element]) -> Folded
-        ensures { IfOk result (Gives (members self.entry.core.now self.entry.visible.now (Some no_members) (elements_of elements.now)) sink.old sink.new) }
+        ensures { IfOk result (Finds (are_constant_elements self.entry.core.now self.entry.visible.now (elements_of elements.now)) (members self.entry.core.now self.entry.visible.now (fine no_members) (elements_of elements.now)) sink.old sink.new) }
     {
         let mut set = Some(no_members(self.alloc));
         for element in elements {
@@ -175,18 +183,18 @@ impl<'a> Setting<'a> {
 
     #[cycle(folding)]
     fn element(self, sink: &mut FirstRefusal, part: &Element) -> Folded
-        ensures { IfOk result (Gives (element self.entry.core.now self.entry.visible.now (element_of part.now)) sink.old sink.new) }
+        ensures { IfOk result (Finds (is_constant_element self.entry.core.now self.entry.visible.now (element_of part.now)) (element self.entry.core.now self.entry.visible.now (element_of part.now)) sink.old sink.new) }
     {
         match part {
-            Element::One(e) => match self.constant(sink, e)? {
+            Element::One(e) => match self.expression(sink, e)? {
                 None => Ok(None),
                 Some(a) => Ok(Some(self.single(sink, start_of(e), a)?)),
             },
             Element::Range(e, f) => {
-                let Some(a) = self.constant(sink, e)? else {
+                let Some(a) = self.expression(sink, e)? else {
                     return Ok(None);
                 };
-                let Some(b) = self.constant(sink, f)? else {
+                let Some(b) = self.expression(sink, f)? else {
                     return Ok(None);
                 };
                 Ok(Some(self.range(sink, (start_of(e), a), (start_of(f), b))?))
@@ -203,12 +211,12 @@ impl<'a> Setting<'a> {
         position: Position,
         operand: &Expr,
     ) -> Folded
-        ensures { IfOk result (Gives (constant self.entry.core.now self.entry.visible.now (prefixed operator position (expr_of operand.now))) sink.old sink.new) }
+        ensures { IfOk result (Finds (is_constant self.entry.core.now self.entry.visible.now (prefixed operator position (expr_of operand.now))) (constant self.entry.core.now self.entry.visible.now (prefixed operator position (expr_of operand.now))) sink.old sink.new) }
     {
         if let Some((n, at)) = number_behind(operator, operand) {
             return Ok(Some(self.numeral(sink, at, 2, -(n as i64))));
         }
-        match self.constant(sink, operand)? {
+        match self.expression(sink, operand)? {
             None => Ok(None),
             Some(None) => Ok(Some(None)),
             Some(Some(a)) => Ok(Some(self.prefix(sink, position.place, operator, a))),
@@ -217,7 +225,7 @@ impl<'a> Setting<'a> {
 
     #[cycle(folding)]
     fn designated(self, sink: &mut FirstRefusal, called: &Designator) -> Folded
-        ensures { IfOk result (Gives (designated_constant self.entry.core.now self.entry.visible.now (designator_of called.now)) sink.old sink.new) }
+        ensures { IfOk result (Finds (is_constant_designator self.entry.core.now self.entry.visible.now (designator_of called.now)) (designated_constant self.entry.core.now self.entry.visible.now (designator_of called.now)) sink.old sink.new) }
     {
         match (&called.root, called.selectors.split_first()) {
             (Root::Named(name), None) => {
@@ -240,9 +248,9 @@ impl<'a> Setting<'a> {
 
     #[cycle(folding)]
     fn bracketed(self, sink: &mut FirstRefusal, inside: &Expr) -> Folded
-        ensures { IfOk result (Gives (option_map in_brackets (constant self.entry.core.now self.entry.visible.now (expr_of inside.now))) sink.old sink.new) }
+        ensures { IfOk result (Finds (is_constant self.entry.core.now self.entry.visible.now (expr_of inside.now)) (in_brackets (constant self.entry.core.now self.entry.visible.now (expr_of inside.now))) sink.old sink.new) }
     {
-        match self.constant(sink, inside)? {
+        match self.expression(sink, inside)? {
             None => Ok(None),
             Some(a) => Ok(Some(in_brackets(a))),
         }
@@ -251,7 +259,7 @@ impl<'a> Setting<'a> {
     /// A name, and the one thing that is selected of it.
     #[cycle(folding)]
     fn selected(self, sink: &mut FirstRefusal, name: &Name, first: &Selector) -> Folded
-        ensures { IfOk result (Gives (designated_constant self.entry.core.now self.entry.visible.now (designator (named name.now) (selectors (selector_of first.now) no_selectors))) sink.old sink.new) }
+        ensures { IfOk result (Finds (is_constant_designator self.entry.core.now self.entry.visible.now (designator (named name.now) (selectors (selector_of first.now) no_selectors))) (designated_constant self.entry.core.now self.entry.visible.now (designator (named name.now) (selectors (selector_of first.now) no_selectors))) sink.old sink.new) }
     {
         match first {
             Selector::Member(member) => self.member(sink, name, member),
@@ -272,7 +280,7 @@ impl<'a> Setting<'a> {
         name: &Name,
         second: &Selector,
     ) -> Folded
-        ensures { IfOk result (Gives (designated_constant self.entry.core.now self.entry.visible.now (designator (named unit.now) (selectors (member name.now) (selectors (selector_of second.now) no_selectors)))) sink.old sink.new) }
+        ensures { IfOk result (Finds (is_constant_designator self.entry.core.now self.entry.visible.now (designator (named unit.now) (selectors (member name.now) (selectors (selector_of second.now) no_selectors)))) (designated_constant self.entry.core.now self.entry.visible.now (designator (named unit.now) (selectors (member name.now) (selectors (selector_of second.now) no_selectors)))) sink.old sink.new) }
     {
         match second {
             Selector::Call { arguments } => self.call_in_unit(sink, unit, name, arguments),
@@ -289,7 +297,7 @@ impl<'a> Setting<'a> {
         name: &Name,
         list: &[Argument],
     ) -> Folded
-        ensures { IfOk result (Gives (designated_constant self.entry.core.now self.entry.visible.now (designator (named unit.now) (selectors (member name.now) (selectors (call (arguments_of list.now)) no_selectors)))) sink.old sink.new) }
+        ensures { IfOk result (Finds (is_constant_designator self.entry.core.now self.entry.visible.now (designator (named unit.now) (selectors (member name.now) (selectors (call (arguments_of list.now)) no_selectors)))) (designated_constant self.entry.core.now self.entry.visible.now (designator (named unit.now) (selectors (member name.now) (selectors (call (arguments_of list.now)) no_selectors)))) sink.old sink.new) }
     {
         match self.qualified(unit, name)? {
             None => Ok(None),
@@ -306,21 +314,21 @@ impl<'a> Setting<'a> {
         meaning: Option<&Meaning>,
         list: &[Argument],
     ) -> Folded
-        ensures { IfOk result (Gives (call_means self.entry.core.now place (type_named self.entry.visible.now (arguments_of list.now)) (sole self.entry.core.now self.entry.visible.now (arguments_of list.now)) (use_of self.entry.core.now (option_copied meaning.entry))) sink.old sink.new) }
+        ensures { IfOk result (Finds (is_constant_call (type_named self.entry.visible.now (arguments_of list.now)) (is_constant_argument self.entry.core.now self.entry.visible.now (arguments_of list.now)) (use_of self.entry.core.now (option_copied meaning.entry))) (call_means self.entry.core.now place (type_named self.entry.visible.now (arguments_of list.now)) (argument_means self.entry.core.now self.entry.visible.now place (arguments_of list.now)) (use_of self.entry.core.now (option_copied meaning.entry))) sink.old sink.new) }
     {
         match self.use_of(meaning) {
             None => Ok(None),
-            Some(Use::Unknown) => Ok(Some(refuse(sink, 15, place))),
+            Some(Use::Unknown) => Ok(Some(refuse(sink, rules::UNKNOWN_NAME, place))),
             Some(Use::Silent) => Ok(Some(None)),
             Some(Use::Bound(function)) => match self.type_named(list)? {
                 None => Ok(None),
                 Some((of, at)) => Ok(Some(self.bound(sink, function, of, at))),
             },
             Some(Use::Apply(what)) => match list.split_first() {
-                None => Ok(Some(refuse(sink, 26, place))),
+                None => Ok(Some(refuse(sink, rules::WRONG_ARGUMENTS, place))),
                 Some((first, others)) => match others.split_first() {
                     None => self.argument(sink, what, place, first),
-                    Some(_) => Ok(Some(refuse(sink, 26, place))),
+                    Some(_) => Ok(Some(refuse(sink, rules::WRONG_ARGUMENTS, place))),
                 },
             },
         }
@@ -335,15 +343,15 @@ impl<'a> Setting<'a> {
         place: Place,
         first: &Argument,
     ) -> Folded
-        ensures { IfOk result (Gives (sole_means place (use_means self.entry.core.now what place) (sole self.entry.core.now self.entry.visible.now (arguments (argument_of first.now) no_arguments))) sink.old sink.new) }
+        ensures { IfOk result (Finds (is_constant_argument self.entry.core.now self.entry.visible.now (arguments (argument_of first.now) no_arguments)) (argument_means self.entry.core.now self.entry.visible.now place (arguments (argument_of first.now) no_arguments) what) sink.old sink.new) }
     {
         match first {
-            Argument::Value(e) => match self.constant(sink, e)? {
+            Argument::Value(e) => match self.expression(sink, e)? {
                 None => Ok(None),
                 Some(None) => Ok(Some(None)),
                 Some(Some(a)) => Ok(Some(self.used(sink, what, place, start_of(e), a)?)),
             },
-            _ => Ok(Some(refuse(sink, 26, place))),
+            _ => Ok(Some(refuse(sink, rules::WRONG_ARGUMENTS, place))),
         }
     }
 }

@@ -4,9 +4,8 @@ ghost use Rattle.op_core.specs.Sizes.{IsBehind, KeepsExtents};
 ghost use Rattle.op_core.specs.Types.{predefined};
 ghost use Rattle.op_types.specs.Entering.{entered, sets_of, with_type, with_types};
 
-use crate::size::extent_by;
 use op_base::NoMemory;
-use op_core::{Core, CoreType, IntegerKind, TypeId};
+use op_core::{Core, CoreType, IntegerKind, TypeId, extent_by};
 use std::alloc::Global;
 
 /// Enters a type behind the others, with the extent of its values, and behind it the set types that sets of its values have.

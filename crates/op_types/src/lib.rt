@@ -12,7 +12,6 @@ mod operator;
 mod part;
 mod set;
 mod setting;
-mod size;
 mod sort;
 mod value;
 mod visible;
@@ -27,7 +26,6 @@ pub use part::{
 };
 pub use set::{common_set, set_behind, set_over, widest_set};
 pub use setting::Setting;
-pub use size::{extent_of, is_managed, range_of, size_of, type_at, values_of};
 pub use sort::{OrdinalKind, Sort, kind_of, sort_of};
 pub use value::{bytes_of, in_range, number_of};
 pub use visible::{BuiltIn, Meaning, Visible};

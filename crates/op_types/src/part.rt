@@ -1,12 +1,15 @@
 //! What the parts of constant expressions mean, once their own parts are constants.
 ghost use Rattle.std.specs.Prelude.{◌≡◌, [], Some, None, IfOk, if◌then◌else◌};
 ghost use Rattle.std.specs.Option.{option_and_then, option_copied, option_map};
-ghost use Rattle.op_core.specs.Faults.{refused, with_part};
+ghost use Rattle.op_judgement.specs.Judgement.{Reports, with_part};
 ghost use Rattle.op_tree.specs.Expression.{element_of, expr_of};
 ghost use Rattle.op_tree.specs.Lists.{arguments_of};
-ghost use Rattle.op_types.specs.Constants.{Gives, Reports, application_means, bound_means, cast_means, element_means, entered, gathered_means, is_folded, joined, literal_means, loose, made, members_of, name_means, no_members, nodes, number_behind, numeral, only_value, operation_means, plus, prefix_means, qualified, range_means, rule_of, single_means, start_of, start_of_element, type_in, type_named, type_of_name, type_of_value, use_means, use_of, use_of_function};
-ghost use Rattle.op_types.specs.Names.{lower, meaning_of};
 ghost use Rattle.op_tree.specs.Statement.{designator_of, selectors_of};
+ghost use Rattle.op_types.specs.Assignable.{true_of};
+ghost use Rattle.op_types.specs.ConstantParts.{boxed, is_folded, joined, literal_means, loose, made, members_of, no_members, nodes, number_behind, only_value, plus, qualified, rule_of, start_of, start_of_element, type_in, type_named, type_of_name, type_of_value, use_of, use_of_function};
+ghost use Rattle.op_types.specs.Constants as readings;
+ghost use Rattle.op_types.specs.Folding.{Finds, application_means, bound_means, cast_means, element_means, entered, gathered_means, is_constant_name, name_means, numeral, operation_means, prefix_means, range_means, single_means, use_means};
+ghost use Rattle.op_types.specs.Names.{lower, meaning_of};
 
 use crate::assign::assignable;
 use crate::constant::{Applied, Constant, Folded, Part, Use, Weight};
@@ -15,22 +18,14 @@ use crate::set::{between, combined, common_set, set_over};
 use crate::sort::{Sort, kind_of, sort_of};
 use crate::value::{applied, before, bound_of, cast, number_of, operated, within};
 use crate::{BuiltIn, Meaning, Setting};
-use op_base::{NoMemory, Place, Refusal, Rule, Sequence};
+use op_base::{NoMemory, Place, Rule, Sequence};
 use op_core::{Const, FirstRefusal, Function, TypeId};
+use op_judgement::{refuse, rules};
 use op_scan::CompactText;
 use op_tree::{
     Argument, Designator, Element, Expr, Name, Operator, PrefixOperator, Root, Selector,
 };
 use std::alloc::Global;
-
-/// Reports the rule at a place.
-pub fn refuse(sink: &mut FirstRefusal, number: u8, place: Place) -> Option<Constant>
-    ensures { Reports (refused number place) sink.old sink.new result }
-{
-    let rule = Rule { number, feature: 0 };
-    sink.report(Refusal { rule, place });
-    None
-}
 
 /// A constant, a set taking a word of its own.
 pub fn made(value: Const, of: TypeId, weight: Weight) -> Constant
@@ -73,7 +68,7 @@ pub fn joined(a: Weight, b: Weight) -> Weight
 
 /// A node round what is inside.
 pub fn in_brackets(inside: Option<Constant>) -> Option<Constant>
-    ensures { result ≡ option_map (λ a. made a.value a.of (joined a.weight (nodes 0))) inside }
+    ensures { result ≡ option_map boxed inside }
 {
     let a = inside?;
     Some(made(a.value, a.of, joined(a.weight, nodes(0))))
@@ -160,7 +155,7 @@ pub fn only_value(arguments: &[Argument]) -> Option<&Expr>
 /// A constant, where there is such a value; else the rule is broken at the place.
 fn entered(
     sink: &mut FirstRefusal,
-    rule: (u8, Place),
+    rule: (Rule, Place),
     of: TypeId,
     weight: Weight,
     value: Option<Const>,
@@ -188,12 +183,12 @@ pub fn copy_of(alloc: Global, value: &Const) -> Result<Const, NoMemory>
 }
 
 /// The rule that an argument breaks which the function does not take.
-fn rule_of(function: Function) -> u8
+fn rule_of(function: Function) -> Rule
     ensures { result ≡ rule_of function }
 {
     match function {
-        Function::Ord | Function::Succ | Function::Pred => 23,
-        _ => 20,
+        Function::Ord | Function::Succ | Function::Pred => rules::NOT_ORDINAL,
+        _ => rules::NOT_ASSIGNABLE,
     }
 }
 
@@ -234,7 +229,13 @@ impl<'a> Setting<'a> {
     ) -> Option<Constant>
         ensures { Reports (numeral place count n) sink.old sink.new result }
     {
-        entered(sink, (36, place), TypeId::INTEGER, nodes(count), within(n))
+        entered(
+            sink,
+            (rules::NUMBER_TOO_LARGE, place),
+            TypeId::INTEGER,
+            nodes(count),
+            within(n),
+        )
     }
 
     /// A literal, and what is selected of it. A text of one byte is a Char until a string is needed.
@@ -265,10 +266,16 @@ impl<'a> Setting<'a> {
         ensures { Reports (prefix_means self.entry.core.now place operator a) sink.old sink.new result }
     {
         let Some(of) = prefixed(operator, sort_of(self.core, a.of)) else {
-            return refuse(sink, 21, place);
+            return refuse(sink, rules::NO_OPERATOR, place);
         };
         let value = before(operator, of, number_of(&a.value));
-        entered(sink, (33, place), of, joined(a.weight, nodes(0)), value)
+        entered(
+            sink,
+            (rules::OUT_OF_RANGE, place),
+            of,
+            joined(a.weight, nodes(0)),
+            value,
+        )
     }
 
     /// An operator at a place between two parts, in an expression that begins at `start`.
@@ -289,10 +296,16 @@ impl<'a> Setting<'a> {
         let sorts = (sort_of(self.core, a.of), sort_of(self.core, b.of));
         let sets = common_set(self.core, a.of, b.of);
         let Some(of) = operation(operator, sorts.0, sorts.1, sets) else {
-            return Ok(refuse(sink, 21, place));
+            return Ok(refuse(sink, rules::NO_OPERATOR, place));
         };
         let value = operated(self.alloc, operator, sorts, &a.value, &b.value)?;
-        Ok(entered(sink, (33, start), of, joined(a.weight, b.weight), value))
+        Ok(entered(
+            sink,
+            (rules::OUT_OF_RANGE, start),
+            of,
+            joined(a.weight, b.weight),
+            value,
+        ))
     }
 
     /// An element of a set that begins at a place.
@@ -311,10 +324,10 @@ impl<'a> Setting<'a> {
                 if 0 <= n && n <= 31 {
                     Some(a)
                 } else {
-                    refuse(sink, 34, at)
+                    refuse(sink, rules::NO_SET_ELEMENT, at)
                 }
             }
-            _ => refuse(sink, 23, at),
+            _ => refuse(sink, rules::NOT_ORDINAL, at),
         }
     }
 
@@ -348,7 +361,7 @@ impl<'a> Setting<'a> {
             return Ok(None);
         };
         if !assignable(self.core, b.of, a.of) {
-            return Ok(refuse(sink, 20, last.0));
+            return Ok(refuse(sink, rules::NOT_ASSIGNABLE, last.0));
         }
         let of = common_set(
             self.core,
@@ -373,7 +386,7 @@ impl<'a> Setting<'a> {
             return Ok(None);
         };
         if !sort_of(self.core, a.of).is_set_as(sort_of(self.core, b.of)) {
-            return Ok(refuse(sink, 20, at));
+            return Ok(refuse(sink, rules::NOT_ASSIGNABLE, at));
         }
         let of = common_set(self.core, a.of, b.of);
         let members = combined(
@@ -387,10 +400,11 @@ impl<'a> Setting<'a> {
 
     /// What a name stands for, where that is a constant.
     pub fn name(self, sink: &mut FirstRefusal, place: Place, meaning: Option<&Meaning>) -> Folded
-        ensures { IfOk result (Gives (name_means place (option_copied meaning.entry)) sink.old sink.new) }
+        ensures found { IfOk result (Finds (is_constant_name (option_copied meaning.entry)) (name_means place (option_copied meaning.entry)) sink.old sink.new) }
+        ensures reading { IfOk result (readings.Gives (readings.name_means place (option_copied meaning.entry)) sink.old sink.new) }
     {
         match meaning {
-            None => Ok(Some(refuse(sink, 15, place))),
+            None => Ok(Some(refuse(sink, rules::UNKNOWN_NAME, place))),
             Some(Meaning::Spoiled) => Ok(Some(None)),
             Some(Meaning::Constant(constant)) => {
                 let value = copy_of(self.alloc, &constant.value)?;
@@ -423,7 +437,7 @@ impl<'a> Setting<'a> {
 
     /// A name behind a unit's.
     pub fn member(self, sink: &mut FirstRefusal, unit: &Name, name: &Name) -> Folded
-        ensures { IfOk result (Gives (option_and_then (λ q. name_means q.1 q.0) (qualified self.entry.visible.now unit.now name.now)) sink.old sink.new) }
+        ensures { IfOk result (Finds (true_of (λ q. is_constant_name q.0) (qualified self.entry.visible.now unit.now name.now)) (with_part (λ q. name_means q.1 q.0) (qualified self.entry.visible.now unit.now name.now)) sink.old sink.new) }
     {
         match self.qualified(unit, name)? {
             None => Ok(None),
@@ -506,7 +520,7 @@ impl<'a> Setting<'a> {
         ensures { Reports (bound_means self.entry.core.now function (of, at)) sink.old sink.new result }
     {
         match bound_of(self.core, function, of) {
-            None => refuse(sink, 23, at),
+            None => refuse(sink, rules::NOT_ORDINAL, at),
             Some((value, of)) => Some(made(value, of, nodes(2))),
         }
     }
@@ -540,9 +554,15 @@ impl<'a> Setting<'a> {
         match sort_of(self.core, a.of) {
             Sort::Ordinal(_) => {
                 let value = cast(self.core, of, number_of(&a.value));
-                entered(sink, (33, place), of, joined(a.weight, nodes(0)), value)
+                entered(
+                    sink,
+                    (rules::OUT_OF_RANGE, place),
+                    of,
+                    joined(a.weight, nodes(0)),
+                    value,
+                )
             }
-            _ => refuse(sink, 39, place),
+            _ => refuse(sink, rules::NO_CAST, place),
         }
     }
 
@@ -560,6 +580,12 @@ impl<'a> Setting<'a> {
             return Ok(refuse(sink, rule_of(function), at));
         };
         let value = applied(self.alloc, self.core, function, a.of, &a.value)?;
-        Ok(entered(sink, (33, place), of, joined(a.weight, nodes(0)), value))
+        Ok(entered(
+            sink,
+            (rules::OUT_OF_RANGE, place),
+            of,
+            joined(a.weight, nodes(0)),
+            value,
+        ))
     }
 }

@@ -4,10 +4,9 @@ ghost use Rattle.std.specs.Prelude.{◌≡◌, ◌++◌, IfOk};
 ghost use Rattle.op_core.specs.Sizes.{type_at};
 ghost use Rattle.op_types.specs.Sets.{behind, between, combined, common_set, has, is_between, is_kept, is_part, is_set_of, only, set_behind, set_over, widest_set};
 
-use crate::size::type_at;
 use crate::sort::{OrdinalKind, Sort, kind_of, sort_of};
 use op_base::NoMemory;
-use op_core::{Core, CoreType, TypeId};
+use op_core::{Core, CoreType, TypeId, type_at};
 use op_tree::Operator;
 use std::alloc::Global;
 

@@ -2,8 +2,7 @@
 ghost use Rattle.std.specs.Prelude.{◌≡◌};
 ghost use Rattle.op_types.specs.Sorts.{are_sets, is_reference, is_text, kind_of, root_of, same_kind, sort_of};
 
-use crate::size::type_at;
-use op_core::{ClassId, Core, CoreType, InterfaceId, TypeId};
+use op_core::{ClassId, Core, CoreType, InterfaceId, TypeId, type_at};
 
 /// What ordinal types with values in common have in common: the type of which they are subranges, and all integers.
 #[derive(Clone, Copy)]

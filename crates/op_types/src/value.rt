@@ -1,13 +1,12 @@
 //! The values of constant expressions (Free Pascal Reference Guide, "Ordinary constants" and "Operators").
 ghost use Rattle.std.specs.Prelude.{◌≡◌, ◌≤ℤ◌, ◌-ℤ◌, pos, IfOk, if◌then◌else◌};
-ghost use Rattle.op_core.specs.Sizes.{range_of, type_at};
-ghost use Rattle.op_types.specs.Values.{IsRange, applied, before, bound_of, by_values, bytes_of, cast, compared_by, contains, in_range, is_in, low_bits, number_of, on_numbers, on_sets, on_texts, operated, precedes_bytes, text_within, truth, within};
+ghost use Rattle.op_core.specs.Sizes.{IsOrdinalRange, range_of, type_at};
+ghost use Rattle.op_types.specs.Values.{applied, before, bound_of, by_values, bytes_of, cast, compared_by, contains, in_range, is_in, low_bits, number_of, on_numbers, on_sets, on_texts, operated, precedes_bytes, text_within, truth, within};
 
 use crate::set::{combined, is_part};
-use crate::size::{integer_range, range_of, type_at};
 use crate::sort::Sort;
 use op_base::{NoMemory, Sequence, rem_trunc, shl5, shr_logical};
-use op_core::{Const, Core, CoreType, Function, TypeId};
+use op_core::{Const, Core, CoreType, Function, TypeId, integer_range, range_of, type_at};
 use op_scan::CompactText;
 use op_tree::{Operator, PrefixOperator};
 use std::alloc::Global;
@@ -290,7 +289,7 @@ pub fn cast(core: &Core, of: TypeId, n: i32) -> Option<Const>
 
 /// The number from `low` to `high` that has the same low bits.
 fn low_bits(low: i64, high: i64, n: i32) -> Option<Const>
-    requires small { IsRange (low, high) }
+    requires small { IsOrdinalRange (low, high) }
     requires order { low ≤ℤ high }
     ensures { result ≡ within (low_bits low high n) }
 {

@@ -1,10 +1,10 @@
 use Rattle.std.proofs.Common.{[], refl, sym, ◌∙◌, arith}
-use Rattle.op_parse_code.proofs.Branches.{branches_list, led_ends, led_lead, led_body, led_stops, led_more, led_last, case_whole, case_else_whole, CaseBranches, case_refuses, list_first, list_end, list_else}
+use Rattle.op_parse_code.proofs.Branches.{fits_branches, of_heads, branches_list, led_ends, led_lead, led_body, led_stops, led_more, led_last, case_whole, case_else_whole, CaseBranches, case_refuses, list_first, list_end, list_else}
 use Rattle.op_parse_code.proofs.Calls.{designator_statement}
 use Rattle.op_parse_code.proofs.Errors.{passed, ok_weaker, err_weaker}
-use Rattle.op_parse_code.proofs.Handlers.{handlers_list, except_whole, except_on_whole, except_else_whole, try_body, try_except_missing, try_except_refuses, try_finally_whole, try_except_whole, except_statements, except_handlers, try_finally_refuses}
+use Rattle.op_parse_code.proofs.Handlers.{fits_handlers, handlers_list, except_whole, except_on_whole, except_else_whole, try_body, try_except_missing, try_except_refuses, try_finally_whole, try_except_whole, except_statements, except_handlers, try_finally_refuses}
 use Rattle.op_parse_code.proofs.Names.{empty_not}
-use Rattle.op_parse_code.proofs.Statements.{statement_none, statement_too_deep, word_refuses, word_whole, word_begins, call_whole, call_statement_refuses, sequencing_item, sequencing_more, sequencing_ends, block_whole, if_otherwise, if_whole, if_else_whole, while_refuses, while_whole, repeat_body, repeat_open, repeat_condition, repeat_whole, for_variable, for_in_missing, for_in_refuses, for_first, for_direction, for_last, for_to_whole, for_in_whole, block_refuses, end_body, end_open, headed_first, headed_mark, headed_rest, IfBody, if_body, if_refuses}
+use Rattle.op_parse_code.proofs.Statements.{if_heads, do_heads, statement_none, statement_too_deep, word_refuses, word_whole, word_begins, call_whole, call_statement_refuses, sequencing_item, sequencing_more, sequencing_ends, block_whole, if_otherwise, if_whole, if_else_whole, while_refuses, while_whole, repeat_body, repeat_open, repeat_condition, repeat_whole, for_variable, for_in_missing, for_in_refuses, for_first, for_direction, for_last, for_to_whole, for_in_whole, block_refuses, end_body, end_open, headed_first, headed_mark, headed_rest, IfBody, if_body, if_refuses}
 use Rattle.op_parse_code.proofs.StatementKnown.{known_branches, known_handlers}
 use Rattle.op_parse_code.specs.Opening.{kind_of_word}
 use Rattle.op_parse_code.specs.Refusal.{out_of_memory}
@@ -101,10 +101,10 @@ pub compound::statements-returns-in-None-clause-whole : goal.compound::statement
 compound::statements-returns-in-None-clause-whole t c = rw (c.fitted.ensures, c.in_ok-push.ensures.items) (sequencing_ends c.args.left c.args.end _ _ _ _ _ c.loop-statements.invariant.0 c.in_ok-statement.ensures.whole c.in-None.ensures.mark)
 
 pub compound::if_statement-returns-in_err-condition-clause-refused : goal.compound::if_statement-returns-in_err-condition-clause-refused
-compound::if_statement-returns-in_err-condition-clause-refused t c = passed c.from_residual.result c.from_residual.ensures.1 (λ y e. rw e (if_refuses c.args.position c.args.left c.args.end _ _ (headed_first mark.Then IfBody c.args.left c.args.end _ _ c.in_err-condition.ensures.refused)))
+compound::if_statement-returns-in_err-condition-clause-refused t c = passed c.from_residual.result c.from_residual.ensures.1 (λ y e. rw e (if_refuses c.args.position c.args.left c.args.end _ _ (headed_first mark.Then IfBody c.args.left c.args.end _ _ if_heads c.in_err-condition.ensures.refused)))
 
 pub compound::if_statement-returns-in_err-rest-clause-refused : goal.compound::if_statement-returns-in_err-rest-clause-refused
-compound::if_statement-returns-in_err-rest-clause-refused t c = passed c.from_residual-in_err-rest.result c.from_residual-in_err-rest.ensures.1 (λ y e. rw e (if_refuses c.args.position c.args.left c.args.end _ _ (headed_mark mark.Then IfBody c.args.left c.args.end _ _ _ _ c.in_ok-condition.ensures.whole (c.in_err-rest.ensures.refused _))))
+compound::if_statement-returns-in_err-rest-clause-refused t c = passed c.from_residual-in_err-rest.result c.from_residual-in_err-rest.ensures.1 (λ y e. rw e (if_refuses c.args.position c.args.left c.args.end _ _ (headed_mark mark.Then IfBody c.args.left c.args.end _ _ _ _ if_heads c.in_ok-condition.ensures.whole (c.in_err-rest.ensures.refused _))))
 
 pub compound::if_statement-returns-in_err-then-clause-refused : goal.compound::if_statement-returns-in_err-then-clause-refused
 compound::if_statement-returns-in_err-then-clause-refused t c = passed c.from_residual-in_err-then.result c.from_residual-in_err-then.ensures.1 (λ y e. rw e (if_refuses c.args.position c.args.left c.args.end _ _ (headed_rest mark.Then IfBody _ c.args.left c.args.end _ _ _ _ _ c.in_ok-condition.ensures.whole c.in_ok-rest.ensures.mark.1 (if_body c.args.left c.args.end _ _ c.in_err-then.ensures.refused))))
@@ -125,10 +125,10 @@ pub compound::if_statement-returns-in_ok-node-in-Some-clause-whole : goal.compou
 compound::if_statement-returns-in_ok-node-in-Some-clause-whole t c = rw c.in_ok-node-in-Some.ensures (if_else_whole c.args.position _ _ c.args.left _ _ _ _ _ _ _ _ _ c.in_ok-condition.ensures.whole c.in_ok-rest.ensures.mark.1 c.in_ok-then.ensures.whole c.in-Some.ensures.mark.1 c.in_ok-otherwise-in-Some.ensures.whole)
 
 pub repetition::while_loop-returns-in_err-condition-clause-refused : goal.repetition::while_loop-returns-in_err-condition-clause-refused
-repetition::while_loop-returns-in_err-condition-clause-refused t c = passed c.from_residual.result c.from_residual.ensures.1 (λ y e. rw e (while_refuses c.args.position c.args.left c.args.end _ _ (headed_first mark.Do_ SomeStatement c.args.left c.args.end _ _ c.in_err-condition.ensures.refused)))
+repetition::while_loop-returns-in_err-condition-clause-refused t c = passed c.from_residual.result c.from_residual.ensures.1 (λ y e. rw e (while_refuses c.args.position c.args.left c.args.end _ _ (headed_first mark.Do_ SomeStatement c.args.left c.args.end _ _ do_heads c.in_err-condition.ensures.refused)))
 
 pub repetition::while_loop-returns-in_err-rest-clause-refused : goal.repetition::while_loop-returns-in_err-rest-clause-refused
-repetition::while_loop-returns-in_err-rest-clause-refused t c = passed c.from_residual-in_err-rest.result c.from_residual-in_err-rest.ensures.1 (λ y e. rw e (while_refuses c.args.position c.args.left c.args.end _ _ (headed_mark mark.Do_ SomeStatement c.args.left c.args.end _ _ _ _ c.in_ok-condition.ensures.whole (c.in_err-rest.ensures.refused _))))
+repetition::while_loop-returns-in_err-rest-clause-refused t c = passed c.from_residual-in_err-rest.result c.from_residual-in_err-rest.ensures.1 (λ y e. rw e (while_refuses c.args.position c.args.left c.args.end _ _ (headed_mark mark.Do_ SomeStatement c.args.left c.args.end _ _ _ _ do_heads c.in_ok-condition.ensures.whole (c.in_err-rest.ensures.refused _))))
 
 pub repetition::while_loop-returns-in_err-body-clause-refused : goal.repetition::while_loop-returns-in_err-body-clause-refused
 repetition::while_loop-returns-in_err-body-clause-refused t c = passed c.from_residual-in_err-body.result c.from_residual-in_err-body.ensures.1 (λ y e. rw e (while_refuses c.args.position c.args.left c.args.end _ _ (headed_rest mark.Do_ SomeStatement _ c.args.left c.args.end _ _ _ _ _ c.in_ok-condition.ensures.whole c.in_ok-rest.ensures.mark.1 c.in_err-body.ensures.refused)))
@@ -164,10 +164,10 @@ pub repetition::for_loop-returns-in_err-direction-in-Some-clause-refused : goal.
 repetition::for_loop-returns-in_err-direction-in-Some-clause-refused t c = passed c.from_residual-in_err-direction-in-Some.result c.from_residual-in_err-direction-in-Some.ensures.1 (λ y e. rw e (for_direction c.args.position _ c.args.left c.args.end _ _ _ _ _ _ _ c.in_ok-variable.ensures.name c.in-Some.ensures.mark.1 c.in_ok-first-in-Some.ensures.whole (c.in_err-direction-in-Some.ensures.refused _)))
 
 pub repetition::for_loop-returns-in_err-last-in-Some-clause-refused : goal.repetition::for_loop-returns-in_err-last-in-Some-clause-refused
-repetition::for_loop-returns-in_err-last-in-Some-clause-refused t c = passed c.from_residual-in_err-last-in-Some.result c.from_residual-in_err-last-in-Some.ensures.1 (λ y e. rw e (for_last c.args.position _ c.args.left c.args.end _ _ _ _ _ _ _ _ _ c.in_ok-variable.ensures.name c.in-Some.ensures.mark.1 c.in_ok-first-in-Some.ensures.whole c.in_ok-direction-in-Some.ensures.whole (headed_first mark.Do_ SomeStatement c.args.left c.args.end _ _ c.in_err-last-in-Some.ensures.refused)))
+repetition::for_loop-returns-in_err-last-in-Some-clause-refused t c = passed c.from_residual-in_err-last-in-Some.result c.from_residual-in_err-last-in-Some.ensures.1 (λ y e. rw e (for_last c.args.position _ c.args.left c.args.end _ _ _ _ _ _ _ _ _ c.in_ok-variable.ensures.name c.in-Some.ensures.mark.1 c.in_ok-first-in-Some.ensures.whole c.in_ok-direction-in-Some.ensures.whole (headed_first mark.Do_ SomeStatement c.args.left c.args.end _ _ do_heads c.in_err-last-in-Some.ensures.refused)))
 
 pub repetition::for_loop-returns-in_err-rest-in-Some-clause-refused : goal.repetition::for_loop-returns-in_err-rest-in-Some-clause-refused
-repetition::for_loop-returns-in_err-rest-in-Some-clause-refused t c = passed c.from_residual-in_err-rest-in-Some.result c.from_residual-in_err-rest-in-Some.ensures.1 (λ y e. rw e (for_last c.args.position _ c.args.left c.args.end _ _ _ _ _ _ _ _ _ c.in_ok-variable.ensures.name c.in-Some.ensures.mark.1 c.in_ok-first-in-Some.ensures.whole c.in_ok-direction-in-Some.ensures.whole (headed_mark mark.Do_ SomeStatement c.args.left c.args.end _ _ _ _ c.in_ok-last-in-Some.ensures.whole (c.in_err-rest-in-Some.ensures.refused _))))
+repetition::for_loop-returns-in_err-rest-in-Some-clause-refused t c = passed c.from_residual-in_err-rest-in-Some.result c.from_residual-in_err-rest-in-Some.ensures.1 (λ y e. rw e (for_last c.args.position _ c.args.left c.args.end _ _ _ _ _ _ _ _ _ c.in_ok-variable.ensures.name c.in-Some.ensures.mark.1 c.in_ok-first-in-Some.ensures.whole c.in_ok-direction-in-Some.ensures.whole (headed_mark mark.Do_ SomeStatement c.args.left c.args.end _ _ _ _ do_heads c.in_ok-last-in-Some.ensures.whole (c.in_err-rest-in-Some.ensures.refused _))))
 
 pub repetition::for_loop-returns-in_err-body-in-Some-clause-refused : goal.repetition::for_loop-returns-in_err-body-in-Some-clause-refused
 repetition::for_loop-returns-in_err-body-in-Some-clause-refused t c = passed c.from_residual-in_err-body-in-Some.result c.from_residual-in_err-body-in-Some.ensures.1 (λ y e. rw e (for_last c.args.position _ c.args.left c.args.end _ _ _ _ _ _ _ _ _ c.in_ok-variable.ensures.name c.in-Some.ensures.mark.1 c.in_ok-first-in-Some.ensures.whole c.in_ok-direction-in-Some.ensures.whole (headed_rest mark.Do_ SomeStatement _ c.args.left c.args.end _ _ _ _ _ c.in_ok-last-in-Some.ensures.whole c.in_ok-rest-in-Some.ensures.mark.1 c.in_err-body-in-Some.ensures.refused)))
@@ -182,10 +182,10 @@ pub repetition::for_loop-returns-in_err-after-in-None-clause-refused : goal.repe
 repetition::for_loop-returns-in_err-after-in-None-clause-refused t c = passed c.from_residual-in_err-after-in-None.result c.from_residual-in_err-after-in-None.ensures.1 (λ y e. rw e (for_in_missing c.args.position c.args.left c.args.end _ _ _ _ c.in_ok-variable.ensures.name c.in-None.ensures.mark (c.in_err-after-in-None.ensures.refused _)))
 
 pub repetition::for_loop-returns-in_err-collection-in-None-clause-refused : goal.repetition::for_loop-returns-in_err-collection-in-None-clause-refused
-repetition::for_loop-returns-in_err-collection-in-None-clause-refused t c = passed c.from_residual-in_err-collection-in-None.result c.from_residual-in_err-collection-in-None.ensures.1 (λ y e. rw e (for_in_refuses c.args.position _ c.args.left c.args.end _ _ _ _ _ c.in_ok-variable.ensures.name c.in_ok-after-in-None.ensures.mark.1 (headed_first mark.Do_ SomeStatement c.args.left c.args.end _ _ c.in_err-collection-in-None.ensures.refused)))
+repetition::for_loop-returns-in_err-collection-in-None-clause-refused t c = passed c.from_residual-in_err-collection-in-None.result c.from_residual-in_err-collection-in-None.ensures.1 (λ y e. rw e (for_in_refuses c.args.position _ c.args.left c.args.end _ _ _ _ _ c.in_ok-variable.ensures.name c.in_ok-after-in-None.ensures.mark.1 (headed_first mark.Do_ SomeStatement c.args.left c.args.end _ _ do_heads c.in_err-collection-in-None.ensures.refused)))
 
 pub repetition::for_loop-returns-in_err-rest-in-None-clause-refused : goal.repetition::for_loop-returns-in_err-rest-in-None-clause-refused
-repetition::for_loop-returns-in_err-rest-in-None-clause-refused t c = passed c.from_residual-in_err-rest-in-None.result c.from_residual-in_err-rest-in-None.ensures.1 (λ y e. rw e (for_in_refuses c.args.position _ c.args.left c.args.end _ _ _ _ _ c.in_ok-variable.ensures.name c.in_ok-after-in-None.ensures.mark.1 (headed_mark mark.Do_ SomeStatement c.args.left c.args.end _ _ _ _ c.in_ok-collection-in-None.ensures.whole (c.in_err-rest-in-None.ensures.refused _))))
+repetition::for_loop-returns-in_err-rest-in-None-clause-refused t c = passed c.from_residual-in_err-rest-in-None.result c.from_residual-in_err-rest-in-None.ensures.1 (λ y e. rw e (for_in_refuses c.args.position _ c.args.left c.args.end _ _ _ _ _ c.in_ok-variable.ensures.name c.in_ok-after-in-None.ensures.mark.1 (headed_mark mark.Do_ SomeStatement c.args.left c.args.end _ _ _ _ do_heads c.in_ok-collection-in-None.ensures.whole (c.in_err-rest-in-None.ensures.refused _))))
 
 pub repetition::for_loop-returns-in_err-body-in-None-clause-refused : goal.repetition::for_loop-returns-in_err-body-in-None-clause-refused
 repetition::for_loop-returns-in_err-body-in-None-clause-refused t c = passed c.from_residual-in_err-body-in-None.result c.from_residual-in_err-body-in-None.ensures.1 (λ y e. rw e (for_in_refuses c.args.position _ c.args.left c.args.end _ _ _ _ _ c.in_ok-variable.ensures.name c.in_ok-after-in-None.ensures.mark.1 (headed_rest mark.Do_ SomeStatement _ c.args.left c.args.end _ _ _ _ _ c.in_ok-collection-in-None.ensures.whole c.in_ok-rest-in-None.ensures.mark.1 c.in_err-body-in-None.ensures.refused)))
@@ -197,13 +197,13 @@ pub repetition::for_loop-returns-in_ok-node-in-None-clause-whole : goal.repetiti
 repetition::for_loop-returns-in_ok-node-in-None-clause-whole t c = rw c.in_ok-node-in-None.ensures (for_in_whole c.args.position _ _ c.args.left _ _ _ _ _ _ _ _ _ c.in_ok-variable.ensures.name c.in_ok-after-in-None.ensures.mark.1 c.in_ok-collection-in-None.ensures.whole c.in_ok-rest-in-None.ensures.mark.1 c.in_ok-body-in-None.ensures.whole)
 
 pub branch::case_statement-returns-in_err-selector-clause-refused : goal.branch::case_statement-returns-in_err-selector-clause-refused
-branch::case_statement-returns-in_err-selector-clause-refused t c = passed c.from_residual.result c.from_residual.ensures.1 (λ y e. rw e (case_refuses c.args.position c.args.left c.args.end _ _ (headed_first mark.Of CaseBranches c.args.left c.args.end _ _ c.in_err-selector.ensures.refused)))
+branch::case_statement-returns-in_err-selector-clause-refused t c = passed c.from_residual.result c.from_residual.ensures.1 (λ y e. rw e (case_refuses c.args.position c.args.left c.args.end _ _ (headed_first mark.Of CaseBranches c.args.left c.args.end _ _ of_heads c.in_err-selector.ensures.refused)))
 
 pub branch::case_statement-returns-in_err-rest-clause-refused : goal.branch::case_statement-returns-in_err-rest-clause-refused
-branch::case_statement-returns-in_err-rest-clause-refused t c = passed c.from_residual-in_err-rest.result c.from_residual-in_err-rest.ensures.1 (λ y e. rw e (case_refuses c.args.position c.args.left c.args.end _ _ (headed_mark mark.Of CaseBranches c.args.left c.args.end _ _ _ _ c.in_ok-selector.ensures.whole (c.in_err-rest.ensures.refused _))))
+branch::case_statement-returns-in_err-rest-clause-refused t c = passed c.from_residual-in_err-rest.result c.from_residual-in_err-rest.ensures.1 (λ y e. rw e (case_refuses c.args.position c.args.left c.args.end _ _ (headed_mark mark.Of CaseBranches c.args.left c.args.end _ _ _ _ of_heads c.in_ok-selector.ensures.whole (c.in_err-rest.ensures.refused _))))
 
 pub branch::case_statement-returns-in_err-branches-clause-refused : goal.branch::case_statement-returns-in_err-branches-clause-refused
-branch::case_statement-returns-in_err-branches-clause-refused t c = passed c.from_residual-in_err-branches.result c.from_residual-in_err-branches.ensures.1 (λ y e. rw e (case_refuses c.args.position c.args.left c.args.end _ _ (headed_rest mark.Of CaseBranches _ c.args.left c.args.end _ _ _ _ _ c.in_ok-selector.ensures.whole c.in_ok-rest.ensures.mark.1 (list_first SomeBranches c.args.left c.args.end _ _ c.in_err-branches.ensures.refused))))
+branch::case_statement-returns-in_err-branches-clause-refused t c = passed c.from_residual-in_err-branches.result c.from_residual-in_err-branches.ensures.1 (λ y e. rw e (case_refuses c.args.position c.args.left c.args.end _ _ (headed_rest mark.Of CaseBranches _ c.args.left c.args.end _ _ _ _ _ c.in_ok-selector.ensures.whole c.in_ok-rest.ensures.mark.1 (list_first SomeBranches fits_branches c.args.left c.args.end _ _ c.in_err-branches.ensures.refused))))
 
 pub branch::case_statement-returns-in_err-rest-in-None-clause-refused : goal.branch::case_statement-returns-in_err-rest-in-None-clause-refused
 branch::case_statement-returns-in_err-rest-in-None-clause-refused t c = passed c.from_residual-in_err-rest-in-None.result c.from_residual-in_err-rest-in-None.ensures.1 (λ y e. rw e (case_refuses c.args.position c.args.left c.args.end _ _ (headed_rest mark.Of CaseBranches _ c.args.left c.args.end _ _ _ _ _ c.in_ok-selector.ensures.whole c.in_ok-rest.ensures.mark.1 (list_end SomeBranches c.args.left c.args.end _ _ _ _ known_branches c.in_ok-branches.ensures.whole c.in-None.ensures.mark (c.in_err-rest-in-None.ensures.refused _)))))
@@ -302,7 +302,7 @@ pub handler::except_part-returns-then-not-begins_handler-clause-whole : goal.han
 handler::except_part-returns-then-not-begins_handler-clause-whole t c = except_whole _ c.args.left _ _ _ _ c.in_ok-handler.ensures.whole c.in_ok-rest.ensures.mark.1
 
 pub handler::except_part-returns-in_err-handlers-clause-refused : goal.handler::except_part-returns-in_err-handlers-clause-refused
-handler::except_part-returns-in_err-handlers-clause-refused t c = passed c.from_residual-in_err-handlers.result c.from_residual-in_err-handlers.ensures.1 (λ y e. rw e (except_handlers c.args.left c.args.end _ _ (sym c.begins_handler.ensures ∙ c.if-not-begins_handler.false) (list_first SomeHandlers c.args.left c.args.end _ _ c.in_err-handlers.ensures.refused)))
+handler::except_part-returns-in_err-handlers-clause-refused t c = passed c.from_residual-in_err-handlers.result c.from_residual-in_err-handlers.ensures.1 (λ y e. rw e (except_handlers c.args.left c.args.end _ _ (sym c.begins_handler.ensures ∙ c.if-not-begins_handler.false) (list_first SomeHandlers fits_handlers c.args.left c.args.end _ _ c.in_err-handlers.ensures.refused)))
 
 pub handler::except_part-returns-in_err-rest-in-None-clause-refused : goal.handler::except_part-returns-in_err-rest-in-None-clause-refused
 handler::except_part-returns-in_err-rest-in-None-clause-refused t c = passed c.from_residual-in_err-rest-in-None.result c.from_residual-in_err-rest-in-None.ensures.1 (λ y e. rw e (except_handlers c.args.left c.args.end _ _ (sym c.begins_handler.ensures ∙ c.if-not-begins_handler.false) (list_end SomeHandlers c.args.left c.args.end _ _ _ _ known_handlers c.in_ok-handlers.ensures.whole c.in-None.ensures.mark (c.in_err-rest-in-None.ensures.refused _))))

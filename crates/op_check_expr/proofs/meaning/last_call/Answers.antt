@@ -2,7 +2,7 @@ use Rattle.std.proofs.Common.{ap, sym, ◌∙◌}
 use Rattle.std.specs.Option.{option_map}
 use Rattle.op_tree.specs.Statement.{selectors_of}
 use Rattle.op_check_expr.proofs.Walking.{beside, last_given}
-use Rattle.op_check_expr.specs.Meanings.{last_call}
+use Rattle.op_check_expr.specs.Phrases.{last_call}
 use Rattle.op_check_expr.proofs.meaning.last_call.Goals as goal
 
 pub returns-in-Some-call_in : goal.returns-in-Some-call_in

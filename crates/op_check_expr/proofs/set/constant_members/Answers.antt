@@ -2,8 +2,9 @@ use Rattle.std.proofs.Common.{Some, map, sym, subst, refl, arith, length, ◌≡
 use Rattle.op_check_expr.proofs.Following.{Completes, begins, two_steps}
 use Rattle.op_check_expr.proofs.Steps.{nothing}
 use Rattle.op_check_expr.specs.Constructors.{constant_member, constant_members, member_of, place_of}
-use Rattle.op_check_expr.specs.Words.{Reports}
-use Rattle.op_types.specs.Constants.{gathered_means, no_members}
+use Rattle.op_judgement.specs.Judgement.{Reports}
+use Rattle.op_types.specs.Folding.{gathered_means}
+use Rattle.op_types.specs.Constants.{no_members}
 use Rattle.op_check_expr.proofs.set.constant_members.Goals as goal
 
 pub loop-member-init : goal.loop-member-init

@@ -4,7 +4,7 @@ use Rattle.std.specs.Option.{option_map}
 use Rattle.op_check_expr.proofs.Sets.{all_mapped}
 use Rattle.op_check_expr.specs.Constructors.{are_constants, member_of, set_by}
 use Rattle.op_check_expr.specs.Values.{value_of}
-use Rattle.op_check_expr.specs.Words.{Reports}
+use Rattle.op_judgement.specs.Judgement.{Reports}
 use Rattle.op_check_expr.proofs.set.set_of.Goals as goal
 
 pub returns : goal.returns

@@ -1,7 +1,7 @@
 use Rattle.std.proofs.Common.{Some, drop, map, refl, subst, ◌+◌}
 use Rattle.op_check_expr.proofs.Following.{Completes, begins, finished, next_mapped, two_steps}
 use Rattle.op_check_expr.specs.Constructors.{both_in_set, member_in_set, member_of, place_of, type_of_set}
-use Rattle.op_check_expr.specs.Words.{Reports}
+use Rattle.op_judgement.specs.Judgement.{Reports}
 use Rattle.op_types.specs.Operators.{empty_set}
 use Rattle.op_check_expr.proofs.set.type_of_set.Goals as goal
 

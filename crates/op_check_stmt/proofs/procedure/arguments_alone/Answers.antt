@@ -1,5 +1,5 @@
 use Rattle.std.proofs.Common.{◌≡◌, List, [], ◌∷◌, length, Some, refl, ap, sym, ◌∙◌, arith}
-use Rattle.op_check_stmt.specs.Procedures.{arguments_behind}
+use Rattle.op_check_stmt.specs.Procedure.{arguments_behind}
 use Rattle.op_tree.proofs.Rows.{call_says}
 use Rattle.op_tree.specs.Expression.{selector_of, selectors, no_selectors}
 use Rattle.op_tree.specs.Lists.{arguments_of}

@@ -1,6 +1,6 @@
 use Rattle.std.proofs.Common.{◌≡◌, drop, take}
 use Rattle.op_check_stmt.proofs.Apart.{Seen}
-use Rattle.op_check_stmt.specs.Cases.{repeated, repeated_after}
+use Rattle.op_check_stmt.specs.Labels.{repeated, repeated_after}
 use Rattle.op_check_stmt.proofs.repeated.repeated.Given as goal
 
 abbrev pub invariant-loop-spot : goal.invariant-loop-spot

@@ -3,18 +3,21 @@ use Rattle.std.specs.Option.{option_map}
 use Rattle.op_base.specs.declared.place.Place.{Place}
 use Rattle.op_check_expr.specs.Words.{Reports, changed, followed}
 use Rattle.op_check_unit.proofs.Beginning.{alone, bracketed_means, one_listed}
-use Rattle.op_check_unit.specs.Initials.{by_brackets, counted, first_expression, is_bracketed, one_value, single, unless_wrong, wrong_count}
+use Rattle.op_check_unit.specs.Initials as judged
+use Rattle.op_check_unit.specs.Initials.{is_bracketed, one_value, wrong_count}
 use Rattle.op_check_unit.specs.declared.initial.Shape.{Shape}
 use Rattle.op_check_unit.specs.declared.initial.Shape.TheVariants.{Single, Fields}
-use Rattle.op_core.specs.Faults.{Checked}
 use Rattle.op_core.specs.Initial.{FirstValue, first_value_of}
 use Rattle.op_core.specs.declared.ids.Run.{Run}
 use Rattle.op_core.specs.declared.ids.TypeId.{TypeId}
+use Rattle.op_judgement.specs.Judgement as judgement
+use Rattle.op_judgement.specs.Judgement.{Judgement}
 use Rattle.op_tree.proofs.Rows.{designated_says}
 use Rattle.op_tree.specs.Expression.{designated, designator, bracketed, expr_of, root_of}
 use Rattle.op_tree.specs.Statement.{selectors_of}
 use Rattle.op_types.specs.Constants.{start_of}
 use Rattle.op_check_unit.proofs.initial.+expression.Goals as goal
+use Rattle.op_check_unit.specs.Readings.{by_brackets, first_expression, single, unless_wrong}
 
 pub first_expression-returns-else-is_bracketed : goal.first_expression-returns-else-is_bracketed
 first_expression-returns-else-is_bracketed t c =
@@ -39,7 +42,7 @@ in_brackets-returns-in_ok-part-in-Elements t c =
     let whole : expr_of c.args.e.now ≡ designated (designator (bracketed p inner) ss) =
     ap expr_of c.in-Designator.is ∙ designated_says called ∙ ap (λ r. designated (designator (root_of r) ss)) c.in-Bracketed.is in
     let means = ap (first_expression core names of) whole ∙ bracketed_means core names of p inner ss (subst (λ e. is_bracketed e ≡ true) whole c.requires.bracketed)
-    ∙ ap (by_brackets p.place (single core names of (designated (designator (bracketed p inner) ss))) (λ count element. counted p.place count (start_of inner ∷ []) (changed one_value (first_expression core names element inner)))) (sym c.shape_of.ensures ∙ a.is) in
+    ∙ ap (by_brackets p.place (judged.single core names of (designated (designator (bracketed p inner) ss))) (λ count element. judged.counted p.place count (start_of inner ∷ []) (judgement.changed one_value (judged.first_expression core names element inner)))) (sym c.shape_of.ensures ∙ a.is) in
     let count : wrong ≡ wrong_count p.place a.count (start_of inner ∷ []) =
     c.wrong_one-wrong.ensures ∙ ap (λ s. wrong_count p.place a.count (s ∷ [])) (c.start_of.ensures ∙ ap (λ e. start_of (expr_of e)) c.deref-in-Elements.ensures) in
     subst (λ g. IfOk c.one_part.result (λ v. Reports g old new (option_map first_value_of v))) (sym means)
@@ -49,7 +52,7 @@ in_brackets-returns-in_ok-part-in-Elements t c =
     c.one_part.ensures))
 
 -- what has no list takes the expression as a single value
-no_list : (bracket : Place) (x : Checked FirstValue) (f : ℕ → TypeId → Checked FirstValue) (s : Shape) → (s ≡ Single) ⊎ ((r : Run) × (s ≡ Fields r)) → by_brackets bracket x f s ≡ x
+no_list : (bracket : Place) (x : Judgement FirstValue) (f : ℕ → TypeId → Judgement FirstValue) (s : Shape) → (s ≡ Single) ⊎ ((r : Run) × (s ≡ Fields r)) → by_brackets bracket x f s ≡ judgement.checked x
 no_list bracket x f s (inl e) = ap (by_brackets bracket x f) e
 no_list bracket x f s (inr r) = ap (by_brackets bracket x f) r.1
 
@@ -65,6 +68,6 @@ in_brackets-returns-in-Single t c =
     let whole : expr_of c.args.e.now ≡ designated (designator (bracketed p inner) ss) =
     ap expr_of c.in-Designator.is ∙ designated_says called ∙ ap (λ r. designated (designator (root_of r) ss)) c.in-Bracketed.is in
     let means = ap (first_expression core names of) whole ∙ bracketed_means core names of p inner ss (subst (λ e. is_bracketed e ≡ true) whole c.requires.bracketed)
-    ∙ ap (by_brackets p.place (single core names of (designated (designator (bracketed p inner) ss))) (λ count element. counted p.place count (start_of inner ∷ []) (changed one_value (first_expression core names element inner)))) (sym c.shape_of.ensures)
-    ∙ no_list p.place _ _ c.shape_of.result c.in-Single.is ∙ ap (single core names of) (sym whole) in
+    ∙ ap (by_brackets p.place (judged.single core names of (designated (designator (bracketed p inner) ss))) (λ count element. judged.counted p.place count (start_of inner ∷ []) (judgement.changed one_value (judged.first_expression core names element inner)))) (sym c.shape_of.ensures)
+    ∙ no_list p.place (judged.single core names of (designated (designator (bracketed p inner) ss))) (λ count element. judged.counted p.place count (start_of inner ∷ []) (judgement.changed one_value (judged.first_expression core names element inner))) c.shape_of.result c.in-Single.is ∙ ap (single core names of) (sym whole) in
     subst (λ g. IfOk c.single.result (λ v. Reports g c.args.sink.now c.single.new.sink (option_map first_value_of v))) (sym means) c.single.ensures

@@ -1,19 +1,22 @@
 use Rattle.std.proofs.Common.{◌∷◌, [], IfOk, ap, drop, refl, subst, sym, ◌+◌, ◌∙◌}
 use Rattle.std.proofs.lemmas.List.{at_drop_all}
 use Rattle.std.specs.Option.{option_map}
-use Rattle.op_check_expr.specs.Words.{Reports, changed}
+use Rattle.op_check_expr.specs.Words.{Reports}
 use Rattle.op_check_stmt.proofs.Parts.{Completes, ends, next, seen}
 use Rattle.op_check_stmt.specs.Parts.{items_of}
 use Rattle.op_check_unit.proofs.Beginning.{all_values, next_field, nothing, other_field, refused_at}
 use Rattle.op_check_unit.proofs.Going.{next_of}
-use Rattle.op_check_unit.specs.Initials.{by_elements, by_fields, counted, elements, fields, first, shape_of, starts, values_in}
+use Rattle.op_check_unit.specs.Initials as judged
+use Rattle.op_check_unit.specs.Initials.{shape_of, starts, values_in}
 use Rattle.op_core.specs.Initial.{first_value_of, no_values, parts, values}
 use Rattle.op_core.specs.Nodes.{first_values_of}
 use Rattle.op_core.specs.Rows.{rows}
+use Rattle.op_judgement.specs.Judgement.{changed}
 use Rattle.op_tree.proofs.Rows.{list_value_says, record_value_says}
 use Rattle.op_tree.specs.Initial.{initial_of, no_field_initials}
 use Rattle.op_tree.specs.Lists.{field_initials_of, initials_of}
 use Rattle.op_check_unit.proofs.initial.+values.Goals as goal
+use Rattle.op_check_unit.specs.Readings.{by_elements, by_fields, elements, fields, first}
 
 pub first-returns-in-List : goal.first-returns-in-List
 first-returns-in-List t c =
@@ -22,7 +25,7 @@ first-returns-in-List t c =
     let a = c.in-List in
     let place = a.position.place in
     subst (λ i. IfOk c.list.result (λ v. Reports (first core names c.args.of i) c.args.sink.now c.list.new.sink (option_map first_value_of v))) (sym (ap initial_of a.is ∙ list_value_says a.position a.items))
-    (subst (λ is. IfOk c.list.result (λ v. Reports (by_elements place (λ count element. counted place count (starts (initials_of is)) (elements core names element (initials_of is))) (shape_of core c.args.of)) c.args.sink.now c.list.new.sink (option_map first_value_of v)))
+    (subst (λ is. IfOk c.list.result (λ v. Reports (by_elements place (λ count element. judged.counted place count (starts (initials_of is)) (judged.elements core names element (initials_of is))) (shape_of core c.args.of)) c.args.sink.now c.list.new.sink (option_map first_value_of v)))
     c.deref.ensures.value c.list.ensures)
 
 pub first-returns-in-Record : goal.first-returns-in-Record
@@ -32,7 +35,7 @@ first-returns-in-Record t c =
     let a = c.in-Record in
     let place = a.position.place in
     subst (λ i. IfOk c.record.result (λ v. Reports (first core names c.args.of i) c.args.sink.now c.record.new.sink (option_map first_value_of v))) (sym (ap initial_of a.is ∙ record_value_says a.position a.fields))
-    (subst (λ is. IfOk c.record.result (λ v. Reports (by_fields place (λ run. changed parts (fields core names place (rows core.fields run) (field_initials_of is))) (shape_of core c.args.of)) c.args.sink.now c.record.new.sink (option_map first_value_of v)))
+    (subst (λ is. IfOk c.record.result (λ v. Reports (by_fields place (λ run. changed parts (judged.fields core names place (rows core.fields run) (field_initials_of is))) (shape_of core c.args.of)) c.args.sink.now c.record.new.sink (option_map first_value_of v)))
     c.deref-in-Record.ensures.value c.record.ensures)
 
 pub elements-loop-item-preserved : goal.elements-loop-item-preserved

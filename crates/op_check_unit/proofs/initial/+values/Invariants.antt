@@ -1,10 +1,10 @@
 use Rattle.std.proofs.Common.{drop}
 use Rattle.op_check_stmt.proofs.Parts.{Completes}
 use Rattle.op_check_stmt.specs.Parts.{items_of}
-use Rattle.op_check_unit.specs.Initials.{elements, fields}
 use Rattle.op_core.specs.Initial.{first_value_of, values}
 use Rattle.op_tree.specs.Lists.{field_initials_of, initials_of}
 use Rattle.op_check_unit.proofs.initial.+values.Given as goal
+use Rattle.op_check_unit.specs.Readings.{elements, fields}
 
 -- what is left gives the whole
 abbrev pub invariant-elements-loop-item : goal.invariant-elements-loop-item

@@ -1,12 +1,13 @@
 use Rattle.std.proofs.Common.{[], None, Some, ap, refl, subst, sym, ◌∷◌, ◌++◌, ◌∙◌}
 use Rattle.std.specs.Option.{option_map}
 use Rattle.op_check_expr.specs.Words.{Reports}
-use Rattle.op_check_unit.specs.Initials.{one_value, unless_wrong}
+use Rattle.op_check_unit.specs.Initials.{one_value}
 use Rattle.op_core.proofs.Nodes.{list_nodes}
 use Rattle.op_core.specs.Initial.{first_value_of, parts}
 use Rattle.op_core.specs.Nodes.{first_values_of}
 use Rattle.op_core.specs.declared.constant.Initial.TheVariants.{Parts}
 use Rattle.op_check_unit.proofs.initial.one_part.Goals as goal
+use Rattle.op_check_unit.specs.Readings.{unless_wrong}
 
 pub returns-in_ok-push-in-None-Some : goal.returns-in_ok-push-in-None-Some
 returns-in_ok-push-in-None-Some c =

@@ -6,7 +6,7 @@ use Rattle.op_check_unit.proofs.WholeSound.{answer_sound}
 use Rattle.op_check_unit.specs.Checking.{CheckIs}
 use Rattle.op_check_unit.specs.Programs.{files_mean, program_means}
 use Rattle.op_check_unit.specs.Rules.{ProgramBreaks}
-use Rattle.op_check_unit.specs.Steps.{Declares}
+use Rattle.op_check_unit.specs.Steps.{Declared}
 use Rattle.op_check_unit.specs.System.{beginning}
 use Rattle.op_tree.specs.File.{file_of}
 use Rattle.op_check_unit.proofs.program.check.Goals as goal
@@ -19,7 +19,7 @@ returns c =
     let order = c.args.order.now in
     let means : CheckIs (program_means fs order) c.finish.result =
     checks (files_mean fs order beginning) d.declarer new c.finish.result d.ensures.sink
-    (subst (λ h. Declares (files_mean fs order h) d.declarer new) d.ensures.here c.in_ok-files.ensures)
+    (subst (λ h. Declared (files_mean fs order h) d.declarer new) d.ensures.here c.in_ok-files.ensures)
     c.finish.ensures in
     record { means = means; law = obeys (program_means fs order) (ProgramBreaks fs order) c.finish.result (program_law fs order) means; sound = answer_sound fs order c.finish.result means }
 

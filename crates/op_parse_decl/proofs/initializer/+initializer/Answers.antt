@@ -1,6 +1,6 @@
 use Rattle.std.proofs.Common.{suc, sym, ◌∙◌, arith}
 use Rattle.op_parse_code.proofs.Errors.{passed, ok_weaker, err_weaker}
-use Rattle.op_parse_code.proofs.Lists.{listed_item, listed_close, listed_more, listed_ends}
+use Rattle.op_parse_code.proofs.Lists.{listed_item_by, listed_close_by, listed_more_by, listed_ends}
 use Rattle.op_parse_code.proofs.Names.{empty_not}
 use Rattle.op_parse_code.specs.Refusal.{out_of_memory}
 use Rattle.op_parse_decl.proofs.Combining.{refuses_part}
@@ -89,16 +89,16 @@ pub list-returns-clause-whole : goal.list-returns-clause-whole
 list-returns-clause-whole t c = (_, c.in_ok-list.ensures, c.in_ok-others.ensures.whole, c.in_ok-stop_expression.ensures.stops)
 
 pub items-returns-in_err-item-clause-refused : goal.items-returns-in_err-item-clause-refused
-items-returns-in_err-item-clause-refused t c = passed c.from_residual.result c.from_residual.ensures.1 (λ y e. rw e (listed_item items_listed c.args.setting.left c.args.setting.end _ _ _ _ c.loop-items.invariant.0 c.in_err-item.ensures.refused))
+items-returns-in_err-item-clause-refused t c = passed c.from_residual.result c.from_residual.ensures.1 (λ y e. rw e (listed_item_by items_listed c.args.setting.left c.args.setting.end _ _ _ _ (λ q x. tt) c.loop-items.invariant.0 c.in_err-item.ensures.refused))
 
 pub items-returns-in_err-push-clause-refused : goal.items-returns-in_err-push-clause-refused
 items-returns-in_err-push-clause-refused t c = passed c.from_residual-in_err-push.result c.from_residual-in_err-push.ensures.1 (λ y e. out_of_memory e)
 
 pub items-loop-items-preserved : goal.items-loop-items-preserved
-items-loop-items-preserved t c = (rw c.in_ok-push.ensures.items (listed_more items_listed c.args.setting.left c.args.setting.end _ _ _ _ _ _ _ c.loop-items.invariant.0 c.in_ok-item.ensures.whole c.in-Some.ensures.mark.1), omega (arith, c.loop-items.invariant.1, c.in-Some.ensures.shorter, c.in_ok-item.ensures.shorter))
+items-loop-items-preserved t c = (rw c.in_ok-push.ensures.items (listed_more_by items_listed c.args.setting.left c.args.setting.end _ _ _ _ _ _ _ (λ g q x. tt) c.loop-items.invariant.0 c.in_ok-item.ensures.whole c.in-Some.ensures.mark.1), omega (arith, c.loop-items.invariant.1, c.in-Some.ensures.shorter, c.in_ok-item.ensures.shorter))
 
 pub items-returns-in_err-rest-in-None-clause-refused : goal.items-returns-in_err-rest-in-None-clause-refused
-items-returns-in_err-rest-in-None-clause-refused t c = passed c.from_residual-in_err-rest-in-None.result c.from_residual-in_err-rest-in-None.ensures.1 (λ y e. rw e (listed_close items_listed c.args.setting.left c.args.setting.end _ _ _ _ _ _ c.loop-items.invariant.0 c.in_ok-item.ensures.whole c.in-None.ensures.mark (refuses_part (c.in_err-rest-in-None.ensures.refused _))))
+items-returns-in_err-rest-in-None-clause-refused t c = passed c.from_residual-in_err-rest-in-None.result c.from_residual-in_err-rest-in-None.ensures.1 (λ y e. rw e (listed_close_by items_listed c.args.setting.left c.args.setting.end _ _ _ _ _ _ (λ q x. tt) c.loop-items.invariant.0 c.in_ok-item.ensures.whole c.in-None.ensures.mark (refuses_part (c.in_err-rest-in-None.ensures.refused _))))
 
 pub items-returns-in-None-clause-whole : goal.items-returns-in-None-clause-whole
 items-returns-in-None-clause-whole t c = rw c.in_ok-push.ensures.items (listed_ends items_listed c.args.setting.left c.args.setting.end _ _ _ _ _ _ _ c.loop-items.invariant.0 c.in_ok-item.ensures.whole c.in_ok-rest-in-None.ensures.mark.1)

@@ -1,7 +1,7 @@
 use Rattle.std.proofs.Common.{ap, inl, inr, refl, subst, ◌∙◌}
 use Rattle.op_base.specs.Outside.{AppendsFront, appended}
 use Rattle.op_tool.specs.Owes.{call}
-use Rattle.op_tool.specs.Reading.{asked_of}
+use Rattle.op_command.specs.Reading.{asked_of}
 use Rattle.op_tool.specs.declared.finish.Finish.TheVariants.{Ended}
 use Rattle.op_tool.proofs.Failing.{says_build_error}
 use Rattle.op_tool.proofs.Saying.{says_written, says_written_in_part}

@@ -1,7 +1,7 @@
 use Rattle.std.proofs.Common.{refl}
 use Rattle.op_tool.specs.ImageRun.{OwesImage}
 use Rattle.op_tool.specs.Owes.{call}
-use Rattle.op_tool.specs.Reading.{asked_of}
+use Rattle.op_command.specs.Reading.{asked_of}
 use Rattle.op_tool.proofs.Executing.{exec_made}
 use Rattle.op_tool.proofs.Failing.{says_exec_error}
 use Rattle.op_tool.proofs.Saying.{says_also}

@@ -2,11 +2,11 @@ use Rattle.std.proofs.Common.{[], codes, map, refl, string_bytes, subst, sym}
 use Rattle.op_emu.specs.Acts.{faults, streams}
 use Rattle.op_tool.specs.Effects.{Says, line}
 use Rattle.op_tool.specs.Owes.{Owes, OwesBuild, OwesCheck, OwesCommand, OwesExec, OwesList, OwesRun, call}
-use Rattle.op_tool.specs.Reading.{asked_of}
+use Rattle.op_command.specs.Reading.{asked_of}
 use Rattle.op_tool.specs.declared.finish.Finish.TheVariants as finish
 use Rattle.op_tool.proofs.Failing.{owes_no_memory}
 use Rattle.op_tool.proofs.Saying.{says_also, says_no_memory, says_report}
-use Rattle.op_tool.proofs.Telling.{found_asks, none_found}
+use Rattle.op_tool.proofs.Commands.{found_asks, none_found}
 use Rattle.op_tool.proofs.driver.tool.Goals as goal
 
 pub returns-in-Exec-clause-says : goal.returns-in-Exec-clause-says

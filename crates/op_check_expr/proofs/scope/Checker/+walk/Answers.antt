@@ -1,21 +1,21 @@
 use Rattle.std.proofs.Common.{◌+◌, false, [], Some, None, drop, refl, sym, ap, subst, ◌∙◌}
 use Rattle.std.specs.Option.{option_map}
 use Rattle.op_core.specs.Expression as typed
-use Rattle.op_core.specs.Faults.{with_part}
 use Rattle.op_tree.proofs.Rows.{call_says, chain_says, designated_says, index_says, literal_says, set_says}
-use Rattle.op_tree.specs.Expression.{arguments, argument_of, element_of, expr_of, literal, no_arguments, prefixed, selector_of}
+use Rattle.op_tree.specs.Expression.{arguments, argument_of, element_of, expr_of, literal, no_arguments, prefixed, root_of, selector_of}
 use Rattle.op_tree.specs.Lists.{arguments_of, expressions_of, operations_of}
 use Rattle.op_tree.specs.Statement.{designator_of, elements_of, selectors_of}
+use Rattle.op_judgement.specs.Judgement.{Reports, followed, with_part}
+use Rattle.op_check_expr.specs.Parts.{standing}
 use Rattle.op_check_expr.proofs.Following.{Answers, Completes, answers_followed, finished, goes_on, next, reports_followed, two_steps}
-use Rattle.op_check_expr.proofs.Walking.{called_given, literal_selected, literal_wanted, still_reports}
-use Rattle.op_check_expr.specs.Calling.{first_of, given_behind, given_of, others_of, plan_of}
+use Rattle.op_check_expr.proofs.Walking.{literal_selected, literal_wanted, still_reports}
+use Rattle.op_check_expr.specs.Calling.{call_of, first_of, given_behind, given_first, given_of, others_of, parameters_for, plan_of}
 use Rattle.op_check_expr.specs.Constructors.{member_of, members_of, set_of}
-use Rattle.op_check_expr.specs.Expressions.{argument, as_value, call_of, called, designator_of as designator_means, elements_at, given, given_first, indexed, member_in, members, operations, parameters_for, position_of, select, selected, set_in, sole_value, text_denoted, used_by, value_in, with_member}
+use Rattle.op_check_expr.specs.Expressions.{argument, called, designator_of as designator_means, elements_at, given, indexed, member_in, members, operations, position_of, root_of as root_means, select, selected, set_in, settled, sole, text_denoted, value_in, with_member}
 use Rattle.op_check_expr.specs.Naming.{denoted_of}
 use Rattle.op_check_expr.specs.Operating.{operation_of, used}
 use Rattle.op_check_expr.specs.Scopes.{here_of}
 use Rattle.op_check_expr.specs.Values.{value_of}
-use Rattle.op_check_expr.specs.Words.{Reports, followed}
 use Rattle.op_types.proofs.Folding.{one_given}
 use Rattle.op_check_expr.proofs.scope.Checker.+walk.Goals as goal
 
@@ -67,7 +67,7 @@ value_in-returns-in_ok-denoted-in-Designator t c =
     let d = designator_of c.in-Designator.called in
     let r = c.as_value.result in
     subst (λ e. Answers r value_of (value_in here c.args.wanted e) c.args.sink.now c.as_value.new.sink) (sym (ap expr_of c.in-Designator.is ∙ designated_says c.in-Designator.called))
-    (answers_followed r value_of (designator_means here d) (as_value here) c.args.sink.now c.designator.new.sink c.as_value.new.sink (option_map denoted_of c.in_ok-denoted-in-Designator.denoted) c.in_ok-denoted-in-Designator.ensures c.as_value.ensures)
+    (answers_followed r value_of (designator_means here d) (with_part (settled here)) c.args.sink.now c.designator.new.sink c.as_value.new.sink (option_map denoted_of c.in_ok-denoted-in-Designator.denoted) c.in_ok-denoted-in-Designator.ensures c.as_value.ensures)
 
 pub select-returns-in_ok-v-in-Index : goal.select-returns-in_ok-v-in-Index
 select-returns-in_ok-v-in-Index t c =
@@ -81,8 +81,8 @@ select-returns-in_ok-v-in-Index t c =
     let new = c.elements_at.new.sink in
     let r = option_map denoted_of c.still_at.result in
     subst (λ x. Reports (select here d x) c.args.sink.now new r) (sym (ap selector_of c.in-Index.is ∙ index_says p c.in-Index.indices))
-    (still_reports d (followed (as_value here d) (λ a. elements_at here p.place a es)) c.args.sink.now new v c.position_of_denoted-at.result r c.position_of_denoted-at.ensures c.still_at.ensures
-    (reports_followed (as_value here d) (λ a. elements_at here p.place a es) c.args.sink.now mid new a v c.in_ok-a-in-Index.ensures
+    (still_reports d (followed (with_part (settled here) d) (λ a. elements_at here p.place a es)) c.args.sink.now new v c.position_of_denoted-at.result r c.position_of_denoted-at.ensures c.still_at.ensures
+    (reports_followed (with_part (settled here) d) (λ a. elements_at here p.place a es) c.args.sink.now mid new a v c.in_ok-a-in-Index.ensures
     (subst (λ xs. Reports (elements_at here p.place a (expressions_of xs)) mid new v) c.deref.ensures.value c.in_ok-v-in-Index.ensures)))
 
 pub select-returns-in_ok-v-in-Call : goal.select-returns-in_ok-v-in-Call
@@ -91,12 +91,15 @@ select-returns-in_ok-v-in-Call t c =
     let d = option_map denoted_of c.args.denoted in
     let args = arguments_of c.in-Call.arguments.items in
     let v = option_map value_of c.in_ok-v-in-Call.v in
+    let plan = c.in_ok-plan-in-Call.plan in
+    let mid = c.plan_of.new.sink in
     let new = c.called.new.sink in
     let r = option_map denoted_of c.still_at-in-Call.result in
     subst (λ x. Reports (select here d x) c.args.sink.now new r) (sym (ap selector_of c.in-Call.is ∙ call_says c.in-Call.arguments))
-    (still_reports d (called here (plan_of here false d args) args) c.args.sink.now new v c.position_of_denoted.result r c.position_of_denoted.ensures c.still_at-in-Call.ensures
-    (subst (λ q. Reports (called here q args) c.args.sink.now new v) (c.in_ok-plan-in-Call.ensures ∙ ap (λ xs. plan_of here false d (arguments_of xs)) c.deref-in-Call.ensures.value)
-    (subst (λ xs. Reports (called here c.in_ok-plan-in-Call.plan (arguments_of xs)) c.args.sink.now new v) c.deref-in-Call-2.ensures.value c.in_ok-v-in-Call.ensures)))
+    (still_reports d (followed (plan_of here false d args) (λ plan. called here plan args)) c.args.sink.now new v c.position_of_denoted.result r c.position_of_denoted.ensures c.still_at-in-Call.ensures
+    (reports_followed (plan_of here false d args) (λ plan. called here plan args) c.args.sink.now mid new plan v
+    (subst (λ xs. Reports (plan_of here false d (arguments_of xs)) c.args.sink.now mid plan) c.deref-in-Call.ensures.value c.in_ok-plan-in-Call.ensures)
+    (subst (λ xs. Reports (called here plan (arguments_of xs)) mid new v) c.deref-in-Call-2.ensures.value c.in_ok-v-in-Call.ensures)))
 
 -- ---- loops
 
@@ -199,8 +202,8 @@ set-returns-in-None t c =
     (finished (members here (Some []) (elements_of c.args.elements.now)) (λ es. members here all (elements_of es)) c.args.elements.now c.loop-element.element-index c.args.sink.now c.loop-element.sink all c.loop-element-test.false refl c.loop-element.invariant))
     (refl, refl)
 
-pub called-loop-argument-preserved : goal.called-loop-argument-preserved
-called-loop-argument-preserved t c =
+pub given_to-loop-argument-preserved : goal.given_to-loop-argument-preserved
+given_to-loop-argument-preserved t c =
     let here = here_of c.args.self.scope in
     let list = c.args.list.now in
     let k = c.loop-argument.argument-index in
@@ -209,25 +212,34 @@ called-loop-argument-preserved t c =
     let rest = arguments_of (drop (k + 1) list) in
     let ps = c.loop-argument.rest.now in
     let so_far = option_map given_of c.loop-argument.given in
-    let b = option_map typed.argument_of c.in_ok-more-in_default.more in
-    subst (λ q. Completes whole (given here q (option_map given_of c.in_ok-given-in_default.given) rest) c.args.sink.now c.argument.new.sink) (sym c.first_of.ensures.others)
-    (subst (λ g. Completes whole (given here (others_of ps) g rest) c.args.sink.now c.argument.new.sink) (sym c.in_ok-given-in_default.ensures)
+    let b = option_map typed.argument_of c.in_ok-more.more in
+    subst (λ q. Completes whole (given here q (option_map given_of c.in_ok-given.given) rest) c.args.sink.now c.argument.new.sink) (sym c.first_of.ensures.others)
+    (subst (λ g. Completes whole (given here (others_of ps) g rest) c.args.sink.now c.argument.new.sink) (sym c.in_ok-given.ensures)
     (goes_on whole (argument here (first_of ps) (argument_of x)) (λ b. given here (others_of ps) (given_behind so_far b) rest) c.args.sink.now c.loop-argument.sink c.argument.new.sink b
     (subst (λ q. Completes whole q c.args.sink.now c.loop-argument.sink) (next (λ xs. given here ps so_far (arguments_of xs)) list k x c.loop-argument-test.true c.argument-item.is) c.loop-argument.invariant)
-    (subst (λ p. Reports (argument here p (argument_of x)) c.loop-argument.sink c.argument.new.sink b) c.first_of.ensures.first c.in_ok-more-in_default.ensures)))
+    (subst (λ p. Reports (argument here p (argument_of x)) c.loop-argument.sink c.argument.new.sink b) c.first_of.ensures.first c.in_ok-more.ensures)))
 
-pub called-returns-after-loop-argument : goal.called-returns-after-loop-argument
-called-returns-after-loop-argument t c =
+pub given_to-returns : goal.given_to-returns
+given_to-returns t c =
     let here = here_of c.args.self.scope in
     let plan = c.args.plan in
     let list = c.args.list.now in
     let r = option_map value_of c.call_of.result in
     let so_far = option_map given_of c.loop-argument.given in
     let whole = given here (parameters_for here plan) (given_first plan) (arguments_of list) in
-    subst (λ x. Reports x c.args.sink.now c.call_of.new.sink r) (called_given here plan (arguments_of list) c.in_default.not-Bound c.in_default.not-Sole)
-    (reports_followed whole (call_of here plan) c.args.sink.now c.loop-argument.sink c.call_of.new.sink so_far r
+    reports_followed whole (λ given. standing (call_of here plan given)) c.args.sink.now c.loop-argument.sink c.loop-argument.sink so_far r
     (finished whole (λ xs. given here c.loop-argument.rest.now so_far (arguments_of xs)) list c.loop-argument.argument-index c.args.sink.now c.loop-argument.sink so_far c.loop-argument-test.false refl c.loop-argument.invariant)
-    c.call_of.ensures)
+    (c.call_of.ensures, refl)
+
+pub called-returns-in-Routine : goal.called-returns-in-Routine
+called-returns-in-Routine t c =
+    let here = here_of c.args.self.scope in
+    subst (λ q. Answers c.given_to-in-Routine.result value_of (called here q (arguments_of c.args.list.now)) c.args.sink.now c.given_to-in-Routine.new.sink) (sym (c.in-Some.is ∙ ap Some c.in-Routine.is)) c.given_to-in-Routine.ensures
+
+pub called-returns-in-Bound : goal.called-returns-in-Bound
+called-returns-in-Bound t c =
+    let here = here_of c.args.self.scope in
+    subst (λ q. Reports (called here q (arguments_of c.args.list.now)) c.args.sink.now c.bound_value.new.sink (option_map value_of c.bound_value.result)) (sym (c.in-Some.is ∙ ap Some c.in-Bound.is)) c.bound_value.ensures
 
 -- ---- the one argument
 
@@ -235,9 +247,9 @@ pub called-returns-in-None-split_first : goal.called-returns-in-None-split_first
 called-returns-in-None-split_first t c =
     let here = here_of c.args.self.scope in
     let r = c.sole.result in
-    subst (λ q. Answers r value_of (called here q (arguments_of c.args.list.now)) c.args.sink.now c.sole.new.sink) (sym c.in-Sole.is)
-    (subst (λ xs. Answers r value_of (used_by here c.in-Sole.what c.in-Sole.position (sole_value here xs)) c.args.sink.now c.sole.new.sink)
-    (sym (one_given c.args.list.now c.in-Some.others.now c.in-Some.first.now c.in-Some.ensures.cases.0 c.in-None-split_first.ensures.cases)) c.sole.ensures)
+    subst (λ q. Answers r value_of (called here q (arguments_of c.args.list.now)) c.args.sink.now c.sole.new.sink) (sym (c.in-Some.is ∙ ap Some c.in-Sole.is))
+    (subst (λ xs. Answers r value_of (sole here c.in-Sole.applied c.in-Sole.position xs) c.args.sink.now c.sole.new.sink)
+    (sym (one_given c.args.list.now c.in-Some-split_first.others.now c.in-Some-split_first.first.now c.in-Some-split_first.ensures.cases.0 c.in-None-split_first.ensures.cases)) c.sole.ensures)
 
 pub sole-returns-in-Some : goal.sole-returns-in-Some
 sole-returns-in-Some t c =
@@ -247,7 +259,7 @@ sole-returns-in-Some t c =
     let r = c.used.result in
     let mid = c.value_in.new.sink in
     let new = c.used.new.sink in
-    subst (λ a. Answers r value_of (used_by here c.args.what c.args.position (sole_value here (arguments (argument_of a) no_arguments))) c.args.sink.now new) (sym c.in-Value.is)
+    subst (λ a. Answers r value_of (sole here c.args.what c.args.position (arguments (argument_of a) no_arguments)) c.args.sink.now new) (sym c.in-Value.is)
     (answers_followed r value_of (value_in here None e) (with_part (used here.core c.args.position c.args.what (position_of e).place)) c.args.sink.now mid new (Some v)
     (subst (λ q. Reports (value_in here None e) c.args.sink.now mid (option_map value_of q)) c.in-Some.is c.in_ok-v-in-Value.ensures)
     (subst (λ p. Answers r value_of (used here.core c.args.position c.args.what p.place v) mid new) c.position_of.ensures
@@ -258,7 +270,7 @@ sole-returns-in-None t c =
     let here = here_of c.args.self.scope in
     let e = expr_of c.in-Value.e in
     let mid = c.value_in.new.sink in
-    subst (λ a. Reports (used_by here c.args.what c.args.position (sole_value here (arguments (argument_of a) no_arguments))) c.args.sink.now mid None) (sym c.in-Value.is)
+    subst (λ a. Reports (sole here c.args.what c.args.position (arguments (argument_of a) no_arguments)) c.args.sink.now mid None) (sym c.in-Value.is)
     (reports_followed (value_in here None e) (with_part (used here.core c.args.position c.args.what (position_of e).place)) c.args.sink.now mid mid None None
     (subst (λ q. Reports (value_in here None e) c.args.sink.now mid (option_map value_of q)) c.in-None.is c.in_ok-v-in-Value.ensures) (refl, refl))
 
@@ -272,5 +284,18 @@ literal-returns-in_ok-denoted-in-Some t c =
     let d = option_map denoted_of c.in_ok-denoted-in-Some.denoted in
     let mid = c.selected.new.sink in
     subst (λ x. Answers r value_of x c.args.sink.now c.as_value.new.sink) (literal_selected here text p list (c.in-Some.ensures.variant.0 refl))
-    (answers_followed r value_of (selected here (Some (text_denoted p text)) (selectors_of list)) (as_value here) c.args.sink.now mid c.as_value.new.sink d
+    (answers_followed r value_of (selected here (Some (text_denoted p text)) (selectors_of list)) (with_part (settled here)) c.args.sink.now mid c.as_value.new.sink d
     (subst (λ q. Reports (selected here (Some q) (selectors_of list)) c.args.sink.now mid d) c.in_ok-text_denoted-in-Some.ensures c.in_ok-denoted-in-Some.ensures) c.as_value.ensures)
+
+-- ---- names
+
+pub designator-returns : goal.designator-returns
+designator-returns t c =
+    let here = here_of c.args.self.scope in
+    let called = c.args.called.now in
+    let r = c.selected.result in
+    let d = option_map denoted_of c.in_ok-denoted.denoted in
+    let mid = c.root.new.sink in
+    let new = c.selected.new.sink in
+    answers_followed r denoted_of (root_means here (root_of called.root)) (λ d. selected here d (selectors_of called.selectors.items)) c.args.sink.now mid new d c.in_ok-denoted.ensures
+    (subst (λ xs. Answers r denoted_of (selected here d (selectors_of xs)) mid new) c.deref.ensures.value c.selected.ensures)

@@ -3,9 +3,9 @@ use Rattle.std.specs.Option.{option_map}
 use Rattle.op_tree.specs.Lists.{arguments_of, expressions_of, operations_of}
 use Rattle.op_tree.specs.Statement.{elements_of, selectors_of}
 use Rattle.op_check_expr.proofs.Following.{Completes}
-use Rattle.op_check_expr.specs.Calling.{given_of}
+use Rattle.op_check_expr.specs.Calling.{given_first, given_of, parameters_for}
 use Rattle.op_check_expr.specs.Constructors.{members_of}
-use Rattle.op_check_expr.specs.Expressions.{elements_at, given, given_first, members, operations, parameters_for, selected}
+use Rattle.op_check_expr.specs.Expressions.{elements_at, given, members, operations, selected}
 use Rattle.op_check_expr.specs.Naming.{denoted_of}
 use Rattle.op_check_expr.specs.Scopes.{here_of}
 use Rattle.op_check_expr.specs.Values.{value_of}
@@ -25,5 +25,5 @@ invariant-selected-loop-selector l = Completes (selected (here_of l.self.scope) 
 abbrev pub invariant-elements_at-loop-e : goal.invariant-elements_at-loop-e
 invariant-elements_at-loop-e l = Completes (elements_at (here_of l.self.scope) l.bracket (option_map value_of l.initial.a) (expressions_of l.indices)) (elements_at (here_of l.self.scope) l.bracket (option_map value_of l.a) (expressions_of (drop l.e-index l.indices))) l.fn.sink l.sink
 
-abbrev pub invariant-called-loop-argument : goal.invariant-called-loop-argument
-invariant-called-loop-argument l = Completes (given (here_of l.self.scope) (parameters_for (here_of l.self.scope) l.plan) (given_first l.plan) (arguments_of l.list)) (given (here_of l.self.scope) l.rest (option_map given_of l.given) (arguments_of (drop l.argument-index l.list))) l.fn.sink l.sink
+abbrev pub invariant-given_to-loop-argument : goal.invariant-given_to-loop-argument
+invariant-given_to-loop-argument l = Completes (given (here_of l.self.scope) (parameters_for (here_of l.self.scope) l.plan) (given_first l.plan) (arguments_of l.list)) (given (here_of l.self.scope) l.rest (option_map given_of l.given) (arguments_of (drop l.argument-index l.list))) l.fn.sink l.sink

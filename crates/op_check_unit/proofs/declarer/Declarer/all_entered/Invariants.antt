@@ -1,11 +1,11 @@
 use Rattle.std.proofs.Common.{drop}
 use Rattle.std.specs.Option.{option_copied, option_map}
 use Rattle.op_check_unit.proofs.Going.{Completes}
-use Rattle.op_check_unit.specs.Declaring.{row_entered}
 use Rattle.op_check_unit.specs.Steps.{each, here_of}
 use Rattle.op_core.specs.declared.routine.Role.TheVariants.{Plain}
 use Rattle.op_tree.specs.Initial.{initial_of}
 use Rattle.op_check_unit.proofs.declarer.Declarer.all_entered.Given as goal
+use Rattle.op_check_unit.specs.Readings.{row_entered}
 
 abbrev pub invariant-loop-name : goal.invariant-loop-name
 invariant-loop-name l =

@@ -1,8 +1,8 @@
 use Rattle.std.proofs.Common.{arith, reverse}
 use Rattle.op_check_unit.proofs.Going.{arrays_done, arrays_more}
 use Rattle.op_check_unit.specs.Steps.{here_of}
-use Rattle.op_check_unit.specs.Types.{arrays}
 use Rattle.op_check_unit.proofs.declarer.Declarer.array_of.Goals as goal
+use Rattle.op_check_unit.specs.Readings.{arrays}
 
 pub loop-index-preserved : goal.loop-index-preserved
 loop-index-preserved c =

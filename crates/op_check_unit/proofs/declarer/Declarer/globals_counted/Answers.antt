@@ -1,8 +1,8 @@
 use Rattle.std.proofs.Common.{arith}
 use Rattle.op_check_unit.proofs.Going.{all_done, numbers_more}
-use Rattle.op_check_unit.specs.Programs.{global_counted, globals_counted}
 use Rattle.op_check_unit.specs.Steps.{here_of}
 use Rattle.op_check_unit.proofs.declarer.Declarer.globals_counted.Goals as goal
+use Rattle.op_check_unit.specs.Readings.{global_counted, globals_counted}
 
 pub loop-global-preserved : goal.loop-global-preserved
 loop-global-preserved c =

@@ -1,9 +1,9 @@
 use Rattle.std.proofs.Common.{arith}
 use Rattle.op_check_unit.proofs.Going.{declarations_done, declarations_more}
-use Rattle.op_check_unit.specs.Routines.{local_declared}
 use Rattle.op_check_unit.specs.Steps.{each_declaration, here_of}
 use Rattle.op_tree.specs.Declaration.{declarations_of}
 use Rattle.op_check_unit.proofs.declarer.Declarer.locals.Goals as goal
+use Rattle.op_check_unit.specs.Readings.{local_declared}
 
 pub loop-declaration-preserved : goal.loop-declaration-preserved
 loop-declaration-preserved c =

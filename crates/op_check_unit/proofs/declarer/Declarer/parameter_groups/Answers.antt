@@ -1,9 +1,9 @@
 use Rattle.std.proofs.Common.{arith}
 use Rattle.std.specs.Option.{option_copied}
 use Rattle.op_check_unit.proofs.Going.{gather_done, gather_more}
-use Rattle.op_check_unit.specs.Headings.{parameter_group}
 use Rattle.op_check_unit.specs.Steps.{gather, here_of}
 use Rattle.op_check_unit.proofs.declarer.Declarer.parameter_groups.Goals as goal
+use Rattle.op_check_unit.specs.Readings.{parameter_group}
 
 pub loop-group-preserved : goal.loop-group-preserved
 loop-group-preserved c =

@@ -1,10 +1,11 @@
 use Rattle.std.proofs.Common.{length, map, sym, ◌∙◌}
 use Rattle.op_check_unit.proofs.Clear.{none_kept, some_kept}
 use Rattle.op_check_unit.proofs.UnitSteps.{program_joined, stops}
-use Rattle.op_check_unit.specs.Programs.{in_unit, program_declared, units_mean}
+use Rattle.op_check_unit.specs.Programs.{in_unit, units_mean}
 use Rattle.op_check_unit.specs.Steps.{here_of}
 use Rattle.op_tree.specs.File.{file_of, program_of}
 use Rattle.op_check_unit.proofs.declarer.Declarer.parts_of_program.Goals as goal
+use Rattle.op_check_unit.specs.Readings.{program_declared}
 
 pub returns-then-is_some : goal.returns-then-is_some
 returns-then-is_some c = λ faults told.

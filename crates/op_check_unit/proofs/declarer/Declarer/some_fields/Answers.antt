@@ -1,8 +1,8 @@
 use Rattle.std.proofs.Common.{arith}
 use Rattle.op_check_unit.proofs.Going.{fields_done, fields_more}
-use Rattle.op_check_unit.specs.Records.{some_fields}
 use Rattle.op_check_unit.specs.Steps.{here_of}
 use Rattle.op_check_unit.proofs.declarer.Declarer.some_fields.Goals as goal
+use Rattle.op_check_unit.specs.Readings.{some_fields}
 
 pub loop-name-preserved : goal.loop-name-preserved
 loop-name-preserved c =

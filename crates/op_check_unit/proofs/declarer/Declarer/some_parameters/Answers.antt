@@ -1,9 +1,9 @@
 use Rattle.std.proofs.Common.{arith}
 use Rattle.std.specs.Option.{option_copied}
 use Rattle.op_check_unit.proofs.Going.{gather_done, gather_more}
-use Rattle.op_check_unit.specs.Headings.{one_parameter}
 use Rattle.op_check_unit.specs.Steps.{gather, here_of}
 use Rattle.op_check_unit.proofs.declarer.Declarer.some_parameters.Goals as goal
+use Rattle.op_check_unit.specs.Readings.{one_parameter}
 
 pub loop-name-preserved : goal.loop-name-preserved
 loop-name-preserved c =

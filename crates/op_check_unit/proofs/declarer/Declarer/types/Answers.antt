@@ -1,9 +1,9 @@
 use Rattle.std.proofs.Common.{map, arith}
 use Rattle.op_check_unit.proofs.Going.{each_done, each_more}
-use Rattle.op_check_unit.specs.Declaring.{type_declared}
 use Rattle.op_check_unit.specs.Steps.{each, here_of}
 use Rattle.op_tree.specs.Declaration.{type_of}
 use Rattle.op_check_unit.proofs.declarer.Declarer.types.Goals as goal
+use Rattle.op_check_unit.specs.Readings.{type_declared}
 
 pub loop-declaration-preserved : goal.loop-declaration-preserved
 loop-declaration-preserved c =

@@ -1,8 +1,8 @@
 use Rattle.std.proofs.Common.{arith}
 use Rattle.op_check_unit.proofs.Going.{all_done, all_more}
 use Rattle.op_check_unit.specs.Steps.{here_of}
-use Rattle.op_check_unit.specs.Uses.{used, uses_mean}
 use Rattle.op_check_unit.proofs.declarer.Declarer.uses.Goals as goal
+use Rattle.op_check_unit.specs.Readings.{used, uses_mean}
 
 pub loop-name-preserved : goal.loop-name-preserved
 loop-name-preserved c =

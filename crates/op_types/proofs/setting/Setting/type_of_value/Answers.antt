@@ -1,7 +1,7 @@
 use Rattle.std.proofs.Common.{◌≡◌, IfOk, sym, ap, subst, ◌∙◌}
 use Rattle.op_tree.proofs.Rows.{designated_says}
 use Rattle.op_tree.specs.Expression.{expr_of}
-use Rattle.op_types.specs.Constants.{type_of_value}
+use Rattle.op_types.specs.ConstantParts.{type_of_value}
 use Rattle.op_types.proofs.setting.Setting.type_of_value.Goals as goal
 
 pub returns-in-Designator : goal.returns-in-Designator

@@ -1,0 +1,4 @@
+mod Numbers
+mod Parsing
+mod Reading
+mod Telling

@@ -1,0 +1,4 @@
+pub mod Judgement
+pub mod Given
+pub mod Steps
+pub mod Rules

@@ -1,0 +1,13 @@
+//! Rules that are broken, reported.
+ghost use Rattle.op_judgement.specs.Judgement.{Reports, refused};
+
+use op_base::{Place, Refusal, Rule};
+use op_core::FirstRefusal;
+
+/// Reports a rule at a place. The part has no type.
+pub fn refuse<T>(sink: &mut FirstRefusal, rule: Rule, place: Place) -> Option<T>
+    ensures { Reports (refused rule place) sink.old sink.new result }
+{
+    sink.report(Refusal { rule, place });
+    None
+}
