@@ -1,7 +1,7 @@
 -- A program that breaks no rule is of the class that is compiled.
-use Rattle.std.proofs.Common.{Box, ◌≡◌, inl, inr, ◌⊎◌, ◌≤◌, ℕ, zero, suc, Bool, true, false, not, ◌&&◌, ◌||◌, List, [], ◌∷◌, All, IfSome, IsSomeAnd, length, map, slice_get, slice_set, Option, Some, None, Ok, refl, sym, ap, ap₂, subst, ◌∙◌, arith}
+use Rattle.std.proofs.Common.{Box, ◌≡◌, inl, inr, ◌⊎◌, ◌≤◌, ℕ, zero, suc, Bool, true, false, not, ◌&&◌, ◌||◌, List, [], ◌∷◌, All, IfSome, IsSomeAnd, length, map, slice_get, Option, Some, None, Ok, refl, sym, ap, ap₂, subst, ◌∙◌, arith}
 use Rattle.std.proofs.lemmas.Bool.{and_from, le-leb, not_from_false, or_left, or_right}
-use Rattle.std.proofs.lemmas.List.Elements.{All-cons, All-head, All-nil, All-tail, All-weaker}
+use Rattle.std.proofs.lemmas.List.Elements.{All-head, All-nil, All-tail, All-weaker}
 use Rattle.std.proofs.lemmas.Option.{slice_get-map}
 use Rattle.std.specs.List.{list_all}
 use Rattle.std.specs.Option.{option_map}
@@ -17,8 +17,9 @@ use Rattle.op_accepted.proofs.Programs.{program_fits}
 use Rattle.op_accepted.proofs.Solid.{predefined_at}
 use Rattle.op_accepted.specs.Fit.{AreFitStatements, IsFitType, any_text}
 use Rattle.op_accepted.specs.State.{AreTreesFit, IsFit, IsFitState, IsOfItself, IsOuterRow, IsPlainRow, Keeps, faulty, kept}
-use Rattle.op_check_unit.specs.Checking.{CheckIs, Fills, bare, body_in, placed, without_bodies}
-use Rattle.op_check_unit.specs.FirstValues.{bare_variable, begins_with, begun, without_first_values}
+use Rattle.op_check_unit.proofs.WholeSound.{all_rows, bared, from_begun, from_placed}
+use Rattle.op_check_unit.specs.Checking.{CheckIs, Fills, bare, body_in}
+use Rattle.op_check_unit.specs.FirstValues.{bare_variable, begins_with}
 use Rattle.op_check_unit.specs.Programs.{program_means, with_units}
 use Rattle.op_check_unit.specs.Steps.{Here}
 use Rattle.op_check_unit.specs.System.{beginning}
@@ -45,44 +46,9 @@ use Rattle.op_typing.specs.SimpleTests.{begins_itself, gives_nothing, is_counted
 
 -- ---- lists
 
-all_rows : {A : Type 0} {P : A → Type 0} (xs : List A) → ((n : ℕ) (a : A) → slice_get xs n ≡ Some a → P a) → All P xs
-all_rows {P} [] k = All-nil P
-all_rows {P} (x ∷ xs) k = All-cons P x xs (k 0 x refl) (all_rows xs (λ n a e. k (suc n) a e))
-
 all_pass : {A : Type 0} (test : A → Bool) (xs : List A) → All (λ a. test a ≡ true) xs → list_all test xs ≡ true
 all_pass test [] a = refl
 all_pass test (x ∷ xs) a = and_from (test x) (list_all test xs) (All-head (λ a. test a ≡ true) x xs a) (all_pass test xs (All-tail (λ a. test a ≡ true) x xs a))
-
-set_cases : {A : Type 0} (xs : List A) (k : ℕ) (y : A) (n : ℕ) (a : A) → slice_get (slice_set xs k y) n ≡ Some a → ((n ≡ k) × (a ≡ y)) ⊎ (slice_get xs n ≡ Some a)
-set_cases [] k y n a e = inr e
-set_cases (x ∷ xs) zero y zero a e = inl (refl, cc)
-set_cases (x ∷ xs) zero y (suc n) a e = inr e
-set_cases (x ∷ xs) (suc k) y zero a e = inr e
-set_cases (x ∷ xs) (suc k) y (suc n) a e = next (set_cases xs k y n a e)
-  where
-    next : ((n ≡ k) × (a ≡ y)) ⊎ (slice_get xs n ≡ Some a) → ((suc n ≡ suc k) × (a ≡ y)) ⊎ (slice_get xs n ≡ Some a)
-    next (inl p) = inl (ap suc p.0, p.1)
-    next (inr f) = inr f
-
-some_eq : {A : Type 0} {a b : A} → Some a ≡ Some b → a ≡ b
-some_eq e = cc
-
--- what is put into a row is one of those that are put
-from_placed : {P : RoutineId × Statements → Type 0} (bs : List (RoutineId × Statements)) (xs : List (Option Statements)) (n : ℕ) (ss : Statements) → All P bs → slice_get (placed bs xs) n ≡ Some (Some ss) → (slice_get xs n ≡ Some (Some ss)) ⊎ ((b : RoutineId × Statements) × P b × (b.0.0 ≡ n) × (b.1 ≡ ss))
-from_placed [] xs n ss a e = inl e
-from_placed {P} (b ∷ bs) xs n ss a e = one (from_placed bs xs n ss (All-tail P b bs a)) (set_cases (placed bs xs) b.0.0 (Some b.1) n (Some ss) e)
-  where
-    one : (slice_get (placed bs xs) n ≡ Some (Some ss) → (slice_get xs n ≡ Some (Some ss)) ⊎ ((b : RoutineId × Statements) × P b × (b.0.0 ≡ n) × (b.1 ≡ ss))) → ((n ≡ b.0.0) × (Some ss ≡ Some b.1)) ⊎ (slice_get (placed bs xs) n ≡ Some (Some ss)) → (slice_get xs n ≡ Some (Some ss)) ⊎ ((b : RoutineId × Statements) × P b × (b.0.0 ≡ n) × (b.1 ≡ ss))
-    one rest (inl p) = inr (b, All-head P b bs a, sym p.0, sym (some_eq p.1))
-    one rest (inr f) = rest f
-
-from_begun : {P : VariableId × FirstValue → Type 0} (bs : List (VariableId × FirstValue)) (xs : List (Option FirstValue)) (n : ℕ) (v : FirstValue) → All P bs → slice_get (begun bs xs) n ≡ Some (Some v) → (slice_get xs n ≡ Some (Some v)) ⊎ ((b : VariableId × FirstValue) × P b × (b.0.0 ≡ n))
-from_begun [] xs n v a e = inl e
-from_begun {P} (b ∷ bs) xs n v a e = one (from_begun bs xs n v (All-tail P b bs a)) (set_cases (begun bs xs) b.0.0 (Some b.1) n (Some v) e)
-  where
-    one : (slice_get (begun bs xs) n ≡ Some (Some v) → (slice_get xs n ≡ Some (Some v)) ⊎ ((b : VariableId × FirstValue) × P b × (b.0.0 ≡ n))) → ((n ≡ b.0.0) × (Some v ≡ Some b.1)) ⊎ (slice_get (begun bs xs) n ≡ Some (Some v)) → (slice_get xs n ≡ Some (Some v)) ⊎ ((b : VariableId × FirstValue) × P b × (b.0.0 ≡ n))
-    one rest (inl p) = inr (b, All-head P b bs a, sym p.0)
-    one rest (inr f) = rest f
 
 -- in rows of which each is bare there is nothing
 none_in : {A B : Type 0} (f : A → Option B) (xs : List A) (n : ℕ) (b : B) → All (λ a. f a ≡ None) xs → slice_get (map f xs) n ≡ Some (Some b) → ⊥
@@ -91,9 +57,6 @@ none_in f (x ∷ xs) zero b a e = let h = All-head (λ a. f a ≡ None) x xs a i
 none_in f (x ∷ xs) (suc n) b a e = none_in f xs n b (All-tail (λ a. f a ≡ None) x xs a) e
 
 -- ---- rows without bodies and first values
-
-abbrev bared : Core → Core
-bared core = without_first_values (without_bodies core)
 
 bare_routines : (rs : List Routine) → All IsOuterRow rs → map bare rs ≡ rs
 bare_routines [] a = refl
@@ -134,7 +97,7 @@ known_of h core x f le = record {
     one_body n ss (inl e) = absurd (none_in body_in h.core.routines n ss (All-weaker IsOuterRow (λ r. body_in r ≡ None) (λ r k. ap (option_map (λ b. stmts_of b.statements.items)) k.bare) h.core.routines x.routines) e)
     one_body n ss (inr b) = subst (AreFitStatements (bared core)) b.3 b.1
 
-    one_value : (n : ℕ) (v : FirstValue) → (slice_get (map begins_with h.core.variables) n ≡ Some (Some v)) ⊎ ((b : VariableId × FirstValue) × IsOfItself (bared core) b × (b.0.0 ≡ n)) → IsSomeAnd (slice_get (map bare_variable core.variables) n) (λ v. is_reference v.role ≡ false)
+    one_value : (n : ℕ) (v : FirstValue) → (slice_get (map begins_with h.core.variables) n ≡ Some (Some v)) ⊎ ((b : VariableId × FirstValue) × IsOfItself (bared core) b × (b.0.0 ≡ n) × (b.1 ≡ v)) → IsSomeAnd (slice_get (map bare_variable core.variables) n) (λ v. is_reference v.role ≡ false)
     one_value n v (inl e) = absurd (none_in begins_with h.core.variables n v (All-weaker IsPlainRow (λ v. begins_with v ≡ None) (λ v k. ap (option_map _) k.bare) h.core.variables x.variables) e)
     one_value n v (inr b) = subst (λ n. IsSomeAnd (slice_get (map bare_variable core.variables) n) (λ v. is_reference v.role ≡ false)) b.2 b.1
 

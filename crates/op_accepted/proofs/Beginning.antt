@@ -1,10 +1,10 @@
 -- Where a program begins all is fit: the types and names of System.
 use Rattle.std.proofs.Common.{◌≡◌, inl, inr, ◌⊎◌, ℕ, ◌+◌, Bool, true, false, ◌||◌, List, [], ◌∷◌, ◌++◌, All, IfSome, IsSome, is_some, length, length-append, map, slice_get, take, None, refl, sym, ap, subst, ◌∙◌, arith}
-use Rattle.std.proofs.lemmas.Bool.{and_parts}
+use Rattle.std.proofs.lemmas.Bool.{and_parts, or_cases}
 use Rattle.std.proofs.lemmas.List.{length-map}
 use Rattle.std.proofs.lemmas.List.Elements.{All-append, All-cons, All-nil}
 use Rattle.std.specs.List.{list_all}
-use Rattle.op_accepted.proofs.Rows.{united_fit}
+use Rattle.op_accepted.proofs.Rows.{only_name, united_fit}
 use Rattle.op_accepted.specs.Fit.{AreFitStatements, IsFitMeaning, IsFitType}
 use Rattle.op_accepted.specs.State.{AreFitNames, AreTreesFit, IsFit, IsFitState, IsOfItself, IsOuterRow, IsPlainRow}
 use Rattle.op_check_expr.specs.Naming.{feature_of_type}
@@ -58,13 +58,9 @@ knows (Type_ of) = is_solid (slice_get known_types of.0) || is_some (feature_of_
 knows (Form b) = true
 knows (Value of n) = is_solid (slice_get known_types of.0)
 
-either : (a b : Bool) → (a || b) ≡ true → (a ≡ true) ⊎ (b ≡ true)
-either true b e = inl refl
-either false b e = inr e
-
 known_fits : (core : Core) (k : Known) → core.types ≡ known_types → knows k ≡ true → IsFitMeaning core (meaning_of_known k)
 unfolding knows
-known_fits core (Type_ of) e h = one (either (is_solid (slice_get known_types of.0)) (is_some (feature_of_type (slice_get known_types of.0))) h)
+known_fits core (Type_ of) e h = one (or_cases (is_solid (slice_get known_types of.0)) (is_some (feature_of_type (slice_get known_types of.0))) h)
   where
     one : (is_solid (slice_get known_types of.0) ≡ true) ⊎ (is_some (feature_of_type (slice_get known_types of.0)) ≡ true) → IsSolidType core of ⊎ IsSome (feature_of_type (slice_get core.types of.0))
     one (inl k) = inl (ap (λ ts. is_solid (slice_get ts of.0)) e ∙ k)
@@ -72,11 +68,8 @@ known_fits core (Type_ of) e h = one (either (is_solid (slice_get known_types of
 known_fits core (Form b) e h = tt
 known_fits core (Value of n) e h = ap (λ ts. is_solid (slice_get ts of.0)) e ∙ h
 
-one_name : (core : Core) (n : Named) → IsFitMeaning core n.meaning → AreFitNames core (n ∷ [])
-one_name core n f = All-cons (λ n. IsFitMeaning core n.meaning) n [] f (All-nil (λ n. IsFitMeaning core n.meaning))
-
 with_known_fits : (core : Core) (n : List ℕ) (k : Known) (ns : List Named) → AreFitNames core ns → IsFitMeaning core (meaning_of_known k) → AreFitNames core (with_known n k ns)
-with_known_fits core n k ns a f = All-append (λ n. IsFitMeaning core n.meaning) (ns ++ _ ∷ []) (_ ∷ []) (All-append (λ n. IsFitMeaning core n.meaning) ns (_ ∷ []) a (one_name core _ f)) (one_name core _ f)
+with_known_fits core n k ns a f = All-append (λ n. IsFitMeaning core n.meaning) (ns ++ _ ∷ []) (_ ∷ []) (All-append (λ n. IsFitMeaning core n.meaning) ns (_ ∷ []) a (only_name core _ f)) (only_name core _ f)
 
 table_fits : (core : Core) (xs : List (List ℕ × Known)) (ns : List Named) → core.types ≡ known_types → list_all (λ x. knows x.1) xs ≡ true → AreFitNames core ns → AreFitNames core (with_table xs ns)
 table_fits core [] ns e h a = a
@@ -105,7 +98,7 @@ system_fits core e =
     let w = with_table text_names v in
     let s = with_table statement_names w in
     left_out_fits core (with_table other_names (with_table function_names s)) e (table_fits core other_names (with_table function_names s) e refl (table_fits core function_names s e refl (table_fits core statement_names w e refl (table_fits core text_names v e refl (table_fits core value_names c e refl
-    (table_fits core class_names t e refl (table_fits core type_names system_unit e refl (one_name core _ tt))))))))
+    (table_fits core class_names t e refl (table_fits core type_names system_unit e refl (only_name core _ tt))))))))
 
 -- ---- the state
 

@@ -5,10 +5,8 @@ use Rattle.std.specs.Int.{w32, cast_unsigned, int_bit_not}
 use Rattle.std.specs.Prelude.{int_div, int_lt, int_rem, neg_ℤ, ◌*ℤ◌, unsigned_abs, ◌%◌}
 use Rattle.std.specs.Option.{option_and_then, option_map}
 use Rattle.op_base.specs.declared.place.Place.{Place}
-use Rattle.op_base.specs.declared.rule.Refusal.{Refusal}
 use Rattle.op_check_expr.specs.Operating.{joins}
 use Rattle.op_check_expr.specs.Values.{constant}
-use Rattle.op_core.specs.Faults.{Checked, by_entry, fine, with_part}
 use Rattle.op_core.specs.Sizes.{integer_range, range_of, type_at}
 use Rattle.op_core.specs.declared.constant.Const.{Const}
 use Rattle.op_core.specs.declared.constant.Const.TheVariants as const
@@ -18,14 +16,13 @@ use Rattle.op_core.specs.declared.operation.Function.TheVariants.{Length, Ord, S
 use Rattle.op_core.specs.declared.program.Core.{Core}
 use Rattle.op_core.specs.declared.types.CoreType.{CoreType}
 use Rattle.op_core.specs.declared.types.CoreType.TheVariants as type
-use Rattle.op_judgement.specs.Judgement.{both_typed, fault, or_fault}
+use Rattle.op_judgement.specs.Judgement.{both_typed, checked, with_part}
 use Rattle.op_tree.specs.declared.operator.Operator.{Operator}
 use Rattle.op_tree.specs.declared.operator.Operator.TheVariants.{Equal, NotEqual, Less, Greater, LessEqual, GreaterEqual, In_, Is, Add, Subtract, Or, Xor, Multiply, Slash, Div, Mod_, And, Shl, Shr, As_}
 use Rattle.op_tree.specs.declared.operator.PrefixOperator.{PrefixOperator}
 use Rattle.op_tree.specs.declared.operator.PrefixOperator.TheVariants.{Not, Plus, Minus}
 use Rattle.op_types.specs.Assignable.{assignable}
-use Rattle.op_types.specs.Constants.{bound_means, element_means, gathered_means, in_brackets, is_ordinal, joined, made, no_members, nodes, numeral, operator_means, prefix_means, range_means, rule_of, single_means, text_constant, use_means}
-use Rattle.op_types.specs.Folding.{pair}
+use Rattle.op_types.specs.Folding.{bound_means, element_means, entered, gathered_means, numeral, operator_means, pair, prefix_means, range_means, single_means, use_means}
 use Rattle.op_types.specs.Operators as table
 use Rattle.op_types.specs.Sets.{common_set, set_over}
 use Rattle.op_types.specs.Sorts.{are_sets, is_text, same_kind, sort_of}
@@ -39,10 +36,14 @@ use Rattle.op_types.specs.declared.sort.Sort.{Sort}
 use Rattle.op_types.specs.declared.sort.Sort.TheVariants as sort
 use Rattle.op_typing.specs.Simple.{IsSolidType, is_solid}
 use Rattle.op_accepted.specs.Fit.{IfAny, IfTyped, IsFitConstant, IsFitTables, IsFitValue}
-use Rattle.op_accepted.proofs.Parts.{any_of, fits_after, fits_behind, fits_entry, fits_fine, fits_silent, fits_test, fits_with}
+use Rattle.op_accepted.proofs.Parts.{fits_after, fits_entry, fits_fine, fits_test, fits_with, present}
 use Rattle.op_accepted.proofs.SetTypes.{IsSetType, common_is_set, common_solid, empty_is_set, is_solid_sort, over_is_set, set_solid, sort_solid}
 use Rattle.op_accepted.proofs.Solid.{boolean_solid, char_solid, integer_solid, ordinal_solid, string_is}
-use Rattle.op_accepted.proofs.Trees.{IsNoText, no_text_fits, in_range_no_text, none_is, some_is, within_no_text}
+use Rattle.op_accepted.proofs.Trees.{IsNoText, in_range_no_text, no_text_fits, within_no_text}
+use Rattle.op_core.proofs.Agreeing.{none_is, some_is}
+use Rattle.op_judgement.specs.declared.rules.LanguageRule.{LanguageRule}
+use Rattle.op_judgement.specs.declared.rules.LanguageRule.TheVariants.{NoCast, NoOperator, NotAssignable, NotOrdinal, NumberTooLarge, OutOfRange}
+use Rattle.op_types.specs.ConstantParts.{is_ordinal, joined, made, no_members, nodes, rule_of, text_constant}
 
 -- a constant as a value
 abbrev pub IsFitFolded : Core → Constant → Type 0
@@ -56,16 +57,12 @@ joined_counts v of a b = omega arith
 pub nodes_count : (v : Const) (of : TypeId) (n : ℕ) → 0 < n → 0 < (made v of (nodes n)).weight.nodes
 nodes_count v of n h = omega (arith, h)
 
--- a value of a type, or a rule that is broken
-abbrev entered : ℕ → Place → TypeId → Weight → Option Const → Checked Constant
-entered rule place of w v = by_entry rule place (λ v. fine (made v of w)) v
-
 -- what is there counts for two parts and a node
-joined_entry : (core : Core) (rule : ℕ) (place : Place) (of : TypeId) (a b : Weight) (o : Option Const) → ((v : Const) → o ≡ Some v → IsFitConstant core v of) → IfTyped (IsFitFolded core) (entered rule place of (joined a b) o)
+joined_entry : (core : Core) (rule : LanguageRule) (place : Place) (of : TypeId) (a b : Weight) (o : Option Const) → ((v : Const) → o ≡ Some v → IsFitConstant core v of) → IfTyped (IsFitFolded core) (checked (entered rule place of (joined a b) o))
 joined_entry core rule place of a b o g = fits_entry rule place o (λ v e. fits_fine (joined_counts v of a b, g v e))
 
-pub numeral_fits : {core : Core} → IsFitTables core → (place : Place) (count : ℕ) (n : ℤ) → 0 < count → IfTyped (IsFitFolded core) (numeral place count n)
-numeral_fits {core} t place count n h = fits_entry 36 place (within n) (λ v e. fits_fine (nodes_count v table.integer count h, no_text_fits core v table.integer (within_no_text n v e) (integer_solid t)))
+pub numeral_fits : {core : Core} → IsFitTables core → (place : Place) (count : ℕ) (n : ℤ) → 0 < count → IfTyped (IsFitFolded core) (checked (numeral place count n))
+numeral_fits {core} t place count n h = fits_entry NumberTooLarge place (within n) (λ v e. fits_fine (nodes_count v table.integer count h, no_text_fits core v table.integer (within_no_text n v e) (integer_solid t)))
 
 pub text_fits : {core : Core} → IsFitTables core → (text : List ℕ) → IsFitFolded core (text_constant text)
 text_fits t [] = (nodes_count (const.Text []) table.string 1 (omega arith), string_is t)
@@ -96,9 +93,9 @@ before_no_text Not of n v e = go (nat_eq of.0 table.boolean.0) e
     go true e = within_no_text (pos 1 -ℤ n) v e
     go false e = subst IsNoText (some_is e) tt
 
-pub prefix_fits : {core : Core} → IsFitTables core → (place : Place) (o : PrefixOperator) (a : Constant) → IfTyped (IsFitFolded core) (prefix_means core place o a)
+pub prefix_fits : {core : Core} → IsFitTables core → (place : Place) (o : PrefixOperator) (a : Constant) → IfTyped (IsFitFolded core) (checked (prefix_means core place o a))
 prefix_fits {core} t place o a =
-    fits_entry 21 place (table.prefixed o (sort_of core a.of)) (λ of e. joined_entry core 33 place of a.weight (nodes 0) (before o of (number_of a.value)) (λ v g. no_text_fits core v of (before_no_text o of (number_of a.value) v g) (prefixed_solid t o (sort_of core a.of) of e)))
+    fits_entry NoOperator place (table.prefixed o (sort_of core a.of)) (λ of e. joined_entry core OutOfRange place of a.weight (nodes 0) (before o of (number_of a.value)) (λ v g. no_text_fits core v of (before_no_text o of (number_of a.value) v g) (prefixed_solid t o (sort_of core a.of) of e)))
 
 -- ---- operators
 
@@ -221,9 +218,9 @@ operated_fits {core} t o a b sets of x y v s e g = go (is_text a && is_text b) r
     go true k g = texts_fit t o a b sets of (bytes_of x) (bytes_of y) v k s e g
     go false k g = no_text_fits core v of (values_no_text o x y v g) (operation_solid t o a b sets of (λ _. k) s e)
 
-pub operator_fits : {core : Core} → IsFitTables core → (start : Place) (o : Operator) (place : Place) (a b : Constant) → IfTyped (IsFitFolded core) (operator_means core start o place a b)
+pub operator_fits : {core : Core} → IsFitTables core → (start : Place) (o : Operator) (place : Place) (a b : Constant) → IfTyped (IsFitFolded core) (checked (operator_means core start o place a b))
 operator_fits {core} t start o place a b =
-    fits_entry 21 place (table.operation o (sort_of core a.of) (sort_of core b.of) (common_set core a.of b.of)) (λ of e. joined_entry core 33 start of a.weight b.weight (operated o (sort_of core a.of) (sort_of core b.of) a.value b.value) (λ v g.
+    fits_entry NoOperator place (table.operation o (sort_of core a.of) (sort_of core b.of) (common_set core a.of b.of)) (λ of e. joined_entry core OutOfRange start of a.weight b.weight (operated o (sort_of core a.of) (sort_of core b.of) a.value b.value) (λ v g.
     operated_fits t o (sort_of core a.of) (sort_of core b.of) (common_set core a.of b.of) of a.value b.value v (λ s. common_sets t a.of b.of s) e g))
 
 -- ---- functions and casts
@@ -267,19 +264,14 @@ application_solid {core} t f of to e = go f (sort_of core of) refl e
     go UpCase (sort.Ordinal kind.Char) q e = subst (IsSolidType core) (some_is e) (char_solid t)
     go f s q e = absurd (none_is e)
 
--- by the table's entry
-fits_row : {A B : Type 0} {P : B → Type 0} {g : A → Checked B} (fault : Refusal) (o : Option A) → ((a : A) → o ≡ Some a → IfTyped P (g a)) → IfTyped P (or_fault fault g o)
-fits_row fault None h = fits_silent
-fits_row fault (Some a) h = h a refl
-
-pub use_fits : {core : Core} → IsFitTables core → (what : Applied) (place at : Place) (a : Constant) → IfTyped (IsFitFolded core) (use_means core what place at a)
+pub use_fits : {core : Core} → IsFitTables core → (what : Applied) (place at : Place) (a : Constant) → IfTyped (IsFitFolded core) (checked (use_means core what place at a))
 use_fits {core} t (Cast of) place at a =
-    fits_test 39 place (is_ordinal (sort_of core a.of)) (λ o. joined_entry core 33 place of a.weight (nodes 0) (cast (type_at core of) (number_of a.value)) (λ v e. cast_fits core of (number_of a.value) v e))
+    fits_test NoCast place (is_ordinal (sort_of core a.of)) (λ o. joined_entry core OutOfRange place of a.weight (nodes 0) (cast (type_at core of) (number_of a.value)) (λ v e. cast_fits core of (number_of a.value) v e))
 use_fits {core} t (Function' f) place at a =
-    fits_row (fault (rule_of f) at) (table.application f (sort_of core a.of) a.of) (λ of e. joined_entry core 33 place of a.weight (nodes 0) (applied core f a.of a.value) (λ v g. no_text_fits core v of (applied_no_text core f a.of a.value v g) (application_solid t f a.of of e)))
+    fits_entry (rule_of f) at (table.application f (sort_of core a.of) a.of) (λ of e. joined_entry core OutOfRange place of a.weight (nodes 0) (applied core f a.of a.value) (λ v g. no_text_fits core v of (applied_no_text core f a.of a.value v g) (application_solid t f a.of of e)))
 
-pub bound_fits : (core : Core) (f : Function) (of : TypeId × Place) → IfTyped (IsFitFolded core) (bound_means core f of)
-bound_fits core f of = fits_entry 23 of.1 (bound_of core f of.0) (λ b e. fits_fine (nodes_count b.0 b.1 2 (omega arith), ranged (index_by of.0 (type_at core of.0)) b e))
+pub bound_fits : (core : Core) (f : Function) (of : TypeId × Place) → IfTyped (IsFitFolded core) (checked (bound_means core f of))
+bound_fits core f of = fits_entry NotOrdinal of.1 (bound_of core f of.0) (λ b e. fits_fine (nodes_count b.0 b.1 2 (omega arith), ranged (index_by of.0 (type_at core of.0)) b e))
   where
     ranged : (index : TypeId) (b : Const × TypeId) → option_map (λ v. (v, index)) (option_and_then (λ r. within (end_by f r)) (range_of (type_at core index))) ≡ Some b → IsFitConstant core b.0 b.1
     ranged index b e = by (range_of (type_at core index)) refl e
@@ -298,29 +290,23 @@ bound_fits core f of = fits_entry 23 of.1 (bound_of core f of.0) (λ b e. fits_f
 abbrev pub IsFitSet : Core → Constant → Type 0
 IsFitSet core c = IsNoText c.value × IsSetType core c.of
 
-pub any_part : {A : Type 0} (o : Option A) → IfAny (λ a. Unit {0}) o
-any_part o = any_of o (λ a e. tt)
+pub single_fits : {core : Core} → IsFitTables core → (at : Place) (a : Option Constant) → IfTyped (IsFitSet core) (checked (single_means core at a))
+single_fits {core} t at a = fits_after (fits_with (present (checked (with_part (element_means core at) a)).typed) (λ a _. fits_fine (tt, over_is_set t a.of)))
 
-pub single_fits : {core : Core} → IsFitTables core → (at : Place) (a : Option Constant) → IfTyped (IsFitSet core) (single_means core at a)
-single_fits {core} t at a = fits_after (fits_with (any_part (with_part (element_means core at) a).typed) (λ a _. fits_fine (tt, over_is_set t a.of)))
-
-pub range_fits : {core : Core} → IsFitTables core → (at : Place) (a : Option Constant) (at' : Place) (b : Option Constant) → IfTyped (IsFitSet core) (range_means core at a at' b)
+pub range_fits : {core : Core} → IsFitTables core → (at : Place) (a : Option Constant) (at' : Place) (b : Option Constant) → IfTyped (IsFitSet core) (checked (range_means core at a at' b))
 range_fits {core} t at a at' b =
-    fits_after (fits_with (any_part (both_typed pair (with_part (element_means core at) a).typed (with_part (element_means core at') b).typed)) (λ ab _.
-    fits_test 20 at' (assignable core ab.1.of ab.0.of) (λ _. fits_fine (tt, common_is_set t (set_over core ab.0.of) (set_over core ab.1.of) (over_is_set t ab.0.of) (over_is_set t ab.1.of)))))
+    fits_after (fits_with (present (both_typed pair (checked (with_part (element_means core at) a)).typed (checked (with_part (element_means core at') b)).typed)) (λ ab _.
+    fits_test NotAssignable at' (assignable core ab.1.of ab.0.of) (λ _. fits_fine (tt, common_is_set t (set_over core ab.0.of) (set_over core ab.1.of) (over_is_set t ab.0.of) (over_is_set t ab.1.of)))))
 
-pub gathered_fits : {core : Core} → IsFitTables core → (at : Place) {a b : Option Constant} → IfAny (IsFitSet core) a → IfAny (IsFitSet core) b → IfTyped (IsFitSet core) (gathered_means core at a b)
+pub gathered_fits : {core : Core} → IsFitTables core → (at : Place) {a b : Option Constant} → IfAny (IsFitSet core) a → IfAny (IsFitSet core) b → IfTyped (IsFitSet core) (checked (gathered_means core at a b))
 gathered_fits {core} t at h k =
-    fits_with h (λ a h. fits_with k (λ b k. fits_test 20 at (are_sets (sort_of core a.of) (sort_of core b.of)) (λ _. fits_fine (tt, common_is_set t a.of b.of h.1 k.1))))
+    fits_with h (λ a h. fits_with k (λ b k. fits_test NotAssignable at (are_sets (sort_of core a.of) (sort_of core b.of)) (λ _. fits_fine (tt, common_is_set t a.of b.of h.1 k.1))))
 
 pub no_members_fit : {core : Core} → IsFitTables core → IsFitSet core no_members
 no_members_fit t = (tt, empty_is_set t)
 
 pub bracketed_fits : (core : Core) (a : Constant) → IsFitSet core a → IsFitFolded core (made a.value a.of (joined a.weight (nodes 0)))
 bracketed_fits core a h = (joined_counts a.value a.of a.weight (nodes 0), no_text_fits core a.value a.of h.0 (set_solid core a.of h.1))
-
-pub set_fits : (core : Core) {c : Checked Constant} → IfTyped (IsFitSet core) c → IfTyped (IsFitFolded core) (in_brackets c)
-set_fits core h = fits_behind h (λ a h. fits_fine (bracketed_fits core a h))
 
 pub brackets_fit : (core : Core) (c : Constant) → IsFitFolded core c → IsFitFolded core (made c.value c.of (joined c.weight (nodes 0)))
 brackets_fit core c h = (joined_counts c.value c.of c.weight (nodes 0), h.1)

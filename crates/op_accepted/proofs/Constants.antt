@@ -1,13 +1,11 @@
 -- Where tables and names are fit, each constant of a declaration is fit.
-use Rattle.std.proofs.Common.{◌≡◌, ℕ, pos, neg_ℤ, Bool, true, false, List, Option, Some, None, refl, sym, arith, if◌then◌else◌}
-use Rattle.std.specs.List.{All}
-use Rattle.std.specs.Option.{IfSome, option_and_then, option_map}
+use Rattle.std.proofs.Common.{◌≡◌, ℕ, pos, neg_ℤ, Bool, true, false, List, Option, Some, None, sym, arith, if◌then◌else◌}
+use Rattle.std.specs.Option.{IfSome}
 use Rattle.op_base.specs.declared.place.Place.{Place}
-use Rattle.op_check_expr.specs.Meanings.{value_of as value_meant}
-use Rattle.op_check_expr.specs.Values.{Value}
+use Rattle.op_check_expr.specs.Phrases.{value as value_meant}
 use Rattle.op_check_unit.specs.Types as types
-use Rattle.op_check_unit.specs.Types.{feature_of_constant, scope_outside}
-use Rattle.op_core.specs.Faults.{Checked, Faults, after, both, refused, with_part}
+use Rattle.op_check_unit.specs.Types.{built, constant_part, feature_of_constant, no_constant, scope_outside}
+use Rattle.op_core.specs.Faults.{Checked}
 use Rattle.op_core.specs.declared.constant.Const.{Const}
 use Rattle.op_core.specs.declared.constant.Const.TheVariants as const
 use Rattle.op_core.specs.declared.ids.TypeId.{TypeId}
@@ -24,14 +22,15 @@ use Rattle.op_types.specs.declared.constant.Constant.{Constant}
 use Rattle.op_types.specs.declared.constant.Use.{Use}
 use Rattle.op_types.specs.declared.constant.Use.TheVariants.{Unknown, Silent, Bound, Apply}
 use Rattle.op_types.specs.declared.visible.Meaning.{Meaning}
-use Rattle.op_types.specs.declared.visible.Meaning.TheVariants.{Constant as ConstantNamed, Spoiled, Unit as UnitNamed}
-use Rattle.op_accepted.specs.Fit.{IfAny, IfTyped, IsFitConstant, IsFitMeaning, IsFitTables, none, some, typed}
-use Rattle.op_accepted.proofs.ConstantParts.{IsFitFolded, IsFitSet, any_part, bound_fits, gathered_fits, no_members_fit, numeral_fits, operator_fits, prefix_fits, range_fits, set_fits, single_fits, text_fits, use_fits}
-use Rattle.op_accepted.proofs.Leaves.{meaning_fits}
-use Rattle.op_accepted.proofs.Parts.{fits_changed, fits_after, fits_as, fits_behind, fits_fine, fits_silent, fits_standing, fits_unshown, fits_with}
+use Rattle.op_types.specs.declared.visible.Meaning.TheVariants.{Constant as ConstantNamed, Unit as UnitNamed}
+use Rattle.op_accepted.specs.Fit.{IfAny, IfTyped, IsFitConstant, IsFitMeaning, IsFitTables, some, typed}
+use Rattle.op_accepted.proofs.ConstantParts.{IsFitFolded, IsFitSet, bound_fits, gathered_fits, no_members_fit, numeral_fits, operator_fits, prefix_fits, range_fits, single_fits, text_fits, use_fits}
+use Rattle.op_accepted.proofs.Leaves.{meant_if}
+use Rattle.op_accepted.proofs.Parts.{any_typed, fits_after, fits_any, fits_as, fits_behind, fits_changed, fits_fine, fits_silent, fits_unshown, fits_with, present}
 use Rattle.op_accepted.proofs.SetTypes.{set_solid}
-use Rattle.op_accepted.proofs.Trees.{no_text_fits, none_is}
-use Rattle.op_check_unit.specs.Readings.{built, constant_part, no_constant}
+use Rattle.op_accepted.proofs.Trees.{no_text_fits}
+use Rattle.op_accepted.specs.State.{AreFitNames}
+use Rattle.op_core.proofs.Agreeing.{none_is}
 
 -- `nil` is a constant, which no declaration takes
 abbrev IsFitOrNil : Core → Const → TypeId → Type 0
@@ -54,24 +53,11 @@ folded_may core h = fits_as h (λ c k. may_fit core c.value c.of k.1)
 record Fits {A : Type 0} (P : A → Type 0) (j : Judgement A) : Type 1 where
   fits : IfTyped P (checked j)
 
-typed_is : {A : Type 0} {P : A → Type 0} {c : Checked A} → IfTyped P c → IfAny P c.typed
-typed_is (typed h) = h
-
 -- of two parts, each of which may have no meaning
 of_both : {A B C : Type 0} (P : A → Type 0) (Q : B → Type 0) (R : C → Type 0) (j : Judgement A) (k : Judgement B) (g : Option A → Option B → Judgement C) → Fits P j → Fits Q k → ((o : Option A) (q : Option B) → IfAny P o → IfAny Q q → IfTyped R (checked (g o q))) → Fits R (followed j (λ a. followed k (g a)))
-of_both P Q R j k g h i l = record { fits = fits_after (fits_after (l (checked j).typed (checked k).typed (typed_is h.fits) (typed_is i.fits))) }
+of_both P Q R j k g h i l = record { fits = fits_after (fits_after (l (checked j).typed (checked k).typed (any_typed h.fits) (any_typed i.fits))) }
 
 -- ---- names
-
-abbrev AreFitNames : Core → List Named → Type 0
-AreFitNames core names = All (λ n. IsFitMeaning core n.meaning) names
-
-meant_if : (core : Core) (names : List Named) → AreFitNames core names → (key : List ℕ) → IfSome (meaning_of names key) (IsFitMeaning core)
-meant_if core names all key = go (meaning_of names key) refl
-  where
-    go : (m : Option Meaning) → meaning_of names key ≡ m → IfSome m (IsFitMeaning core)
-    go (Some m) e = meaning_fits core names all key m e
-    go None e = tt
 
 name_fits : (core : Core) (place : Place) (m : Option Meaning) → IfSome m (IsFitMeaning core) → Fits (MayFit core) (name_means place m)
 name_fits core place None h = record { fits = fits_silent }
@@ -97,7 +83,7 @@ call_fits t place of g (Some (Apply what)) h = h what
 -- ---- all of it
 
 operation_fits : {core : Core} → IsFitTables core → (start : Place) (o : Operator) (place : Place) (a b : Option Constant) → IfTyped (MayFit core) (checked (operation_means core start o place a b))
-operation_fits {core} t start o place a b = fits_with (any_part a) (λ a _. fits_with (any_part b) (λ b _. folded_may core (operator_fits t start o place a b)))
+operation_fits {core} t start o place a b = fits_with (present a) (λ a _. fits_with (present b) (λ b _. folded_may core (operator_fits t start o place a b)))
 
 numbered : {core : Core} → IsFitTables core → (n : Option (ℕ × Place)) (j : Judgement Constant) → Fits (MayFit core) j → Fits (MayFit core) (or_number n j)
 numbered t None j h = h
@@ -155,24 +141,20 @@ mutual
   argument_fits core names t all place args what = record { fits = fits_silent }
 
 -- what is no constant has no type here
-no_constant_fits : {P : Constant → Type 0} (core : Core) (names : List Named) (e : Expression) → IfTyped P (no_constant core names e)
-no_constant_fits {P} core names e = typed (go (value_meant (scope_outside core names) None e).typed)
-  where
-    go : (o : Option Value) → IfAny P (with_part (λ v. refused 30 (start_of e)) o).typed
-    go None = none
-    go (Some v) = none
+no_constant_fits : {P : Constant → Type 0} (core : Core) (names : List Named) (e : Expression) → IfTyped P (checked (no_constant core names e))
+no_constant_fits {P} core names e = fits_behind (fits_any (checked (value_meant (scope_outside core names) None e))) (λ v i. fits_silent)
 
-built_fits : (core : Core) (place : Place) (c : Constant) → MayFit core c → IfTyped (λ c. IsFitConstant core c.value c.of) (built place c)
+built_fits : (core : Core) (place : Place) (c : Constant) → MayFit core c → IfTyped (λ c. IsFitConstant core c.value c.of) (checked (built place c))
 built_fits core place c h = fits_unshown (fine c) place (feature_of_constant c.value) (λ e. fits_fine (go c.value h e))
   where
     go : (v : Const) → IsFitOrNil core v c.of → feature_of_constant v ≡ None → IsFitConstant core v c.of
     go const.Nil h e = absurd (none_is (sym e))
     go v h e = h
 
-pub constant_fits : (core : Core) (names : List Named) → IsFitTables core → AreFitNames core names → (e : Expression) → IfTyped (λ c. IsFitConstant core c.value c.of) (constant_part core names e)
+pub constant_fits : (core : Core) (names : List Named) → IsFitTables core → AreFitNames core names → (e : Expression) → IfTyped (λ c. IsFitConstant core c.value c.of) (checked (constant_part core names e))
 unfolding types.constant_part
 constant_fits core names t all e = fits_behind (go (is_constant core names e)) (λ c h. built_fits core (start_of e) c h)
   where
-    go : (b : Bool) → IfTyped (MayFit core) (if b then checked (constant core names e) else no_constant core names e)
+    go : (b : Bool) → IfTyped (MayFit core) (if b then checked (constant core names e) else checked (no_constant core names e))
     go true = (judged_fits core names t all e).fits
     go false = no_constant_fits core names e

@@ -20,7 +20,6 @@ use Rattle.op_types.proofs.Sorting.{stands_as}
 use Rattle.op_types.proofs.TypeFacts.{one_or_elements}
 use Rattle.op_judgement.specs.Judgement.{checked}
 use Rattle.op_types.specs.Assignable.{assignable, fits}
-use Rattle.op_types.specs.Constants.{is_ordinal, no_members}
 use Rattle.op_types.specs.Operators as table
 use Rattle.op_types.specs.Sorts.{are_sets, by_kind, kind_of, sort_by, sort_of}
 use Rattle.op_types.specs.declared.constant.Constant.{Constant}
@@ -34,6 +33,8 @@ use Rattle.op_accepted.proofs.Parts.{any_as, fits_as, fits_changed, fits_fine, f
 use Rattle.op_accepted.proofs.SetTypes.{IsSetType, common_is_set, empty_is_set, over_is_set, set_solid}
 use Rattle.op_accepted.proofs.Solid.{made_of}
 use Rattle.op_accepted.proofs.Trees.{as_ordinal_fits}
+use Rattle.op_judgement.specs.declared.rules.LanguageRule.TheVariants.{NoSetElement, NotAssignable, NotOrdinal}
+use Rattle.op_types.specs.ConstantParts.{is_ordinal, no_members}
 
 abbrev pub IsFitMember : Core → Member → Type 0
 IsFitMember core (member.one at v) = IsFitValue core v
@@ -72,17 +73,17 @@ ordinal_sort (sort.Ordinal kind) h = (kind, refl)
 ordinal_sort s h = absurd (false≢true h)
 
 value_in_set_fits : {core : Core} → IsFitTables core → (at : Place) (v : Value) → IfTyped (λ of. IsSetType core of × InOrdinal core v) (checked (value_in_set core at v))
-value_in_set_fits {core} t at v = fits_test 23 at (is_ordinal (sort_of core (type_of v))) (λ o. fits_test 34 at (is_small v) (λ _. fits_fine (over_is_set t (type_of v), ordinal_sort (sort_of core (type_of v)) o)))
+value_in_set_fits {core} t at v = fits_test NotOrdinal at (is_ordinal (sort_of core (type_of v))) (λ o. fits_test NoSetElement at (is_small v) (λ _. fits_fine (over_is_set t (type_of v), ordinal_sort (sort_of core (type_of v)) o)))
 
 member_in_set_fits : {core : Core} → IsFitTables core → (m : Member) → IfTyped (λ of. IsSetType core of × IsOrdinalMember core m) (checked (member_in_set core m))
 member_in_set_fits t (member.one at v) = value_in_set_fits t at v
 member_in_set_fits {core} t (member.range at v at' v') =
     fits_followed (value_in_set_fits t at v) (λ a h. fits_followed (value_in_set_fits t at' v') (λ b k. fits_with h (λ a h. fits_with k (λ b k.
-    fits_test 20 at' (assignable core (type_of v') (type_of v)) (λ _. fits_fine (common_is_set t a b h.0 k.0, (h.1, k.1)))))))
+    fits_test NotAssignable at' (assignable core (type_of v') (type_of v)) (λ _. fits_fine (common_is_set t a b h.0 k.0, (h.1, k.1)))))))
 
 both_in_set_fits : {core : Core} → IsFitTables core → (Q R : Type 0) (at : Place) {a b : Option TypeId} → IfAny (λ of. IsSetType core of × Q) a → IfAny (λ of. IsSetType core of × R) b → IfTyped (λ of. IsSetType core of × (Q × R)) (checked (both_in_set core at a b))
 both_in_set_fits {core} t Q R at h k =
-    fits_with h (λ a h. fits_with k (λ b k. fits_test 20 at (are_sets (sort_of core a) (sort_of core b)) (λ _. fits_fine (common_is_set t a b h.0 k.0, (h.1, k.1)))))
+    fits_with h (λ a h. fits_with k (λ b k. fits_test NotAssignable at (are_sets (sort_of core a) (sort_of core b)) (λ _. fits_fine (common_is_set t a b h.0 k.0, (h.1, k.1)))))
 
 -- Q is what is known of the elements so far
 type_of_set_fits : {core : Core} → IsFitTables core → (Q : Type 0) (ms : List Member) {o : Option TypeId} → IfAny (λ of. IsSetType core of × Q) o → IfTyped (λ of. IsSetType core of × (Q × AreOrdinal core ms)) (checked (type_of_set core o ms))

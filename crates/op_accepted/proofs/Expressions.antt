@@ -9,14 +9,12 @@ use Rattle.op_check_expr.specs.Constructors.{Member, is_small}
 use Rattle.op_check_expr.specs.Constructors as made
 use Rattle.op_check_expr.specs.Expressions as means
 use Rattle.op_check_expr.specs.Expressions.{call_means, member_by, position_of, position_of_designator, ranged, settled, settled_by, still_at_position, text_denoted, value_in, with_member}
-use Rattle.op_check_expr.specs.Meanings as words
 use Rattle.op_check_expr.specs.Phrases as phrase
 use Rattle.op_check_expr.specs.Phrases.{alone_behind, alone_by, alone_value, is_call, is_own, is_result, last_call, own_result, result_at, result_denoted, result_first, result_in, result_named, routine_alone, routine_in, selectors_behind, target_by, target_from}
 use Rattle.op_check_expr.specs.Naming as naming
-use Rattle.op_check_expr.specs.Naming.{Denoted, Meant}
+use Rattle.op_check_expr.specs.Naming.{Denoted, Meant, number_at}
 use Rattle.op_check_expr.specs.Scopes.{Here}
 use Rattle.op_check_expr.specs.Values.{Value, constant, computed, in_brackets, tree_of, type_of}
-use Rattle.op_check_expr.specs.Words.{number_at}
 use Rattle.op_check_expr.specs.declared.call.Plan.{Plan}
 use Rattle.op_check_expr.specs.declared.call.Plan.TheVariants as plan
 use Rattle.op_core.proofs.Growing.{all_at}
@@ -38,7 +36,6 @@ use Rattle.op_tree.specs.Expression.{Expression, chain, prefixed, number, nil, s
 use Rattle.op_tree.specs.declared.position.Name.{Name}
 use Rattle.op_tree.specs.declared.position.Position.{Position}
 use Rattle.op_types.specs.Assignable.{assignable}
-use Rattle.op_types.specs.Constants.{joined_name, number_behind, text_constant}
 use Rattle.op_types.specs.Operators as table
 use Rattle.op_types.specs.Names.{lower, meaning_of}
 use Rattle.op_types.specs.declared.constant.Applied.{Applied}
@@ -51,7 +48,10 @@ use Rattle.op_accepted.proofs.Leaves.{IsFitArgument, IsFitDenoted, field_fits, i
 use Rattle.op_accepted.proofs.Operations.{operation_fits, prefix_of_fits, used_fits}
 use Rattle.op_accepted.proofs.Parts.{any_map, fits_any, fits_behind, fits_changed, fits_fine, fits_followed, fits_silent, fits_standing, fits_test, fits_with}
 use Rattle.op_accepted.proofs.Solid.{nothing_solid, string_is}
-use Rattle.op_accepted.proofs.Trees.{as_type_fits, none_is, open_step, some_is, tree_fits}
+use Rattle.op_accepted.proofs.Trees.{as_type_fits, open_step, tree_fits}
+use Rattle.op_core.proofs.Agreeing.{none_is, some_is}
+use Rattle.op_judgement.specs.declared.rules.LanguageRule.TheVariants.{NoSetElement, NoStatement, NotAssignable}
+use Rattle.op_types.specs.ConstantParts.{joined_name, number_behind, text_constant}
 
 -- ---- calls
 
@@ -227,22 +227,22 @@ call_fits {here} s plan args = call_means_fits s plan (λ what p. means.sole her
 
 -- ---- what statements are made of
 
-pub value_of_fits : (here : Here) → IsFitHere here → (wanted : Option TypeId) (e : Expression) → IfTyped (IsFitValue here.core) (words.value_of here wanted e)
+pub value_of_fits : (here : Here) → IsFitHere here → (wanted : Option TypeId) (e : Expression) → IfTyped (IsFitValue here.core) (checked (phrase.value here wanted e))
 unfolding phrase.value
 value_of_fits here s wanted e = value_fits here s wanted e
 
-pub given_fits : (here : Here) → IsFitHere here → (to : TypeId) → IsSolidType here.core to → (checked : Bool) (e : Expression) → IfTyped (IsFitTree here.core) (words.given here to checked e)
+pub given_fits : (here : Here) → IsFitHere here → (to : TypeId) → IsSolidType here.core to → (ranges : Bool) (e : Expression) → IfTyped (IsFitTree here.core) (checked (phrase.given here to ranges e))
 unfolding phrase.given
-given_fits here s to solid checked e = fits_behind (value_fits here s (Some to) e) (λ v h. stored_fits s.tables (position_of e).place checked to v h solid)
+given_fits here s to solid ranges e = fits_behind (value_fits here s (Some to) e) (λ v h. stored_fits s.tables (position_of e).place ranges to v h solid)
 
-pub variable_fits : (here : Here) → IsFitHere here → (of : Option TypeId) (e : Expression) → IfTyped (IsSolidTree here.core) (words.variable here of e)
+pub variable_fits : (here : Here) → IsFitHere here → (of : Option TypeId) (e : Expression) → IfTyped (IsSolidTree here.core) (checked (phrase.variable here of e))
 unfolding phrase.variable
 variable_fits here s of e = fits_behind (value_fits here s None e) (λ v h. variable_value_fits here (position_of e).place of v h)
 
-pub element_fits : (here : Here) → IsFitHere here → (base : TypeId) → IsSolidType here.core base → (e : Expression) → IfTyped (IsFitTree here.core) (words.element here base e)
+pub element_fits : (here : Here) → IsFitHere here → (base : TypeId) → IsSolidType here.core base → (e : Expression) → IfTyped (IsFitTree here.core) (checked (phrase.element here base e))
 unfolding phrase.element
 element_fits here s base solid e =
-    fits_behind (value_fits here s None e) (λ v h. fits_test 20 (position_of e).place (assignable here.core (type_of v) base) (λ a. fits_test 34 (position_of e).place (is_small v) (λ _. fits_fine (as_type_fits here.core s.tables true base v h solid a))))
+    fits_behind (value_fits here s None e) (λ v h. fits_test NotAssignable (position_of e).place (assignable here.core (type_of v) base) (λ a. fits_test NoSetElement (position_of e).place (is_small v) (λ _. fits_fine (as_type_fits here.core s.tables true base v h solid a))))
 
 -- the result of the routine whose body this is
 own_fits : {here : Here} → IsFitHere here → (id : RoutineId) (v : VariableId × TypeId) → own_result here id ≡ Some v → IsSolidType here.core v.1
@@ -289,7 +289,7 @@ target_from_fits : (here : Here) → IsFitHere here → (d : Designator) {o : Op
 target_from_fits here s d (some r h) = fits_behind (fits_behind (selected_fits here s (selectors_behind d) (some r h)) (λ c k. settled_fits s c k)) (λ v k. target_value_fits here (position_of_designator d).place v k)
 target_from_fits here s d none = target_by_fits here s d (routine_alone here d)
 
-pub target_fits : (here : Here) → IsFitHere here → (d : Designator) → IfTyped (IsSolidTree here.core) (words.target here d)
+pub target_fits : (here : Here) → IsFitHere here → (d : Designator) → IfTyped (IsSolidTree here.core) (checked (phrase.target here d))
 unfolding phrase.target
 target_fits here s d = target_from_fits here s d (result_first_fits s d)
 
@@ -299,7 +299,7 @@ any_tree : (core : Core) {o : Option Value} → IfAny (IsFitValue core) o → If
 any_tree core h = any_map tree_of h (λ v k. tree_fits core v k)
 
 alone_value_fits : (core : Core) (start : Place) (b : Bool) {o : Option Value} → IfAny (IsFitValue core) o → IfTyped (IsFitTree core) (checked (alone_value start b o))
-alone_value_fits core start b h = fits_test 35 start b (λ _. fits_standing (any_tree core h))
+alone_value_fits core start b h = fits_test NoStatement start b (λ _. fits_standing (any_tree core h))
 
 alone_fits : {here : Here} → IsFitHere here → (start : Place) (d : Denoted) (what : Meant) → IfTyped (IsFitTree here.core) (checked (alone_by here start d what))
 alone_fits s start d (naming.value v) = fits_silent
@@ -312,6 +312,6 @@ alone_behind_fits here s start ss (Some r) h =
     fits_followed (selected_fits here s r.0 h) (λ c k. fits_followed (fits_any (checked (plan_of here true c r.1))) (λ plan i.
     fits_followed (call_fits s plan r.1) (λ v q. alone_value_fits here.core start (is_call plan) q)))
 
-pub called_alone_fits : (here : Here) → IsFitHere here → (d : Designator) → IfTyped (IsFitTree here.core) (words.called_alone here d)
+pub called_alone_fits : (here : Here) → IsFitHere here → (d : Designator) → IfTyped (IsFitTree here.core) (checked (phrase.call_alone here d))
 unfolding phrase.call_alone
 called_alone_fits here s (designator root ss) = fits_followed (root_fits here s root) (λ d h. alone_behind_fits here s (position_of_designator (designator root ss)).place ss (last_call ss) h)

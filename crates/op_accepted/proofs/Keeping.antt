@@ -1,9 +1,9 @@
 -- What passes the test passes it on, in a program with more types, and where another thing is asked of texts that each text passes that counts for
 -- no more than all of the tree.
-use Rattle.std.proofs.Common.{◌≡◌, ◌≤◌, ◌+◌, ◌&&◌, ℕ, Bool, true, false, List, [], ◌∷◌, length, Option, Some, None, refl, sym, ap, ◌∙◌, arith}
+use Rattle.std.proofs.Common.{◌≡◌, ◌≤◌, ◌+◌, ◌&&◌, ℕ, Bool, true, false, List, [], ◌∷◌, length, refl, sym, arith}
 use Rattle.std.proofs.lemmas.Bool.{and_from, and_parts, true≢false}
 use Rattle.std.specs.List.{list_all}
-use Rattle.op_core.proofs.Growing.{front_stays}
+use Rattle.op_accepted.proofs.Grown.{solid_on}
 use Rattle.op_core.specs.Expression.{Expression, expression, Root, constant, variable, object, call, construct, set, eof, eoln, Steps, no_steps, steps, Action, bracket, index, method, operate, apply, Elements, no_elements, elements, Element, one, range, Arguments, no_arguments, arguments, Argument, value, place, array, listed}
 use Rattle.op_core.specs.Growing.{IsFrontOf}
 use Rattle.op_core.specs.Sizes.{type_at}
@@ -12,21 +12,12 @@ use Rattle.op_core.specs.declared.constant.Const.{Const}
 use Rattle.op_core.specs.declared.constant.Const.TheVariants.{Ordinal, Text, Set as SetOf, Nil as NilOf}
 use Rattle.op_core.specs.declared.ids.TypeId.{TypeId}
 use Rattle.op_core.specs.declared.program.Core.{Core}
-use Rattle.op_core.specs.declared.types.CoreType.{CoreType}
 use Rattle.op_plain.specs.Plain.{are_plain_arguments, are_plain_branches, are_plain_elements, are_plain_statements, are_plain_steps, is_plain_amount, is_plain_argument, is_plain_bare, is_plain_built_in, is_plain_constant, is_plain_element, is_plain_expression, is_plain_item, is_plain_root, is_plain_statement, is_plain_step}
 use Rattle.op_sizes.specs.Literals.{action_literals, argument_literals, arguments_literals, branches_literals, built_in_literals, element_literals, elements_literals, expression_literals, item_literals, items_literals, literal_size, root_literals, statement_literals, statements_literals, steps_literals}
 use Rattle.op_typing.specs.Simple.{IsSolidType, is_solid, is_text, text_after}
 
 failed : {A : Type 0} → false ≡ true → A
 failed e = absurd (true≢false (sym e))
-
-solid_row : (o q : Option CoreType) → ((t : CoreType) → o ≡ Some t → q ≡ Some t) → is_solid o ≡ true → is_solid q ≡ true
-solid_row None q stays e = failed e
-solid_row (Some t) q stays e = ap is_solid (stays t refl) ∙ e
-
--- a solid type stays one
-pub solid_later : (core later : Core) → IsFrontOf core.types later.types → (of : TypeId) → IsSolidType core of → IsSolidType later of
-solid_later core later types of e = solid_row (type_at core of) (type_at later of) (front_stays types of.0) e
 
 module _ (core later : Core) (types : IsFrontOf core.types later.types) (texts others : List ℕ → Bool) (most : ℕ) (passes : (text : List ℕ) → 64 + length text ≤ most → texts text ≡ true → others text ≡ true) where
   -- of two tests both, each of a part
@@ -48,7 +39,7 @@ module _ (core later : Core) (types : IsFrontOf core.types later.types) (texts o
   beside a {b} {d} g h e = let parts = and_parts a b e in and_from a d parts.0 (g h parts.1)
 
   solid : (of : TypeId) → IsSolidType core of → IsSolidType later of
-  solid of e = solid_later core later types of e
+  solid of e = solid_on core later types of e
 
   -- with the type in front
   of_type : (of : TypeId) {b d : Bool} {n : ℕ} → (n ≤ most → b ≡ true → d ≡ true) → n ≤ most → (is_solid (type_at core of) && b) ≡ true → (is_solid (type_at later of) && d) ≡ true

@@ -1,5 +1,5 @@
 -- Names, places, elements and what is given to parameters are fit.
-use Rattle.std.proofs.Common.{◌≡◌, ◌⊎◌, inl, inr, ℕ, zero, suc, pos, neg_ℤ, Bool, true, false, List, [], ◌∷◌, slice_get, take, drop, Option, Some, None, refl, ap, subst, ◌∙◌, arith, if◌then◌else◌}
+use Rattle.std.proofs.Common.{◌≡◌, ◌⊎◌, inl, inr, ℕ, zero, suc, pos, neg_ℤ, Bool, true, false, List, [], ◌∷◌, slice_get, take, drop, IfSome, Option, Some, None, refl, ap, subst, ◌∙◌, arith, if◌then◌else◌}
 use Rattle.std.proofs.lemmas.Bool.{and_from, false≢true}
 use Rattle.std.specs.List.{All}
 use Rattle.std.specs.Option.{IsSome, option_and_then, option_map, option_or}
@@ -10,13 +10,13 @@ use Rattle.op_check_expr.specs.Calling.{passed}
 use Rattle.op_check_expr.specs.Expressions as means
 use Rattle.op_check_expr.specs.Expressions.{element_at, index_types, indexed, or_number}
 use Rattle.op_check_expr.specs.Naming as naming
-use Rattle.op_check_expr.specs.Naming.{Denoted, feature_of, feature_of_type, field_at, field_named, field_of, is_named, variable_named}
+use Rattle.op_check_expr.specs.Naming.{Denoted, feature_of, feature_of_type, field_at, field_named, field_of, number_at, variable_named}
 use Rattle.op_check_expr.specs.Places.{is_very, is_writable, target_value, variable_value}
 use Rattle.op_check_expr.specs.Scopes.{Here}
 use Rattle.op_check_expr.specs.Values.{Value, constant, computed, index_at, index_tree, stored, tree_of, type_of}
-use Rattle.op_check_expr.specs.Words.{number_at}
 use Rattle.op_core.proofs.Growing.{all_at}
 use Rattle.op_core.specs.Expression.{Expression as Tree, Argument, field, index, value as value_argument, place as place_argument}
+use Rattle.op_core.specs.FieldNames.{is_named}
 use Rattle.op_judgement.specs.Judgement.{Judgement, checked}
 use Rattle.op_core.specs.Rows.{rows}
 use Rattle.op_core.specs.Sizes.{type_at}
@@ -41,11 +41,14 @@ use Rattle.op_types.specs.Operators as table
 use Rattle.op_types.specs.declared.visible.Meaning.{Meaning}
 use Rattle.op_types.specs.declared.visible.Meaning.TheVariants as meaning
 use Rattle.op_typing.specs.Simple.{IsSolidType, is_solid, text_after}
-use Rattle.op_accepted.specs.Fit.{IfAny, IfTyped, IsFitHere, IsFitMeaning, IsFitMeant, IsFitTables, IsFitTree, IsFitValue, IsSolidTree, any_text, none, some, stays_text, typed}
+use Rattle.op_accepted.specs.Fit.{IfAny, IfTyped, IsFitHere, IsFitMeaning, IsFitMeant, IsFitTables, IsFitTree, IsFitValue, IsSolidTree, any_text, some, stays_text, typed}
 use Rattle.op_accepted.proofs.ConstantParts.{nodes_count, numeral_fits}
 use Rattle.op_accepted.proofs.Parts.{fits_changed, fits_entry, fits_fine, fits_silent, fits_test, fits_unshown, fits_whether, fits_with}
 use Rattle.op_accepted.proofs.Solid.{char_solid, integer_solid, made_of}
-use Rattle.op_accepted.proofs.Trees.{as_type_fits, none_is, open_step, some_is, step_fits, tree_fits, tree_open}
+use Rattle.op_accepted.proofs.Trees.{as_type_fits, open_step, step_fits, tree_fits, tree_open}
+use Rattle.op_accepted.specs.State.{AreFitNames}
+use Rattle.op_core.proofs.Agreeing.{none_is, some_is}
+use Rattle.op_judgement.specs.declared.rules.LanguageRule.TheVariants.{CharacterOfString, NoMember, NoVariable, NotAssignable, NotIndexed, NotWritable, VariableOfAnotherType}
 
 pub number_fits : {core : Core} → IsFitTables core → (n : Option (ℕ × Place)) (j : Judgement Value) → IfTyped (IsFitValue core) (checked j) → IfTyped (IsFitValue core) (checked (or_number n j))
 number_fits t None j h = h
@@ -54,15 +57,15 @@ number_fits t (Some n) j h = fits_changed constant (numeral_fits t n.1 2 (neg_�
 -- ---- values as what is stored, given and assigned to
 
 pub stored_fits : {core : Core} → IsFitTables core → (at : Place) (ranges : Bool) (to : TypeId) (v : Value) → IsFitValue core v → IsSolidType core to → IfTyped (IsFitTree core) (checked (stored core at ranges to v))
-stored_fits {core} t at ranges to v h s = fits_test 20 at (assignable core (type_of v) to) (λ a. fits_fine (as_type_fits core t ranges to v h s a))
+stored_fits {core} t at ranges to v h s = fits_test NotAssignable at (assignable core (type_of v) to) (λ a. fits_fine (as_type_fits core t ranges to v h s a))
 
 pub variable_value_fits : (here : Here) (at : Place) (of : Option TypeId) (v : Value) → IsFitValue here.core v → IfTyped (IsSolidTree here.core) (checked (variable_value here at of v))
 variable_value_fits here at of (computed e) h =
-    fits_test 27 at (is_place true here.core e) (λ _. fits_test 28 at (is_very here.core (typing.type_of e) of) (λ _. fits_test 29 at (is_writable here true e) (λ _. fits_test 37 at (is_place false here.core e) (λ _. fits_fine h.0))))
+    fits_test NoVariable at (is_place true here.core e) (λ _. fits_test VariableOfAnotherType at (is_very here.core (typing.type_of e) of) (λ _. fits_test NotWritable at (is_writable here true e) (λ _. fits_test CharacterOfString at (is_place false here.core e) (λ _. fits_fine h.0))))
 variable_value_fits here at of (constant c) h = fits_silent
 
 pub target_value_fits : (here : Here) (at : Place) (v : Value) → IsFitValue here.core v → IfTyped (IsSolidTree here.core) (checked (target_value here at v))
-target_value_fits here at (computed e) h = fits_test 29 at (is_writable here true e) (λ _. fits_fine h.0)
+target_value_fits here at (computed e) h = fits_test NotWritable at (is_writable here true e) (λ _. fits_fine h.0)
 target_value_fits here at (constant c) h = fits_silent
 
 abbrev pub IsFitArgument : Core → Argument → Type 0
@@ -75,7 +78,7 @@ passed_fits here t p at v s h =
 -- ---- elements of arrays and texts
 
 index_at_fits : {core : Core} → IsFitTables core → (at : Place) (of : Option CoreType) (to : TypeId) (v : Value) → IsFitValue core v → IsSolidType core to → IfTyped (IsFitTree core) (checked (index_at core at of to v))
-index_at_fits {core} t at of to v h s = fits_test 20 at (assignable core (type_of v) to) (λ a. fits_fine (go of a))
+index_at_fits {core} t at of to v h s = fits_test NotAssignable at (assignable core (type_of v) to) (λ a. fits_fine (go of a))
   where
     go : (of : Option CoreType) → assignable core (type_of v) to ≡ true → IsFitTree core (index_tree core of to v)
     go (Some (type.Array at element)) a = tree_fits core v h
@@ -109,11 +112,11 @@ element_at_fits {core} t at a of v e h k =
     fits_changed _ (index_at_fits t at (type_at core (type_of a)) of.0 v k s.0) (λ i q. step_fits core (tree_of a) (index i) of.1 (tree_fits core a h) refl (indexed_step core (stays_text (tree_of a)) i of.1 q s.1) (no_text_after (stays_text (tree_of a)) i) s.1)
 
 pub indexed_fits : {core : Core} → IsFitTables core → (bracket at : Place) {a v : Option Value} → IfAny (IsFitValue core) a → IfAny (IsFitValue core) v → IfTyped (IsFitValue core) (checked (indexed core bracket at a v))
-indexed_fits {core} t bracket at h k = fits_with h (λ a h. fits_entry 24 bracket (index_types (type_at core (type_of a))) (λ of e. fits_with k (λ v k. element_at_fits t at a of v e h k)))
+indexed_fits {core} t bracket at h k = fits_with h (λ a h. fits_entry NotIndexed bracket (index_types (type_at core (type_of a))) (λ of e. fits_with k (λ v k. element_at_fits t at a of v e h k)))
 
 -- ---- names
 
-pub meaning_fits : (core : Core) (names : List Named) → All (λ n. IsFitMeaning core n.meaning) names → (key : List ℕ) (m : Meaning) → meaning_of names key ≡ Some m → IsFitMeaning core m
+meaning_fits : (core : Core) (names : List Named) → AreFitNames core names → (key : List ℕ) (m : Meaning) → meaning_of names key ≡ Some m → IsFitMeaning core m
 meaning_fits core [] all key m h = absurd (none_is h)
 meaning_fits core (n ∷ ns) all key m h = go (meaning_fits core ns (λ k d l. all (suc k) d (omega (arith, l))) key m) (meaning_of ns key) refl (bytes_eq n.name key) h
   where
@@ -121,6 +124,13 @@ meaning_fits core (n ∷ ns) all key m h = go (meaning_fits core ns (λ k d l. a
     go others (Some a) e b g = others (e ∙ g)
     go others None e true g = subst (IsFitMeaning core) (some_is g) (all 0 n (omega arith))
     go others None e false g = absurd (none_is g)
+
+pub meant_if : (core : Core) (names : List Named) → AreFitNames core names → (key : List ℕ) → IfSome (meaning_of names key) (IsFitMeaning core)
+meant_if core names all key = go (meaning_of names key) refl
+  where
+    go : (m : Option Meaning) → meaning_of names key ≡ m → IfSome m (IsFitMeaning core)
+    go (Some m) e = meaning_fits core names all key m e
+    go None e = tt
 
 abbrev pub IsFitDenoted : Core → Denoted → Type 0
 IsFitDenoted core d = IsFitMeant core d.what
@@ -190,4 +200,4 @@ field_solid {core} t name from f e = go (type_at core from) refl e
 
 pub field_fits : {core : Core} → IsFitTables core → (m : Name) (v : Value) → IsFitValue core v → IfTyped (IsFitDenoted core) (checked (field_of core m v))
 field_fits {core} t m v h =
-    fits_entry 25 m.position.place (field_named core m.text (type_at core (type_of v))) (λ f e. let s = field_solid t m.text (type_of v) f e in fits_fine (open_step core (tree_of v) (field f.0) f.1 (tree_open core v h s.1) refl s.0 s.0))
+    fits_entry NoMember m.position.place (field_named core m.text (type_at core (type_of v))) (λ f e. let s = field_solid t m.text (type_of v) f e in fits_fine (open_step core (tree_of v) (field f.0) f.1 (tree_open core v h s.1) refl s.0 s.0))

@@ -1,5 +1,6 @@
 -- What is solid is not managed: strings and what holds an instance are, and what is made of these.
-use Rattle.std.proofs.Common.{◌≡◌, ◌<◌, ℕ, zero, suc, Bool, true, false, ◌||◌, List, [], ◌∷◌, All, map, drop, unwrap_or, Option, Some, None, refl, ap, ◌∙◌, arith}
+use Rattle.std.proofs.Common.{◌≡◌, ◌<◌, ℕ, zero, suc, true, false, List, [], ◌∷◌, All, map, drop, unwrap_or, Option, Some, None, refl, ap, ◌∙◌, arith}
+use Rattle.std.proofs.lemmas.Bool.{or_from}
 use Rattle.std.proofs.lemmas.List.Elements.{All-drop, All-head, All-tail, All-take}
 use Rattle.std.specs.List.{fold}
 use Rattle.op_accepted.specs.Fit.{IsFitType}
@@ -15,13 +16,9 @@ use Rattle.op_core.specs.declared.types.Field.{Field}
 use Rattle.op_meaning.specs.Shapes.{is_managed}
 use Rattle.op_typing.specs.Simple.{IsSolidType, is_solid}
 
-neither : (a b : Bool) → a ≡ false → b ≡ false → (a || b) ≡ false
-neither false b e f = f
-neither true b e f = absurd (cc)
-
 parts_not : (core : Core) (fs : List Field) (e : Extent) → e.managed ≡ false → All (λ f. is_managed core f.of ≡ false) fs → (fold extended e (map (λ f. extent_of core f.of) fs)).managed ≡ false
 parts_not core [] e h a = h
-parts_not core (f ∷ fs) e h a = parts_not core fs (extended e (extent_of core f.of)) (neither e.managed (is_managed core f.of) h (All-head (λ f. is_managed core f.of ≡ false) f fs a)) (All-tail (λ f. is_managed core f.of ≡ false) f fs a)
+parts_not core (f ∷ fs) e h a = parts_not core fs (extended e (extent_of core f.of)) (or_from e.managed (is_managed core f.of) h (All-head (λ f. is_managed core f.of ≡ false) f fs a)) (All-tail (λ f. is_managed core f.of ≡ false) f fs a)
 
 module _ (core : Core) (kept : KeepsExtents core) (types : All (IsFitType core) core.types) (fields : All (λ f. IsSolidType core f.of) core.fields) where
   -- where all that it is made of is not

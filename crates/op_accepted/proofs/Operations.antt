@@ -23,7 +23,6 @@ use Rattle.op_tree.specs.declared.operator.PrefixOperator.{PrefixOperator}
 use Rattle.op_tree.specs.declared.position.Position.{Position}
 use Rattle.op_types.proofs.TypeFacts.{rooted}
 use Rattle.op_types.proofs.Sorting.{stands_as}
-use Rattle.op_types.specs.Constants.{is_folded, is_ordinal}
 use Rattle.op_types.specs.Operators as table
 use Rattle.op_types.specs.Sets.{common_set, set_over}
 use Rattle.op_types.specs.Sorts.{is_text, sort_by, sort_of}
@@ -36,20 +35,25 @@ use Rattle.op_types.specs.declared.sort.OrdinalKind.TheVariants as kind
 use Rattle.op_types.specs.declared.sort.Sort.{Sort}
 use Rattle.op_types.specs.declared.sort.Sort.TheVariants as sort
 use Rattle.op_typing.specs.Simple.{IsSolidType, asks_text, is_solid, text_after}
-use Rattle.op_judgement.specs.Judgement.{checked, fault}
+use Rattle.op_judgement.specs.Judgement.{checked}
 use Rattle.op_accepted.specs.Fit.{IfAny, IfTyped, IsFitConstant, IsFitTables, IsFitTree, IsFitValue, any_text, stays_text}
 use Rattle.op_accepted.proofs.ConstantParts.{application_solid, common_sets, operation_solid, operator_fits, prefix_fits, prefixed_solid, use_fits}
-use Rattle.op_accepted.proofs.Parts.{fits_changed, fits_entry, fits_fine, fits_found, fits_unshown, fits_whether, fits_with}
+use Rattle.op_accepted.proofs.Parts.{fits_changed, fits_entry, fits_fine, fits_unshown, fits_whether, fits_with}
 use Rattle.op_accepted.proofs.SetTypes.{common_solid, over_is_set, set_solid, sort_solid}
 use Rattle.op_accepted.proofs.Solid.{boolean_solid, char_solid, integer_solid, made_of}
-use Rattle.op_accepted.proofs.Trees.{as_type_open, no_string, none_is, open_step, some_is, step_fits, tree_fits, tree_open, value_is}
+use Rattle.op_accepted.proofs.Trees.{as_type_open, no_string, open_step, step_fits, tree_fits, tree_open, value_is}
+use Rattle.op_core.proofs.Agreeing.{none_is, some_is}
+use Rattle.op_judgement.specs.declared.rules.Feature.{Feature}
+use Rattle.op_judgement.specs.declared.rules.Feature.TheVariants.{Strings}
+use Rattle.op_judgement.specs.declared.rules.LanguageRule.TheVariants.{NoCast, NoOperator}
+use Rattle.op_types.specs.ConstantParts.{is_folded, is_ordinal}
 
 -- ---- signs
 
 pub prefix_of_fits : {core : Core} → IsFitTables core → (o : PrefixOperator) (p : Position) (v : Value) → IsFitValue core v → IfTyped (IsFitValue core) (checked (prefix_of core o p v))
 prefix_of_fits t o p (constant c) h = fits_changed constant (prefix_fits t p.place o c) (λ c q. q)
 prefix_of_fits {core} t o p (computed e) h =
-    fits_entry 21 p.place (table.prefixed o (sort_of core (type_of (computed e)))) (λ of q.
+    fits_entry NoOperator p.place (table.prefixed o (sort_of core (type_of (computed e)))) (λ of q.
     let s = prefixed_solid t o (sort_of core (type_of (computed e))) of q in
     fits_fine (open_step core (as_type core true of (computed e)) (prefixed o p.switches.q) of (as_type_open core true of (computed e) h h.0.1 s) refl s s))
 
@@ -104,7 +108,7 @@ right_text Is a sets of e = absurd (none_is e)
 right_text As_ a sets of e = absurd (none_is e)
 right_text Slash a sets of e = absurd (none_is e)
 
-shown : (b : Bool) (n : ℕ) → (if b then Some n else None) ≡ None → b ≡ false
+shown : (b : Bool) (n : Feature) → (if b then Some n else None) ≡ None → b ≡ false
 shown true n e = absurd (none_is (sym e))
 shown false n e = refl
 
@@ -176,8 +180,8 @@ operation_tree_fits {core} t o checked a b of h k s u w =
 
 computed_operation_fits : {core : Core} → IsFitTables core → (o : Operator) (p : Position) (a b : Value) → IsFitValue core a → IsFitValue core b → IfTyped (IsFitValue core) (checked (computed_operation core o p a b))
 computed_operation_fits {core} t o p a b h k =
-    fits_entry 21 p.place (table.operation o (sort_of core (type_of a)) (sort_of core (type_of b)) (common_set core (type_of a) (type_of b))) (λ of e. fits_unshown _ p.place (feature_of_operands o (sort_of core (type_of a)) (sort_of core (type_of b))) (λ g.
-    let m = shown (makes_strings o (sort_of core (type_of a)) (sort_of core (type_of b))) 40 g in
+    fits_entry NoOperator p.place (table.operation o (sort_of core (type_of a)) (sort_of core (type_of b)) (common_set core (type_of a) (type_of b))) (λ of e. fits_unshown _ p.place (feature_of_operands o (sort_of core (type_of a)) (sort_of core (type_of b))) (λ g.
+    let m = shown (makes_strings o (sort_of core (type_of a)) (sort_of core (type_of b))) Strings g in
     let sets = common_set core (type_of a) (type_of b) in
     fits_fine (operation_tree_fits t o p.switches.q a b of h k (operand_is core a h (no_string_left core o (type_of a) (type_of b) sets of e m)) (operand_is core b k (no_string_right core o (type_of a) (type_of b) sets of e m))
     (operation_solid t o (sort_of core (type_of a)) (sort_of core (type_of b)) sets of (joins_no_texts o (sort_of core (type_of a)) (sort_of core (type_of b)) m) (common_sets t (type_of a) (type_of b)) e))))
@@ -201,7 +205,7 @@ cast_solid core from to c e = go (sort_of core from) (sort_of core to) refl refl
 
 cast_of_fits : (core : Core) (place : Place) (to : TypeId) (v : Value) → IsFitValue core v → IfTyped (IsFitValue core) (checked (cast_of core place to (tree_of v) (type_of v)))
 cast_of_fits core place to v h =
-    fits_entry 39 place (cast_by core (type_of v) to (sort_of core (type_of v)) (sort_of core to)) (λ c e.
+    fits_entry NoCast place (cast_by core (type_of v) to (sort_of core (type_of v)) (sort_of core to)) (λ c e.
     let s = cast_solid core (type_of v) to c e in
     fits_fine (open_step core (tree_of v) (convert c CastOrigin) to (tree_open core v h s.0) refl s.1 s.1))
 
@@ -269,7 +273,7 @@ takes_no_string core f of to e n q = none_is (sym n ∙ subst (λ s. table.appli
 
 function_fits : {core : Core} → IsFitTables core → (f : Function) (checked : Bool) (v : Value) (of : TypeId) → IsFitValue core v → function_type core f (type_of v) ≡ Some of → feature_of_argument core f (type_of v) ≡ None → IsFitValue core (function_tree core f checked v of)
 function_fits {core} t Length checked v of h e g =
-    asked_fits core Length checked v (text_type (sort_of core (type_of v)) (type_of v)) of h (own_text (sort_of core (type_of v)) (type_of v) (shown (is_ordinal (sort_of core (type_of v))) 40 g)) refl (length_solid t (index_type (type_at core (type_of v))) (type_of v) of e)
+    asked_fits core Length checked v (text_type (sort_of core (type_of v)) (type_of v)) of h (own_text (sort_of core (type_of v)) (type_of v) (shown (is_ordinal (sort_of core (type_of v))) Strings g)) refl (length_solid t (index_type (type_at core (type_of v))) (type_of v) of e)
 function_fits {core} t Low checked v of h e g = asked_fits core Low checked v (type_of v) of h refl refl (bounds_solid t (type_of v) of e)
 function_fits {core} t High checked v of h e g = asked_fits core High checked v (type_of v) of h refl refl (bounds_solid t (type_of v) of e)
 function_fits {core} t Ord checked v of h e g = applied_fits t Ord checked v (type_of v) of h (takes_no_string core Ord (type_of v) of e refl) (λ s. s) (application_solid t Ord (type_of v) of e)
@@ -286,7 +290,7 @@ function_fits t f checked v of h e g = absurd (none_is e)
 computed_use_fits : {core : Core} → IsFitTables core → (p : Position) (what : Applied) (at : Place) (v : Value) → IsFitValue core v → IfTyped (IsFitValue core) (checked (computed_use core p what at v))
 computed_use_fits {core} t p (Cast of) at v h = cast_of_fits core p.place of v h
 computed_use_fits {core} t p (Function' f) at v h =
-    fits_found (fault (rule_of f) at) (function_type core f (type_of v)) (λ of e. fits_unshown _ p.place (feature_of_argument core f (type_of v)) (λ g. fits_fine (function_fits t f p.switches.q v of h e g)))
+    fits_entry (rule_of f) at (function_type core f (type_of v)) (λ of e. fits_unshown _ p.place (feature_of_argument core f (type_of v)) (λ g. fits_fine (function_fits t f p.switches.q v of h e g)))
 
 pub used_fits : {core : Core} → IsFitTables core → (p : Position) (what : Applied) (at : Place) (v : Value) → IsFitValue core v → IfTyped (IsFitValue core) (checked (used core p what at v))
 used_fits {core} t p what at (constant c) h = fits_whether _ _ (is_evaluated core what) (fits_changed constant (use_fits t what p.place at c) (λ c q. q)) (computed_use_fits t p what at (constant c) h)

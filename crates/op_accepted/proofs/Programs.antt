@@ -1,26 +1,26 @@
 -- A whole program leaves a fit state, or breaks a rule.
-use Rattle.std.proofs.Common.{◌≡◌, inl, inr, ◌⊎◌, ◌<◌, ℕ, zero, suc, ◌+◌, Bool, true, false, List, [], ◌∷◌, All, drop, length, length-set, nat_eq, replicate, slice_get, slice_set, Option, Some, None, refl, sym, subst, ◌∙◌, arith, if◌then◌else◌}
-use Rattle.std.proofs.lemmas.Bool.Decides.{nat_tests}
+use Rattle.std.proofs.Common.{◌≡◌, inl, inr, ◌⊎◌, ◌<◌, ℕ, zero, suc, ◌+◌, List, [], ◌∷◌, All, drop, length, replicate, slice_get, slice_set, Option, Some, None, refl, subst, ◌∙◌, arith}
 use Rattle.std.proofs.lemmas.List.{length-replicate}
 use Rattle.std.proofs.lemmas.List.Elements.{All-cons, All-drop, All-head, All-nil, All-set, All-tail}
 use Rattle.std.proofs.lemmas.Option.{slice_get_within}
 use Rattle.op_accepted.proofs.Beginning.{with_units_fits}
 use Rattle.op_accepted.proofs.Grown.{exports_on, later_itself, later_through, names_on}
-use Rattle.op_accepted.proofs.StateParts.{Nothing, keeps_breaks, keeps_from, keeps_here, keeps_unless, some_fault}
+use Rattle.op_accepted.proofs.StateParts.{Nothing, keeps_breaks, keeps_from, keeps_here, keeps_unless}
 use Rattle.op_accepted.proofs.Rows.{globaled, globaled_fit, globaled_later}
 use Rattle.op_accepted.proofs.Units.{completes_fits, interface_fits, program_declared_fits, unit_left_fits}
 use Rattle.op_accepted.specs.Fit.{IsFitMeaning}
 use Rattle.op_accepted.specs.State.{AreTreesFit, IsFitExport, IsFitState, IsLater, Keeps, faulty, kept}
 use Rattle.op_base.specs.declared.rule.Refusal.{Refusal}
+use Rattle.op_check_unit.proofs.WholeUnits.{all_same_count, fault_behind, own_fault, same_count, units_fault}
 use Rattle.op_check_unit.specs.Interfaces.{interface_order, unit_at}
-use Rattle.op_check_unit.specs.Programs.{Outline, all_outlined, blank_outline, faulted, faults_among, files_mean, in_unit, interface_faults, interface_faults_by, outline, outline_faults, outlined, outlined_by, parts_of_program, program_means, units_mean, with_interface, with_units}
-use Rattle.op_check_unit.specs.Readings.{interface_means, program_declared, unit_completes}
-use Rattle.op_check_unit.specs.Steps.{Given, Here, is_clear, unless, unless_faulty}
+use Rattle.op_check_unit.specs.Programs.{Outline, all_outlined, blank_outline, faulted, faults_among, files_mean, in_unit, interface_faults, interface_faults_by, interface_means, outline, outline_faults, outlined, outlined_by, parts_of_program, program_declared, program_means, unit_completes, units_mean, with_interface, with_units}
+use Rattle.op_check_unit.specs.Steps.{Given, Here}
 use Rattle.op_check_unit.specs.System.{beginning}
 use Rattle.op_check_unit.specs.Uses.{exported, put_apart}
 use Rattle.op_check_unit.specs.declared.uses.Export.{Export}
-use Rattle.op_core.specs.Faults.{Faults, IsIn, behind, front, none}
+use Rattle.op_core.specs.Faults.{Faults, IsIn, behind, front}
 use Rattle.op_core.specs.declared.program.Core.{Core}
+use Rattle.op_judgement.specs.Steps.{done}
 use Rattle.op_tree.specs.File.{File, Program, UnitFile, program, unit}
 
 -- ---- interface parts
@@ -34,22 +34,6 @@ record IsFitOutline (start : Core) (o : Outline) : Type 0 where
 -- a rule that the interface part of some unit breaks
 abbrev SomeFault : ℕ → (ℕ → Faults) → Type 0
 SomeFault count faults = (k : ℕ) × (k < count) × ((r : Refusal) × IsIn r (faults k))
-
-nat_eq_itself : (k : ℕ) → nat_eq k k ≡ true
-nat_eq_itself k = grind (arith, nat_tests)
-
-own_fault : (k : ℕ) (f : Faults) (r : Refusal) → IsIn r f → IsIn r (if nat_eq k k then f else none)
-own_fault k f r i = subst (λ b. IsIn r (if b then f else none)) (sym (nat_eq_itself k)) i
-
-same_count : (k : ℕ) (e : Option (Option Export)) (u : Option UnitFile) (o : Outline) → length (outlined_by k e u o).exports ≡ length o.exports
-same_count k (Some None) (Some u) o = length-set o.exports k _
-same_count k (Some None) None o = refl
-same_count k (Some (Some e)) u o = refl
-same_count k None u o = refl
-
-all_same_count : (order : List (List ℕ)) (fs : List File) (ks : List ℕ) (o : Outline) → length (all_outlined order fs ks o).exports ≡ length o.exports
-all_same_count order fs [] o = refl
-all_same_count order fs (k ∷ ks) o = all_same_count order fs ks (outlined order fs k o) ∙ same_count k (slice_get o.exports k) (unit_at order fs k) o
 
 module _ (known : AreTreesFit) where
   interface_outlined : (start : Core) (k : ℕ) (u : UnitFile) (o : Outline) (g : Given (Unit {0})) → IsFitOutline start o → IsFitState g.here → IsLater o.here.core g.here.core → IsFitState (put_apart g.here) × All (IsFitExport (put_apart g.here).core) (slice_set o.exports k (Some (exported u.name g))) × IsLater start (put_apart g.here).core
@@ -65,7 +49,7 @@ module _ (known : AreTreesFit) where
   outlined_by_fits start k (Some None) (Some u) o there x = one (interface_fits known o.exports u (in_unit k o.here) x.exports x.state)
     where
       g : Given (Unit {0})
-      g = interface_means o.exports u (in_unit k o.here)
+      g = done (interface_means o.exports u (in_unit k o.here))
 
       one : Keeps Nothing o.here.core g → IsFitOutline start (with_interface k u o) ⊎ ((k < length o.exports) × ((r : Refusal) × IsIn r g.faults))
       one (kept y l p) = let s = interface_outlined start k u o g x y l in inl (record { state = unit_left_fits o.here (put_apart g.here) s.0; exports = s.1; later = s.2 })
@@ -101,8 +85,8 @@ module _ (known : AreTreesFit) where
   units_fit : (fs : List File) (es : List (Option Export)) (faults : ℕ → Faults) (k : ℕ) (rest : List (Option Export)) (h : Here) → All (IsFitExport h.core) es → All (IsFitExport h.core) rest → IsFitState h → Keeps Nothing h.core (units_mean fs es faults k rest h)
   units_fit fs es faults k [] h a b x = keeps_here x tt
   units_fit fs es faults k (e ∷ rest) h a b x =
-      keeps_unless (faulted (faults k) (unit_completes fs es e h)) (units_mean fs es faults (k + 1) rest)
-      (keeps_faulted (faults k) (unit_completes fs es e h) (completes_fits known fs es e h a (All-head (IsFitExport h.core) e rest b) x))
+      keeps_unless (faulted (faults k) (done (unit_completes fs es e h))) (units_mean fs es faults (k + 1) rest)
+      (keeps_faulted (faults k) (done (unit_completes fs es e h)) (completes_fits known fs es e h a (All-head (IsFitExport h.core) e rest b) x))
       (λ i y l. units_fit fs es faults (k + 1) rest i (exports_on h.core i.core l.types es a) (exports_on h.core i.core l.types rest (All-tail (IsFitExport h.core) e rest b)) y)
 
   -- ---- the program
@@ -110,31 +94,10 @@ module _ (known : AreTreesFit) where
   units_and_program : (p : Program) (order : List (List ℕ)) (fs : List File) (faults : ℕ → Faults) (o : Outline) (start : Core) → IsFitOutline start o → Keeps Nothing start (parts_of_program p order fs faults o)
   units_and_program p order fs faults o start x =
       keeps_from x.later
-      (keeps_unless (units_mean fs o.exports faults 0 o.exports o.here) (λ h. program_declared o.exports p (in_unit (length order) h)) (units_fit fs o.exports faults 0 o.exports o.here x.exports x.exports x.state)
+      (keeps_unless (units_mean fs o.exports faults 0 o.exports o.here) (λ h. done (program_declared o.exports p (in_unit (length order) h))) (units_fit fs o.exports faults 0 o.exports o.here x.exports x.exports x.state)
       (λ i y l. program_declared_fits known o.exports p (in_unit (length order) i) (exports_on o.here.core i.core l.types o.exports x.exports) y))
 
 -- ---- a rule that an interface part breaks
-
-fault_behind : {A : Type 0} (g : Given A) (f : Here → Given A) (q : Refusal) → IsIn q g.faults → IsIn q (unless_faulty g f).faults
-fault_behind g f q i = one (is_clear g.faults)
-  where
-    one : (b : Bool) → IsIn q (unless b g f).faults
-    one true = front i
-    one false = i
-
--- it is told, or one of a unit before
-units_fault : (fs : List File) (es : List (Option Export)) (faults : ℕ → Faults) (k m : ℕ) (rest : List (Option Export)) (h : Here) (r : Refusal) → m < length rest → IsIn r (faults (k + m)) → (q : Refusal) × IsIn q (units_mean fs es faults k rest h).faults
-units_fault fs es faults k m [] h r lt i = absurd (omega (arith, lt))
-units_fault fs es faults k zero (e ∷ rest) h r lt i =
-    (r, fault_behind (faulted (faults k) (unit_completes fs es e h)) (units_mean fs es faults (k + 1) rest) r (front (subst (λ n. IsIn r (faults n)) (omega arith) i)))
-units_fault fs es faults k (suc m) (e ∷ rest) h r lt i = one (is_clear g.faults) refl (λ j. units_fault fs es faults (k + 1) m rest j r (omega (arith, lt)) (subst (λ n. IsIn r (faults n)) (omega arith) i))
-  where
-    g : Given (Unit {0})
-    g = faulted (faults k) (unit_completes fs es e h)
-
-    one : (b : Bool) → is_clear g.faults ≡ b → ((j : Here) → (q : Refusal) × IsIn q (units_mean fs es faults (k + 1) rest j).faults) → (q : Refusal) × IsIn q (unless b g (units_mean fs es faults (k + 1) rest)).faults
-    one true c later = let s = later g.here in (s.0, behind s.1)
-    one false c later = some_fault g.faults c
 
 -- ---- all files
 
@@ -150,7 +113,7 @@ module _ (known : AreTreesFit) where
   program_parts_fit p order fs faults o start count (inl x) = units_and_program known p order fs faults o start x
   program_parts_fit p order fs faults o start count (inr s) =
       let q = units_fault fs o.exports faults 0 s.0 o.exports o.here s.2.0 (let lt = s.1 in omega (arith, lt, count)) (subst (λ n. IsIn s.2.0 (faults n)) (omega arith) s.2.1) in
-      faulty q.0 (fault_behind (units_mean fs o.exports faults 0 o.exports o.here) (λ h. program_declared o.exports p (in_unit (length order) h)) q.0 q.1)
+      faulty q.0 (fault_behind (units_mean fs o.exports faults 0 o.exports o.here) (λ h. done (program_declared o.exports p (in_unit (length order) h))) q.0 q.1)
 
   files_fit : (fs : List File) (order : List (List ℕ)) → Keeps Nothing (with_units order beginning).core (files_mean fs order beginning)
   files_fit [] order = keeps_breaks

@@ -5,21 +5,20 @@ use Rattle.std.proofs.lemmas.List.Elements.{All-cons, All-drop, All-map, All-nil
 use Rattle.op_accepted.proofs.Declaring.{constants_fit, last_row, types_fit, variables_fit}
 use Rattle.op_accepted.proofs.Grown.{later_itself, later_through, if_solid_on}
 use Rattle.op_accepted.proofs.Headings.{IsFitHead, head_fits}
-use Rattle.op_accepted.proofs.StateParts.{Nothing, keeps_breaks, keeps_checked, keeps_declarations, keeps_followed, keeps_from, keeps_here, keeps_silent, keeps_then}
-use Rattle.op_accepted.proofs.Parts.{fits_fine, fits_test}
-use Rattle.op_accepted.proofs.Rows.{bodied_fit, named_fit, renamed_fit, routine_later, routined, routined_fit, row_later, variabled_fit, variabled_later}
-use Rattle.op_accepted.proofs.TypeRows.{declared_fits, present}
+use Rattle.op_accepted.proofs.StateParts.{Nothing, keeps_behind, keeps_breaks, keeps_checked, keeps_declarations, keeps_followed, keeps_from, keeps_here, keeps_silent, keeps_then}
+use Rattle.op_accepted.proofs.Parts.{fits_any, fits_fine, fits_test}
+use Rattle.op_accepted.proofs.Rows.{bodied_fit, named_fit, only_name, renamed_fit, routine_later, routined, routined_fit, row_later, variabled_fit, variabled_later}
+use Rattle.op_accepted.proofs.TypeRows.{declared_fits}
 use Rattle.op_accepted.specs.Fit.{AreFitStatements, IfAny, IfTyped, IsFitMeaning, none, some, typed}
 use Rattle.op_accepted.specs.State.{AreFitNames, AreTreesFit, IsFitState, IsLater, IsOuterRow, IsPlainRow, Keeps, kept}
 use Rattle.op_base.specs.declared.place.Place.{Place}
-use Rattle.op_check_stmt.specs.Statements.{statements}
+use Rattle.op_check_stmt.specs.Statement.{statements}
+use Rattle.op_check_unit.specs.Headings.{form_means, head_means}
 use Rattle.op_check_unit.specs.Naming.{ended, told_in, with_ahead}
-use Rattle.op_check_unit.specs.Readings.{ahead_declared, block_means, body_means, by_standing, class_meant, first_declared, form_means, head_means, headed, if_same, inner, local_declared, locals_fit, plain_declared, routine_by, routine_declared, same_means, statements_mean}
-use Rattle.op_check_unit.specs.Routines.{awaited_named, awaits, both_typed, completed, entered, is_heading_of, left, most_bytes, next_routine, no_rows, parameter_names, parameter_variable, result_name, routine_row, scope_of, with_body, with_local, with_parameters, with_result, with_routine, with_variables}
-use Rattle.op_check_unit.specs.Steps.{Here, followed, gives}
+use Rattle.op_check_unit.specs.Routines.{ahead_declared, awaited_named, awaits, block_means, body_means, both_typed, by_standing, class_meant, completed, entered, first_declared, headed, inner, is_heading_of, left, local_declared, locals_fit, most_bytes, next_routine, no_rows, parameter_names, parameter_variable, plain_declared, result_name, routine_by, routine_declared, routine_row, same_means, scope_of, statements_mean, with_body, with_local, with_parameters, with_result, with_routine, with_variables}
+use Rattle.op_check_unit.specs.Steps.{Here}
 use Rattle.op_check_unit.specs.declared.heading.Head.{Head}
 use Rattle.op_core.proofs.Growing.{some_and, stay_there}
-use Rattle.op_core.specs.Faults.{Checked, by_test, fine}
 use Rattle.op_core.specs.Heading.{same_result}
 use Rattle.op_core.specs.Members.{There}
 use Rattle.op_core.specs.Rows.{rows}
@@ -34,12 +33,15 @@ use Rattle.op_core.specs.declared.routine.Role.TheVariants.{Result}
 use Rattle.op_core.specs.declared.routine.Routine.{Routine}
 use Rattle.op_core.specs.declared.routine.Variable.{Variable as VariableRow}
 use Rattle.op_core.specs.declared.types.CoreType.{CoreType}
+use Rattle.op_judgement.specs.Judgement.{by_test, checked, fine}
+use Rattle.op_judgement.specs.declared.rules.LanguageRule.TheVariants.{HeadingDiffers, LocalsTooLarge}
+use Rattle.op_judgement.specs.Steps.{done, followed, gives}
 use Rattle.op_plain.specs.Plain.{is_plain_role}
 use Rattle.op_tree.specs.Declaration.{Body, forward, body, Declaration, constants, types, variables, heading, routine, Declarations, Heading}
 use Rattle.op_tree.specs.Statement.{Statements}
 use Rattle.op_tree.specs.declared.heading.Directive.{Directive}
 use Rattle.op_tree.specs.declared.position.Name.{Name}
-use Rattle.op_types.specs.Names.{Named, lower}
+use Rattle.op_types.specs.Names.{lower}
 use Rattle.op_types.specs.declared.visible.Meaning.TheVariants.{Routine as RoutineName, Spoiled}
 use Rattle.op_typing.specs.Simple.{IsSolidType}
 use Rattle.op_typing.specs.SimpleTests.{is_none}
@@ -81,12 +83,6 @@ pub record Behind (old : Core) (h : Here) : Type 0 where
   pub state : IsFitState h
   pub later : IsLater old h.core
 
-pub only_name : (core : Core) (n : Named) → IsFitMeaning core n.meaning → AreFitNames core (n ∷ [])
-only_name core n f = All-cons (λ n. IsFitMeaning core n.meaning) n [] f (All-nil (λ n. IsFitMeaning core n.meaning))
-
-pub any_typed : {A : Type 0} (c : Checked A) → IfTyped (λ a. Unit {0}) c
-any_typed c = typed (present c.typed)
-
 module _ (known : AreTreesFit) where
   local_fits : (n : Name) (of : TypeId) (role : Role) (h : Here) → is_plain_role role ≡ true → IsSolidType h.core of → IsFitState h → Behind h.core (with_local n of role h)
   local_fits n of role h p f x = record {
@@ -119,21 +115,21 @@ module _ (known : AreTreesFit) where
 
   -- ---- bodies
 
-  local_declared_fits : (d : Declaration) (h : Here) → IsFitState h → Keeps Nothing h.core (local_declared d h)
+  local_declared_fits : (d : Declaration) (h : Here) → IsFitState h → Keeps Nothing h.core (done (local_declared d h))
   local_declared_fits (constants cs) h x = constants_fit known cs h x
   local_declared_fits (types ts) h x = types_fit known ts h x
   local_declared_fits (variables vs) h x = variables_fit known vs h x
   local_declared_fits (heading m) h x = keeps_here x tt
-  local_declared_fits (routine r ds b) h x = keeps_checked {P = Nothing} x (any_typed _)
+  local_declared_fits (routine r ds b) h x = keeps_checked {P = Nothing} x (fits_any _)
 
-  pub body_fits : (id : RoutineId) (ss : Statements) (h : Here) → IsFitState h → Keeps Nothing h.core (statements_mean id ss h)
+  pub body_fits : (id : RoutineId) (ss : Statements) (h : Here) → IsFitState h → Keeps Nothing h.core (done (statements_mean id ss h))
   body_fits id ss h x = one (known.body (scope_of id h) (record { tables = x.tables; names = x.names }) ss)
     where
       there : {o : Option Typed} → IfAny (AreFitStatements h.core) o → IsFitState (with_body id o h) × IsLater h.core (with_body id o h).core
       there none = (x, later_itself)
       there (some ts f) = (bodied_fit (id, ts) x f, later_itself)
 
-      one : IfTyped (AreFitStatements h.core) (statements (scope_of id h) ss) → Keeps Nothing h.core (statements_mean id ss h)
+      one : IfTyped (AreFitStatements h.core) (checked (statements (scope_of id h) ss)) → Keeps Nothing h.core (done (statements_mean id ss h))
       one (typed f) = let t = there f in kept t.0 t.1 (some tt tt)
 
   with_variables_fits : (id : RoutineId) (n : Name) (x : Head) (first : ℕ) (h : Here) → IsFitHead x h.core → IsHeadOf id x h.core → IsFitState h → Behind h.core (with_variables id n x first h)
@@ -151,16 +147,16 @@ module _ (known : AreTreesFit) where
   head_later : (old new : Core) (x : Head) → IsLater old new → IsFitHead x old → IsFitHead x new
   head_later old new x l f = (f.0, if_solid_on old new l.types x.result f.1)
 
-  inner_fits : (id : RoutineId) (n : Name) (x : Head) (first : ℕ) (ds : Declarations) (ss : Statements) (h : Here) → IsFitHead x h.core → IsHeadOf id x h.core → IsFitState h → Keeps Nothing h.core (inner id n x first ds ss h)
+  inner_fits : (id : RoutineId) (n : Name) (x : Head) (first : ℕ) (ds : Declarations) (ss : Statements) (h : Here) → IsFitHead x h.core → IsHeadOf id x h.core → IsFitState h → Keeps Nothing h.core (done (inner id n x first ds ss h))
   inner_fits id n x first ds ss h f g y =
       keeps_then (λ h. followed (locals_fit n h) (λ t h. statements_mean id ss (with_variables id n x first h))) (keeps_declarations local_declared local_declared_fits ds h y)
-      (λ i z l. keeps_then (λ h. statements_mean id ss (with_variables id n x first h)) (keeps_checked {P = Nothing} z (any_typed (by_test 69 n.position.place (fine tt) (nat_le i.bytes most_bytes))))
+      (λ i z l. keeps_then (λ h. statements_mean id ss (with_variables id n x first h)) (keeps_checked {P = Nothing} z (fits_any (checked (by_test LocalsTooLarge n.position.place (fine tt) (nat_le i.bytes most_bytes)))))
       (λ j w m. let k = later_through l m in let b = with_variables_fits id n x first j (head_later h.core j.core x k f) (head_on h.core j.core id x k g) w in keeps_from b.later (body_fits id ss (with_variables id n x first j) b.state)))
 
   left_fits : (old h : Here) → IsFitState h → IsFitState (left old h)
   left_fits old h x = renamed_fit (take (length old.names) h.names) x (All-take (λ n. IsFitMeaning h.core n.meaning) (length old.names) h.names x.names)
 
-  block_fits : (id : RoutineId) (n : Name) (x : Head) (ds : Declarations) (ss : Statements) (h : Here) → IsFitHead x h.core → IsHeadOf id x h.core → IsFitState h → Keeps Nothing h.core (block_means id n x ds ss h)
+  block_fits : (id : RoutineId) (n : Name) (x : Head) (ds : Declarations) (ss : Statements) (h : Here) → IsFitHead x h.core → IsHeadOf id x h.core → IsFitState h → Keeps Nothing h.core (done (block_means id n x ds ss h))
   block_fits id n x ds ss h f g y =
       let b = entered_fits id n x h f y in
       keeps_from b.later
@@ -169,7 +165,7 @@ module _ (known : AreTreesFit) where
 
   -- ---- declarations
 
-  body_means_fits : (id : RoutineId) (n : Name) (x : Head) (b : Body) (h : Here) → IsFitHead x h.core → IsHeadOf id x h.core → IsFitState h → Keeps Nothing h.core (body_means id n x b h)
+  body_means_fits : (id : RoutineId) (n : Name) (x : Head) (b : Body) (h : Here) → IsFitHead x h.core → IsHeadOf id x h.core → IsFitState h → Keeps Nothing h.core (done (body_means id n x b h))
   body_means_fits id n x forward h f g y = keeps_here y tt
   body_means_fits id n x (body ds ss) h f g y = block_fits id n x ds ss h f g y
 
@@ -185,7 +181,7 @@ module _ (known : AreTreesFit) where
       l : IsLater h.core (routined h.core (h.core.routines ++ row ∷ []))
       l = routine_later h.core row
 
-  first_fits : (n : Name) (x : Head) (b : Body) (h : Here) → IsFitHead x h.core → IsFitState h → Keeps Nothing h.core (first_declared n x b h)
+  first_fits : (n : Name) (x : Head) (b : Body) (h : Here) → IsFitHead x h.core → IsFitState h → Keeps Nothing h.core (done (first_declared n x b h))
   first_fits n x b h f y =
       let id = next_routine h in
       let g = with_routine_fits n x (awaits b n) h f y in
@@ -195,23 +191,19 @@ module _ (known : AreTreesFit) where
       (keeps_then (λ h. body_means id n x b h) (declared_fits n (RoutineName id) new g.state tt)
       (λ i z l. body_means_fits id n x b i (head_later h.core i.core x (later_through g.later l) f) (head_on new.core i.core id x l there) z))
 
-  if_same_fits : (id : RoutineId) (n : Name) (x : Head) (ds : Declarations) (ss : Statements) {t : Option (Unit {0})} (h : Here) → IsFitHead x h.core → IfAny (λ t. IsHeadOf id x h.core) t → IsFitState h → Keeps Nothing h.core (if_same id n x ds ss t h)
-  if_same_fits id n x ds ss h f none y = keeps_silent y
-  if_same_fits id n x ds ss h f (some t g) y = block_fits id n x ds ss h f g y
-
-  same_fits : (id : RoutineId) (n : Name) (x : Head) (h : Here) → IfTyped (λ t. IsHeadOf id x h.core) (same_means id n x h)
+  same_fits : (id : RoutineId) (n : Name) (x : Head) (h : Here) → IfTyped (λ t. IsHeadOf id x h.core) (checked (same_means id n x h))
   same_fits id n x h =
-      fits_test 19 n.position.place (is_heading_of h.core (routine_row h.unit n x no_rows) (slice_get h.core.routines id.0))
+      fits_test HeadingDiffers n.position.place (is_heading_of h.core (routine_row h.unit n x no_rows) (slice_get h.core.routines id.0))
       (λ e. fits_fine (heading_gives h.core (routine_row h.unit n x no_rows) (slice_get h.core.routines id.0) e))
 
-  ahead_fits : (id : RoutineId) (n : Name) {x : Option Head} (b : Body) (h : Here) → IfAny (λ x. IsFitHead x h.core) x → IsFitState h → Keeps Nothing h.core (ahead_declared id n x b h)
+  ahead_fits : (id : RoutineId) (n : Name) {x : Option Head} (b : Body) (h : Here) → IfAny (λ x. IsFitHead x h.core) x → IsFitState h → Keeps Nothing h.core (done (ahead_declared id n x b h))
   ahead_fits id n forward h f y = keeps_breaks
   ahead_fits id n (body ds ss) h none y = keeps_silent y
   ahead_fits id n (body ds ss) h (some x f) y =
-      keeps_followed {f = if_same id n x ds ss} (keeps_checked {P = λ t core. IsHeadOf id x core} {h = completed id h} y (same_fits id n x h))
-      (λ t i z l g. if_same_fits id n x ds ss i (head_later h.core i.core x l f) g z)
+      keeps_behind (λ t i. block_means id n x ds ss i) (keeps_checked {P = λ t core. IsHeadOf id x core} {h = completed id h} y (same_fits id n x h))
+      (λ t i z l g. block_fits id n x ds ss i (head_later h.core i.core x l f) g z)
 
-  standing_fits : (o : Option RoutineId) (n : Name) {x : Option Head} (b : Body) (h : Here) → IfAny (λ x. IsFitHead x h.core) x → IsFitState h → Keeps Nothing h.core (by_standing o n x b h)
+  standing_fits : (o : Option RoutineId) (n : Name) {x : Option Head} (b : Body) (h : Here) → IfAny (λ x. IsFitHead x h.core) x → IsFitState h → Keeps Nothing h.core (done (by_standing o n x b h))
   standing_fits (Some id) n b h f y = ahead_fits id n b h f y
   standing_fits None n b h none y = declared_fits n Spoiled h y tt
   standing_fits None n b h (some x f) y = first_fits n x b h f y
@@ -220,15 +212,15 @@ module _ (known : AreTreesFit) where
   both_fit core None f = none
   both_fit core (Some t) f = f
 
-  plain_fits : (x : Heading) (ds : List Directive) (b : Body) (h : Here) → IsFitState h → Keeps Nothing h.core (plain_declared x ds b h)
+  plain_fits : (x : Heading) (ds : List Directive) (b : Body) (h : Here) → IsFitState h → Keeps Nothing h.core (done (plain_declared x ds b h))
   plain_fits x ds b h y =
-      keeps_followed {P = Nothing} {f = λ t h. followed (head_means x h) (λ u h. headed x.name (both_typed t u) b (ended h))} (keeps_checked {P = Nothing} {h = with_ahead x.name h} y (any_typed (form_means x ds)))
-      (λ t i z l p. keeps_followed {f = λ u h. headed x.name (both_typed t u) b (ended h)} (head_fits known x i z)
+      keeps_followed {P = Nothing} (λ t h. followed (head_means x h) (λ u h. headed x.name (both_typed t u) b (ended h))) (keeps_checked {P = Nothing} {h = with_ahead x.name h} y (fits_any (checked (form_means x ds))))
+      (λ t i z l p. keeps_followed (λ u h. headed x.name (both_typed t u) b (ended h)) (head_fits known x i z)
       (λ u j w m f. standing_fits (awaited_named (ended j) x.name) x.name b (ended j) (both_fit j.core t f) w))
 
-  pub routine_fits : (x : Heading) (ds : List Directive) (b : Body) (h : Here) → IsFitState h → Keeps Nothing h.core (routine_declared x ds b h)
+  pub routine_fits : (x : Heading) (ds : List Directive) (b : Body) (h : Here) → IsFitState h → Keeps Nothing h.core (done (routine_declared x ds b h))
   routine_fits x ds b h y = one x.class
     where
-      one : (c : Option Name) → Keeps Nothing h.core (routine_by c x ds b h)
+      one : (c : Option Name) → Keeps Nothing h.core (done (routine_by c x ds b h))
       one None = plain_fits x ds b h y
-      one (Some c) = keeps_checked {P = Nothing} y (any_typed (class_meant h.core c.position.place (told_in h.names (lower c.text))))
+      one (Some c) = keeps_checked {P = Nothing} y (fits_any (checked (class_meant h.core c.position.place (told_in h.names (lower c.text)))))

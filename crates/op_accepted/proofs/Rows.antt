@@ -1,9 +1,10 @@
 -- States of declarations stay fit where rows are put behind those of their tables, and where names, bodies and first values are.
 use Rattle.std.proofs.Common.{◌≡◌, ℕ, true, List, [], ◌∷◌, ◌++◌, append-nil, length, slice_get, slice_set, All, IfSome, Some, None, refl, sym, subst, ◌∙◌}
-use Rattle.std.proofs.lemmas.List.Elements.{All-append, All-nil, All-push, All-weaker}
+use Rattle.std.proofs.lemmas.List.Elements.{All-append, All-cons, All-nil, All-push, All-weaker}
 use Rattle.op_accepted.proofs.Grown.{all_solid_on, if_solid_on, names_on, predefined_on, types_on, units_on, values_on}
 use Rattle.op_accepted.specs.Fit.{AreFitStatements, IsFitMeaning, IsFitTables, IsFitType}
 use Rattle.op_accepted.specs.State.{AreFitNames, AreTreesFit, GivesAlike, IsFit, IsFitState, IsLater, IsOfItself, IsOuterRow, IsPlainRow}
+use Rattle.op_check_unit.proofs.WholeTypes.{behind_front, wide}
 use Rattle.op_check_unit.specs.Steps.{Here}
 use Rattle.op_core.proofs.Growing.{front_itself, front_same, stay_front, stay_set}
 use Rattle.op_core.specs.Growing.{IsFrontOf}
@@ -23,12 +24,12 @@ use Rattle.op_plain.specs.Plain.{is_plain_unit}
 use Rattle.op_types.specs.Names.{Named}
 use Rattle.op_typing.specs.Simple.{IsSolidType}
 
-pub behind_front : {A : Type 0} (xs ys : List A) → IsFrontOf xs (xs ++ ys)
-behind_front xs ys = record { more = ys; is = refl }
-
 -- rows behind others
 more_fit : {A : Type 0} (P Q : A → Type 0) (xs ys zs : List A) → zs ≡ xs ++ ys → ((xs : List A) → All P xs → All Q xs) → All P xs → All Q ys → All Q zs
 more_fit P Q xs ys zs e on h k = subst (All Q) (sym e) (All-append Q xs ys (on xs h) k)
+
+pub only_name : (core : Core) (n : Named) → IsFitMeaning core n.meaning → AreFitNames core (n ∷ [])
+only_name core n f = All-cons (λ n. IsFitMeaning core n.meaning) n [] f (All-nil (λ n. IsFitMeaning core n.meaning))
 
 -- ---- tables
 
@@ -50,10 +51,6 @@ nothing : {A : Type 0} (xs : List A) → xs ≡ xs ++ []
 nothing xs = sym (append-nil xs)
 
 -- ---- cores with other tables
-
--- rows of types and their extents
-abbrev pub wide : Core → List CoreType → List Extent → Core
-wide core ts es = record core { types = core.types ++ ts; extents = core.extents ++ es }
 
 abbrev pub fielded : Core → List Field → Core
 fielded core fs = record core { fields = core.fields ++ fs }

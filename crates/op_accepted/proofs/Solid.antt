@@ -48,9 +48,6 @@ string_is {core} t = predefined_at t 7 (omega arith)
 pub nothing_solid : {core : Core} → IsFitTables core → IsSolidType core (id 9)
 nothing_solid {core} t = solid_by core (id 9) (Some type.Nothing) (predefined_at t 9 (omega arith)) refl
 
-pub empty_set_solid : {core : Core} → IsFitTables core → IsSolidType core table.empty_set
-empty_set_solid {core} t = solid_by core table.empty_set (Some type.EmptySet) (predefined_at t 10 (omega arith)) refl
-
 -- a type that ranges over numbers is solid
 range_solid : (o : Option CoreType) (r : ℤ × ℤ) → range_of o ≡ Some r → is_solid o ≡ true
 range_solid None r e = absurd (cc)

@@ -4,16 +4,16 @@ use Rattle.std.proofs.lemmas.Bool.{and_from, and_parts, lt-ltb}
 use Rattle.std.specs.Option.{IsSomeAnd, option_and_then}
 use Rattle.std.specs.Prelude.{int_le}
 use Rattle.op_base.specs.declared.place.Place.{Place}
-use Rattle.op_check_expr.specs.Meanings.{is_writable_variable}
+use Rattle.op_check_expr.specs.Phrases.{is_writable_variable}
 use Rattle.op_check_expr.specs.Scopes.{Here}
 use Rattle.op_check_expr.specs.Values.{Value, constant, computed}
 use Rattle.op_check_expr.specs.declared.scope.Around.{Around}
-use Rattle.op_check_stmt.specs.Cases.{both_bounds, constant_in, of_type, once}
-use Rattle.op_check_stmt.specs.Leaving.{jump_of, leaving_means}
-use Rattle.op_check_stmt.specs.Parts.{both_typed, of_two}
-use Rattle.op_check_stmt.specs.Procedures.{base_by, base_of, change, result_at, result_of}
-use Rattle.op_check_stmt.specs.Statements.{within}
-use Rattle.op_check_stmt.specs.Variables.{counter, counter_named, counter_row, host_by, host_of, is_ordinal}
+use Rattle.op_check_stmt.specs.Case.{both_bounds, constant_in, of_type}
+use Rattle.op_check_stmt.specs.Labels.{once}
+use Rattle.op_check_stmt.specs.Leaving.{by_reach, jump_of}
+use Rattle.op_check_stmt.specs.Procedure.{base_by, base_of, change, result_at, result_of}
+use Rattle.op_check_stmt.specs.Statement.{within}
+use Rattle.op_check_stmt.specs.Variable.{counter, counter_named, counter_row, host_by, host_of, is_ordinal}
 use Rattle.op_check_stmt.specs.declared.case.Bound.{Bound}
 use Rattle.op_check_stmt.specs.declared.case.Spot.{Spot}
 use Rattle.op_check_stmt.specs.declared.leaving.Jump.{Jump}
@@ -23,13 +23,11 @@ use Rattle.op_check_stmt.specs.declared.leaving.Reach.TheVariants.{Nowhere, Insi
 use Rattle.op_check_stmt.specs.declared.variable.Counter.{Counter}
 use Rattle.op_core.specs.Expression as core_tree
 use Rattle.op_core.specs.Expression.{Expression as Tree, expression}
-use Rattle.op_core.specs.Faults.{Checked, Faults, both, by_test, fine}
+use Rattle.op_core.specs.Faults.{Checked, Faults, both}
 use Rattle.op_core.proofs.Agreeing.{some_is}
 use Rattle.op_core.proofs.Growing.{all_at}
 use Rattle.op_core.specs.Sizes.{capped, range_of, type_at}
 use Rattle.op_core.specs.Statement.{Statement, Branches}
-use Rattle.op_core.specs.declared.constant.Const.{Const}
-use Rattle.op_core.specs.declared.constant.Const.TheVariants as const
 use Rattle.op_core.specs.declared.ids.RoutineId.{RoutineId}
 use Rattle.op_core.specs.declared.ids.TypeId.{TypeId}
 use Rattle.op_core.specs.declared.ids.VariableId.{VariableId}
@@ -39,7 +37,7 @@ use Rattle.op_core.specs.declared.routine.Variable.{Variable as VariableRow}
 use Rattle.op_core.specs.declared.statement.Label.{Label}
 use Rattle.op_core.specs.declared.types.CoreType.{CoreType}
 use Rattle.op_core.specs.declared.types.CoreType.TheVariants as type
-use Rattle.op_plain.specs.Plain.{are_nodes, are_plain_branches, are_plain_labels, is_plain_amount, is_plain_bare, is_plain_constant, is_plain_root}
+use Rattle.op_plain.specs.Plain.{are_nodes, are_plain_branches, are_plain_labels, is_plain_amount, is_plain_bare, is_plain_root}
 use Rattle.op_tree.specs.declared.position.Name.{Name}
 use Rattle.op_types.proofs.Sorting.{stands_as}
 use Rattle.op_types.specs.Names.{lower, meaning_of}
@@ -53,7 +51,10 @@ use Rattle.op_types.specs.declared.visible.Meaning.TheVariants.{Variable, Spoile
 use Rattle.op_typing.specs.Simple.{IsSolidType}
 use Rattle.op_accepted.proofs.Parts.{fits_fine, fits_silent, fits_standing, fits_test, fits_with}
 use Rattle.op_accepted.proofs.Solid.{integer_solid, made_of, ordinal_solid}
-use Rattle.op_accepted.specs.Fit.{IfAny, IfTyped, IsFitConstant, IsFitHere, IsFitStatement, IsFitTables, IsFitTree, IsFitValue, any_text, none, some, typed}
+use Rattle.op_accepted.specs.Fit.{IfAny, IfTyped, IsFitHere, IsFitStatement, IsFitTables, IsFitTree, IsFitValue, any_text, none, some, typed}
+use Rattle.op_judgement.proofs.Computed.{of_two}
+use Rattle.op_judgement.specs.Judgement.{both_typed, by_test, checked, fine}
+use Rattle.op_judgement.specs.declared.rules.LanguageRule.TheVariants.{EmptyRange, NotOrdinal, NotWritable}
 
 -- ---- parts that are read by the meaning of others
 
@@ -75,12 +76,6 @@ fits_upon f {a} g (typed h) k l = read_fits f a.faults g h k l
 
 above : (n : ℕ) → 0 < n → nat_lt 0 n ≡ true
 above n h = lt-ltb 0 n h
-
-constant_fits : (core : Core) (v : Const) (of : TypeId) → IsFitConstant core v of → is_plain_constant any_text core v of ≡ true
-constant_fits core (const.Text bytes) of h = refl
-constant_fits core (const.Ordinal n) of h = h
-constant_fits core (const.Set es) of h = h
-constant_fits core const.Nil of h = h
 
 bare_fits : (core : Core) (root : core_tree.Root) (of : TypeId) → is_plain_root any_text core root of ≡ true → is_plain_bare any_text core root of ≡ true
 bare_fits core (core_tree.constant v nodes words) of h = (and_parts _ _ h).1
@@ -146,13 +141,13 @@ pub constant_counts : (core : Core) (v : Value) (c : Constant) → IsFitValue co
 constant_counts core (constant d) c h e = subst (λ (c : Constant). 0 < c.weight.nodes) (some_is {a = d} {b = c} (cc)) h.0
 constant_counts core (computed t) c h e = absurd (cc)
 
-pub typed_counts : (of : Option TypeId) (c : Constant) → 0 < c.weight.nodes → IfTyped Counts (of_type of c)
+pub typed_counts : (of : Option TypeId) (c : Constant) → 0 < c.weight.nodes → IfTyped Counts (checked (of_type of c))
 typed_counts None c h = fits_silent
 typed_counts (Some of) c h = fits_fine h
 
-pub both_count : (place : Place) {low high : Option Bound} → IfAny Counts low → IfAny Counts high → IfTyped CountsSpot (both_bounds place low high)
+pub both_count : (place : Place) {low high : Option Bound} → IfAny Counts low → IfAny Counts high → IfTyped CountsSpot (checked (both_bounds place low high))
 both_count place h k =
-    fits_with h (λ (low : Bound) i. fits_with k (λ (high : Bound) j. fits_test 31 place (int_le low.number high.number) (λ a. fits_fine (sum_above low.weight.nodes high.weight.nodes i))))
+    fits_with h (λ (low : Bound) i. fits_with k (λ (high : Bound) j. fits_test EmptyRange place (int_le low.number high.number) (λ a. fits_fine (sum_above low.weight.nodes high.weight.nodes i))))
   where
     sum_above : (m n : ℕ) → 0 < m → 0 < capped (m + n)
     sum_above m n h = omega (arith, h)
@@ -184,7 +179,7 @@ pub jumps : (core : Core) (jump : Jump) → IsFitStatement core (jump_of jump)
 jumps core Break = refl
 jumps core Continue = refl
 
-pub leaving_fits : {P : Statement → Type 0} (at : Place) (s : Statement) (reach : Reach) → P s → IfTyped P (leaving_means at s reach)
+pub leaving_fits : {P : Statement → Type 0} (at : Place) (s : Statement) (reach : Reach) → P s → IfTyped P (checked (by_reach at s reach))
 leaving_fits at s Nowhere h = fits_silent
 leaving_fits at s Inside h = fits_fine h
 leaving_fits at s Beyond h = fits_silent
@@ -198,19 +193,19 @@ fit_within part h = record { tables = h.tables; names = h.names }
 abbrev HasBounds : Core → Counter → Type 0
 HasBounds core c = IsSolidType core c.bounds
 
-counter_by : (here : Here) → IsFitHere here → (place : Place) (id : VariableId) (of : TypeId) (writable : Bool) (s : Sort) → sort_of here.core of ≡ s → IfTyped (HasBounds here.core) (by_test 23 place (by_test 29 place (fine (record { variable = id; bounds = host_of here.core of })) writable) (is_ordinal s))
-counter_by here h place id of writable (Ordinal kind) e = fits_test 29 place writable (λ a. fits_fine (host_solid here.core h.tables of kind e))
+counter_by : (here : Here) → IsFitHere here → (place : Place) (id : VariableId) (of : TypeId) (writable : Bool) (s : Sort) → sort_of here.core of ≡ s → IfTyped (HasBounds here.core) (checked (by_test NotOrdinal place (by_test NotWritable place (fine (record { variable = id; bounds = host_of here.core of })) writable) (is_ordinal s)))
+counter_by here h place id of writable (Ordinal kind) e = fits_test NotWritable place writable (λ a. fits_fine (host_solid here.core h.tables of kind e))
 counter_by here h place id of writable s e = fits_silent
 
-counter_row_fits : (here : Here) → IsFitHere here → (place : Place) (id : VariableId) (v : Option VariableRow) → IfTyped (HasBounds here.core) (counter_row here place id v)
+counter_row_fits : (here : Here) → IsFitHere here → (place : Place) (id : VariableId) (v : Option VariableRow) → IfTyped (HasBounds here.core) (checked (counter_row here place id v))
 counter_row_fits here h place id None = fits_silent
 counter_row_fits here h place id (Some v) = counter_by here h place id v.of (is_writable_variable here id) (sort_of here.core v.of) refl
 
-counter_named_fits : (here : Here) → IsFitHere here → (place : Place) (m : Option Meaning) → IfTyped (HasBounds here.core) (counter_named here place m)
+counter_named_fits : (here : Here) → IsFitHere here → (place : Place) (m : Option Meaning) → IfTyped (HasBounds here.core) (checked (counter_named here place m))
 counter_named_fits here h place None = fits_silent
 counter_named_fits here h place (Some Spoiled) = fits_silent
 counter_named_fits here h place (Some (Variable id writable)) = counter_row_fits here h place id (slice_get here.core.variables id.0)
 counter_named_fits here h place m = fits_silent
 
-pub counter_fits : (here : Here) → IsFitHere here → (n : Name) → IfTyped (HasBounds here.core) (counter here n)
+pub counter_fits : (here : Here) → IsFitHere here → (n : Name) → IfTyped (HasBounds here.core) (checked (counter here n))
 counter_fits here h n = counter_named_fits here h n.position.place (meaning_of here.visible (lower n.text))

@@ -7,7 +7,6 @@ use Rattle.op_core.specs.Expression.{Expression as Tree, expression, constant as
 use Rattle.op_core.specs.Sizes.{range_of, type_at}
 use Rattle.op_core.specs.Types.{elements, is_one_type}
 use Rattle.op_core.specs.Typing as typing
-use Rattle.op_core.specs.Typing.{type_after}
 use Rattle.op_core.specs.declared.constant.Const.{Const}
 use Rattle.op_core.specs.declared.constant.Const.TheVariants as const
 use Rattle.op_core.specs.declared.ids.TypeId.{TypeId}
@@ -28,21 +27,10 @@ use Rattle.op_types.specs.declared.sort.Sort.TheVariants as sort
 use Rattle.op_typing.specs.Simple.{IsSolidType, is_solid, is_text, text_after}
 use Rattle.op_accepted.specs.Fit.{IsFitConstant, IsFitTables, IsFitTree, IsFitValue, any_text, ends_implied, ends_text, ends_written, stays_text}
 use Rattle.op_accepted.proofs.SetTypes.{sort_solid}
-
-pub none_is : {A : Type 0} {a : A} → None ≡ Some a → ⊥
-none_is e = absurd (cc)
-
-pub some_is : {A : Type 0} {a b : A} → Some a ≡ Some b → a ≡ b
-some_is e = cc
+use Rattle.op_check_expr.proofs.Trees.{type_then}
+use Rattle.op_core.proofs.Agreeing.{none_is, some_is}
 
 -- ---- with a step more
-
-last_of : (of : TypeId) (ss : Steps) (action : Action) (to : TypeId) → type_after of (behind ss action to) ≡ to
-last_of of no_steps action to = refl
-last_of of (steps a next others) action to = last_of next others action to
-
-type_then : (e : Tree) (action : Action) (to : TypeId) → typing.type_of (with_step e action to) ≡ to
-type_then (expression root of others) action to = last_of of others action to
 
 implied_behind : (before : Bool) (ss : Steps) (action : Action) (to : TypeId) → ends_implied before (behind ss action to) ≡ is_implied action
 implied_behind before no_steps action to = refl

@@ -4,9 +4,9 @@ use Rattle.std.specs.List.{All}
 use Rattle.op_accepted.specs.Fit.{AreFitStatements, IfAny, IfTyped, IsFitConstant, IsFitHere, IsFitMeaning, IsFitTables}
 use Rattle.op_base.specs.declared.rule.Refusal.{Refusal}
 use Rattle.op_check_expr.specs.Scopes.{Here as Scope}
-use Rattle.op_check_stmt.specs.Statements.{statements}
-use Rattle.op_check_unit.specs.Readings.{constant_part}
+use Rattle.op_check_stmt.specs.Statement.{statements}
 use Rattle.op_check_unit.specs.Steps.{Given, Here}
+use Rattle.op_check_unit.specs.Types.{constant_part}
 use Rattle.op_check_unit.specs.declared.uses.Export.{Export}
 use Rattle.op_core.specs.Faults.{IsIn}
 use Rattle.op_core.specs.Growing.{IsFrontOf, Stay}
@@ -19,6 +19,7 @@ use Rattle.op_core.specs.declared.program.Core.{Core}
 use Rattle.op_core.specs.declared.routine.Owner.TheVariants.{Unit as OfUnit}
 use Rattle.op_core.specs.declared.routine.Routine.{Routine}
 use Rattle.op_core.specs.declared.routine.Variable.{Variable}
+use Rattle.op_judgement.specs.Judgement.{checked}
 use Rattle.op_meaning.specs.Shapes.{is_reference}
 use Rattle.op_plain.specs.Plain.{is_plain_role, is_plain_unit}
 use Rattle.op_tree.specs.Expression.{Expression}
@@ -88,6 +89,6 @@ pub data Keeps {A : Type 0} (P : A → Core → Type 0) (old : Core) (g : Given 
 
 -- of the statements of bodies, and of constants in declarations
 pub record AreTreesFit : Type 0 where
-  pub body : (here : Scope) → IsFitHere here → (ss : Tree) → IfTyped (AreFitStatements here.core) (statements here ss)
+  pub body : (here : Scope) → IsFitHere here → (ss : Tree) → IfTyped (AreFitStatements here.core) (checked (statements here ss))
   pub grow : (old new : Core) → IsFrontOf old.types new.types → (ss : Statements) → AreFitStatements old ss → AreFitStatements new ss
-  pub constant : (core : Core) (visible : List Named) → IsFitTables core → AreFitNames core visible → (e : Expression) → IfTyped (λ c. IsFitConstant core c.value c.of) (constant_part core visible e)
+  pub constant : (core : Core) (visible : List Named) → IsFitTables core → AreFitNames core visible → (e : Expression) → IfTyped (λ c. IsFitConstant core c.value c.of) (checked (constant_part core visible e))

@@ -1,5 +1,5 @@
 -- The texts of the rules, by V number and feature.
-use Rattle.std.specs.Prelude.{ℕ, Option, Some, None, List, [], ◌∷◌, codes, nat_eq, if◌then◌else◌}
+use Rattle.std.specs.Prelude.{ℕ, Option, Some, None, IsSome, List, [], ◌∷◌, codes, nat_eq, if◌then◌else◌}
 use Rattle.op_base.specs.declared.rule.Rule.{Rule}
 
 -- the text beside a number in a table
@@ -138,3 +138,7 @@ text_of_feature feature = text_beside feature feature_texts
 -- the text of a rule, if there is such a rule
 unfoldable pub text_of_rule : Rule → Option (List ℕ)
 text_of_rule rule = if nat_eq rule.number 13 then text_of_feature rule.feature else text_beside rule.number rule_texts
+
+-- there is such a rule
+abbrev pub HasText : Rule → Type 0
+HasText rule = IsSome (text_of_rule rule)

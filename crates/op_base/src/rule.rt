@@ -1,6 +1,6 @@
 //! The rules of the language that a program can break, by number.
 ghost use Rattle.std.specs.Prelude.{◌≡◌, Some, None, IfSome, IfNone};
-ghost use Rattle.op_base.specs.Rule.{text_of_rule, text_of_feature};
+ghost use Rattle.op_base.specs.Rule.{HasText, text_of_rule, text_of_feature};
 
 use crate::Place;
 
@@ -25,9 +25,20 @@ pub const FILE_MISSING: Rule = Rule {
 };
 
 /// The text of a rule, as the line of a refusal shows it after the V number. There are rules 1 to 72, and features 1 to
-/// 44 without 37; no other rule has a text.
+/// 44 without 37.
+pub fn rule_text(rule: Rule) -> &'static str
+    requires { HasText rule }
+    ensures { text_of_rule rule ≡ Some result.now }
+{
+    match known_text(rule) {
+        Some(text) => text,
+        None => unreachable!(),
+    }
+}
+
+/// The text of a rule; none where there is no such rule.
 #[tactic(auto, unfolding(crate::specs::Rule::text_of_rule))]
-pub fn rule_text(rule: Rule) -> Option<&'static str>
+fn known_text(rule: Rule) -> Option<&'static str>
     ensures given { IfSome result (λ text. text_of_rule rule ≡ Some text.now) }
     ensures absent { IfNone result (text_of_rule rule ≡ None) }
 {

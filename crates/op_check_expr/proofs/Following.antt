@@ -1,11 +1,12 @@
 -- Parts one behind the other: what is made of a part stands behind the part's faults.
-use Rattle.std.proofs.Common.{◌≡◌, ℕ, suc, ◌<◌, ◌≤◌, ◌+◌, List, [], ◌∷◌, map, length, drop, drop-cons, add-one, get_or, Option, Result, Ok, Err, IfOk, refl, sym, ap, subst, ◌∙◌}
+use Rattle.std.proofs.Common.{◌≡◌, ℕ, suc, ◌<◌, ◌≤◌, ◌+◌, List, [], ◌∷◌, map, length, drop, drop-cons, add-one, get_or, Option, Result, IfOk, refl, sym, ap, subst, ◌∙◌}
 use Rattle.std.proofs.lemmas.List.{at_drop_all}
 use Rattle.std.specs.Option.{option_map}
 use Rattle.op_core.specs.Faults.{kept}
 use Rattle.op_core.specs.declared.first_refusal.FirstRefusal.{FirstRefusal}
 use Rattle.op_judgement.specs.Judgement.{Judgement, Reports, checked, followed, through, with_part}
 use Rattle.op_check_expr.specs.Parts.{standing}
+use Rattle.op_types.proofs.Folding.{map_ok}
 
 pub reports_followed : {A B : Type 0} (c : Judgement B) (f : Option B → Judgement A) (old mid new : FirstRefusal) (b : Option B) (given : Option A) → Reports c old mid b → Reports (f b) mid new given → Reports (followed c f) old new given
 reports_followed c f old mid new b given h k =
@@ -22,10 +23,6 @@ begins c s = record { completes = λ new given k. k }
 -- one part read, and what is made of it
 pub goes_on : {A B : Type 0} (whole : Judgement A) (c : Judgement B) (f : Option B → Judgement A) (first old mid : FirstRefusal) (b : Option B) → Completes whole (followed c f) first old → Reports c old mid b → Completes whole (f b) first mid
 goes_on whole c f first old mid b w h = record { completes = λ new given k. w.completes new given (reports_followed c f old mid new b given h k) }
-
-pub map_ok : {A E : Type 0} {P Q : A → Type 0} (r : Result A E) → ((a : A) → P a → Q a) → IfOk r P → IfOk r Q
-map_ok (Ok a) f h = f a h
-map_ok (Err e) f h = h
 
 -- two parts, the second by the first
 pub two_steps : {A B C : Type 0} (whole : Judgement A) (c : Judgement B) (f : Option B → Judgement C) (g : Option C → Judgement A) (first old mid far : FirstRefusal) (b : Option B) (x : Option C) → Completes whole (followed c (λ b. followed (f b) g)) first old → Reports c old mid b → Reports (f b) mid far x → Completes whole (g x) first far

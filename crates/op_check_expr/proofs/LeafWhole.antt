@@ -4,11 +4,9 @@ use Rattle.std.proofs.lemmas.Bool.{and_parts, false≢true}
 use Rattle.std.specs.List.{list_all}
 use Rattle.std.specs.Option.{IfSome, IsSomeAnd}
 use Rattle.op_base.specs.declared.place.Place.{Place}
-use Rattle.op_base.specs.declared.rule.Refusal.{Refusal}
-use Rattle.op_core.proofs.Completing.{whole_changed_so, whole_entered, whole_as, whole_followed, whole_gives, whole_rule, whole_standing, whole_tested, whole_with}
+use Rattle.op_judgement.proofs.Completing.{whole_as, whole_changed_so, whole_entered, whole_followed, whole_gives, whole_rule, whole_standing, whole_tested, whole_with}
 use Rattle.op_core.proofs.OneType.{one_back}
 use Rattle.op_core.specs.Expression.{Expression as Tree, expression, variable, Steps, no_steps, steps, Action, field, index, value as value_argument, place as place_argument}
-use Rattle.op_core.specs.Faults.{Checked}
 use Rattle.op_core.specs.Members.{There}
 use Rattle.op_core.specs.Relations.{Filled, Whole, filled, typed}
 use Rattle.op_core.specs.Sizes.{range_of, type_at}
@@ -25,8 +23,9 @@ use Rattle.op_tree.specs.declared.operator.Operator.{Operator}
 use Rattle.op_tree.specs.declared.operator.PrefixOperator.{PrefixOperator}
 use Rattle.op_tree.specs.declared.position.Name.{Name}
 use Rattle.op_tree.specs.declared.position.Position.{Position}
-use Rattle.op_judgement.specs.Judgement.{Judgement, changed, checked, fault, or_fault}
-use Rattle.op_judgement.specs.Rules.{character_of_string, no_cast, no_member, no_operator, no_set_element, no_variable, not_assignable, not_indexed, not_ordinal, not_writable, variable_of_another_type}
+use Rattle.op_judgement.specs.Judgement.{Judgement, changed, checked}
+use Rattle.op_judgement.specs.declared.rules.Feature.{Feature}
+use Rattle.op_judgement.specs.declared.rules.LanguageRule.TheVariants.{CharacterOfString, NoCast, NoMember, NoOperator, NoSetElement, NoVariable, NotAssignable, NotIndexed, NotOrdinal, NotWritable, VariableOfAnotherType}
 use Rattle.op_check_expr.specs.Parts.{by_feature, whether}
 use Rattle.op_check_expr.proofs.Operations.{IsIndex, cast_sound, field_sound, function_sound, goes_by, index_is, index_sound, kind_from, operation_sound, prefix_sound, set_sort}
 use Rattle.op_check_expr.proofs.Trees.{Passes, as_type_goes, as_type_value, as_value, one_exact}
@@ -34,22 +33,21 @@ use Rattle.op_check_expr.specs.Calling.{passed}
 use Rattle.op_check_expr.specs.Constructors.{Member, are_constants, constant_member, constant_members, element_tree, elements_from, is_small, member_in_set, or_own, place_of, set_by, set_tree, type_of_set, value_in_set, wanted_or}
 use Rattle.op_check_expr.specs.Constructors as member
 use Rattle.op_check_expr.specs.Expressions as means
-use Rattle.op_check_expr.specs.Expressions.{element_at, index_types, indexed, indexed_value, or_number}
+use Rattle.op_check_expr.specs.Expressions.{element_at, index_types, indexed, or_number}
 use Rattle.op_check_expr.specs.Naming as naming
-use Rattle.op_check_expr.specs.Naming.{Denoted, feature_of, feature_of_type, field_named, field_of, variable_named}
+use Rattle.op_check_expr.specs.Naming.{feature_of, feature_of_type, field_named, field_of, variable_named}
 use Rattle.op_check_expr.specs.Operating.{cast_by, computed_operation, computed_use, feature_of_argument, feature_of_operands, function_type, is_evaluated, operated, operation_of, prefix_of, rule_of, used}
 use Rattle.op_check_expr.specs.Places.{is_very, is_writable, is_writable_row, target_value, variable_value}
 use Rattle.op_check_expr.specs.Scopes.{Here}
 use Rattle.op_check_expr.specs.Settled.{IsKnown, IsSettled, IsSoundValue}
 use Rattle.op_check_expr.specs.Values.{Value, constant, computed, as_type, index_at, stored, tree_of, type_of}
-use Rattle.op_check_expr.specs.Words as words
 use Rattle.op_types.proofs.Assigning.{is_assignable}
-use Rattle.op_types.proofs.ConstantWhole.{gathered_whole, numeral_whole, operator_whole, prefix_whole as prefix_constant_whole, range_whole, single_whole, use_whole}
+use Rattle.op_types.proofs.ConstantWhole.{gathered_whole, numeral_whole, operator_whole, ordinal_sort, prefix_whole as prefix_constant_whole, range_whole, single_whole, use_whole}
 use Rattle.op_types.proofs.Sorting.{Stands, stands, stands_as}
 use Rattle.op_types.proofs.TypeFacts.{common_is_set, common_left, empty_set_kind, over_is_set, stands_for}
 use Rattle.op_types.specs.Assignable as assign
 use Rattle.op_types.specs.Assignable.{assignable}
-use Rattle.op_types.specs.Constants.{is_folded, is_ordinal, no_members}
+use Rattle.op_types.specs.ConstantParts.{is_folded, is_ordinal, no_members}
 use Rattle.op_types.specs.Names.{meaning_of}
 use Rattle.op_types.specs.Operators as table
 use Rattle.op_types.specs.Sets.{common_set}
@@ -64,22 +62,13 @@ use Rattle.op_types.specs.declared.sort.Sort.TheVariants.{Ordinal, Set, EmptySet
 use Rattle.op_types.specs.declared.visible.Meaning.{Meaning}
 use Rattle.op_types.specs.declared.visible.Meaning.TheVariants as meaning
 
-whole_unshown : {A : Type 0} {P : A → Type 0} (j : Judgement A) (place : Place) (o : Option ℕ) → (o ≡ None → Whole P (checked j)) → Whole P (checked (by_feature place o j))
+pub whole_unshown : {A : Type 0} {P : A → Type 0} (j : Judgement A) (place : Place) (o : Option Feature) → (o ≡ None → Whole P (checked j)) → Whole P (checked (by_feature place o j))
 whole_unshown j place None h = h refl
 whole_unshown j place (Some f) h = whole_rule
 
 whole_whether : {A : Type 0} {P : A → Type 0} (j k : Judgement A) (b : Bool) → Whole P (checked j) → Whole P (checked k) → Whole P (checked (whether b j k))
 whole_whether j k true h i = h
 whole_whether j k false h i = i
-
-whole_found : {A B : Type 0} {P : B → Type 0} {f : A → Checked B} (r : Refusal) (o : Option A) → ((a : A) → o ≡ Some a → Whole P (f a)) → Whole P (or_fault r f o)
-whole_found r None g = whole_rule
-whole_found r (Some a) g = g a refl
-
--- the same of what the checkers above compute
-pub whole_feature : {A : Type 0} {P : A → Type 0} {c : Checked A} (place : Place) (o : Option ℕ) → Whole P c → Whole P (words.by_feature place o c)
-whole_feature place None h = h
-whole_feature place (Some f) h = whole_rule
 
 pub number_whole : {core : Core} (sees : Sees) → IsFounded core → (n : Option (ℕ × Place)) (j : Judgement Value) → Whole (IsSoundValue core sees) (checked j) → Whole (IsSoundValue core sees) (checked (or_number n j))
 number_whole sees f None j h = h
@@ -88,7 +77,7 @@ number_whole sees f (Some n) j h = whole_changed_so constant (numeral_whole f n.
 -- ---- values
 
 pub stored_whole : (core : Core) (sees : Sees) (at : Place) (ranges : Bool) (to : TypeId) (v : Value) → IsSoundValue core sees v → Whole (IsValue core sees to) (checked (stored core at ranges to v))
-stored_whole core sees at ranges to v h = whole_tested not_assignable.number at (assignable core (type_of v) to) (λ a. whole_gives (as_type_value core sees ranges to v h a))
+stored_whole core sees at ranges to v h = whole_tested NotAssignable at (assignable core (type_of v) to) (λ a. whole_gives (as_type_value core sees ranges to v h a))
 
 -- a variable, of the very type where one is given, and no character of a string
 abbrev pub AsVariable : Core → Sees → Option TypeId → Tree → Type 0
@@ -100,7 +89,7 @@ very core from (Some to) h = h
 
 pub variable_value_whole : (here : Here) (sees : Sees) (at : Place) (of : Option TypeId) (v : Value) → IsSoundValue here.core sees v → Whole (AsVariable here.core sees of) (checked (variable_value here at of v))
 variable_value_whole here sees at of (computed e) h =
-    whole_tested no_variable.number at (is_place true here.core e) (λ _. whole_tested variable_of_another_type.number at (is_very here.core (typing.type_of e) of) (λ o. whole_tested not_writable.number at (is_writable here true e) (λ _. whole_tested character_of_string.number at (is_place false here.core e) (λ p. whole_gives (h, p, very here.core (typing.type_of e) of o)))))
+    whole_tested NoVariable at (is_place true here.core e) (λ _. whole_tested VariableOfAnotherType at (is_very here.core (typing.type_of e) of) (λ o. whole_tested NotWritable at (is_writable here true e) (λ _. whole_tested CharacterOfString at (is_place false here.core e) (λ p. whole_gives (h, p, very here.core (typing.type_of e) of o)))))
 variable_value_whole here sees at of (constant c) h = whole_rule
 
 -- what leads to a place by itself, or not
@@ -134,7 +123,7 @@ written_place here (expression (variable id) of ss) h = go (is_writable_row here
 written_place here (expression root of ss) h = h
 
 pub target_value_whole : (here : Here) (sees : Sees) (at : Place) (v : Value) → IsSoundValue here.core sees v → Whole (λ t. IsTyped here.core sees t × (is_place true here.core t ≡ true)) (checked (target_value here at v))
-target_value_whole here sees at (computed e) h = whole_tested not_writable.number at (is_writable here true e) (λ w. whole_gives (h, written_place here e w))
+target_value_whole here sees at (computed e) h = whole_tested NotWritable at (is_writable here true e) (λ w. whole_gives (h, written_place here e w))
 target_value_whole here sees at (constant c) h = whole_rule
 
 pub passed_whole : (here : Here) (sees : Sees) (p : Parameter) (at : Position) (v : Value) → IsSoundValue here.core sees v → Whole (IsArgument here.core sees p) (checked (passed here (Some p) at v))
@@ -146,7 +135,7 @@ passed_whole here sees p at v h = go (takes_place p.mode) refl
 
 computed_operation_whole : (core : Core) (sees : Sees) → IsFounded core → (o : Operator) (p : Position) (a b : Value) → IsSoundValue core sees a → IsSoundValue core sees b → Whole (IsSoundValue core sees) (checked (computed_operation core o p a b))
 computed_operation_whole core sees f o p a b h k =
-    whole_entered no_operator.number p.place (table.operation o (sort_of core (type_of a)) (sort_of core (type_of b)) (common_set core (type_of a) (type_of b)))
+    whole_entered NoOperator p.place (table.operation o (sort_of core (type_of a)) (sort_of core (type_of b)) (common_set core (type_of a) (type_of b)))
     (λ of e. whole_unshown _ p.place (feature_of_operands o (sort_of core (type_of a)) (sort_of core (type_of b))) (λ g. whole_gives (operation_sound core sees f o p.switches.q a b of h k e g)))
 
 operated_whole : (core : Core) (sees : Sees) → IsFounded core → (start : Place) (o : Operator) (p : Position) (a b : Value) → IsSoundValue core sees a → IsSoundValue core sees b → Whole (IsSoundValue core sees) (checked (operated core start o p a b))
@@ -161,15 +150,15 @@ operation_whole core sees f start o p h k = whole_with h (λ a h. whole_with k (
 pub prefix_whole : (core : Core) (sees : Sees) → IsFounded core → (o : PrefixOperator) (p : Position) (v : Value) → IsSoundValue core sees v → Whole (IsSoundValue core sees) (checked (prefix_of core o p v))
 prefix_whole core sees f o p (constant c) h = whole_changed_so constant (prefix_constant_whole f p.place o c h) (λ c q. q)
 prefix_whole core sees f o p (computed e) h =
-    whole_entered no_operator.number p.place (table.prefixed o (sort_of core (type_of (computed e)))) (λ of q. whole_gives (prefix_sound core sees f o p.switches.q (computed e) of h q))
+    whole_entered NoOperator p.place (table.prefixed o (sort_of core (type_of (computed e)))) (λ of q. whole_gives (prefix_sound core sees f o p.switches.q (computed e) of h q))
 
 computed_use_whole : (core : Core) (sees : Sees) → IsFounded core → (p : Position) (what : Applied) (at : Place) (v : Value) → IsSoundValue core sees v → Whole (IsSoundValue core sees) (checked (computed_use core p what at v))
 computed_use_whole core sees f p (Cast of) at (constant c) h =
-    whole_entered no_cast.number p.place (cast_by core c.of of (sort_of core c.of) (sort_of core of)) (λ q e. whole_gives (cast_sound core sees (tree_of (constant c)) of q (h, tt) e))
+    whole_entered NoCast p.place (cast_by core c.of of (sort_of core c.of) (sort_of core of)) (λ q e. whole_gives (cast_sound core sees (tree_of (constant c)) of q (h, tt) e))
 computed_use_whole core sees f p (Cast of) at (computed t) h =
-    whole_entered no_cast.number p.place (cast_by core (typing.type_of t) of (sort_of core (typing.type_of t)) (sort_of core of)) (λ q e. whole_gives (cast_sound core sees t of q h e))
+    whole_entered NoCast p.place (cast_by core (typing.type_of t) of (sort_of core (typing.type_of t)) (sort_of core of)) (λ q e. whole_gives (cast_sound core sees t of q h e))
 computed_use_whole core sees f p (Function' g) at v h =
-    whole_found (fault (rule_of g) at) (function_type core g (type_of v)) (λ of e. whole_unshown _ p.place (feature_of_argument core g (type_of v)) (λ _. whole_gives (function_sound core sees f g p.switches.q v of h e)))
+    whole_entered (rule_of g) at (function_type core g (type_of v)) (λ of e. whole_unshown _ p.place (feature_of_argument core g (type_of v)) (λ _. whole_gives (function_sound core sees f g p.switches.q v of h e)))
 
 pub used_whole : (core : Core) (sees : Sees) → IsFounded core → (p : Position) (what : Applied) (at : Place) (v : Value) → IsSoundValue core sees v → Whole (IsSoundValue core sees) (checked (used core p what at v))
 used_whole core sees f p what at (constant c) h =
@@ -177,14 +166,14 @@ used_whole core sees f p what at (constant c) h =
 used_whole core sees f p what at (computed e) h = computed_use_whole core sees f p what at (computed e) h
 
 index_at_whole : (core : Core) (sees : Sees) (at : Place) (of : Option CoreType) (to : TypeId) (v : Value) → IsSoundValue core sees v → Whole (IsIndex core sees of to) (checked (index_at core at of to v))
-index_at_whole core sees at of to v h = whole_tested not_assignable.number at (assignable core (type_of v) to) (λ a. whole_gives (index_is core sees of to v h a))
+index_at_whole core sees at of to v h = whole_tested NotAssignable at (assignable core (type_of v) to) (λ a. whole_gives (index_is core sees of to v h a))
 
 element_at_whole : (core : Core) (sees : Sees) → IsFounded core → (at : Place) (a : Value) (of : TypeId × TypeId) (v : Value) → index_types (type_at core (type_of a)) ≡ Some of → IsSoundValue core sees a → IsSoundValue core sees v → Whole (IsSoundValue core sees) (checked (element_at core at a of v))
 element_at_whole core sees f at a of v e h k = whole_changed_so _ (index_at_whole core sees at (type_at core (type_of a)) of.0 v k) (λ i q. index_sound core sees f a i of h e q)
 
 pub indexed_whole : (core : Core) (sees : Sees) → IsFounded core → (bracket at : Place) {a v : Option Value} → Filled (IsSoundValue core sees) a → Filled (IsSoundValue core sees) v → Whole (IsSoundValue core sees) (checked (indexed core bracket at a v))
 indexed_whole core sees f bracket at h k =
-    whole_with h (λ a h. whole_entered not_indexed.number bracket (index_types (type_at core (type_of a))) (λ of e. whole_with k (λ v k. element_at_whole core sees f at a of v e h k)))
+    whole_with h (λ a h. whole_entered NotIndexed bracket (index_types (type_at core (type_of a))) (λ of e. whole_with k (λ v k. element_at_whole core sees f at a of v e h k)))
 
 -- ---- names
 
@@ -213,7 +202,7 @@ pub name_whole : {sees : Sees} {here : Here} → IsSettled sees here → (key na
 name_whole {sees} {here} s key name p = named_whole here sees name p (meaning_of here.visible key) (stands_for here.core sees here.visible s.names key)
 
 pub field_whole : (core : Core) (sees : Sees) (m : Name) (v : Value) → IsSoundValue core sees v → Whole (IsKnown core sees) (checked (field_of core m v))
-field_whole core sees m v h = whole_entered no_member.number m.position.place (field_named core m.text (type_at core (type_of v))) (λ f e. whole_gives (field_sound core sees m.text v f h e))
+field_whole core sees m v h = whole_entered NoMember m.position.place (field_named core m.text (type_at core (type_of v))) (λ f e. whole_gives (field_sound core sees m.text v f h e))
 
 -- ---- sets
 
@@ -254,13 +243,9 @@ abbrev AreOrdinal : Core → List Member → Type 0
 AreOrdinal core [] = Unit {0}
 AreOrdinal core (m ∷ ms) = IsOrdinalMember core m × AreOrdinal core ms
 
-ordinal_sort : (s : Sort) → is_ordinal s ≡ true → (k : OrdinalKind) × (s ≡ Ordinal k)
-ordinal_sort (Ordinal k) h = (k, refl)
-ordinal_sort s h = absurd (false≢true h)
-
 value_in_set_whole : (core : Core) → IsFounded core → (at : Place) (v : Value) → Whole (λ of. IsSet core of × InOrdinal core v) (checked (value_in_set core at v))
 value_in_set_whole core f at v =
-    whole_tested not_ordinal.number at (is_ordinal (sort_of core (type_of v))) (λ e. whole_tested no_set_element.number at (is_small v) (λ _.
+    whole_tested NotOrdinal at (is_ordinal (sort_of core (type_of v))) (λ e. whole_tested NoSetElement at (is_small v) (λ _.
     let k = ordinal_sort (sort_of core (type_of v)) e in
     whole_gives (over_is_set (type_of v) k.0 f (stands_as core (type_of v) (Ordinal k.0) k.1).1, k)))
 
@@ -272,11 +257,11 @@ member_in_set_whole : (core : Core) → IsFounded core → (m : Member) → Whol
 member_in_set_whole core f (member.one at v) = value_in_set_whole core f at v
 member_in_set_whole core f (member.range at v at' v') =
     whole_followed (value_in_set_whole core f at v) (λ a h. whole_followed (value_in_set_whole core f at' v') (λ b k. whole_with h (λ a h. whole_with k (λ b k.
-    whole_tested not_assignable.number at' (assignable core (type_of v') (type_of v)) (λ _. whole_gives (common_sets core a b f (inl h.0) k.0, (h.1, k.1)))))))
+    whole_tested NotAssignable at' (assignable core (type_of v') (type_of v)) (λ _. whole_gives (common_sets core a b f (inl h.0) k.0, (h.1, k.1)))))))
 
 with_member_whole : (core : Core) → IsFounded core → (m : Member) {o q : Option TypeId} → Filled (λ of. IsSet core of ⊎ (sort_of core of ≡ EmptySet)) o → Filled (λ of. IsSet core of × IsOrdinalMember core m) q → Whole (λ of. IsSet core of × IsOrdinalMember core m) (checked (member.both_in_set core (place_of m) o q))
 with_member_whole core f m h k =
-    whole_with h (λ a h. whole_with k (λ b k. whole_tested not_assignable.number (place_of m) (are_sets (sort_of core a) (sort_of core b)) (λ _. whole_gives (common_sets core a b f h k.0, k.1))))
+    whole_with h (λ a h. whole_with k (λ b k. whole_tested NotAssignable (place_of m) (are_sets (sort_of core a) (sort_of core b)) (λ _. whole_gives (common_sets core a b f h k.0, k.1))))
 
 -- the type of a set with elements
 type_of_set_whole : (core : Core) → IsFounded core → (m : Member) (ms : List Member) {o : Option TypeId} → Filled (λ of. IsSet core of ⊎ (sort_of core of ≡ EmptySet)) o → Whole (λ of. IsSet core of × AreOrdinal core (m ∷ ms)) (checked (type_of_set core o (m ∷ ms)))

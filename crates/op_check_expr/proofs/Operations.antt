@@ -4,12 +4,13 @@ use Rattle.std.proofs.lemmas.Bool.{and_parts, or_cases}
 use Rattle.std.specs.Prelude.{nat_lt, position}
 use Rattle.std.specs.Option.{IsSomeAnd, option_and_then, option_map}
 use Rattle.op_core.specs.Expression.{Expression as Tree, convert, field, index as index_step, prefixed, operate, apply, then as with_step}
+use Rattle.op_core.specs.FieldNames.{is_named}
 use Rattle.op_core.specs.Members.{InRun, Kind, There}
 use Rattle.op_core.specs.Rows.{rows}
 use Rattle.op_core.specs.Sizes.{range_of, type_at}
 use Rattle.op_core.specs.Sound.{IsFounded, is_whole}
 use Rattle.op_core.specs.Typing as typing
-use Rattle.op_core.specs.Typing.{All3, Applies, AreOrdered, AreSets, Converts, HoldsField, Indexes, IsBoolean, IsInteger, IsOrdinal, IsReference, IsSequence, IsSet, IsString, IsTyped, IsValue, Operates, Prefixes, Sees}
+use Rattle.op_core.specs.Typing.{All3, Applies, AreOrdered, AreSets, Converts, HoldsField, Indexes, IsBoolean, IsInteger, IsOrdinal, IsReference, IsSequence, IsSet, IsTyped, IsValue, Operates, Prefixes, Sees}
 use Rattle.op_core.specs.declared.ids.FieldId.{FieldId}
 use Rattle.op_core.specs.declared.ids.Run.{Run}
 use Rattle.op_core.specs.declared.ids.TypeId.{TypeId}
@@ -22,23 +23,25 @@ use Rattle.op_core.specs.declared.program.Core.{Core}
 use Rattle.op_core.specs.declared.types.CoreType.{CoreType}
 use Rattle.op_core.specs.declared.types.CoreType.TheVariants as type
 use Rattle.op_core.specs.declared.types.IntegerKind.TheVariants.{Signed32}
+use Rattle.op_judgement.specs.declared.rules.Feature.{Feature}
+use Rattle.op_judgement.specs.declared.rules.Feature.TheVariants.{Strings}
 use Rattle.op_tree.specs.declared.operator.Operator.{Operator}
 use Rattle.op_tree.specs.declared.operator.Operator.TheVariants.{Equal, NotEqual, Less, Greater, LessEqual, GreaterEqual, In_, Is, Add, Subtract, Or, Xor, Multiply, Slash, Div, Mod_, And, Shl, Shr, As_}
 use Rattle.op_tree.specs.declared.operator.PrefixOperator.{PrefixOperator}
 use Rattle.op_tree.specs.declared.operator.PrefixOperator.TheVariants.{Not, Plus, Minus}
 use Rattle.op_check_expr.proofs.Trees.{Goes, Of, Passes, fitting, sets as set_to_set, empty_set, as_own, as_type_goes, as_typed, as_type_value, chosen_converts, is_exact, no_range, one_exact, reference_of, tree_type, tree_typed, typed_then, value_of_sort}
 use Rattle.op_check_expr.specs.Expressions.{index_types}
-use Rattle.op_check_expr.specs.Naming.{field_at, field_named, is_named}
+use Rattle.op_check_expr.specs.Naming.{field_at, field_named, number_at}
 use Rattle.op_check_expr.specs.Operating.{bound_type, cast_by, feature_of_operands, function_tree, function_type, index_type, is_string, keeps_low_bits, length_type, operand_by, operation_tree, prefix_tree, set_beside, text_type, type_if, type_of_kind}
 use Rattle.op_check_expr.specs.Settled.{IsSoundValue}
 use Rattle.op_check_expr.specs.Values.{Value, as_type, index_tree, tree_of, type_of}
-use Rattle.op_check_expr.specs.Words.{number_at}
+use Rattle.op_core.proofs.Agreeing.{none_is, some_is}
 use Rattle.op_types.proofs.Assigning.{is_assignable}
 use Rattle.op_types.proofs.Sorting.{Stands, stands, stands_as}
 use Rattle.op_types.proofs.TypeFacts.{Rooted, boolean_kind, char_kind, common_is_set, common_left, common_right, integer_kind, over_is_set, rooted, string_kind}
 use Rattle.op_types.specs.Assignable as assign
 use Rattle.op_types.specs.Assignable.{assignable}
-use Rattle.op_types.specs.Constants.{is_ordinal}
+use Rattle.op_types.specs.ConstantParts.{is_ordinal}
 use Rattle.op_types.specs.Operators as table
 use Rattle.op_types.specs.Sets.{common_set, set_over}
 use Rattle.op_types.specs.Sorts.{are_sets, by_kind, is_reference, is_text, kind_of, same_kind, sort_by, sort_of}
@@ -46,12 +49,6 @@ use Rattle.op_types.specs.declared.sort.OrdinalKind.{OrdinalKind}
 use Rattle.op_types.specs.declared.sort.OrdinalKind.TheVariants.{Integer, Boolean, Char, Enumeration}
 use Rattle.op_types.specs.declared.sort.Sort.{Sort}
 use Rattle.op_types.specs.declared.sort.Sort.TheVariants.{Ordinal, String, Set, EmptySet, DynamicArray, Class, Interface, Nil}
-
-some_is : {A : Type 0} {a b : A} → Some a ≡ Some b → a ≡ b
-some_is e = cc
-
-none_some : {A : Type 0} {a : A} → None ≡ Some a → ⊥
-none_some e = absurd (cc)
 
 -- ---- kinds and sorts
 
@@ -193,7 +190,7 @@ set_arithmetic_typed core sees a b s t p o checked to put joined e = go (are_set
 abbrev mixes : Sort → Sort → Bool
 mixes s t = is_text s && is_text t && (is_string s || is_string t)
 
-not_shown : (b : Bool) → if◌then◌else◌ {A = Option ℕ} b (Some 40) None ≡ None → b ≡ false
+not_shown : (b : Bool) → if◌then◌else◌ {A = Option Feature} b (Some Strings) None ≡ None → b ≡ false
 not_shown true e = absurd (cc)
 not_shown false e = refl
 
@@ -405,7 +402,7 @@ length_typed core sees checked v to f h e = go (index_type (type_at core of)) re
         let k = string_kind f in
         applied core sees Length checked (as_type core true table.string v) table.string to (operand core sees table.string v (Ordinal Char) String h q (simp k) refl (fitting assign.char_to_string))
         (inl k, subst (IsInteger core) (some_is e) (integer_kind f))
-    alone s q e = absurd (none_some e)
+    alone s q e = absurd (none_is e)
 
     go : (o : Option TypeId) → index_type (type_at core of) ≡ o → length_type o (sort_of core of) of ≡ Some to → IsTyped core sees (with_step (as_type core true (text_type (sort_of core of) of) v) (apply Length checked) to)
     go (Some index) q e =
@@ -418,7 +415,7 @@ bound_typed core of to f e = go (index_type (type_at core of)) refl e
   where
     alone : (s : Sort) → Stands core of s → type_if (is_ordinal s) of ≡ Some to → IsOrdinal core of × (of ≡ to)
     alone (Ordinal kind) h e = (h.0, some_is e)
-    alone s h e = absurd (none_some e)
+    alone s h e = absurd (none_is e)
 
     go : (o : Option TypeId) → index_type (type_at core of) ≡ o → bound_type o (sort_of core of) of ≡ Some to → typing.HasBounds core of to ⊎ (IsOrdinal core of × (of ≡ to))
     go (Some index) q e =
@@ -435,7 +432,7 @@ sort_typed core sees Sqr checked v (Ordinal Integer) to f h q e n = kind_applied
 sort_typed core sees Odd checked v (Ordinal Integer) to f h q e n = kind_applied core sees Odd checked v Integer to f h q (integer_kind f, subst (IsBoolean core) (some_is e) (boolean_kind f))
 sort_typed core sees UpCase checked v (Ordinal Char) to f h q e n = kind_applied core sees UpCase checked v Char to f h q (char_kind f, some_is e)
 sort_typed core sees Length checked v s to f h q e n = absurd (n refl)
-sort_typed core sees g checked v s to f h q e n = absurd (none_some e)
+sort_typed core sees g checked v s to f h q e n = absurd (none_is e)
 
 pub function_sound : (core : Core) (sees : Sees) → IsFounded core → (g : Function) (checked : Bool) (v : Value) (to : TypeId) → IsSoundValue core sees v → function_type core g (type_of v) ≡ Some to → IsSoundValue core sees (function_tree core g checked v to)
 function_sound core sees f Length checked v to h e = length_typed core sees checked v to f h e
@@ -495,7 +492,7 @@ indexes core sees a i (Some (type.Array at element)) of f e h k =
 indexes core sees a i (Some (type.DynamicArray element)) of f e h k = let q : (table.integer, element) ≡ of = some_is h in (integer_index core sees i f (subst (λ of. IsValue core sees of.0 i) (sym q) k), ap (λ of. of.1) q)
 indexes core sees a i (Some (type.OpenArray element)) of f e h k = let q : (table.integer, element) ≡ of = some_is h in (integer_index core sees i f (subst (λ of. IsValue core sees of.0 i) (sym q) k), ap (λ of. of.1) q)
 indexes core sees a i (Some type.String) of f e h k = let q : (table.integer, table.char) ≡ of = some_is h in (integer_index core sees i f (subst (λ of. IsValue core sees of.0 i) (sym q) k), subst (λ of. Kind core of.1 type.Char) q (char_kind f))
-indexes core sees a i t of f e h k = absurd (none_some h)
+indexes core sees a i t of f e h k = absurd (none_is h)
 
 pub index_sound : (core : Core) (sees : Sees) → IsFounded core → (a : Value) (i : Tree) (of : TypeId × TypeId) → IsSoundValue core sees a → index_types (type_at core (type_of a)) ≡ Some of → IsIndex core sees (type_at core (type_of a)) of.0 i → IsTyped core sees (with_step (tree_of a) (index_step i) of.1)
 index_sound core sees f a i of h e k =
@@ -512,8 +509,8 @@ row_of {A} table run k x e = let t = taken run.count (drop run.first table) k e 
     dropped (suc n) k (y ∷ ys) = let e : suc (n + k) ≡ suc n + k = omega arith in dropped n k ys ∙ ap (slice_get (y ∷ ys)) e
 
     taken : (n : ℕ) (xs : List A) (k : ℕ) → slice_get (take n xs) k ≡ Some x → (k < n) × (slice_get xs k ≡ Some x)
-    taken zero xs k e = absurd (none_some e)
-    taken (suc n) [] k e = absurd (none_some e)
+    taken zero xs k e = absurd (none_is e)
+    taken (suc n) [] k e = absurd (none_is e)
     taken (suc n) (y ∷ ys) zero e = (omega arith, e)
     taken (suc n) (y ∷ ys) (suc k) e = let t = taken n ys k e in (omega arith, t.1)
 
@@ -530,11 +527,11 @@ numbered {A} {B} table run k make b e = go (nat_lt (run.first + k) (2 ^ 32)) e
   where
     at : (o : Option A) → slice_get (rows table run) k ≡ o → option_map (make (run.first + k)) o ≡ Some b → Numbered table run make b
     at (Some x) q e = let r = row_of table run k x q in record { number = run.first + k; row = x; is_there = r.1; within = (omega arith, omega arith); is = some_is e }
-    at None q e = absurd (none_some e)
+    at None q e = absurd (none_is e)
 
     go : (c : Bool) → option_and_then (λ n. option_map (make n) (slice_get (rows table run) k)) (if c then Some (run.first + k) else None) ≡ Some b → Numbered table run make b
     go true e = at (slice_get (rows table run) k) refl e
-    go false e = absurd (none_some e)
+    go false e = absurd (none_is e)
 
 pub field_sound : (core : Core) (sees : Sees) (name : List ℕ) (v : Value) (f : FieldId × TypeId) → IsSoundValue core sees v → field_named core name (type_at core (type_of v)) ≡ Some f → IsTyped core sees (with_step (tree_of v) (field f.0) f.1)
 field_sound core sees name v f h e =
@@ -545,8 +542,8 @@ field_sound core sees name v f h e =
     at run (Some k) e =
         let n = numbered core.fields run k (λ n f. (record { 0 = n }, f.of)) f e in
         subst (λ f. InRun run f.0.0 × There core.fields f.0.0 (λ x. x.of ≡ f.1)) n.is (n.within, rw n.is_there refl)
-    at run None e = absurd (none_some e)
+    at run None e = absurd (none_is e)
 
     go : (t : Option CoreType) → field_named core name t ≡ Some f → HoldsField core t f.0 × There core.fields f.0.0 (λ x. x.of ≡ f.1)
     go (Some (type.Record run)) e = at run (position (is_named name) (rows core.fields run)) e
-    go t e = absurd (none_some e)
+    go t e = absurd (none_is e)

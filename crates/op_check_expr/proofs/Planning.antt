@@ -6,7 +6,7 @@ use Rattle.op_tree.specs.Expression.{Arguments}
 use Rattle.op_tree.specs.declared.position.Position.{Position}
 use Rattle.op_check_expr.specs.Calling.{function_plan, sole_plan}
 use Rattle.op_check_expr.specs.Scopes.{Here}
-use Rattle.op_types.specs.Constants.{only_value}
+use Rattle.op_types.specs.ConstantParts.{only_value}
 use Rattle.op_types.specs.declared.constant.Applied.TheVariants.{Function as Function'}
 
 -- no other function than Low and High takes a type

@@ -1,5 +1,5 @@
 -- The types along the steps of a typed tree, and whether they lead to a place.
-use Rattle.std.proofs.Common.{◌≡◌, ℕ, suc, ◌<◌, ◌+◌, Bool, List, [], ◌∷◌, ◌++◌, length, drop, drop-cons, add-one, get_or, refl, sym, ap, ◌∙◌, arith, Option}
+use Rattle.std.proofs.Common.{◌≡◌, ℕ, suc, ◌<◌, ◌+◌, Bool, List, [], ◌∷◌, ◌++◌, length, drop, drop-cons, add-one, get_or, refl, sym, ap, ◌∙◌, Option}
 use Rattle.op_core.proofs.Nodes.{list_nodes}
 use Rattle.op_core.specs.Expression.{Expression as Tree, expr_of, expression, root_of, action_of, steps}
 use Rattle.op_core.specs.Nodes.{steps_of}
@@ -12,6 +12,7 @@ use Rattle.op_core.specs.declared.program.Core.{Core}
 use Rattle.op_core.specs.declared.types.CoreType.{CoreType}
 use Rattle.op_check_expr.specs.Places as places
 use Rattle.op_check_expr.specs.Places.{leads}
+use Rattle.op_types.proofs.Folding.{nothing}
 
 last_after : (of : TypeId) (front : List Step) (x : Step) → typing.type_after of (steps_of (front ++ x ∷ [])) ≡ x.of
 last_after of [] x = refl
@@ -22,10 +23,6 @@ type_behind e front x is =
     ap typing.type_of (list_nodes.expr_says e)
     ∙ ap (λ xs. typing.type_after (out-CoreExpr e).of (steps_of xs)) is
     ∙ last_after (out-CoreExpr e).of front x
-
-pub nothing : {A : Type 0} (xs : List A) → length xs ≡ 0 → xs ≡ []
-nothing [] h = refl
-nothing (x ∷ xs) h = absurd (omega (arith, h))
 
 pub type_alone : (e : CoreExpr) → length (out-CoreExpr e).steps.items ≡ 0 → typing.type_of (expr_of e) ≡ (out-CoreExpr e).of
 type_alone e is =

@@ -12,7 +12,7 @@ use Rattle.op_core.specs.Members.{Kind}
 use Rattle.op_core.specs.Sizes.{range_of, type_at}
 use Rattle.op_core.specs.Types.{elements, is_one_type}
 use Rattle.op_core.specs.Typing as typing
-use Rattle.op_core.specs.Typing.{AreSteps, Converts, Fits, IsAction, IsChar, IsImplemented, IsOrdinal, IsSet, IsTyped, IsUp, IsValue, IsWider, OneType, Sees, base_of, type_after}
+use Rattle.op_core.specs.Typing.{AreSteps, Converts, Fits, IsAction, IsChar, IsOrdinal, IsSet, IsTyped, IsUp, IsValue, IsWider, OneType, Sees, base_of, type_after}
 use Rattle.op_core.specs.declared.constant.Const.{Const}
 use Rattle.op_core.specs.declared.constant.Const.TheVariants as const
 use Rattle.op_core.specs.declared.ids.TypeId.{TypeId}
@@ -24,6 +24,7 @@ use Rattle.op_core.specs.declared.types.CoreType.{CoreType}
 use Rattle.op_core.specs.declared.types.CoreType.TheVariants as type
 use Rattle.op_check_expr.specs.Settled.{IsSoundValue}
 use Rattle.op_check_expr.specs.Values.{Value, constant, computed, are_in, as_type, constant_tree, conversion, conversion_by, is_in, is_integer, is_wider, ordinal_conversion, retyped, retyped_by, tree_of, type_of, with_conversion}
+use Rattle.op_core.proofs.Agreeing.{some_is}
 use Rattle.op_types.proofs.Assigning.{is_assignable}
 use Rattle.op_types.proofs.Sorting.{Stands, has_kind, stands, stands_as}
 use Rattle.op_types.proofs.TypeFacts.{one_or_elements}
@@ -37,9 +38,6 @@ use Rattle.op_types.specs.declared.sort.OrdinalKind.{OrdinalKind}
 use Rattle.op_types.specs.declared.sort.OrdinalKind.TheVariants.{Char}
 use Rattle.op_types.specs.declared.sort.Sort.{Sort}
 use Rattle.op_types.specs.declared.sort.Sort.TheVariants.{Ordinal, String, Set, EmptySet, DynamicArray, Class, Interface, Nil}
-
-some_is : {A : Type 0} {a b : A} → Some a ≡ Some b → a ≡ b
-some_is e = cc
 
 -- ---- with a step more
 

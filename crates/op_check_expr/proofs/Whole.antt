@@ -4,7 +4,7 @@ use Rattle.std.proofs.lemmas.Bool.{and_parts, eqb-true, false≢true}
 use Rattle.std.specs.Option.{option_and_then, option_map}
 use Rattle.std.specs.Prelude.{if◌then◌else◌, position}
 use Rattle.op_base.specs.declared.place.Place.{Place}
-use Rattle.op_core.proofs.Completing.{whole_behind, whole_changed_so, whole_entered, whole_followed, whole_gives, whole_rule, whole_standing, whole_tested, whole_with}
+use Rattle.op_judgement.proofs.Completing.{whole_behind, whole_changed_so, whole_entered, whole_followed, whole_gives, whole_rule, whole_standing, whole_tested, whole_with}
 use Rattle.op_core.proofs.Growing.{all_at}
 use Rattle.op_core.proofs.OneType.{one_itself}
 use Rattle.op_core.specs.Expression.{Argument as GivenArgument, Arguments as GivenArguments, no_arguments as none_given, arguments as more_given, bracket as bracket_step}
@@ -28,7 +28,7 @@ use Rattle.op_tree.specs.Expression.{Expression, chain, prefixed, number, nil, s
 use Rattle.op_tree.specs.declared.position.Name.{Name}
 use Rattle.op_tree.specs.declared.position.Position.{Position}
 use Rattle.op_judgement.specs.Judgement.{Judgement, both_typed, checked, followed, with_part}
-use Rattle.op_judgement.specs.Rules.{no_set_element, no_statement, not_assignable, wrong_arguments, wrong_kind_of_name}
+use Rattle.op_judgement.specs.declared.rules.LanguageRule.TheVariants.{NoSetElement, NoStatement, NotAssignable, WrongArguments, WrongKindOfName}
 use Rattle.op_check_expr.proofs.LeafWhole.{AreSound, AsVariable, IsSoundMember, field_whole, indexed_whole, name_whole, number_whole, operation_whole, passed_whole, prefix_whole, set_whole, sound_behind, stored_whole, target_value_whole, there_is, used_whole, variable_value_whole}
 use Rattle.op_check_expr.proofs.Operations.{numbered}
 use Rattle.op_check_expr.proofs.Trees.{as_type_value, tree_typed, typed_then}
@@ -36,10 +36,9 @@ use Rattle.op_check_expr.specs.Calling.{are_given, are_plain, behind, bound_plan
 use Rattle.op_check_expr.specs.Constructors.{Member, is_small}
 use Rattle.op_check_expr.specs.Constructors as made
 use Rattle.op_check_expr.specs.Expressions as means
-use Rattle.op_check_expr.specs.Expressions.{call_means, member_by, position_of, position_of_designator, ranged, settled, settled_by, still_at, still_at_position, text_denoted, value_in, with_member}
-use Rattle.op_check_expr.specs.Meanings as words
+use Rattle.op_check_expr.specs.Expressions.{call_means, member_by, position_of, position_of_designator, ranged, settled, settled_by, still_at_position, text_denoted, value_in, with_member}
 use Rattle.op_check_expr.specs.Phrases as phrase
-use Rattle.op_check_expr.specs.Phrases.{alone_behind, alone_by, alone_value, is_call, is_own, is_result, last_call, own_result, result_at, result_denoted, result_first, result_in, result_named, routine_alone, routine_in, selectors_behind, target_by, target_from, target_means}
+use Rattle.op_check_expr.specs.Phrases.{alone_behind, alone_by, alone_value, is_call, is_own, is_result, last_call, own_result, result_at, result_denoted, result_first, result_in, result_named, routine_alone, routine_in, selectors_behind, target_by, target_from}
 use Rattle.op_check_expr.specs.Naming as naming
 use Rattle.op_check_expr.specs.Naming.{Denoted, Meant, variable_tree}
 use Rattle.op_check_expr.specs.Parts.{standing}
@@ -48,22 +47,17 @@ use Rattle.op_check_expr.specs.Settled.{IsKnown, IsSettled, IsSoundValue, IsTher
 use Rattle.op_check_expr.specs.Values.{Value, constant, computed, in_brackets, tree_of, type_of}
 use Rattle.op_check_expr.specs.declared.call.Plan.{Plan}
 use Rattle.op_check_expr.specs.declared.call.Plan.TheVariants.{Bound, Sole, Routine as RoutinePlan}
+use Rattle.op_core.proofs.Agreeing.{none_is, some_is}
 use Rattle.op_types.proofs.ConstantWhole.{bound_whole, literal_sound, numeral_whole}
 use Rattle.op_types.proofs.TypeFacts.{nothing_kind, string_kind}
 use Rattle.op_types.specs.Assignable.{assignable}
-use Rattle.op_types.specs.Constants.{joined_name, number_behind, only_value, type_named, type_of_value}
+use Rattle.op_types.specs.ConstantParts.{joined_name, number_behind, only_value, type_named, type_of_value}
 use Rattle.op_types.specs.Names.{lower, meaning_of}
 use Rattle.op_types.specs.Operators as table
 use Rattle.op_types.specs.declared.constant.Applied.{Applied}
 use Rattle.op_types.specs.declared.constant.Applied.TheVariants.{Cast, Function as Function'}
 use Rattle.op_types.specs.declared.visible.BuiltIn.{BuiltIn}
 use Rattle.op_types.specs.declared.visible.BuiltIn.TheVariants.{Chr, Function as FunctionNamed}
-
-none_is : {A : Type 0} {a : A} → None ≡ Some a → ⊥
-none_is e = absurd (cc)
-
-some_is : {A : Type 0} {a b : A} → Some a ≡ Some b → a ≡ b
-some_is e = cc
 
 -- one argument, a value
 abbrev HasOne : Arguments → Type 0
@@ -100,11 +94,11 @@ IsSoundPlan sees here args (RoutinePlan id) = (c : Callable sees here id) × (ar
 routine_plan_whole : (sees : Sees) (here : Here) (alone : Bool) (p : Position) (id : RoutineId) (args : Arguments) (c : Callable sees here id) → Whole (IsSoundPlan sees here args) (checked (with_part (routine_plan here alone p id args) (slice_get here.core.routines id.0)))
 routine_plan_whole sees here alone p id args c =
     subst (λ o. Whole (IsSoundPlan sees here args) (checked (with_part (routine_plan here alone p id args) o))) (sym c.is)
-    (whole_tested wrong_kind_of_name.number p.place (alone || is_some c.row.result) (λ _.
-    whole_tested wrong_arguments.number p.place (are_given (rows here.core.parameters c.row.parameters) args) (λ g. whole_gives (c, g))))
+    (whole_tested WrongKindOfName p.place (alone || is_some c.row.result) (λ _.
+    whole_tested WrongArguments p.place (are_given (rows here.core.parameters c.row.parameters) args) (λ g. whole_gives (c, g))))
 
 sole_plan_whole : (sees : Sees) (here : Here) (p : Position) (what : Applied) (args : Arguments) → Whole (IsSoundPlan sees here args) (checked (sole_plan p what (only_value args)))
-sole_plan_whole sees here p what args = whole_entered wrong_arguments.number p.place (only_value args) (λ e q. whole_gives {a = Sole what p} (e, q))
+sole_plan_whole sees here p what args = whole_entered WrongArguments p.place (only_value args) (λ e q. whole_gives {a = Sole what p} (e, q))
 
 bound_plan_whole : (sees : Sees) (here : Here) (p : Position) (f : Function) (args : Arguments) → Whole (IsSoundPlan sees here args) (checked (bound_plan p f (only_value args) (type_named here.visible args)))
 bound_plan_whole sees here p f args = go (only_value args) refl
@@ -298,23 +292,23 @@ call_whole {sees} {here} s args h =
 
 -- ---- what statements are made of
 
-pub value_of_whole : {sees : Sees} {here : Here} → IsSettled sees here → (wanted : Option TypeId) (e : Expression) → Whole (IsSoundValue here.core sees) (words.value_of here wanted e)
+pub value_of_whole : {sees : Sees} {here : Here} → IsSettled sees here → (wanted : Option TypeId) (e : Expression) → Whole (IsSoundValue here.core sees) (checked (phrase.value here wanted e))
 unfolding phrase.value
 value_of_whole s wanted e = value_whole s wanted e
 
-pub given_to_whole : {sees : Sees} {here : Here} → IsSettled sees here → (to : TypeId) (checked : Bool) (e : Expression) → Whole (IsValue here.core sees to) (words.given here to checked e)
+pub given_to_whole : {sees : Sees} {here : Here} → IsSettled sees here → (to : TypeId) (ranges : Bool) (e : Expression) → Whole (IsValue here.core sees to) (checked (phrase.given here to ranges e))
 unfolding phrase.given
-given_to_whole {sees} {here} s to checked e = whole_behind (value_whole s (Some to) e) (λ v h. stored_whole here.core sees (position_of e).place checked to v h)
+given_to_whole {sees} {here} s to ranges e = whole_behind (value_whole s (Some to) e) (λ v h. stored_whole here.core sees (position_of e).place ranges to v h)
 
-pub variable_whole : {sees : Sees} {here : Here} → IsSettled sees here → (of : Option TypeId) (e : Expression) → Whole (AsVariable here.core sees of) (words.variable here of e)
+pub variable_whole : {sees : Sees} {here : Here} → IsSettled sees here → (of : Option TypeId) (e : Expression) → Whole (AsVariable here.core sees of) (checked (phrase.variable here of e))
 unfolding phrase.variable
 variable_whole {sees} {here} s of e = whole_behind (value_whole s None e) (λ v h. variable_value_whole here sees (position_of e).place of v h)
 
-pub element_whole : {sees : Sees} {here : Here} → IsSettled sees here → (base : TypeId) (e : Expression) → Whole (IsValue here.core sees base) (words.element here base e)
+pub element_whole : {sees : Sees} {here : Here} → IsSettled sees here → (base : TypeId) (e : Expression) → Whole (IsValue here.core sees base) (checked (phrase.element here base e))
 unfolding phrase.element
 element_whole {sees} {here} s base e =
     whole_behind (value_whole s None e) (λ v h.
-    whole_tested not_assignable.number (position_of e).place (assignable here.core (type_of v) base) (λ a. whole_tested no_set_element.number (position_of e).place (is_small v) (λ _. whole_gives (as_type_value here.core sees true base v h a))))
+    whole_tested NotAssignable (position_of e).place (assignable here.core (type_of v) base) (λ a. whole_tested NoSetElement (position_of e).place (is_small v) (λ _. whole_gives (as_type_value here.core sees true base v h a))))
 
 -- the result of the routine whose body this is
 own_sound : {sees : Sees} {here : Here} → IsSettled sees here → (id : RoutineId) (v : VariableId × TypeId) → own_result here id ≡ Some v → IsTyped here.core sees (variable_tree v.0 v.1)
@@ -361,7 +355,7 @@ target_from_whole {sees} {here} s d (Some r) e =
     (λ v k. target_value_whole here sees (position_of_designator d).place v k)
 target_from_whole {sees} {here} s d None e = target_by_whole s d (routine_alone here d)
 
-pub target_whole : {sees : Sees} {here : Here} → IsSettled sees here → (d : Designator) → Whole (λ t. IsTyped here.core sees t × (is_place true here.core t ≡ true)) (words.target here d)
+pub target_whole : {sees : Sees} {here : Here} → IsSettled sees here → (d : Designator) → Whole (λ t. IsTyped here.core sees t × (is_place true here.core t ≡ true)) (checked (phrase.target here d))
 unfolding phrase.target
 target_whole {sees} {here} s d = target_from_whole s d (result_first here d) refl
 
@@ -371,7 +365,7 @@ filled_tree : (core : Core) (sees : Sees) {o : Option Value} → Filled (IsSound
 filled_tree core sees (filled v h) = filled (tree_of v) (tree_typed core sees v h)
 
 alone_value_whole : (core : Core) (sees : Sees) (start : Place) (b : Bool) {o : Option Value} → Filled (IsSoundValue core sees) o → Whole (IsTyped core sees) (checked (alone_value start b o))
-alone_value_whole core sees start b h = whole_tested no_statement.number start b (λ _. whole_standing (filled_tree core sees h))
+alone_value_whole core sees start b h = whole_tested NoStatement start b (λ _. whole_standing (filled_tree core sees h))
 
 bare_tree_whole : {sees : Sees} {here : Here} → IsSettled sees here → (p : Position) (what : Meant) → IsThere here.core sees what → Whole (IsTyped here.core sees) (checked (followed (plan_for here true p what no_arguments) (λ plan. standing (option_map tree_of (call_of here plan (given_first plan))))))
 bare_tree_whole {sees} {here} s p what h = whole_followed (plan_for_whole sees here true p what no_arguments h) (λ o k. whole_standing (filled_tree here.core sees (bare_gives s k)))
@@ -389,6 +383,6 @@ alone_behind_whole {sees} {here} s start ss (Some r) h =
     whole_followed (selected_whole s r.0 h) (λ c k. whole_followed (plan_whole sees here true r.1 k) (λ plan i.
     whole_followed (call_whole s r.1 i) (λ v q. alone_value_whole here.core sees start (is_call plan) q)))
 
-pub called_alone_whole : {sees : Sees} {here : Here} → IsSettled sees here → (d : Designator) → Whole (IsTyped here.core sees) (words.called_alone here d)
+pub called_alone_whole : {sees : Sees} {here : Here} → IsSettled sees here → (d : Designator) → Whole (IsTyped here.core sees) (checked (phrase.call_alone here d))
 unfolding phrase.call_alone
 called_alone_whole s (designator root ss) = whole_followed (root_whole s root) (λ d h. alone_behind_whole s (position_of_designator (designator root ss)).place ss (last_call ss) h)

@@ -17,7 +17,7 @@ use Rattle.op_core.specs.declared.routine.Routine.{Routine}
 use Rattle.op_tree.specs.Expression as source
 use Rattle.op_tree.specs.declared.position.Position.{Position}
 use Rattle.op_judgement.specs.Judgement.{Judgement, by_entry, by_test, changed, fine, refused, with_part}
-use Rattle.op_judgement.specs.Rules.{wrong_arguments, wrong_kind_of_name}
+use Rattle.op_judgement.specs.declared.rules.LanguageRule.TheVariants.{WrongArguments, WrongKindOfName}
 use Rattle.op_check_expr.specs.Naming.{Denoted, Meant, routine, type_name, built_in}
 use Rattle.op_check_expr.specs.Parts.{whether}
 use Rattle.op_check_expr.specs.Places.{variable_value}
@@ -25,7 +25,7 @@ use Rattle.op_check_expr.specs.Values.{Value, computed, stored}
 use Rattle.op_check_expr.specs.declared.call.Plan.{Plan}
 use Rattle.op_check_expr.specs.declared.call.Plan.TheVariants.{Bound, Sole, Routine as RoutinePlan}
 use Rattle.op_check_expr.specs.Scopes.{Here}
-use Rattle.op_types.specs.Constants.{only_value, type_named}
+use Rattle.op_types.specs.ConstantParts.{only_value, type_named}
 use Rattle.op_types.specs.Operators as table
 use Rattle.op_types.specs.declared.constant.Applied.{Applied}
 use Rattle.op_types.specs.declared.constant.Applied.TheVariants.{Cast, Function as Function'}
@@ -60,12 +60,12 @@ parameters_of s id = parameters_in s (slice_get s.core.routines id.0)
 -- Each parameter has an argument, without a width. A procedure gives no value, which only a call alone does without.
 abbrev pub routine_plan : Here → Bool → Position → RoutineId → source.Arguments → Routine → Judgement Plan
 routine_plan s alone p id args r =
-    by_test wrong_kind_of_name p.place (by_test wrong_arguments p.place (fine (RoutinePlan id)) (are_given (rows s.core.parameters r.parameters) args))
+    by_test WrongKindOfName p.place (by_test WrongArguments p.place (fine (RoutinePlan id)) (are_given (rows s.core.parameters r.parameters) args))
     (alone || is_some r.result)
 
 -- one argument, a value
 abbrev pub sole_plan : Position → Applied → Option source.Expression → Judgement Plan
-sole_plan p what e = by_entry wrong_arguments p.place (λ e. fine (Sole what p)) e
+sole_plan p what e = by_entry WrongArguments p.place (λ e. fine (Sole what p)) e
 
 abbrev pub bound_plan : Position → Function → Option source.Expression → Option (TypeId × Place) → Judgement Plan
 bound_plan p f e None = sole_plan p (Function' f) e
@@ -81,14 +81,14 @@ function_plan s p f args = sole_plan p (Function' f) (only_value args)
 abbrev pub built_in_plan : Here → Position → BuiltIn → source.Arguments → Judgement Plan
 built_in_plan s p Chr args = sole_plan p (Cast table.char) (only_value args)
 built_in_plan s p (FunctionNamed f) args = function_plan s p f args
-built_in_plan s p _ args = refused wrong_kind_of_name p.place
+built_in_plan s p _ args = refused WrongKindOfName p.place
 
 -- Only routines are called, and types, which cast one value.
 abbrev pub plan_for : Here → Bool → Position → Meant → source.Arguments → Judgement Plan
 plan_for s alone p (routine id) args = with_part (routine_plan s alone p id args) (slice_get s.core.routines id.0)
 plan_for s alone p (type_name of) args = sole_plan p (Cast of) (only_value args)
 plan_for s alone p (built_in b) args = built_in_plan s p b args
-plan_for s alone p _ args = refused wrong_kind_of_name p.place
+plan_for s alone p _ args = refused WrongKindOfName p.place
 
 -- what is done with arguments behind what stands in front of them; `alone` is whether the call is a statement
 abbrev pub plan_of : Here → Bool → Option Denoted → source.Arguments → Judgement Plan

@@ -3,21 +3,21 @@ use Rattle.std.specs.Prelude.{pos, Bool, true, false, ◌&&◌, List, [], ◌∷
 use Rattle.std.specs.List.{list_all}
 use Rattle.std.specs.declared.alloc.Global.{Global}
 use Rattle.op_base.specs.declared.place.Place.{Place}
-use Rattle.op_core.specs.Expression.{Expression as Tree, Element, Elements, expression, one as one_tree, range as range_tree, set as set_root, no_elements, no_steps}
+use Rattle.op_core.specs.Expression.{Element, Elements, expression, no_elements, no_steps, one as one_tree, range as range_tree, set as set_root}
 use Rattle.op_core.specs.Expression as tree
 use Rattle.op_core.specs.Sizes.{type_at}
 use Rattle.op_core.specs.Typing as typing
 use Rattle.op_core.specs.declared.ids.TypeId.{TypeId}
 use Rattle.op_core.specs.declared.program.Core.{Core}
 use Rattle.op_judgement.specs.Judgement.{Judgement, by_test, changed, fine, followed, with_part}
-use Rattle.op_judgement.specs.Rules.{no_set_element, not_assignable, not_ordinal}
+use Rattle.op_judgement.specs.declared.rules.LanguageRule.TheVariants.{NoSetElement, NotAssignable, NotOrdinal}
 use Rattle.op_types.specs.Folding.{gathered_means, range_means, single_means}
 use Rattle.op_check_expr.specs.Parts.{standing}
 use Rattle.op_check_expr.specs.Values.{Value, constant, computed, as_type, type_of, value_of}
 use Rattle.op_check_expr.specs.declared.set.Member.{Member as RustMember}
 use Rattle.op_check_expr.specs.declared.set.Member.TheVariants as rust
 use Rattle.op_types.specs.Assignable.{assignable}
-use Rattle.op_types.specs.Constants.{is_ordinal, joined, made, no_members, nodes}
+use Rattle.op_types.specs.ConstantParts.{is_ordinal, joined, made, no_members, nodes}
 use Rattle.op_types.specs.Operators as table
 use Rattle.op_types.specs.Sets.{common_set, set_over}
 use Rattle.op_types.specs.Sorts.{are_sets, sort_of}
@@ -71,17 +71,17 @@ is_small (computed e) = true
 
 -- a value in a set: of an ordinal type, and no constant out of 0 to 31; it gives the type of the set
 abbrev pub value_in_set : Core → Place → Value → Judgement TypeId
-value_in_set core at v = by_test not_ordinal at (by_test no_set_element at (fine (set_over core (type_of v))) (is_small v)) (is_ordinal (sort_of core (type_of v)))
+value_in_set core at v = by_test NotOrdinal at (by_test NoSetElement at (fine (set_over core (type_of v))) (is_small v)) (is_ordinal (sort_of core (type_of v)))
 
 abbrev pub member_in_set : Core → Member → Judgement TypeId
 member_in_set core (one at v) = value_in_set core at v
 member_in_set core (range at v at' v') =
     followed (value_in_set core at v) (λ a. followed (value_in_set core at' v') (λ b.
-    with_part (λ a. with_part (λ b. by_test not_assignable at' (fine (common_set core a b)) (assignable core (type_of v') (type_of v))) b) a))
+    with_part (λ a. with_part (λ b. by_test NotAssignable at' (fine (common_set core a b)) (assignable core (type_of v') (type_of v))) b) a))
 
 -- a set of the one type and one of another that begins at a place
 abbrev pub both_in_set : Core → Place → Option TypeId → Option TypeId → Judgement TypeId
-both_in_set core at a b = with_part (λ a. with_part (λ b. by_test not_assignable at (fine (common_set core a b)) (are_sets (sort_of core a) (sort_of core b))) b) a
+both_in_set core at a b = with_part (λ a. with_part (λ b. by_test NotAssignable at (fine (common_set core a b)) (are_sets (sort_of core a) (sort_of core b))) b) a
 
 -- the type of a set of these, behind those so far
 abbrev pub type_of_set : Core → Option TypeId → List Member → Judgement TypeId

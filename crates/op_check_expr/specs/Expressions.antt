@@ -14,7 +14,8 @@ use Rattle.op_tree.specs.Expression.{Expression, chain, prefixed, number, nil, s
 use Rattle.op_tree.specs.declared.position.Name.{Name}
 use Rattle.op_tree.specs.declared.position.Position.{Position}
 use Rattle.op_judgement.specs.Judgement.{Judgement, both_typed, by_entry, changed, fine, followed, of_two, refused, through, untyped, with_part}
-use Rattle.op_judgement.specs.Rules.{classes, dynamic_arrays, not_indexed, strings, wrong_kind_of_name}
+use Rattle.op_judgement.specs.declared.rules.Feature.TheVariants.{Classes, DynamicArrays, Strings}
+use Rattle.op_judgement.specs.declared.rules.LanguageRule.TheVariants.{NotInProfile, NotIndexed, WrongKindOfName}
 use Rattle.op_types.specs.Folding.{bound_means, numeral}
 use Rattle.op_check_expr.specs.Calling.{call_of, first_of, given_behind, given_first, others_of, parameters_for, passed, plan_for, plan_of, type_wanted}
 use Rattle.op_check_expr.specs.Constructors.{Member, set_of}
@@ -27,7 +28,7 @@ use Rattle.op_check_expr.specs.Values.{Value, constant, computed, in_brackets, i
 use Rattle.op_check_expr.specs.declared.call.Plan.{Plan}
 use Rattle.op_check_expr.specs.declared.call.Plan.TheVariants.{Bound, Sole}
 use Rattle.op_check_expr.specs.Scopes.{Here}
-use Rattle.op_types.specs.Constants.{joined_name, made, nodes, number_behind, text_constant}
+use Rattle.op_types.specs.ConstantParts.{joined_name, made, nodes, number_behind, text_constant}
 use Rattle.op_types.specs.Names.{lower, meaning_of}
 use Rattle.op_types.specs.Operators as table
 use Rattle.op_types.specs.declared.constant.Applied.{Applied}
@@ -92,7 +93,7 @@ element_at core at a of v =
 -- behind a bracket at a place
 abbrev pub indexed_value : Core → Place → Place → Option Value → Value → Judgement Value
 indexed_value core bracket at v a =
-    by_entry not_indexed bracket (λ of. with_part (element_at core at a of) v) (index_types (type_at core (type_of a)))
+    by_entry NotIndexed bracket (λ of. with_part (element_at core at a of) v) (index_types (type_at core (type_of a)))
 
 abbrev pub indexed : Core → Place → Place → Option Value → Option Value → Judgement Value
 indexed core bracket at a v = with_part (indexed_value core bracket at v) a
@@ -102,7 +103,7 @@ indexed core bracket at a v = with_part (indexed_value core bracket at v) a
 -- what a name stands for as a value: a function alone is called, a type is none
 abbrev pub settled_by : Here → Position → Meant → Judgement Value
 settled_by s p (naming.value v) = fine v
-settled_by s p (naming.type_name of) = refused wrong_kind_of_name p.place
+settled_by s p (naming.type_name of) = refused WrongKindOfName p.place
 settled_by s p what = followed (plan_for s false p what no_arguments) (λ plan. standing (call_of s plan (given_first plan)))
 
 abbrev pub settled : Here → Denoted → Judgement Value
@@ -141,12 +142,12 @@ abbrev mutual
   value_in s wanted (chain first rest) = followed (value_in s None first) (λ a. operations s (position_of first).place a rest)
   value_in s wanted (prefixed o p e) = or_number (number_behind o e) (through (value_in s None e) (prefix_of s.core o p))
   value_in s wanted (number n p) = changed constant (numeral p.place 1 (pos n))
-  value_in s wanted (nil p) = refused dynamic_arrays p.place
+  value_in s wanted (nil p) = refused (NotInProfile DynamicArrays) p.place
   value_in s wanted (set p es) = through (members s (Some []) es) (set_of s.core wanted)
   value_in s wanted (literal text p no_selectors) = fine (constant (text_constant text))
   value_in s wanted (literal text p (selectors x xs)) = through (selected s (Some (text_denoted p text)) (selectors x xs)) (settled s)
   value_in s wanted (designated d) = through (designator_of s d) (settled s)
-  value_in s wanted (inherited p d) = refused classes p.place
+  value_in s wanted (inherited p d) = refused (NotInProfile Classes) p.place
 
   -- behind a first operand, in an expression that begins at a place
   pub operations : Here → Place → Option Value → Operations → Judgement Value
@@ -168,7 +169,7 @@ abbrev mutual
 
   pub root_of : Here → Root → Judgement Denoted
   root_of s (named n) = name_denoted s (lower n.text) n.text n.position
-  root_of s (string p) = refused strings p.place
+  root_of s (string p) = refused (NotInProfile Strings) p.place
   root_of s (bracketed p e) = bracket_of p (value_in s None e)
 
   pub selected : Here → Option Denoted → Selectors → Judgement Denoted
@@ -200,6 +201,16 @@ abbrev mutual
   argument s p (value e) = through (value_in s (type_wanted p) e) (passed s p (position_of e))
   argument s p (padded e width) = followed (value_in s None e) (λ a. followed (value_in s None width) (λ b. untyped))
   argument s p (rounded e width digits) = followed (value_in s None e) (λ a. followed (value_in s None width) (λ b. followed (value_in s None digits) (λ c. untyped)))
+
+abbrev pub range_in : Here → Element → Judgement Member
+range_in s (one e) = untyped
+range_in s (range e f) = member_in s (range e f)
+
+-- an argument with a width, for which there is no parameter
+abbrev pub formatted : Here → Argument → Judgement GivenArgument
+formatted s (value e) = untyped
+formatted s (padded e width) = argument s None (padded e width)
+formatted s (rounded e width digits) = argument s None (rounded e width digits)
 
 abbrev pub set_in : Here → Option TypeId → Elements → Judgement Value
 set_in s wanted es = through (members s (Some []) es) (set_of s.core wanted)

@@ -1,15 +1,11 @@
 pub mod Calling
 pub mod Constructors
 pub mod Expressions
-pub mod Meanings
 pub mod Naming
 pub mod Operating
 pub mod Parts
 pub mod Phrases
 pub mod Places
-pub mod RuleWords
-pub mod Rules
 pub mod Scopes
 pub mod Settled
 pub mod Values
-pub mod Words

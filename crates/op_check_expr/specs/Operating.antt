@@ -1,5 +1,5 @@
 -- What operators, casts and built-in functions make of values (Free Pascal Reference Guide, "Operators" and "Value typecasts").
-use Rattle.std.specs.Prelude.{ℕ, Bool, true, false, ◌&&◌, ◌||◌, Option, Some, None, if◌then◌else◌}
+use Rattle.std.specs.Prelude.{Bool, true, false, ◌&&◌, ◌||◌, Option, Some, None, if◌then◌else◌}
 use Rattle.op_base.specs.declared.place.Place.{Place}
 use Rattle.op_core.specs.Expression.{Expression as Tree, apply, convert, operate, prefixed, then as with_step}
 use Rattle.op_core.specs.Sizes.{range_of, type_at}
@@ -16,13 +16,15 @@ use Rattle.op_tree.specs.declared.operator.Operator.{Operator}
 use Rattle.op_tree.specs.declared.operator.Operator.TheVariants.{Add, In_}
 use Rattle.op_tree.specs.declared.operator.PrefixOperator.{PrefixOperator}
 use Rattle.op_tree.specs.declared.position.Position.{Position}
-use Rattle.op_base.specs.declared.rule.Rule.{Rule}
 use Rattle.op_judgement.specs.Judgement.{Judgement, by_entry, changed, fine, with_part}
-use Rattle.op_judgement.specs.Rules.{no_cast, no_operator, not_assignable, not_ordinal}
+use Rattle.op_judgement.specs.declared.rules.Feature.{Feature}
+use Rattle.op_judgement.specs.declared.rules.Feature.TheVariants.{Strings}
+use Rattle.op_judgement.specs.declared.rules.LanguageRule.{LanguageRule}
+use Rattle.op_judgement.specs.declared.rules.LanguageRule.TheVariants.{NoCast, NoOperator, NotAssignable, NotOrdinal}
 use Rattle.op_types.specs.Folding.{operator_means, prefix_means, use_means}
 use Rattle.op_check_expr.specs.Parts.{by_feature, whether}
 use Rattle.op_check_expr.specs.Values.{Value, constant, computed, as_type, is_integer, is_wider, tree_of, type_of}
-use Rattle.op_types.specs.Constants.{is_folded, is_ordinal}
+use Rattle.op_types.specs.ConstantParts.{is_folded, is_ordinal}
 use Rattle.op_types.specs.Operators as table
 use Rattle.op_types.specs.Sets.{common_set, set_over}
 use Rattle.op_types.specs.Sorts.{is_text, sort_of}
@@ -53,8 +55,8 @@ joins _ = false
 abbrev pub makes_strings : Operator → Sort → Sort → Bool
 makes_strings o a b = is_text a && is_text b && (joins o || is_string a || is_string b)
 
-abbrev pub feature_of_operands : Operator → Sort → Sort → Option ℕ
-feature_of_operands o a b = if makes_strings o a b then Some 40 else None
+abbrev pub feature_of_operands : Operator → Sort → Sort → Option Feature
+feature_of_operands o a b = if makes_strings o a b then Some Strings else None
 
 -- The type that an operand goes to: integers to Integer, values of a subrange to those of its base, sets to one that holds both.
 abbrev pub operand_by : TypeId → TypeId → Sort → TypeId
@@ -82,7 +84,7 @@ operation_tree core o checked a b of =
 -- an operator at a position between two values that are not both constants
 abbrev pub computed_operation : Core → Operator → Position → Value → Value → Judgement Value
 computed_operation core o p a b =
-    by_entry no_operator p.place (λ of. by_feature p.place (feature_of_operands o (sort_of core (type_of a)) (sort_of core (type_of b))) (fine (operation_tree core o p.switches.q a b of)))
+    by_entry NoOperator p.place (λ of. by_feature p.place (feature_of_operands o (sort_of core (type_of a)) (sort_of core (type_of b))) (fine (operation_tree core o p.switches.q a b of)))
     (table.operation o (sort_of core (type_of a)) (sort_of core (type_of b)) (common_set core (type_of a) (type_of b)))
 
 -- in an expression that begins at a place
@@ -100,7 +102,7 @@ prefix_tree core o checked v of = computed (with_step (as_type core true of v) (
 abbrev pub prefix_of : Core → PrefixOperator → Position → Value → Judgement Value
 prefix_of core o p (constant c) = changed constant (prefix_means core p.place o c)
 prefix_of core o p (computed e) =
-    by_entry no_operator p.place (λ of. fine (prefix_tree core o p.switches.q (computed e) of)) (table.prefixed o (sort_of core (type_of (computed e))))
+    by_entry NoOperator p.place (λ of. fine (prefix_tree core o p.switches.q (computed e) of)) (table.prefixed o (sort_of core (type_of (computed e))))
 
 -- ---- casts
 
@@ -120,18 +122,18 @@ cast_by core from to _ _ = None
 
 abbrev pub cast_of : Core → Place → TypeId → Tree → TypeId → Judgement Value
 cast_of core place to e from =
-    by_entry no_cast place (λ c. fine (computed (with_step e (convert c CastOrigin) to))) (cast_by core from to (sort_of core from) (sort_of core to))
+    by_entry NoCast place (λ c. fine (computed (with_step e (convert c CastOrigin) to))) (cast_by core from to (sort_of core from) (sort_of core to))
 
 -- ---- functions
 
 -- the rule that an argument breaks which the function does not take
-abbrev pub rule_of : Function → Rule
-rule_of Ord = not_ordinal
-rule_of Succ = not_ordinal
-rule_of Pred = not_ordinal
-rule_of Low = not_ordinal
-rule_of High = not_ordinal
-rule_of _ = not_assignable
+abbrev pub rule_of : Function → LanguageRule
+rule_of Ord = NotOrdinal
+rule_of Succ = NotOrdinal
+rule_of Pred = NotOrdinal
+rule_of Low = NotOrdinal
+rule_of High = NotOrdinal
+rule_of _ = NotAssignable
 
 -- what a sequence's bounds are of
 abbrev pub index_type : Option CoreType → Option TypeId
@@ -180,8 +182,8 @@ abbrev pub becomes_string : Core → Function → TypeId → Bool
 becomes_string core Length of = is_ordinal (sort_of core of)
 becomes_string core f of = false
 
-abbrev pub feature_of_argument : Core → Function → TypeId → Option ℕ
-feature_of_argument core f of = if becomes_string core f of then Some 40 else None
+abbrev pub feature_of_argument : Core → Function → TypeId → Option Feature
+feature_of_argument core f of = if becomes_string core f of then Some Strings else None
 
 -- a function at a position, of an argument at a place
 abbrev pub application_of : Core → Position → Function → Place → Value → Judgement Value

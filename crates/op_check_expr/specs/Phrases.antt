@@ -21,17 +21,16 @@ use Rattle.op_core.specs.declared.routine.Routine.{Routine}
 use Rattle.op_core.specs.declared.routine.Variable.{Variable as VariableRow}
 use Rattle.op_tree.specs.Expression.{Expression, designated, Designator, designator, named, Selector, Selectors, no_selectors, selectors, call, Arguments, no_arguments}
 use Rattle.op_judgement.specs.Judgement.{Judgement, Breaks, Means, by_test, fine, followed, refused, through}
-use Rattle.op_judgement.specs.Rules.{no_set_element, no_statement, not_assignable, not_writable, wrong_kind_of_name}
+use Rattle.op_judgement.specs.declared.rules.LanguageRule.TheVariants.{NoSetElement, NoStatement, NotAssignable, NotWritable, WrongKindOfName}
 use Rattle.op_check_expr.specs.Calling.{call_of, given_first, plan_for, plan_of}
 use Rattle.op_check_expr.specs.Constructors.{is_small}
 use Rattle.op_check_expr.specs.Expressions.{called, position_of, position_of_designator, root_of, selected, settled, value_in}
 use Rattle.op_check_expr.specs.Naming as naming
-use Rattle.op_check_expr.specs.Naming.{Denoted, Meant, valued, variable_tree}
+use Rattle.op_check_expr.specs.Naming.{Denoted, Meant, number_at, valued, variable_tree}
 use Rattle.op_check_expr.specs.Parts.{standing}
-use Rattle.op_check_expr.specs.Places.{target_value, variable_value}
+use Rattle.op_check_expr.specs.Places.{is_writable_row, target_value, variable_value}
 use Rattle.op_check_expr.specs.Scopes.{Here}
 use Rattle.op_check_expr.specs.Values.{Value, as_type, computed, stored, tree_of, type_of}
-use Rattle.op_check_expr.specs.Words.{number_at}
 use Rattle.op_check_expr.specs.declared.call.Plan.{Plan}
 use Rattle.op_check_expr.specs.declared.call.Plan.TheVariants.{Bound, Sole}
 use Rattle.op_tree.specs.declared.position.Name.{Name}
@@ -53,10 +52,14 @@ given here to checked e = through (value_in here (Some to) e) (stored here.core 
 unfoldable pub variable : Here → Option TypeId → Expression → Judgement Tree
 variable here of e = through (value_in here None e) (variable_value here (position_of e).place of)
 
+-- whether a variable may be written
+unfoldable pub is_writable_variable : Here → VariableId → Bool
+is_writable_variable here id = is_writable_row here id (slice_get here.core.variables id.0)
+
 -- ---- an element for a set of a base
 
 abbrev pub element_stored : Core → Place → TypeId → Value → Judgement Tree
-element_stored core at base v = by_test not_assignable at (by_test no_set_element at (fine (as_type core true base v)) (is_small v)) (assignable core (type_of v) base)
+element_stored core at base v = by_test NotAssignable at (by_test NoSetElement at (fine (as_type core true base v)) (is_small v)) (assignable core (type_of v) base)
 
 unfoldable pub element : Here → TypeId → Expression → Judgement Tree
 element here base e = through (value_in here None e) (element_stored here.core (position_of e).place base)
@@ -100,7 +103,7 @@ abbrev pub target_means : Here → Place → Judgement Value → Judgement Tree
 target_means here at j = through j (target_value here at)
 
 abbrev pub target_by : Here → Designator → Option RoutineId → Judgement Tree
-target_by here d (Some id) = refused not_writable (position_of_designator d).place
+target_by here d (Some id) = refused NotWritable (position_of_designator d).place
 target_by here d None = target_means here (position_of_designator d).place (value_in here None (designated d))
 
 abbrev pub result_denoted : Position → VariableId × TypeId → Denoted
@@ -146,15 +149,15 @@ is_call (Some (Sole what p)) = false
 is_call _ = true
 
 abbrev pub alone_value : Place → Bool → Option Value → Judgement Tree
-alone_value start b v = by_test no_statement start (standing (option_map tree_of v)) b
+alone_value start b v = by_test NoStatement start (standing (option_map tree_of v)) b
 
 abbrev pub alone_called : Here → Place → Option Plan → Arguments → Judgement Tree
 alone_called here start plan args = followed (called here plan args) (alone_value start (is_call plan))
 
 -- a name alone: a routine, no value and no type
 abbrev pub alone_by : Here → Place → Denoted → Meant → Judgement Tree
-alone_by here start d (naming.value v) = refused no_statement start
-alone_by here start d (naming.type_name of) = refused wrong_kind_of_name d.position.place
+alone_by here start d (naming.value v) = refused NoStatement start
+alone_by here start d (naming.type_name of) = refused WrongKindOfName d.position.place
 alone_by here start d what =
     followed (plan_for here true d.position what no_arguments) (λ plan. standing (option_map tree_of (call_of here plan (given_first plan))))
 

@@ -13,7 +13,7 @@ use Rattle.op_core.specs.declared.ids.VariableId.{VariableId}
 use Rattle.op_core.specs.declared.program.Core.{Core}
 use Rattle.op_core.specs.declared.routine.Variable.{Variable as VariableRow}
 use Rattle.op_judgement.specs.Judgement.{Judgement, by_test, fine, refused}
-use Rattle.op_judgement.specs.Rules.{character_of_string, no_variable, not_writable, variable_of_another_type}
+use Rattle.op_judgement.specs.declared.rules.LanguageRule.TheVariants.{CharacterOfString, NoVariable, NotWritable, VariableOfAnotherType}
 use Rattle.op_check_expr.specs.Values.{Value, constant, computed}
 use Rattle.op_check_expr.specs.declared.scope.Around.{Around}
 use Rattle.op_check_expr.specs.declared.scope.Around.TheVariants.{Loop}
@@ -52,17 +52,17 @@ is_very core from (Some to) = is_one_type core.types from to
 -- an argument at a place that must be a variable, of the very type where one is given, that may be written
 abbrev pub variable_tree : Here → Place → Option TypeId → Tree → Judgement Tree
 variable_tree s at to e =
-    by_test no_variable at
-    (by_test variable_of_another_type at
-    (by_test not_writable at (by_test character_of_string at (fine e) (is_place false s.core e)) (is_writable s true e))
+    by_test NoVariable at
+    (by_test VariableOfAnotherType at
+    (by_test NotWritable at (by_test CharacterOfString at (fine e) (is_place false s.core e)) (is_writable s true e))
     (is_very s.core (typing.type_of e) to))
     (is_place true s.core e)
 
 abbrev pub variable_value : Here → Place → Option TypeId → Value → Judgement Tree
 variable_value s at to (computed e) = variable_tree s at to e
-variable_value s at to (constant c) = refused no_variable at
+variable_value s at to (constant c) = refused NoVariable at
 
 -- what is assigned to, in a statement that begins at a place
 abbrev pub target_value : Here → Place → Value → Judgement Tree
-target_value s at (computed e) = by_test not_writable at (fine e) (is_writable s true e)
-target_value s at (constant c) = refused not_writable at
+target_value s at (computed e) = by_test NotWritable at (fine e) (is_writable s true e)
+target_value s at (constant c) = refused NotWritable at

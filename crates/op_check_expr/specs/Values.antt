@@ -17,11 +17,11 @@ use Rattle.op_core.specs.declared.program.Core.{Core}
 use Rattle.op_core.specs.declared.types.CoreType.{CoreType}
 use Rattle.op_core.specs.declared.types.CoreType.TheVariants as type
 use Rattle.op_judgement.specs.Judgement.{Judgement, by_test, fine}
-use Rattle.op_judgement.specs.Rules.{not_assignable}
+use Rattle.op_judgement.specs.declared.rules.LanguageRule.TheVariants.{NotAssignable}
 use Rattle.op_check_expr.specs.declared.value.Value.{Value as RustValue}
 use Rattle.op_check_expr.specs.declared.value.Value.TheVariants.{Constant as ConstantValue, Computed}
 use Rattle.op_types.specs.Assignable.{assignable}
-use Rattle.op_types.specs.Constants.{joined, made, nodes}
+use Rattle.op_types.specs.ConstantParts.{joined, made, nodes}
 use Rattle.op_types.specs.Sorts.{is_reference, sort_of}
 use Rattle.op_types.specs.Values.{bytes_of, contains, in_range}
 use Rattle.op_types.specs.declared.constant.Constant.{Constant}
@@ -115,7 +115,7 @@ as_type core checked to (computed e) = with_conversion e to (conversion core che
 
 -- a value at a place is stored in what has a type
 abbrev pub stored : Core → Place → Bool → TypeId → Value → Judgement Tree
-stored core place checked to v = by_test not_assignable place (fine (as_type core checked to v)) (assignable core (type_of v) to)
+stored core place checked to v = by_test NotAssignable place (fine (as_type core checked to v)) (assignable core (type_of v) to)
 
 -- An index of a static array keeps its type, since its range is tested where the place is followed; any other goes to Integer.
 abbrev pub index_tree : Core → Option CoreType → TypeId → Value → Tree
@@ -124,4 +124,4 @@ index_tree core of to v = as_type core true to v
 
 -- a value at a place is an index of what has the first type
 abbrev pub index_at : Core → Place → Option CoreType → TypeId → Value → Judgement Tree
-index_at core place of to v = by_test not_assignable place (fine (index_tree core of to v)) (assignable core (type_of v) to)
+index_at core place of to v = by_test NotAssignable place (fine (index_tree core of to v)) (assignable core (type_of v) to)

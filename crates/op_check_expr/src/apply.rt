@@ -3,25 +3,29 @@ ghost use Rattle.std.specs.Prelude.{◌≡◌, IfOk};
 ghost use Rattle.std.specs.Option.{option_map};
 ghost use Rattle.op_core.specs.Expression.{expr_of};
 ghost use Rattle.op_core.specs.Sizes.{type_at};
-ghost use Rattle.op_judgement.specs.Judgement.{Reports};
+ghost use Rattle.op_judgement.specs.Judgement.{Reports, changed};
 ghost use Rattle.op_check_expr.specs.Operating.{application_of, argument_type, becomes_string, cast_by, cast_conversion, cast_of, computed_use, function_type, index_type, is_evaluated, keeps_low_bits, rule_of, used};
-ghost use Rattle.op_check_expr.specs.Values.{value_of};
+ghost use Rattle.op_check_expr.specs.Scopes.{here_of};
+ghost use Rattle.op_check_expr.specs.Values.{constant, value_of};
+ghost use Rattle.op_types.specs.Folding.{bound_means};
 ghost use Rattle.op_types.specs.Sorts.{sort_of};
 
 use crate::convert::{as_type, is_integer, is_wider};
 use crate::operate::Valued;
+use crate::scope::Checker;
 use crate::tree::{then, type_of};
 use crate::value::{Value, constant_value};
-use op_base::{Place, Rule};
+use op_base::Place;
 use op_core::{
     Action, Conversion, Core, CoreExpr, CoreType, FirstRefusal, Function, Origin, TypeId, range_of,
     type_at,
 };
-use op_judgement::{refuse, rules};
+use op_judgement::{Feature, LanguageRule, refuse};
 use op_tree::Position;
 use op_types::{Applied, Setting, Sort, application, sort_of};
 
 /// A cast or a function at a position, of an argument at a place.
+#[inline(never)]
 pub fn used(
     setting: Setting,
     sink: &mut FirstRefusal,
@@ -43,6 +47,22 @@ pub fn used(
         Value::Computed(e) => {
             computed_use(setting, sink, position, what, at, Value::Computed(e))
         }
+    }
+}
+
+impl<'a> Checker<'a> {
+    /// Low or High of a type that is named at a place.
+    #[inline(never)]
+    pub fn bound_value(
+        self,
+        sink: &mut FirstRefusal,
+        function: Function,
+        of: TypeId,
+        at: Place,
+    ) -> Valued
+        ensures { IfOk result (λ v. Reports (changed constant (bound_means (here_of self.entry.scope).core function (of, at))) sink.old sink.new (option_map value_of v)) }
+    {
+        Ok(constant_value(self.setting().bound(sink, function, of, at)))
     }
 }
 
@@ -95,7 +115,7 @@ fn cast_of(
             let origin = Origin::Cast;
             Ok(Some(Value::Computed(then(e, Action::Convert { conversion, origin }, to)?)))
         }
-        _ => Ok(refuse(sink, rules::NO_CAST, place)),
+        _ => Ok(refuse(sink, LanguageRule::NoCast, place)),
     }
 }
 
@@ -137,7 +157,11 @@ fn application_of(
         return Ok(refuse(sink, rule_of(function), at));
     };
     if becomes_string(core, function, value.type_of()) {
-        return Ok(refuse(sink, rules::STRINGS, position.place));
+        return Ok(refuse(
+            sink,
+            LanguageRule::NotInProfile(Feature::Strings),
+            position.place,
+        ));
     }
     let to = argument_type(core, function, value.type_of());
     let e = as_type(setting.alloc, core, true, to, value)?;
@@ -157,14 +181,14 @@ fn becomes_string(core: &Core, function: Function, of: TypeId) -> bool
 }
 
 /// The rule that an argument breaks which the function does not take.
-fn rule_of(function: Function) -> Rule
+fn rule_of(function: Function) -> LanguageRule
     ensures { result ≡ rule_of function }
 {
     match function {
         Function::Ord | Function::Succ | Function::Pred | Function::Low | Function::High => {
-            rules::NOT_ORDINAL
+            LanguageRule::NotOrdinal
         }
-        _ => rules::NOT_ASSIGNABLE,
+        _ => LanguageRule::NotAssignable,
     }
 }
 

@@ -1,5 +1,5 @@
 //! What is called, and what it is given.
-ghost use Rattle.std.specs.Prelude.{◌≡◌, [], ◌∷◌, IfOk, slice_get};
+ghost use Rattle.std.specs.Prelude.{◌≡◌, [], ◌∷◌, IfOk, false, slice_get};
 ghost use Rattle.std.specs.List.{list_all};
 ghost use Rattle.std.specs.Option.{option_copied, option_map};
 ghost use Rattle.op_core.specs.Expression.{argument_of, call as call_root, expr_of, expression, no_steps};
@@ -7,11 +7,11 @@ ghost use Rattle.op_core.specs.Typing.{takes_place};
 ghost use Rattle.op_tree.specs.Expression as source;
 ghost use Rattle.op_tree.specs.Lists as source_lists;
 ghost use Rattle.op_judgement.specs.Judgement.{Reports, with_part};
-ghost use Rattle.op_check_expr.specs.Calling.{are_given, built_in_plan, call_of, call_tree, function_plan, given_behind, given_of, is_plain, parameters_of, passed, passed_value, plan_of, routine_plan, sole_plan, type_wanted};
+ghost use Rattle.op_check_expr.specs.Calling.{are_given, built_in_plan, call_of, call_tree, first_of, function_plan, given_behind, given_first, given_of, is_plain, others_of, parameters_for, parameters_of, passed, passed_value, plan_of, routine_plan, sole_plan, type_wanted};
 ghost use Rattle.op_check_expr.specs.Naming.{denoted_of};
 ghost use Rattle.op_check_expr.specs.Scopes.{here_of};
 ghost use Rattle.op_check_expr.specs.Values.{value_of};
-ghost use Rattle.op_types.specs.Constants.{only_value};
+ghost use Rattle.op_types.specs.ConstantParts.{only_value};
 
 use crate::convert::stored;
 use crate::denoted::{Denoted, Meant};
@@ -21,7 +21,7 @@ use crate::tree::make_room;
 use crate::value::Value;
 use op_base::{NoMemory, Place};
 use op_core::{CoreArgument, CoreExpr, FirstRefusal, Function, Parameter, Root, RoutineId, TypeId};
-use op_judgement::{refuse, rules};
+use op_judgement::{LanguageRule, refuse};
 use op_tree::{Argument, ParameterMode, Position};
 use op_types::{Applied, BuiltIn, only_value};
 use std::alloc::Global;
@@ -41,6 +41,7 @@ pub type Given = Option<Vec<CoreArgument>>;
 
 impl<'a> Checker<'a> {
     /// What is done with arguments behind what stands in front of them. `alone` is whether the call is a statement.
+    #[inline(never)]
     pub fn plan_of(
         self,
         sink: &mut FirstRefusal,
@@ -58,9 +59,22 @@ impl<'a> Checker<'a> {
             Meant::Routine(id) => Ok(self.routine_plan(sink, alone, position, *id, list)),
             Meant::TypeName(of) => Ok(sole_plan(sink, position, Applied::Cast(*of), list)),
             Meant::BuiltIn(b) => self.built_in_plan(sink, position, *b, list),
-            Meant::Value(_) => Ok(refuse(sink, rules::WRONG_KIND_OF_NAME, position.place)),
-            Meant::Unit(_) => Ok(refuse(sink, rules::WRONG_KIND_OF_NAME, position.place)),
+            Meant::Value(_) => Ok(refuse(sink, LanguageRule::WrongKindOfName, position.place)),
+            Meant::Unit(_) => Ok(refuse(sink, LanguageRule::WrongKindOfName, position.place)),
         }
+    }
+
+    /// The same of what is needed for nothing else.
+    #[inline(never)]
+    pub fn plan_behind(
+        self,
+        sink: &mut FirstRefusal,
+        denoted: Option<Denoted>,
+        list: &[Argument],
+    ) -> Result<Option<Plan>, NoMemory>
+        ensures { IfOk result (Reports (plan_of (here_of self.entry.scope) false (option_map denoted_of denoted) (source_lists.arguments_of list.now)) sink.old sink.new) }
+    {
+        self.plan_of(sink, false, &denoted, list)
     }
 
     fn routine_plan(
@@ -78,12 +92,12 @@ impl<'a> Checker<'a> {
             return None;
         };
         if !alone && routine.result.is_none() {
-            return refuse(sink, rules::WRONG_KIND_OF_NAME, position.place);
+            return refuse(sink, LanguageRule::WrongKindOfName, position.place);
         }
         if are_given(core.parameters.rows(routine.parameters), list) {
             Some(Plan::Routine(id))
         } else {
-            refuse(sink, rules::WRONG_ARGUMENTS, position.place)
+            refuse(sink, LanguageRule::WrongArguments, position.place)
         }
     }
 
@@ -99,7 +113,7 @@ impl<'a> Checker<'a> {
         match b {
             BuiltIn::Chr => Ok(sole_plan(sink, position, Applied::Cast(TypeId::CHAR), list)),
             BuiltIn::Function(function) => self.function_plan(sink, position, function, list),
-            _ => Ok(refuse(sink, rules::WRONG_KIND_OF_NAME, position.place)),
+            _ => Ok(refuse(sink, LanguageRule::WrongKindOfName, position.place)),
         }
     }
 
@@ -131,7 +145,17 @@ impl<'a> Checker<'a> {
         }
     }
 
+    pub fn parameters_for(self, plan: Option<Plan>) -> &'a [Parameter]
+        ensures { result.now ≡ parameters_for (here_of self.entry.scope) plan }
+    {
+        match plan {
+            Some(Plan::Routine(id)) => self.parameters_of(id),
+            _ => &[],
+        }
+    }
+
     /// A value for a parameter, its expression at a position; None of a parameter where there is none.
+    #[inline(never)]
     pub fn passed(
         self,
         sink: &mut FirstRefusal,
@@ -184,6 +208,7 @@ impl<'a> Checker<'a> {
     }
 
     /// What a routine gives with these arguments.
+    #[inline(never)]
     pub fn call_of(self, plan: Option<Plan>, given: Given) -> Option<Value>
         ensures { option_map value_of result ≡ call_of (here_of self.entry.scope) plan (option_map given_of given) }
     {
@@ -241,11 +266,41 @@ fn sole_plan(
 {
     match only_value(list) {
         Some(_) => Some(Plan::Sole(what, position)),
-        None => refuse(sink, rules::WRONG_ARGUMENTS, position.place),
+        None => refuse(sink, LanguageRule::WrongArguments, position.place),
+    }
+}
+
+pub fn given_first(alloc: Global, plan: Option<Plan>) -> Given
+    ensures { option_map given_of result ≡ given_first plan }
+{
+    match plan {
+        Some(Plan::Routine(_)) => Some(Vec::new(alloc)),
+        _ => None,
+    }
+}
+
+pub fn type_wanted(parameter: Option<&Parameter>) -> Option<TypeId>
+    ensures { result ≡ type_wanted (option_copied parameter.entry) }
+{
+    match parameter {
+        Some(parameter) => Some(parameter.of),
+        None => None,
+    }
+}
+
+/// The first parameter, and the others.
+pub fn first_of(parameters: &[Parameter]) -> (Option<&Parameter>, &[Parameter])
+    ensures first { option_copied result.0 ≡ first_of parameters.now }
+    ensures others { result.1.now ≡ others_of parameters.now }
+{
+    match parameters.split_first() {
+        Some((first, others)) => (Some(first), others),
+        None => (None, &[]),
     }
 }
 
 /// What is given so far, and one argument more.
+#[inline(never)]
 pub fn given_behind(given: Given, more: Option<CoreArgument>) -> Result<Given, NoMemory>
     ensures { IfOk result (λ g. option_map given_of g ≡ given_behind (option_map given_of given) (option_map argument_of more)) }
 {

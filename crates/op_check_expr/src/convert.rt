@@ -14,7 +14,7 @@ use op_base::{NoMemory, Place, Sequence};
 use op_core::{
     Const, Conversion, Core, CoreExpr, CoreType, FirstRefusal, TypeId, one_type, range_of, type_at,
 };
-use op_judgement::{refuse, rules};
+use op_judgement::{LanguageRule, refuse};
 use op_scan::CompactText;
 use op_types::{Constant, Sort, assignable, bytes_of, in_range, sort_of};
 use std::alloc::Global;
@@ -34,7 +34,7 @@ pub fn stored(
     if assignable(core, value.type_of(), to) {
         Ok(Some(as_type(alloc, core, checked, to, value)?))
     } else {
-        Ok(refuse(sink, rules::NOT_ASSIGNABLE, place))
+        Ok(refuse(sink, LanguageRule::NotAssignable, place))
     }
 }
 
@@ -56,7 +56,7 @@ pub fn index_at(
             _ => as_type(alloc, core, true, to, index)?,
         }))
     } else {
-        Ok(refuse(sink, rules::NOT_ASSIGNABLE, place))
+        Ok(refuse(sink, LanguageRule::NotAssignable, place))
     }
 }
 
@@ -96,7 +96,12 @@ pub fn as_type(
 }
 
 /// The same constant as one of another type, where it is one.
-fn retyped(alloc: Global, core: &Core, to: TypeId, value: &Const) -> Result<Option<Const>, NoMemory>
+pub fn retyped(
+    alloc: Global,
+    core: &Core,
+    to: TypeId,
+    value: &Const,
+) -> Result<Option<Const>, NoMemory>
     ensures { IfOk result (λ v. v ≡ retyped core.now to value.now) }
 {
     match (sort_of(core, to), value) {

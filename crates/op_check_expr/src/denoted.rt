@@ -1,12 +1,11 @@
 //! What names stand for in an expression, and members of it.
-ghost use Rattle.std.specs.Prelude.{◌≡◌, IfOk, position, slice_get};
+ghost use Rattle.std.specs.Prelude.{◌≡◌, IfOk, slice_get};
 ghost use Rattle.std.specs.Option.{option_copied, option_map};
 ghost use Rattle.op_core.specs.Expression.{expr_of};
 ghost use Rattle.op_judgement.specs.Judgement.{Reports, checked, fine};
-ghost use Rattle.op_check_expr.specs.Naming.{denoted, denoted_of, feature_of, feature_of_type, field_at, field_named, field_of, is_named, meant_of, named, variable_named, variable_tree};
+ghost use Rattle.op_check_expr.specs.Naming.{denoted, denoted_of, feature_of, feature_of_type, field_at, field_named, field_of, meant_of, named, number_at, variable_named, variable_tree};
 ghost use Rattle.op_check_expr.specs.Values.{value_of};
 ghost use Rattle.op_check_expr.specs.Parts.{by_feature};
-ghost use Rattle.op_check_expr.specs.Words.{number_at};
 
 use crate::tree::then;
 use crate::value::Value;
@@ -15,7 +14,7 @@ use op_core::{
     Action, Core, CoreExpr, CoreType, Field, FieldId, FirstRefusal, Function, Root, RoutineId, Run,
     TypeId, VariableId, type_at,
 };
-use op_judgement::{refuse, rules};
+use op_judgement::{Feature, LanguageRule, refuse};
 use op_tree::{Name, Position};
 use op_types::{BuiltIn, Meaning, Setting};
 use std::alloc::Global;
@@ -53,7 +52,7 @@ pub fn named(
 {
     let place = position.place;
     match meaning {
-        None => Ok(refuse(sink, rules::UNKNOWN_NAME, place)),
+        None => Ok(refuse(sink, LanguageRule::UnknownName, place)),
         Some(Meaning::Spoiled) => Ok(None),
         Some(Meaning::Constant(_)) => match setting.name(sink, place, meaning)? {
             Some(Some(constant)) => Ok(Some(Denoted {
@@ -86,14 +85,14 @@ pub fn named(
 /// What stands at a position, unless it shows a feature that is left out.
 fn unless(
     sink: &mut FirstRefusal,
-    feature: Option<u8>,
+    feature: Option<Feature>,
     position: Position,
     what: Meant,
 ) -> Option<Denoted>
     ensures { Reports (by_feature position.place feature (fine (denoted position (meant_of what)))) sink.old sink.new (option_map denoted_of result) }
 {
     match feature {
-        Some(feature) => refuse(sink, rules::left_out(feature), position.place),
+        Some(feature) => refuse(sink, LanguageRule::NotInProfile(feature), position.place),
         None => Some(Denoted { position, what }),
     }
 }
@@ -117,7 +116,7 @@ pub fn variable_tree(alloc: Global, id: VariableId, of: TypeId) -> CoreExpr
 }
 
 /// The feature that a built-in name shows.
-fn feature_of(b: BuiltIn) -> Option<u8>
+fn feature_of(b: BuiltIn) -> Option<Feature>
     ensures { result ≡ feature_of b }
 {
     match b {
@@ -132,25 +131,25 @@ fn feature_of(b: BuiltIn) -> Option<u8>
         | BuiltIn::Pos
         | BuiltIn::Delete
         | BuiltIn::Insert
-        | BuiltIn::StringOfChar => Some(40),
-        BuiltIn::Function(Function::Assigned) => Some(41),
+        | BuiltIn::StringOfChar => Some(Feature::Strings),
+        BuiltIn::Function(Function::Assigned) => Some(Feature::DynamicArrays),
         BuiltIn::LeftOut(feature) => Some(feature),
         _ => None,
     }
 }
 
 /// The feature that the name of a built-in type shows.
-fn feature_of_type(of: Option<CoreType>) -> Option<u8>
+pub fn feature_of_type(of: Option<CoreType>) -> Option<Feature>
     ensures { result ≡ feature_of_type of }
 {
     match of {
-        Some(CoreType::String) => Some(40),
+        Some(CoreType::String) => Some(Feature::Strings),
         Some(CoreType::Class(id)) => match id.0 {
-            0 => Some(42),
-            1 => Some(43),
+            0 => Some(Feature::Classes),
+            1 => Some(Feature::Interfaces),
             _ => None,
         },
-        Some(CoreType::Interface(id)) => (id.0 == 0).then_some(43),
+        Some(CoreType::Interface(id)) => (id.0 == 0).then_some(Feature::Interfaces),
         _ => None,
     }
 }
@@ -166,8 +165,8 @@ pub fn field_of(
     ensures { IfOk result (λ d. Reports (field_of core.now name.now (value_of value)) sink.old sink.new (option_map denoted_of d)) }
 {
     let of = type_at(core, value.type_of());
-    let Some((id, of)) = field_named(core, name.text.as_slice(), of) else {
-        return Ok(refuse(sink, rules::NO_MEMBER, name.position.place));
+    let Some((id, of)) = field_named(core, name.text.as_slice(), of)? else {
+        return Ok(refuse(sink, LanguageRule::NoMember, name.position.place));
     };
     let e = then(value.into_tree(alloc), Action::Field(id), of)?;
     Ok(Some(Denoted {
@@ -177,24 +176,20 @@ pub fn field_of(
 }
 
 /// The field of a record by its name, and its type.
-fn field_named(core: &Core, name: &[u8], of: Option<CoreType>) -> Option<(FieldId, TypeId)>
-    ensures { result ≡ field_named core.now name.now of }
+fn field_named(
+    core: &Core,
+    name: &[u8],
+    of: Option<CoreType>,
+) -> Result<Option<(FieldId, TypeId)>, NoMemory>
+    ensures { IfOk result (λ f. f ≡ field_named core.now name.now of) }
 {
     match of {
-        Some(CoreType::Record { fields }) => {
-            let rows = core.fields.rows(fields);
-            let k = position_named(rows, name)?;
-            field_at(rows, fields, k)
-        }
-        _ => None,
+        Some(CoreType::Record { fields }) => match core.fields.position_named(fields, name)? {
+            Some(k) => Ok(field_at(core.fields.rows(fields), fields, k)),
+            None => Ok(None),
+        },
+        _ => Ok(None),
     }
-}
-
-fn position_named(rows: &[Field], name: &[u8]) -> Option<usize>
-    ensures { result ≡ position (is_named name.now) rows.now }
-{
-    rows.iter()
-        .position(|f| f.name.text.as_slice().eq_ignore_ascii_case(name))
 }
 
 /// The number of a row among those that lie together, where it has no more than 32 bits.

@@ -1,23 +1,22 @@
 //! What statements and declarations are made of.
-ghost use Rattle.std.specs.Prelude.{◌≡◌, IfOk, None, Some, position};
+ghost use Rattle.std.specs.Prelude.{◌≡◌, IfErr, IfOk, None, Some, position};
 ghost use Rattle.std.specs.Option.{option_map};
 ghost use Rattle.op_core.specs.Expression as typed;
 ghost use Rattle.op_tree.specs.Expression.{expr_of, selector_of};
 ghost use Rattle.op_tree.specs.Lists.{arguments_of};
 ghost use Rattle.op_tree.specs.Statement.{designator_of, selectors_of};
-ghost use Rattle.op_judgement.specs.Judgement.{Reports, checked, with_part};
+ghost use Rattle.op_judgement.specs.Judgement.{RefusalHasText, Reports, checked, with_part};
 ghost use Rattle.op_check_expr.specs.Expressions.{settled};
 ghost use Rattle.op_check_expr.specs.Naming.{denoted_of};
-ghost use Rattle.op_check_expr.specs.Meanings as computed;
 ghost use Rattle.op_check_expr.specs.Phrases as means;
 ghost use Rattle.op_check_expr.specs.Scopes.{here_of};
 ghost use Rattle.op_check_expr.specs.Values.{tree_of, value_of};
 
-use crate::call::Plan;
+use crate::call::{Plan, given_first};
 use crate::convert::{as_type, stored};
 use crate::denoted::{Denoted, Found, Meant, number_at, variable_tree};
+use crate::designator::{position_of, position_of_designator};
 use crate::operate::Valued;
-use crate::part::{given_first, position_of, position_of_designator};
 use crate::place::{is_writable_variable, target_value, variable_value};
 use crate::scope::{Checker, Scope};
 use crate::value::Value;
@@ -26,7 +25,7 @@ use op_core::{
     CheckError, Core, CoreExpr, FirstRefusal, Role, Routine, RoutineId, Run, TypeId, Variable,
     VariableId,
 };
-use op_judgement::{refuse, rules};
+use op_judgement::{LanguageRule, refuse};
 use op_tree::{Argument, Designator, Expr, Name, Position, Root, Selector};
 use op_types::{Meaning, assignable};
 use std::alloc::Global;
@@ -38,6 +37,7 @@ pub type Typed = Result<Option<CoreExpr>, NoMemory>;
 pub fn expr(alloc: Global, scope: &Scope, e: &Expr) -> Result<CoreExpr, CheckError>
     ensures exact { means.ExprIs (checked (means.value (here_of scope.now) None (expr_of e.now))) result }
     ensures law { means.ExprMeans (means.value (here_of scope.now) None (expr_of e.now)) result }
+    ensures told { IfErr result RefusalHasText }
 {
     let mut sink = FirstRefusal::new();
     let checker = Checker {
@@ -99,9 +99,9 @@ impl<'a> Checker<'a> {
     }
 
     /// Whether a variable may be written here: its role, and the loops round the place.
-    #[tactic(auto, unfolding(crate::specs::Meanings::is_writable_variable))]
+    #[tactic(auto, unfolding(crate::specs::Phrases::is_writable_variable))]
     pub fn is_writable_variable(self, id: VariableId) -> bool
-        ensures { result ≡ computed.is_writable_variable (here_of self.entry.scope) id }
+        ensures { result ≡ means.is_writable_variable (here_of self.entry.scope) id }
     {
         is_writable_variable(self.scope, id)
     }
@@ -117,10 +117,10 @@ impl<'a> Checker<'a> {
         };
         let core = self.scope.core;
         if !assignable(core, value.type_of(), base) {
-            return Ok(refuse(sink, rules::NOT_ASSIGNABLE, at));
+            return Ok(refuse(sink, LanguageRule::NotAssignable, at));
         }
         if !value.is_small() {
-            return Ok(refuse(sink, rules::NO_SET_ELEMENT, at));
+            return Ok(refuse(sink, LanguageRule::NoSetElement, at));
         }
         Ok(Some(as_type(self.alloc, core, true, base, value)?))
     }
@@ -146,7 +146,7 @@ impl<'a> Checker<'a> {
     {
         let at = position_of_designator(called).place;
         match self.routine_alone(called)? {
-            Some(_) => Ok(refuse(sink, rules::NOT_WRITABLE, at)),
+            Some(_) => Ok(refuse(sink, LanguageRule::NotWritable, at)),
             None => {
                 let denoted = self.designator(sink, called)?;
                 self.target_denoted(sink, at, denoted)
@@ -254,7 +254,11 @@ impl<'a> Checker<'a> {
     {
         let value = self.called(sink, plan, list)?;
         match plan {
-            Some(Plan::Bound(..) | Plan::Sole(..)) => Ok(refuse(sink, rules::NO_STATEMENT, start)),
+            Some(Plan::Bound(..) | Plan::Sole(..)) => Ok(refuse(
+                sink,
+                LanguageRule::NoStatement,
+                start,
+            )),
             _ => Ok(into_tree(self.alloc, value)),
         }
     }
@@ -268,8 +272,8 @@ impl<'a> Checker<'a> {
         };
         let position = denoted.position;
         match denoted.what {
-            Meant::Value(_) => Ok(refuse(sink, rules::NO_STATEMENT, start)),
-            Meant::TypeName(_) => Ok(refuse(sink, rules::WRONG_KIND_OF_NAME, position.place)),
+            Meant::Value(_) => Ok(refuse(sink, LanguageRule::NoStatement, start)),
+            Meant::TypeName(_) => Ok(refuse(sink, LanguageRule::WrongKindOfName, position.place)),
             what => {
                 let denoted = Some(Denoted { position, what });
                 let plan = self.plan_of(sink, true, &denoted, &[])?;

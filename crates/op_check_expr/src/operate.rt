@@ -11,7 +11,7 @@ use crate::tree::{then, type_of};
 use crate::value::{Value, constant_value};
 use op_base::{NoMemory, Place};
 use op_core::{Action, Core, CoreExpr, FirstRefusal, TypeId};
-use op_judgement::{refuse, rules};
+use op_judgement::{Feature, LanguageRule, refuse};
 use op_tree::{Operator, Position, PrefixOperator};
 use op_types::{
     OrdinalKind, Setting, Sort, common_set, is_folded, operation, prefixed, set_over, sort_of,
@@ -22,6 +22,7 @@ use std::alloc::Global;
 pub type Valued = Result<Option<Value>, NoMemory>;
 
 /// An operator at a position between two parts, in an expression that begins at `start`.
+#[inline(never)]
 pub fn operation_of(
     setting: Setting,
     sink: &mut FirstRefusal,
@@ -86,10 +87,14 @@ fn computed_operation(
     let sorts = (sort_of(core, a.type_of()), sort_of(core, b.type_of()));
     let sets = common_set(core, a.type_of(), b.type_of());
     let Some(of) = operation(operator, sorts.0, sorts.1, sets) else {
-        return Ok(refuse(sink, rules::NO_OPERATOR, position.place));
+        return Ok(refuse(sink, LanguageRule::NoOperator, position.place));
     };
     if makes_strings(operator, sorts.0, sorts.1) {
-        return Ok(refuse(sink, rules::STRINGS, position.place));
+        return Ok(refuse(
+            sink,
+            LanguageRule::NotInProfile(Feature::Strings),
+            position.place,
+        ));
     }
     let e = operation_tree(setting.alloc, core, operator, position.switches.q, a, b, of)?;
     Ok(Some(Value::Computed(e)))
@@ -172,6 +177,7 @@ fn makes_strings(operator: Operator, a: Sort, b: Sort) -> bool
 }
 
 /// A sign or `not` at a position before a value.
+#[inline(never)]
 pub fn prefix_of(
     setting: Setting,
     sink: &mut FirstRefusal,
@@ -187,7 +193,7 @@ pub fn prefix_of(
         }
         Value::Computed(e) => {
             let Some(of) = prefixed(operator, sort_of(setting.core, type_of(&e))) else {
-                return Ok(refuse(sink, rules::NO_OPERATOR, position.place));
+                return Ok(refuse(sink, LanguageRule::NoOperator, position.place));
             };
             let checked = position.switches.q;
             let e = as_type(setting.alloc, setting.core, true, of, Value::Computed(e))?;

@@ -15,7 +15,7 @@ use op_base::Place;
 use op_core::{
     Action, Core, CoreExpr, CoreType, FirstRefusal, Root, TypeId, VariableId, one_type, type_at,
 };
-use op_judgement::{refuse, rules};
+use op_judgement::{LanguageRule, refuse};
 
 /// An argument at a place that must be a variable, of the very type where one is given, that may be written.
 pub fn variable_value(
@@ -29,7 +29,7 @@ pub fn variable_value(
 {
     match value {
         Value::Computed(e) => variable_tree(scope, sink, at, to, e),
-        Value::Constant(_) => refuse(sink, rules::NO_VARIABLE, at),
+        Value::Constant(_) => refuse(sink, LanguageRule::NoVariable, at),
     }
 }
 
@@ -43,16 +43,16 @@ fn variable_tree(
     ensures { Reports (variable_tree (here_of scope.entry) at to (expr_of e)) sink.old sink.new (option_map expr_of result) }
 {
     if !is_place(true, scope.core, &e) {
-        return refuse(sink, rules::NO_VARIABLE, at);
+        return refuse(sink, LanguageRule::NoVariable, at);
     }
     if !is_very(scope.core, type_of(&e), to) {
-        return refuse(sink, rules::VARIABLE_OF_ANOTHER_TYPE, at);
+        return refuse(sink, LanguageRule::VariableOfAnotherType, at);
     }
     if !is_writable(scope, true, &e) {
-        return refuse(sink, rules::NOT_WRITABLE, at);
+        return refuse(sink, LanguageRule::NotWritable, at);
     }
     if !is_place(false, scope.core, &e) {
-        return refuse(sink, rules::CHARACTER_OF_STRING, at);
+        return refuse(sink, LanguageRule::CharacterOfString, at);
     }
     Some(e)
 }
@@ -67,12 +67,12 @@ pub fn target_value(
     ensures { Reports (target_value (here_of scope.entry) at (value_of value)) sink.old sink.new (option_map expr_of result) }
 {
     match value {
-        Value::Constant(_) => refuse(sink, rules::NOT_WRITABLE, at),
+        Value::Constant(_) => refuse(sink, LanguageRule::NotWritable, at),
         Value::Computed(e) => {
             if is_writable(scope, true, &e) {
                 Some(e)
             } else {
-                refuse(sink, rules::NOT_WRITABLE, at)
+                refuse(sink, LanguageRule::NotWritable, at)
             }
         }
     }

@@ -6,10 +6,11 @@ ghost use Rattle.op_core.specs.Expression.{element_of, expr_of, expression, no_s
 ghost use Rattle.op_core.specs.Nodes.{elements_of};
 ghost use Rattle.op_core.specs.Sizes.{type_at};
 ghost use Rattle.op_core.specs.Typing as typing;
-ghost use Rattle.op_judgement.specs.Judgement.{Reports};
-ghost use Rattle.op_check_expr.specs.Constructors.{are_constants, both_in_set, computed_set, constant_member, constant_members, constant_of, element_tree, is_constant, is_small, member_in_set, member_of, or_own, place_of, set_by, set_of, set_tree, type_of_set, value_in_set, wanted_or};
+ghost use Rattle.op_judgement.specs.Judgement.{Reports, both_typed};
+ghost use Rattle.op_check_expr.specs.Constructors.{are_constants, both_in_set, computed_set, constant_member, constant_members, constant_of, element_tree, is_constant, is_small, member_in_set, member_of, members_of, or_own, place_of, set_by, set_of, set_tree, type_of_set, value_in_set, wanted_or};
+ghost use Rattle.op_check_expr.specs.Expressions.{ranged, with_member};
 ghost use Rattle.op_check_expr.specs.Values.{value_of};
-ghost use Rattle.op_types.specs.Constants.{no_members};
+ghost use Rattle.op_types.specs.ConstantParts.{no_members};
 ghost use Rattle.op_types.specs.Operators as table;
 
 use crate::convert::{as_type, base_of};
@@ -17,7 +18,7 @@ use crate::operate::Valued;
 use crate::value::{Value, constant_value};
 use op_base::{NoMemory, Place};
 use op_core::{Const, Core, CoreElement, CoreExpr, FirstRefusal, Root, TypeId};
-use op_judgement::{refuse, rules};
+use op_judgement::{LanguageRule, refuse};
 use op_types::{
     Constant, Setting, Sort, assignable, common_set, in_brackets, no_members, set_over, sort_of,
 };
@@ -30,7 +31,34 @@ pub enum Member {
     Range(Place, Value, Place, Value),
 }
 
+#[inline(never)]
+pub fn ranged(at: Place, end: Place, a: Option<Value>, b: Option<Value>) -> Option<Member>
+    ensures { option_map member_of result ≡ both_typed (ranged at end) (option_map value_of a) (option_map value_of b) }
+{
+    match (a, b) {
+        (Some(a), Some(b)) => Some(Member::Range(at, a, end, b)),
+        (Some(_), None) => None,
+        (None, Some(_)) => None,
+        (None, None) => None,
+    }
+}
+
+/// The elements of a set so far; None where a rule is broken in one.
+pub type Members = Option<Vec<Member>>;
+
+#[inline(never)]
+pub fn with_member(members: Members, more: Option<Member>) -> Result<Members, NoMemory>
+    ensures { IfOk result (λ ms. option_map members_of ms ≡ with_member (option_map members_of members) (option_map member_of more)) }
+{
+    let (Some(mut members), Some(more)) = (members, more) else {
+        return Ok(None);
+    };
+    members.push(more)?;
+    Ok(Some(members))
+}
+
 /// A set constructor; a constant where all its elements are. Its use may want a type.
+#[inline(never)]
 pub fn set_of(
     setting: Setting,
     sink: &mut FirstRefusal,
@@ -139,7 +167,7 @@ fn member_in_set(core: &Core, sink: &mut FirstRefusal, member: &Member) -> Optio
             if assignable(core, w.type_of(), v.type_of()) {
                 Some(common_set(core, a, b))
             } else {
-                refuse(sink, rules::NOT_ASSIGNABLE, *end)
+                refuse(sink, LanguageRule::NotAssignable, *end)
             }
         }
     }
@@ -155,10 +183,10 @@ fn value_in_set(core: &Core, sink: &mut FirstRefusal, at: Place, value: &Value) 
             if value.is_small() {
                 Some(set_over(core, of))
             } else {
-                refuse(sink, rules::NO_SET_ELEMENT, at)
+                refuse(sink, LanguageRule::NoSetElement, at)
             }
         }
-        _ => refuse(sink, rules::NOT_ORDINAL, at),
+        _ => refuse(sink, LanguageRule::NotOrdinal, at),
     }
 }
 
@@ -178,7 +206,7 @@ fn both_in_set(
     if sort_of(core, a).is_set_as(sort_of(core, b)) {
         Some(common_set(core, a, b))
     } else {
-        refuse(sink, rules::NOT_ASSIGNABLE, at)
+        refuse(sink, LanguageRule::NotAssignable, at)
     }
 }
 

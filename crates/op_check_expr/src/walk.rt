@@ -5,30 +5,27 @@
 ghost use Rattle.std.specs.Prelude.{◌≡◌, None, IfOk};
 ghost use Rattle.std.specs.Option.{option_copied, option_map};
 ghost use Rattle.op_core.specs.Expression as tree;
-ghost use Rattle.op_tree.specs.Expression.{argument_of, arguments, element_of, expr_of, literal, no_arguments, prefixed, root_of, selector_of};
+ghost use Rattle.op_tree.specs.Expression.{argument_of, arguments, call, designated, element_of, expr_of, index, literal, no_arguments, prefixed, root_of, selector_of};
 ghost use Rattle.op_tree.specs.Lists.{arguments_of, expressions_of, operations_of};
 ghost use Rattle.op_tree.specs.Statement.{designator_of, elements_of, selectors_of};
 ghost use Rattle.op_judgement.specs.Judgement.{Reports};
 ghost use Rattle.op_check_expr.specs.Constructors.{member_of};
-ghost use Rattle.op_check_expr.specs.Expressions.{argument, called, designator_of as designator_means, elements_at, given_to, member_in, operations, root_of as root_means, select, selected, set_in, sole, value_in};
+ghost use Rattle.op_check_expr.specs.Expressions.{argument, called, designator_of as designator_means, elements_at, formatted, given_to, member_in, operations, range_in, root_of as root_means, select, selected, set_in, sole, value_in};
 ghost use Rattle.op_check_expr.specs.Naming.{denoted_of};
 ghost use Rattle.op_check_expr.specs.Scopes.{here_of};
 ghost use Rattle.op_check_expr.specs.Values.{value_of};
 
 use crate::apply::used;
-use crate::call::{Plan, given_behind};
-use crate::denoted::{Denoted, Found, Meant};
+use crate::call::{Plan, first_of, given_behind, given_first, type_wanted};
+use crate::denoted::{Denoted, Found};
+use crate::designator::{bracketed, position_of, position_of_denoted, still_at, text_denoted};
 use crate::operate::{Valued, operation_of, prefix_of};
-use crate::part::{
-    first_of, given_first, position_of, position_of_denoted, ranged, still_at, text_denoted,
-    type_wanted, with_member,
-};
 use crate::scope::Checker;
-use crate::set::{Member, set_of};
-use crate::value::{Value, constant_value};
+use crate::set::{Member, ranged, set_of, with_member};
+use crate::value::Value;
 use op_base::{NoMemory, Place};
 use op_core::{CoreArgument, FirstRefusal, Parameter, TypeId};
-use op_judgement::{refuse, rules};
+use op_judgement::{Feature, LanguageRule, refuse};
 use op_tree::{
     Argument, Designator, Element, Expr, Operation, Position, PrefixOperator, Root, Selector,
 };
@@ -51,28 +48,42 @@ impl<'a> Checker<'a> {
                 operand,
             } => { self.prefixed(sink, *operator, *position, operand) }
             Expr::Number { value, position } => {
-                let c = self
-                    .setting()
-                    .numeral(sink, position.place, 1, *value as i64);
-                Ok(constant_value(c))
+                self.number(sink, position.place, 1, *value as i64)
             }
-            Expr::Nil { position } => Ok(refuse(sink, rules::DYNAMIC_ARRAYS, position.place)),
+            Expr::Nil { position } => Ok(refuse(
+                sink,
+                LanguageRule::NotInProfile(Feature::DynamicArrays),
+                position.place,
+            )),
             Expr::Set { elements, .. } => self.set(sink, wanted, elements),
             Expr::Literal {
                 text,
                 position,
                 selectors,
             } => { self.literal(sink, text.as_slice(), *position, selectors) }
-            Expr::Designator(called) => {
-                let denoted = self.designator(sink, called)?;
-                self.as_value(sink, denoted)
-            }
-            Expr::Inherited { position, .. } => Ok(refuse(sink, rules::CLASSES, position.place)),
+            Expr::Designator(called) => self.designated(sink, called),
+            Expr::Inherited { position, .. } => Ok(refuse(
+                sink,
+                LanguageRule::NotInProfile(Feature::Classes),
+                position.place,
+            )),
         }
+    }
+
+    /// A designator as a value.
+    #[cycle(walk)]
+    #[inline(never)]
+    fn designated(self, sink: &mut FirstRefusal, called: &Designator) -> Valued
+        ensures { IfOk result (λ v. Reports (value_in (here_of self.entry.scope) None (designated (designator_of called.now))) sink.old sink.new (option_map value_of v)) }
+    {
+        let front = self.root(sink, &called.root)?;
+        let denoted = self.selected(sink, front, &called.selectors)?;
+        self.as_value(sink, denoted)
     }
 
     /// A literal, and what is selected of it.
     #[cycle(walk)]
+    #[inline(never)]
     fn literal(
         self,
         sink: &mut FirstRefusal,
@@ -94,6 +105,7 @@ impl<'a> Checker<'a> {
 
     /// Operators and operands behind a first operand, in an expression that begins at `start`.
     #[cycle(walk)]
+    #[inline(never)]
     fn operations(
         self,
         sink: &mut FirstRefusal,
@@ -114,6 +126,7 @@ impl<'a> Checker<'a> {
 
     /// A sign or `not` before an operand.
     #[cycle(walk)]
+    #[inline(never)]
     fn prefixed(
         self,
         sink: &mut FirstRefusal,
@@ -124,7 +137,7 @@ impl<'a> Checker<'a> {
         ensures { IfOk result (λ v. Reports (value_in (here_of self.entry.scope) None (prefixed operator position (expr_of operand.now))) sink.old sink.new (option_map value_of v)) }
     {
         if let Some((n, at)) = number_behind(operator, operand) {
-            return Ok(constant_value(self.setting().numeral(sink, at, 2, -(n as i64))));
+            return self.number(sink, at, 2, -(n as i64));
         }
         match self.value_in(sink, None, operand)? {
             Some(a) => prefix_of(self.setting(), sink, operator, position, a),
@@ -133,6 +146,7 @@ impl<'a> Checker<'a> {
     }
 
     #[cycle(walk)]
+    #[inline(never)]
     fn set(self, sink: &mut FirstRefusal, wanted: Option<TypeId>, elements: &[Element]) -> Valued
         ensures { IfOk result (λ v. Reports (set_in (here_of self.entry.scope) wanted (elements_of elements.now)) sink.old sink.new (option_map value_of v)) }
     {
@@ -148,6 +162,7 @@ impl<'a> Checker<'a> {
     }
 
     #[cycle(walk)]
+    #[inline(never)]
     fn member_in(
         self,
         sink: &mut FirstRefusal,
@@ -160,6 +175,22 @@ impl<'a> Checker<'a> {
                 Some(v) => Ok(Some(Member::One(position_of(e).place, v))),
                 None => Ok(None),
             },
+            Element::Range(_, _) => self.range_in(sink, element),
+        }
+    }
+
+    /// The elements from one to another; none of one alone.
+    #[cycle(walk)]
+    #[inline(never)]
+    fn range_in(
+        self,
+        sink: &mut FirstRefusal,
+        element: &Element,
+    ) -> Result<Option<Member>, NoMemory>
+        ensures { IfOk result (λ m. Reports (range_in (here_of self.entry.scope) (element_of element.now)) sink.old sink.new (option_map member_of m)) }
+    {
+        match element {
+            Element::One(_) => Ok(None),
             Element::Range(e, f) => {
                 let a = self.value_in(sink, None, e)?;
                 let b = self.value_in(sink, None, f)?;
@@ -168,7 +199,6 @@ impl<'a> Checker<'a> {
         }
     }
 
-    #[cycle(walk)]
     pub fn designator(self, sink: &mut FirstRefusal, called: &Designator) -> Found
         ensures { IfOk result (λ d. Reports (designator_means (here_of self.entry.scope) (designator_of called.now)) sink.old sink.new (option_map denoted_of d)) }
     {
@@ -185,16 +215,14 @@ impl<'a> Checker<'a> {
                 let text = name.text.as_slice();
                 self.name_denoted(sink, text, text, name.position)
             }
-            Root::String { position } => Ok(refuse(sink, rules::STRINGS, position.place)),
+            Root::String { position } => Ok(refuse(
+                sink,
+                LanguageRule::NotInProfile(Feature::Strings),
+                position.place,
+            )),
             Root::Bracketed { position, inside } => {
-                match self.value_in(sink, None, inside)? {
-                    Some(v) => {
-                        let what = Meant::Value(v.in_brackets()?);
-                        let position = *position;
-                        Ok(Some(Denoted { position, what }))
-                    }
-                    None => Ok(None),
-                }
+                let v = self.value_in(sink, None, inside)?;
+                bracketed(*position, v)
             }
         }
     }
@@ -228,17 +256,40 @@ impl<'a> Checker<'a> {
         match selector {
             Selector::Member(name) => self.member_of(sink, name, denoted),
             Selector::Index { position, indices } => {
-                let at = position_of_denoted(&denoted);
-                let a = self.as_value(sink, denoted)?;
-                let v = self.elements_at(sink, position.place, a, indices)?;
-                Ok(still_at(at, v))
+                self.element_of(sink, *position, denoted, indices)
             }
-            Selector::Call { arguments } => {
-                let plan = self.plan_of(sink, false, &denoted, arguments)?;
-                let v = self.called(sink, plan, arguments)?;
-                Ok(still_at(position_of_denoted(&denoted), v))
-            }
+            Selector::Call { arguments } => self.call(sink, denoted, arguments),
         }
+    }
+
+    /// An element of what stands in front, behind a bracket at a position.
+    #[cycle(walk)]
+    #[inline(never)]
+    fn element_of(
+        self,
+        sink: &mut FirstRefusal,
+        position: Position,
+        denoted: Option<Denoted>,
+        indices: &[Expr],
+    ) -> Found
+        ensures { IfOk result (λ d. Reports (select (here_of self.entry.scope) (option_map denoted_of denoted) (index position (expressions_of indices.now))) sink.old sink.new (option_map denoted_of d)) }
+    {
+        let at = position_of_denoted(&denoted);
+        let a = self.as_value(sink, denoted)?;
+        let v = self.elements_at(sink, position.place, a, indices)?;
+        Ok(still_at(at, v))
+    }
+
+    /// A call of what stands in front.
+    #[cycle(walk)]
+    #[inline(never)]
+    fn call(self, sink: &mut FirstRefusal, denoted: Option<Denoted>, list: &[Argument]) -> Found
+        ensures { IfOk result (λ d. Reports (select (here_of self.entry.scope) (option_map denoted_of denoted) (call (arguments_of list.now))) sink.old sink.new (option_map denoted_of d)) }
+    {
+        let at = position_of_denoted(&denoted);
+        let plan = self.plan_behind(sink, denoted, list)?;
+        let v = self.called(sink, plan, list)?;
+        Ok(still_at(at, v))
     }
 
     /// An element, index by index, behind a bracket at a place.
@@ -268,7 +319,7 @@ impl<'a> Checker<'a> {
             return self.given_to(sink, None, list);
         };
         match what {
-            Plan::Bound(function, of, at) => Ok(self.bound_value(sink, function, of, at)),
+            Plan::Bound(function, of, at) => self.bound_value(sink, function, of, at),
             Plan::Sole(applied, position) => match list.split_first() {
                 None => Ok(None),
                 Some((first, others)) => match others.split_first() {
@@ -298,6 +349,7 @@ impl<'a> Checker<'a> {
 
     /// A cast or a function at a position, of the one argument.
     #[cycle(walk)]
+    #[inline(never)]
     fn sole(
         self,
         sink: &mut FirstRefusal,
@@ -337,17 +389,33 @@ impl<'a> Checker<'a> {
                 let v = self.value_in(sink, type_wanted(parameter), e)?;
                 self.passed(sink, parameter, position_of(e), v)
             }
+            Argument::Padded(_, _) => self.formatted(sink, part),
+            Argument::Rounded(_, _, _) => self.formatted(sink, part),
+        }
+    }
+
+    /// An argument with a width, which no parameter takes; nothing of one without.
+    #[cycle(walk)]
+    #[inline(never)]
+    fn formatted(
+        self,
+        sink: &mut FirstRefusal,
+        part: &Argument,
+    ) -> Result<Option<CoreArgument>, NoMemory>
+        ensures { IfOk result (λ a. Reports (formatted (here_of self.entry.scope) (argument_of part.now)) sink.old sink.new (option_map tree.argument_of a)) }
+    {
+        match part {
+            Argument::Value(_) => {}
             Argument::Padded(e, width) => {
                 self.value_in(sink, None, e)?;
                 self.value_in(sink, None, width)?;
-                Ok(None)
             }
             Argument::Rounded(e, width, digits) => {
                 self.value_in(sink, None, e)?;
                 self.value_in(sink, None, width)?;
                 self.value_in(sink, None, digits)?;
-                Ok(None)
             }
         }
+        Ok(None)
     }
 }

@@ -1,6 +1,7 @@
 -- Labels that are looked up by their first values, beside the labels in front.
 use Rattle.std.proofs.Math.Seq.{take-suc}
 use Rattle.std.proofs.Common.{◌≡◌, ℕ, suc, ◌+◌, ◌<◌, length, take, drop, drop-cons, add-one, get_or, rules, Bool, true, false, ◌&&◌, ◌||◌, List, [], ◌∷◌, ◌++◌, Option, Some, None, IsSome, if◌then◌else◌, refl, sym, ap, subst, ◌∙◌, arith}
+use Rattle.std.proofs.lemmas.Bool.{false_from_ne_true, or_left, or_right}
 use Rattle.std.specs.Prelude.{ℤ, ◌<ℤ◌, ◌≤ℤ◌, int_le}
 use Rattle.std.specs.BTreeMap.{BTreeMap, get, is_at, Updates}
 use Rattle.std.specs.List.{list_any}
@@ -27,10 +28,6 @@ shared a b h = record { filled = grind (arith, ints); also_filled = grind (arith
 -- a label that does not begin later and has no value of another one ends before it
 pub before : (a b : Label) → overlap a b ≡ false → a.first ≤ℤ a.last → b.first ≤ℤ b.last → a.first <ℤ b.first → a.last <ℤ b.first
 before a b h k l m = grind (arith, ints)
-
-pub not_true : (b : Bool) → (b ≡ true → ⊥) → b ≡ false
-not_true true h = absurd (h refl)
-not_true false h = refl
 
 false_true : (b : Bool) → b ≡ false → b ≡ true → ⊥
 false_true b h k = cc
@@ -62,7 +59,7 @@ equal q f h k = omega (arith, ints)
 -- The last label that does not begin behind the end of another one: where that does not reach this one, none of them does.
 pub none_met : (seen : BTreeMap ℤ ℤ) → Apart seen → (label : Label) (f l : ℤ) → get int_cmp seen f ≡ Some l → ((q : ℤ) (v : ℤ) → q ≤ℤ label.last → get int_cmp seen q ≡ Some v → q ≤ℤ f) → (int_le label.first l && int_le label.first label.last) ≡ false → (q v : ℤ) → get int_cmp seen q ≡ Some v → overlap (from_to q v) label ≡ false
 none_met seen a label f l is greatest unmet q v h =
-    not_true (overlap (from_to q v) label)
+    false_from_ne_true (overlap (from_to q v) label)
     (λ t. let s = shared (from_to q v) label t in
     let le : q ≤ℤ f = greatest q v s.begins h in
     let filled : f ≤ℤ l = a.filled f l is in
@@ -84,13 +81,6 @@ pub record Seen (seen : BTreeMap ℤ ℤ) (front : List Spot) : Type 0 where
   pub sound : (q v : ℤ) → get int_cmp seen q ≡ Some v → (x : Label) → overlap (from_to q v) x ≡ true → is_met front x ≡ true
   pub complete : (x : Label) → is_met front x ≡ true → Met seen x
 
-or_left : (a b : Bool) → a ≡ true → (a || b) ≡ true
-or_left a b h = ap (λ a. a || b) h
-
-or_right : (a b : Bool) → b ≡ true → (a || b) ≡ true
-or_right true b h = refl
-or_right false b h = h
-
 or_false : (b : Bool) → (b || false) ≡ b
 or_false true = refl
 or_false false = refl
@@ -107,7 +97,7 @@ by_place : {P : Type 0} (a q : ℤ) → (a <ℤ q → P) → (q <ℤ a → P) �
 by_place a q f g h = by_lt_z a q f (λ (le : q ≤ℤ a). by_lt_z q a g (λ (ge : a ≤ℤ q). h (equal q a le ge)))
 
 swapped : (a b : Label) → overlap a b ≡ false → overlap b a ≡ false
-swapped a b h = not_true (overlap b a) (λ t. let s = shared b a t in false_true (overlap a b) h (overlaps a b s.also_filled s.filled s.also_begins s.begins))
+swapped a b h = false_from_ne_true (overlap b a) (λ t. let s = shared b a t in false_true (overlap a b) h (overlaps a b s.also_filled s.filled s.also_begins s.begins))
 
 -- what is there once one more is kept
 module _ (seen new : BTreeMap ℤ ℤ) (a z : ℤ) (u : Updates int_cmp seen new a (Some z)) where
@@ -169,16 +159,6 @@ skipped seen front s held empty = record {
   complete = λ x m. either (is_met front x) (overlap s.label x) (sym (met_last front s x) ∙ m) (λ (k : is_met front x ≡ true). held.complete x k) (λ (o : overlap s.label x ≡ true). absurd (not_filled s.label x empty o));
 }
 
-nothing : (v : Option ℤ) (w : ℤ) → v ≡ None → v ≡ Some w → ⊥
-nothing v w h k = cc
-
-pub none_seen : (seen : BTreeMap ℤ ℤ) → ((q : ℤ) → get int_cmp seen q ≡ None) → Seen seen []
-none_seen seen h = record {
-  is_apart = record { filled = λ q v k. absurd (nothing (get int_cmp seen q) v (h q) k); apart = λ q v r w k l lt. absurd (nothing (get int_cmp seen q) v (h q) k) };
-  sound = λ q v k x o. absurd (nothing (get int_cmp seen q) v (h q) k);
-  complete = λ x m. absurd (false_true false refl m);
-}
-
 -- ---- the labels behind
 
 pub found : (seen : BTreeMap ℤ ℤ) (front : List Spot) (s : Spot) (rest : List Spot) → Seen seen front → Met seen s.label → repeated_after front (s ∷ rest) ≡ Some s.place
@@ -188,7 +168,7 @@ found seen front s rest held m =
 pub passed : (seen : BTreeMap ℤ ℤ) (front : List Spot) (s : Spot) (rest : List Spot) → Seen seen front → ((q v : ℤ) → get int_cmp seen q ≡ Some v → overlap (from_to q v) s.label ≡ false) → repeated_after front (s ∷ rest) ≡ repeated_after (front ++ s ∷ []) rest
 passed seen front s rest held unmet =
     ap (λ b. if b then Some s.place else repeated_after (front ++ s ∷ []) rest)
-    (not_true (is_met front s.label) (λ (t : is_met front s.label ≡ true). let m = held.complete s.label t in false_true (overlap (from_to m.first m.last) s.label) (unmet m.first m.last m.is_there) m.meets))
+    (false_from_ne_true (is_met front s.label) (λ (t : is_met front s.label ≡ true). let m = held.complete s.label t in false_true (overlap (from_to m.first m.last) s.label) (unmet m.first m.last m.is_there) m.meets))
 
 pub kept_more : (seen new : BTreeMap ℤ ℤ) (front : List Spot) (s : Spot) → Seen seen front → ((q v : ℤ) → get int_cmp seen q ≡ Some v → overlap (from_to q v) s.label ≡ false) → IsKept seen s.label new → Seen new (front ++ s ∷ [])
 kept_more seen new front s held unmet k =

@@ -4,7 +4,7 @@ use Rattle.std.proofs.lemmas.Bool.{eq-eqb, false≢true, or_cases, or_right}
 use Rattle.std.specs.Option.{IsSomeAnd}
 use Rattle.op_check_expr.proofs.Trees.{no_range, one_exact}
 use Rattle.op_check_stmt.specs.Procedure.{is_text}
-use Rattle.op_check_stmt.specs.Variable.{host_by, host_of, is_ordinal}
+use Rattle.op_check_stmt.specs.Variable.{host_by, host_of}
 use Rattle.op_core.specs.Expression.{Expression, expression, Action, field, index, Steps, no_steps, steps}
 use Rattle.op_core.specs.Sizes.{range_of, type_at}
 use Rattle.op_core.specs.Sound.{IsFounded, is_whole}
@@ -136,10 +136,6 @@ goes_to_host {core} of {k} f s =
   where
     some_is : {A : Type 0} {a b : A} → Some a ≡ Some b → a ≡ b
     some_is e = cc
-
-pub ordinal_sort : (s : Sort) → is_ordinal s ≡ true → (k : OrdinalKind) × (s ≡ Ordinal k)
-ordinal_sort (Ordinal k) e = (k, refl)
-ordinal_sort s e = absurd (false≢true e)
 
 -- ---- constants
 

@@ -4,17 +4,14 @@ use Rattle.std.specs.Option.{option_map}
 use Rattle.std.specs.Prelude.{Vec}
 use Rattle.std.specs.declared.alloc.Global.{Global}
 use Rattle.op_base.specs.declared.memory_error.NoMemory.{NoMemory}
-use Rattle.op_check_expr.specs.Words.{Reports, changed, followed}
 use Rattle.op_base.specs.declared.place.Place.{Place}
 use Rattle.op_check_stmt.specs.Labels.{once, repeated}
 use Rattle.op_check_stmt.specs.declared.case.Spot.{Spot}
-use Rattle.op_check_stmt.specs.Parts.{both_typed, items_of, joined, of_two, paired, with_last}
-use Rattle.op_core.specs.Faults.{Checked, fine, kept}
+use Rattle.op_check_stmt.specs.Parts.{items_of, three_typed, with_last}
+use Rattle.op_core.specs.Faults.{Checked, kept, none}
 use Rattle.op_core.specs.declared.first_refusal.FirstRefusal.{FirstRefusal}
-
-pub map_ok : {A E : Type 0} {P Q : A → Type 0} (r : Result A E) → ((a : A) → P a → Q a) → IfOk r P → IfOk r Q
-map_ok (Ok a) f h = f a h
-map_ok (Err e) f h = h
+use Rattle.op_judgement.proofs.Computed.{Reports, changed, followed, of_two, paired}
+use Rattle.op_judgement.specs.Judgement.{both_typed}
 
 -- ---- one part after the other
 
@@ -29,10 +26,7 @@ two f a b old mid new x y t h k e =
 abbrev pub both_views : {X Y A B : Type 0} → (X → A) → (Y → B) → X × Y → A × B
 both_views v w p = (v p.0, w p.1)
 
-abbrev pub of_both : {A B C : Type 0} → (A → B → C) → A × B → C
-of_both f p = f p.0 p.1
-
-through : {X Y A B C : Type 0} (v : X → A) (w : Y → B) (f : A → B → C) (x : Option X) (y : Option Y) → option_map (λ (p : X × Y). f (v p.0) (w p.1)) (both_typed (λ x y. (x, y)) x y) ≡ both_typed f (option_map v x) (option_map w y)
+pub through : {X Y A B C : Type 0} (v : X → A) (w : Y → B) (f : A → B → C) (x : Option X) (y : Option Y) → option_map (λ (p : X × Y). f (v p.0) (w p.1)) (both_typed (λ x y. (x, y)) x y) ≡ both_typed f (option_map v x) (option_map w y)
 through v w f None y = refl
 through v w f (Some x) None = refl
 through v w f (Some x) (Some y) = refl
@@ -45,23 +39,10 @@ made {X} {Y} v w f a b old mid new x y p t h k e g =
 pub pairs : {X Y A B : Type 0} (v : X → A) (w : Y → B) (a : Checked A) (b : Checked B) (old mid new : FirstRefusal) (x : Option X) (y : Option Y) (p : Option (X × Y)) → Reports a old mid (option_map v x) → Reports b mid new (option_map w y) → p ≡ both_typed (λ x y. (x, y)) x y → Reports (paired a b) old new (option_map (both_views v w) p)
 pairs v w a b old mid new x y p h k e = made v w (λ a b. (a, b)) a b old mid new x y p (option_map (both_views v w) p) h k e refl
 
--- the same, of a part that may want memory
-pub joins : {X Y A B : Type 0} (v : X → A) (w : Y → B) (a : Checked A) (b : Checked B) (old mid new : FirstRefusal) (x : Option X) (r : Result (Option Y) NoMemory) (p : Option (X × Y)) → Reports a old mid (option_map v x) → IfOk r (λ y. Reports b mid new (option_map w y)) → joined x r ≡ Ok p → Reports (paired a b) old new (option_map (both_views v w) p)
-joins v w a b old mid new x (Ok y) p h k e = let f : p ≡ both_typed (λ x y. (x, y)) x y = cc in pairs v w a b old mid new x y p h k f
-joins v w a b old mid new x (Err n) p h k e = absurd (cc)
-
-of_pair : {A B C : Type 0} (f : A → B → C) (a : Option A) (b : Option B) → option_map (of_both f) (both_typed (λ a b. (a, b)) a b) ≡ both_typed f a b
-of_pair f None b = refl
-of_pair f (Some a) None = refl
-of_pair f (Some a) (Some b) = refl
-
-viewed : {P A B C : Type 0} (u : P → A × B) (f : A → B → C) (p : Option P) → option_map (λ (q : P). of_both f (u q)) p ≡ option_map (of_both f) (option_map u p)
-viewed u f None = refl
-viewed u f (Some p) = refl
-
--- a node that is made of both
-pub node : {P A B C : Type 0} (u : P → A × B) (f : A → B → C) (a : Checked A) (b : Checked B) (old new : FirstRefusal) (p : Option P) (t : Option C) → Reports (paired a b) old new (option_map u p) → t ≡ option_map (λ (q : P). of_both f (u q)) p → Reports (of_two f a b) old new t
-node u f a b old new p t h e = (e ∙ viewed u f p ∙ ap (option_map (of_both f)) h.0 ∙ of_pair f a.typed b.typed, h.1)
+-- three parts
+pub three : {A B C D : Type 0} (f : A → B → C → D) (a : Checked A) (b : Checked B) (c : Checked C) (old mid far new : FirstRefusal) (x : Option A) (y : Option B) (z : Option C) (t : Option D) → Reports a old mid x → Reports b mid far y → Reports c far new z → t ≡ three_typed f x y z → Reports (of_two (λ (p : A × B) c. f p.0 p.1 c) (paired a b) c) old new t
+three {A} {B} f a b c old mid far new x y z t h k l e =
+    two (λ (p : A × B) c. f p.0 p.1 c) (paired a b) c old far new (both_typed (λ a b. (a, b)) x y) z t (two (λ a b. (a, b)) a b old mid far x y (both_typed (λ a b. (a, b)) x y) h k refl) l e
 
 -- what is made of a part that stands behind it
 pub then : {A B : Type 0} (a : Checked A) (f : Option A → Checked B) (old mid new : FirstRefusal) (x : Option A) (t : Option B) → Reports a old mid x → Reports (f x) mid new t → Reports (followed a f) old new t
@@ -69,10 +50,24 @@ then a f old mid new x t h k =
     let l : Reports (f a.typed) mid new t = subst (λ x. Reports (f x) mid new t) h.0 k in
     (l.0, l.1 ∙ ap (λ s. kept s (f a.typed).faults) h.1)
 
--- the same, where its node is made in memory
-pub node_ok : {P A B C X E : Type 0} (u : P → A × B) (v : X → C) (f : A → B → C) (a : Checked A) (b : Checked B) (old new : FirstRefusal) (p : Option P) (r : Result (Option X) E) → Reports (paired a b) old new (option_map u p) → IfOk r (λ t. option_map v t ≡ option_map (λ (q : P). of_both f (u q)) p) → IfOk r (λ t. Reports (of_two f a b) old new (option_map v t))
-node_ok u v f a b old new p (Ok t) h e = node u f a b old new p (option_map v t) h e
-node_ok u v f a b old new p (Err n) h e = e
+-- ---- where what is made wants memory
+
+-- a part stays what it is
+pub kept_ok : {A X E : Type 0} (v : X → A) (a : Checked A) (old new : FirstRefusal) (x : Option A) (r : Result (Option X) E) → Reports a old new x → IfOk r (λ t. option_map v t ≡ x) → IfOk r (λ t. Reports a old new (option_map v t))
+kept_ok v a old new x (Ok t) h e = (e ∙ h.0, h.1)
+kept_ok v a old new x (Err n) h e = e
+
+pub two_ok : {A B C X E : Type 0} (v : X → C) (f : A → B → C) (a : Checked A) (b : Checked B) (old mid new : FirstRefusal) (x : Option A) (y : Option B) (r : Result (Option X) E) → Reports a old mid x → Reports b mid new y → IfOk r (λ t. option_map v t ≡ both_typed f x y) → IfOk r (λ t. Reports (of_two f a b) old new (option_map v t))
+two_ok v f a b old mid new x y (Ok t) h k e = two f a b old mid new x y (option_map v t) h k e
+two_ok v f a b old mid new x y (Err n) h k e = e
+
+pub three_ok : {A B C D X E : Type 0} (v : X → D) (f : A → B → C → D) (a : Checked A) (b : Checked B) (c : Checked C) (old mid far new : FirstRefusal) (x : Option A) (y : Option B) (z : Option C) (r : Result (Option X) E) → Reports a old mid x → Reports b mid far y → Reports c far new z → IfOk r (λ t. option_map v t ≡ three_typed f x y z) → IfOk r (λ t. Reports (of_two (λ (p : A × B) c. f p.0 p.1 c) (paired a b) c) old new (option_map v t))
+three_ok v f a b c old mid far new x y z (Ok t) h k l e = three f a b c old mid far new x y z (option_map v t) h k l e
+three_ok v f a b c old mid far new x y z (Err n) h k l e = e
+
+pub then_ok : {A B X E : Type 0} (a : Checked A) (f : Option A → Checked B) (old mid new : FirstRefusal) (x : Option A) (v : X → B) (r : Result (Option X) E) → Reports a old mid x → IfOk r (λ t. Reports (f x) mid new (option_map v t)) → IfOk r (λ t. Reports (followed a f) old new (option_map v t))
+then_ok a f old mid new x v (Ok t) h k = then a f old mid new x (option_map v t) h k
+then_ok a f old mid new x v (Err n) h k = k
 
 -- ---- lists
 
@@ -117,7 +112,7 @@ all_gathered : {T A B : Type 0} (view : T → A) (add : A → B → B) (nil : B)
 all_gathered view add nil f h None = refl
 all_gathered view add nil f h (Some xs) = ap Some (h xs)
 
-pub ends : {T A B : Type 0} (view : T → A) (add : A → B → B) (nil : B) (f : List T → B) → ((xs : List T) → in_front view add xs nil ≡ f xs) → (list : Option (List T)) (whole : Checked B) (old new : FirstRefusal) → Completes view add list whole (fine nil) old new → Reports whole old new (option_map f list)
+pub ends : {T A B : Type 0} (view : T → A) (add : A → B → B) (nil : B) (f : List T → B) → ((xs : List T) → in_front view add xs nil ≡ f xs) → (list : Option (List T)) (whole : Checked B) (old new : FirstRefusal) → Completes view add list whole (record { typed = Some nil; faults = none }) old new → Reports whole old new (option_map f list)
 ends view add nil f h list whole old new c =
     subst (Reports whole old new) (all_gathered view add nil f h list) (c.completes new (Some nil) (refl, refl))
 
@@ -133,11 +128,6 @@ noted others more whole own rest all h k e =
 pub seen : {T B : Type 0} (f : List T → B) (list : Option (Vec T Global)) → option_map f (items_of list) ≡ option_map (λ v. f v.items) list
 seen f None = refl
 seen f (Some v) = refl
-
--- a fact of what was given, once there was memory for it
-pub fact : {X Y : Type 0} {P : Type 0} (x : Option X) (r : Result (Option Y) NoMemory) (p : Option (X × Y)) → IfOk r (λ y. P) → joined x r ≡ Ok p → P
-fact x (Ok y) p h e = h
-fact x (Err n) p h e = absurd (cc)
 
 once_viewed : {A B : Type 0} (v : A → B) (a t : Option A) (place : Option Place) (old new : FirstRefusal) → Reports (once a place) old new t → Reports (once (option_map v a) place) old new (option_map v t)
 once_viewed v a t None old new h = (ap (option_map v) h.0, h.1)

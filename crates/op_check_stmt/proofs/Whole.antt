@@ -12,17 +12,17 @@ use Rattle.op_base.specs.declared.place.Place.{Place}
 use Rattle.op_check_expr.proofs.Trees.{as_type_value, as_typed, tree_typed}
 use Rattle.op_check_expr.proofs.Whole.{called_alone_whole, element_whole, given_to_whole, target_whole, value_of_whole, variable_whole}
 use Rattle.op_check_expr.specs.Expressions.{position_of}
-use Rattle.op_check_expr.specs.Meanings.{is_writable_variable}
+use Rattle.op_check_expr.specs.Phrases.{is_writable_variable}
 use Rattle.op_check_expr.specs.Scopes.{Here}
 use Rattle.op_check_expr.specs.Settled.{IsSettled, IsSoundValue}
 use Rattle.op_check_expr.specs.Values.{Value, as_type, constant, computed, tree_of, type_of}
 use Rattle.op_check_expr.specs.declared.scope.Around.{Around}
 use Rattle.op_check_expr.specs.declared.scope.Around.TheVariants.{Loop, Finally}
-use Rattle.op_check_stmt.proofs.Hosts.{goes_to_host, hosted, kind_of_whole, number_within, one_ordinal, ordinal_sort, place_with_characters, text_of}
+use Rattle.op_check_stmt.proofs.Hosts.{goes_to_host, hosted, kind_of_whole, number_within, one_ordinal, place_with_characters, text_of}
 use Rattle.op_check_stmt.specs.Case.{both_bounds, bound, bound_means, branch_labels, label, labels, selected_by, selector, spot}
+use Rattle.op_check_stmt.specs.LabelLaw.{at_most}
 use Rattle.op_check_stmt.specs.Labels.{once, repeated}
 use Rattle.op_check_stmt.specs.Leaving.{by_reach, entered, in_finally, is_finally, jump_of, reach_of}
-use Rattle.op_check_stmt.specs.Parts.{of_two}
 use Rattle.op_check_stmt.specs.Procedure as procedures
 use Rattle.op_check_stmt.specs.Procedure.{Called, Values, base_by, base_in, called, called_means, change, change_means, count_means, exit_means, halt_means, is_text, item, items, jump_means, member, plain_call, procedure, result_of, set, text, unwritten, values, written}
 use Rattle.op_check_stmt.specs.Statement.{all_spots, bound_of, branches, case_head, case_statement, condition, first_class, for_statement, looped, paired, statement, statements, stored, tried, type_in, with_branch, within}
@@ -34,11 +34,10 @@ use Rattle.op_check_stmt.specs.declared.leaving.Jump.TheVariants.{Break, Continu
 use Rattle.op_check_stmt.specs.declared.leaving.Reach.{Reach}
 use Rattle.op_check_stmt.specs.declared.leaving.Reach.TheVariants.{Nowhere, Inside, Beyond}
 use Rattle.op_check_stmt.specs.declared.variable.Counter.{Counter}
-use Rattle.op_core.proofs.Completing.{whole_after, whole_as, whole_behind, whole_changed_so, whole_entered, whole_followed, whole_gives, whole_refused, whole_rule, whole_standing, whole_test, whole_tested}
 use Rattle.op_core.specs.Expression.{Expression as Tree}
-use Rattle.op_core.specs.Faults.{Checked, Faults, behind, both, by_test, front}
+use Rattle.op_core.specs.Faults.{Checked}
 use Rattle.op_core.specs.Members.{Kind}
-use Rattle.op_core.specs.Relations.{Filled, Whole, filled, typed, faulty}
+use Rattle.op_core.specs.Relations.{Filled, Whole, filled}
 use Rattle.op_core.specs.Sizes.{range_of, type_at}
 use Rattle.op_core.specs.Sound.{IsFounded, Row, is_whole}
 use Rattle.op_core.specs.Statement.{plain, padded, write, count, Statement, block, if_then, if_else, while_do, repeat_until, try_finally, assign, call as call_statement, exit_with, halt, built_in, Branches, Statements, statements as core_statements}
@@ -54,12 +53,15 @@ use Rattle.op_core.specs.declared.statement.Label.{Label}
 use Rattle.op_core.specs.declared.types.CoreType.{CoreType}
 use Rattle.op_core.specs.declared.types.CoreType.TheVariants as type
 use Rattle.op_core.specs.declared.types.IntegerKind.TheVariants.{Signed32}
-use Rattle.op_judgement.specs.Judgement.{Judgement, both_typed, changed, checked, given}
+use Rattle.op_judgement.proofs.Completing.{whole_after, whole_as, whole_behind, whole_changed_so, whole_entered, whole_followed, whole_gives, whole_rule, whole_standing, whole_tested, whole_two, whole_upon}
+use Rattle.op_judgement.specs.Judgement.{Judgement, changed, checked, fault, given, unless}
+use Rattle.op_judgement.specs.declared.rules.LanguageRule.TheVariants.{EmptyRange, LeavesFinally, NotAssignable, NotBoolean, NotOrdinal, NotWritable, NotWritten, VariableOfAnotherType, WrongArguments}
 use Rattle.op_tree.specs.Expression.{Expression, Argument, value as value_argument, padded as padded_argument, rounded, Arguments, no_arguments, arguments, Designator, Element, one, range, Elements, no_elements, elements}
 use Rattle.op_tree.specs.Statement as tree
 use Rattle.op_tree.specs.declared.position.Name.{Name}
 use Rattle.op_tree.specs.declared.statement.Direction.{Direction}
 use Rattle.op_tree.specs.declared.statement.Direction.TheVariants.{To, Downto}
+use Rattle.op_types.proofs.ConstantWhole.{ordinal_sort}
 use Rattle.op_types.proofs.Sorting.{stands_as}
 use Rattle.op_types.proofs.TypeFacts.{boolean_kind, integer_kind, stands_for}
 use Rattle.op_types.specs.Assignable.{assignable}
@@ -74,26 +76,6 @@ use Rattle.op_types.specs.declared.visible.BuiltIn as types
 use Rattle.op_types.specs.declared.visible.BuiltIn.TheVariants as name
 use Rattle.op_types.specs.declared.visible.Meaning.{Meaning}
 use Rattle.op_types.specs.declared.visible.Meaning.TheVariants.{Variable, Spoiled}
-
--- ---- nodes of several parts
-
-filled_behind : {A B C : Type 0} {Q : B → Type 0} {R : C → Type 0} (f : A → B → C) (x : A) {o : Option B} → Filled Q o → ((y : B) → Q y → R (f x y)) → Filled R (both_typed f (Some x) o)
-filled_behind f x (filled y q) l = filled (f x y) (l y q)
-
-second_whole : {A B C : Type 0} {Q : B → Type 0} {R : C → Type 0} (f : A → B → C) (x : A) (faults : Faults) {b : Checked B} → Whole Q b → ((y : B) → Q y → R (f x y)) → Whole R (record { typed = both_typed f (Some x) b.typed; faults = both faults b.faults })
-second_whole f x faults (typed h) l = typed (filled_behind f x h l)
-second_whole f x faults (faulty r i) l = faulty r (behind i)
-
-read_whole : {A B C : Type 0} {P : A → Type 0} {Q : A → B → Type 0} {R : C → Type 0} (f : A → B → C) {o : Option A} (faults : Faults) (g : Option A → Checked B) → Filled P o → ((x : A) → P x → Whole (Q x) (g (Some x))) → ((x : A) (y : B) → P x → Q x y → R (f x y)) → Whole R (record { typed = both_typed f o (g o).typed; faults = both faults (g o).faults })
-read_whole f faults g (filled x p) k l = second_whole f x faults (k x p) (λ y q. l x y p q)
-
--- of a part, and one that is read by its meaning
-whole_upon : {A B C : Type 0} {P : A → Type 0} {Q : A → B → Type 0} {R : C → Type 0} (f : A → B → C) {a : Checked A} (g : Option A → Checked B) → Whole P a → ((x : A) → P x → Whole (Q x) (g (Some x))) → ((x : A) (y : B) → P x → Q x y → R (f x y)) → Whole R (of_two f a (g a.typed))
-whole_upon f {a} g (typed h) k l = read_whole f a.faults g h k l
-whole_upon f g (faulty r i) k l = faulty r (front i)
-
-whole_two : {A B C : Type 0} {P : A → Type 0} {Q : B → Type 0} {R : C → Type 0} (f : A → B → C) {a : Checked A} {b : Checked B} → Whole P a → Whole Q b → ((x : A) (y : B) → P x → Q y → R (f x y)) → Whole R (of_two f a b)
-whole_two {Q} f {b} h k l = whole_upon {Q = λ x. Q} f (λ o. b) h (λ x p. k) l
 
 -- ---- what stands round a part
 
@@ -135,7 +117,7 @@ has_integer {core} sees f e h = has_kind core sees table.integer (type.Integer S
 
 condition_whole : {sees : Sees} {here : Here} → IsSettled sees here → (e : Expression) → Whole (Has IsBoolean here.core sees) (checked (condition here e))
 condition_whole {sees} {here} s e =
-    whole_behind (value_of_whole s None e) (λ v h. whole_tested 22 (start_of e) (assignable here.core (type_of v) table.boolean) (λ a.
+    whole_behind (value_of_whole s None e) (λ v h. whole_tested NotBoolean (start_of e) (assignable here.core (type_of v) table.boolean) (λ a.
     whole_gives (has_kind here.core sees table.boolean type.Boolean (boolean_kind s.founded) (boolean_ordinal s.founded) (as_type here.core false table.boolean v) (as_type_value here.core sees false table.boolean v h a))))
 
 -- ---- the selector of a case, and its labels
@@ -151,7 +133,7 @@ selected_whole {core} {sees} f at v h (Ordinal kind) e =
     let t = as_typed core sees of tree (as_type_value core sees false of v h (goes_to_host (type_of v) f e)) in
     whole_gives (t.0, ap (λ of. is_whole (type_at core of)) (one_ordinal core (typing.type_of tree) of (kind_of_whole core of w).ordinal t.1) ∙ w)
 selected_whole f at v h String e = whole_rule
-selected_whole f at v h s e = whole_refused
+selected_whole f at v h s e = whole_rule
 
 selector_whole : {sees : Sees} {here : Here} → IsSettled sees here → (e : Expression) → Whole (IsSelector here.core sees) (checked (selector here e))
 selector_whole {sees} {here} s e = whole_behind (value_of_whole s None e) (λ v h. selected_whole {sees = sees} s.founded (start_of e) v h (sort_of here.core (type_of v)) refl)
@@ -160,8 +142,8 @@ abbrev IsIn : Core → TypeId → ℤ → Type 0
 IsIn core of n = IsSomeAnd (range_of (type_at core of)) (λ r. Within r n)
 
 bound_means_whole : {core : Core} (sees : Sees) → IsFounded core → (at : Place) (of : TypeId) → IsTrue (is_whole (type_at core of)) → (v : Value) → IsSoundValue core sees v → Whole (λ b. IsIn core of b.number) (checked (bound_means core at (Some of) v))
-bound_means_whole {core} sees f at of w (constant c) h = whole_tested 20 at (assignable core c.of of) (λ a. whole_gives (number_within of f w c h a))
-bound_means_whole {core} sees f at of w (computed e) h = whole_test 20 at (assignable core (typing.type_of e) of) whole_refused
+bound_means_whole {core} sees f at of w (constant c) h = whole_tested NotAssignable at (assignable core c.of of) (λ a. whole_gives (number_within of f w c h a))
+bound_means_whole {core} sees f at of w (computed e) h = whole_tested NotAssignable at (assignable core (typing.type_of e) of) (λ _. whole_rule)
 
 bound_whole : {sees : Sees} {here : Here} → IsSettled sees here → (of : TypeId) → IsTrue (is_whole (type_at here.core of)) → (e : Expression) → Whole (λ b. IsIn here.core of b.number) (checked (bound here (Some of) e))
 bound_whole {sees} s of w e = whole_behind (value_of_whole s None e) (λ v h. bound_means_whole sees s.founded (start_of e) of w v h)
@@ -170,14 +152,11 @@ both_in : (o : Option (ℤ × ℤ)) (low high : ℤ) → IsSomeAnd o (λ r. With
 both_in (Some r) low high h k = (h, k)
 both_in None low high h k = h
 
-in_order : (a b : ℤ) → int_le a b ≡ true → a ≤ℤ b
-in_order a b e = grind (arith, ints)
-
 below_itself : (a : ℤ) → a ≤ℤ a
 below_itself a = omega (arith, ints)
 
 both_bounds_whole : (core : Core) (of : TypeId) (at : Place) {low high : Option Bound} → Filled (λ b. IsIn core of b.number) low → Filled (λ b. IsIn core of b.number) high → Whole (λ s. IsLabel core of s.label) (checked (both_bounds at low high))
-both_bounds_whole core of at (filled low h) (filled high k) = whole_tested 31 at (int_le low.number high.number) (λ e. whole_gives (both_in (range_of (type_at core of)) low.number high.number h k, in_order low.number high.number e))
+both_bounds_whole core of at (filled low h) (filled high k) = whole_tested EmptyRange at (int_le low.number high.number) (λ e. whole_gives (both_in (range_of (type_at core of)) low.number high.number h k, at_most e))
 
 label_whole : {sees : Sees} {here : Here} → IsSettled sees here → (of : TypeId) → IsTrue (is_whole (type_at here.core of)) → (e : Element) → Whole (λ s. IsLabel here.core of s.label) (checked (label here (Some of) e))
 label_whole {sees} {here} s of w (one e) = whole_changed_so (λ b. spot (start_of e) b b b.weight) (bound_whole s of w e) (λ b h. (both_in (range_of (type_at here.core of)) b.number b.number h h, below_itself b.number))
@@ -189,12 +168,12 @@ labels_whole {sees} {here} s of w (elements e es) =
     whole_two (λ l others. l ∷ others) (whole_changed_so (λ s. s.label) (label_whole s of w e) (λ x h. h)) (labels_whole s of w es) (λ l ls h k. All-cons (IsLabel here.core of) l ls h k)
 
 branch_labels_whole : {sees : Sees} {here : Here} → IsSettled sees here → (of : TypeId) → IsTrue (is_whole (type_at here.core of)) → (es : Elements) → Whole (All (IsLabel here.core of)) (checked (branch_labels here (Some of) es))
-branch_labels_whole s of w no_elements = whole_refused
+branch_labels_whole s of w no_elements = whole_rule
 branch_labels_whole s of w (elements e es) = labels_whole s of w (elements e es)
 
 once_whole : {A : Type 0} {P : A → Type 0} {o : Option A} → Filled P o → (at : Option Place) → Whole P (once o at)
 once_whole h None = whole_standing h
-once_whole h (Some at) = whole_refused
+once_whole h (Some at) = whole_rule
 
 -- ---- the variable of a loop
 
@@ -209,16 +188,16 @@ row_is (a ∷ table) (suc n) l e = row_is table n (omega (arith, l)) e
 counter_row_whole : (sees : Sees) (here : Here) → IsFounded here.core → (at : Place) (id : VariableId) → sees.variable id → Row here.core.variables id.0 → (o : Option VariableRow) → slice_get here.core.variables id.0 ≡ o → Whole (IsCounter here.core sees) (checked (counter_row here at id o))
 counter_row_whole sees here f at id seen row None e = absurd (row_is here.core.variables id.0 row e)
 counter_row_whole sees here f at id seen row (Some v) e =
-    whole_tested 23 at (is_ordinal (sort_of here.core v.of)) (λ a.
+    whole_tested NotOrdinal at (is_ordinal (sort_of here.core v.of)) (λ a.
     let k = ordinal_sort (sort_of here.core v.of) a in
     let to = hosted v.of f k.1 in
-    whole_test 29 at (is_writable_variable here id) (whole_gives ((kind_of_whole here.core (host_of here.core v.of) to.whole).ordinal, (seen, rw e to.bounds))))
+    whole_tested NotWritable at (is_writable_variable here id) (λ _. whole_gives ((kind_of_whole here.core (host_of here.core v.of) to.whole).ordinal, (seen, rw e to.bounds))))
 
 counter_named_whole : (sees : Sees) (here : Here) → IsFounded here.core → (at : Place) (m : Option Meaning) → ((x : Meaning) → m ≡ Some x → StandsFor here.core sees x) → Whole (IsCounter here.core sees) (checked (counter_named here at m))
-counter_named_whole sees here f at None h = whole_refused
+counter_named_whole sees here f at None h = whole_rule
 counter_named_whole sees here f at (Some Spoiled) h = absurd (h Spoiled refl)
 counter_named_whole sees here f at (Some (Variable id w)) h = let k = h (Variable id w) refl in counter_row_whole sees here f at id k.0 k.1 (slice_get here.core.variables id.0) refl
-counter_named_whole sees here f at (Some m) h = whole_refused
+counter_named_whole sees here f at (Some m) h = whole_rule
 
 counter_whole : {sees : Sees} {here : Here} → IsSettled sees here → (n : Name) → Whole (IsCounter here.core sees) (checked (counter here n))
 counter_whole {sees} {here} s n = counter_named_whole sees here s.founded n.position.place (meaning_of here.visible (lower n.text)) (λ m e. stands_for here.core sees here.visible s.names (lower n.text) m e)
@@ -230,7 +209,7 @@ has_text core sees (constant c) h a = (tree_typed core sees (constant c) h, text
 has_text core sees (computed e) h a = (h, text_of core (typing.type_of e) a)
 
 text_whole : {sees : Sees} {here : Here} → IsSettled sees here → (e : Expression) → Whole (Has IsText here.core sees) (checked (text here e))
-text_whole {sees} {here} s e = whole_behind (value_of_whole s None e) (λ v h. whole_tested 60 (start_of e) (is_text (sort_of here.core (type_of v))) (λ a. whole_gives (has_text here.core sees v h a)))
+text_whole {sees} {here} s e = whole_behind (value_of_whole s None e) (λ v h. whole_tested NotWritten (start_of e) (is_text (sort_of here.core (type_of v))) (λ a. whole_gives (has_text here.core sees v h a)))
 
 item_whole : {sees : Sees} {here : Here} → IsSettled sees here → (a : Argument) → Whole (IsItem here.core sees) (checked (item here a))
 item_whole s (value_argument e) = whole_changed_so plain (text_whole s e) (λ t h. h)
@@ -250,7 +229,7 @@ written_whole at s ends_line args = whole_changed_so (λ xs. built_in (write xs 
 
 counted_whole : {sees : Sees} {here : Here} → IsSettled sees here → (ranges : Bool) (e : Expression) → Whole (IsTarget IsOrdinal here.core sees) (checked (procedures.counted here ranges e))
 counted_whole {sees} {here} s ranges e =
-    whole_behind (variable_whole s None e) (λ t h. whole_tested 23 (start_of e) (is_ordinal (sort_of here.core (typing.type_of t))) (λ a.
+    whole_behind (variable_whole s None e) (λ t h. whole_tested NotOrdinal (start_of e) (is_ordinal (sort_of here.core (typing.type_of t))) (λ a.
     let k = ordinal_sort (sort_of here.core (typing.type_of t)) a in
     whole_gives ((h.0, (stands_as here.core (typing.type_of t) (Ordinal k.0) k.1).0), place_with_characters here.core t h.1)))
 
@@ -265,8 +244,8 @@ count_whole {sees} {here} at s direction n (procedures.one e) =
     whole_two (λ t m. built_in (count direction t m n.position.switches.q)) (counted_whole s (position_of e).switches.r e) (whole_gives {P = Has IsInteger here.core sees} {a = unwritten (pos 1)} (unit_integer sees s.founded)) (λ t m h k. (h, k))
 count_whole {sees} at s direction n (procedures.two e f) =
     whole_two (λ t m. built_in (count direction t m n.position.switches.q)) (counted_whole s (position_of e).switches.r e) (given_to_whole s table.integer false f) (λ t m h k. (h, has_integer sees s.founded m k))
-count_whole at s direction n procedures.none = whole_refused
-count_whole at s direction n procedures.others = whole_refused
+count_whole at s direction n procedures.none = whole_rule
+count_whole at s direction n procedures.others = whole_rule
 
 set_by : (t : Option CoreType) → is_some (base_by t) ≡ true → IsSomeAnd (typing.base_of t) (λ base. Unit {0})
 set_by (Some (type.Set base)) e = tt
@@ -274,7 +253,7 @@ set_by t e = absurd (false≢true e)
 
 set_whole : {sees : Sees} {here : Here} → IsSettled sees here → (e : Expression) → Whole (IsTargetOf false IsSet here.core sees) (checked (set here e))
 set_whole {sees} {here} s e =
-    whole_behind (variable_whole s None e) (λ t h. whole_tested 28 (start_of e) (is_some (base_by (type_at here.core (typing.type_of t)))) (λ a.
+    whole_behind (variable_whole s None e) (λ t h. whole_tested VariableOfAnotherType (start_of e) (is_some (base_by (type_at here.core (typing.type_of t)))) (λ a.
     whole_gives ((h.0, set_by (type_at here.core (typing.type_of t)) a), h.1)))
 
 abbrev IsMember : Core → Sees → Option CoreType → Tree → Type 0
@@ -291,31 +270,31 @@ changes core sees at false set e h = h
 change_whole : {sees : Sees} {here : Here} (at : place.Here) → IsSettled sees here → (includes : Bool) (n : Name) (given : Values) → Whole (Is sees here at) (checked (change_means here includes n given))
 change_whole {sees} {here} at s includes n (procedures.two e f) =
     whole_upon (change includes) (λ o. checked (member here (base_in here.core o) f)) (set_whole s e) (λ t h. member_whole s (type_at here.core (typing.type_of t)) h.0.1 f) (λ t m h k. changes here.core sees at includes t m (h, k.0, k.1))
-change_whole at s includes n procedures.none = whole_refused
-change_whole at s includes n (procedures.one e) = whole_refused
-change_whole at s includes n procedures.others = whole_refused
+change_whole at s includes n procedures.none = whole_rule
+change_whole at s includes n (procedures.one e) = whole_rule
+change_whole at s includes n procedures.others = whole_rule
 
-exits_whole : (here : Here) {P : Statement → Type 0} {c : Checked Statement} (at : Place) → (in_finally here.around ≡ false → Whole P c) → Whole P (by_test 59 at c (not (in_finally here.around)))
-exits_whole here at h = whole_tested 59 at (not (in_finally here.around)) (λ a. h (not-true (in_finally here.around) a))
+exits_whole : (here : Here) {P : Statement → Type 0} {c : Checked Statement} (at : Place) → (in_finally here.around ≡ false → Whole P c) → Whole P (unless (fault LeavesFinally at) c (not (in_finally here.around)))
+exits_whole here at h = whole_tested LeavesFinally at (not (in_finally here.around)) (λ a. h (not-true (in_finally here.around) a))
 
 exit_whole : {sees : Sees} {here : Here} {at : place.Here} → IsSettled sees here → Surrounds here at → (n : Name) (given : Values) → Whole (Is sees here at) (checked (exit_means here n given))
 exit_whole {sees} {here} s r n procedures.none = exits_whole here n.position.place (λ a. whole_gives (r.routine a))
 exit_whole {sees} {here} s r n (procedures.one e) =
-    whole_entered 26 n.position.place (result_of here) (λ of is. exits_whole here n.position.place (λ a.
+    whole_entered WrongArguments n.position.place (result_of here) (λ of is. exits_whole here n.position.place (λ a.
     whole_changed_so exit_with (given_to_whole s of (position_of e).switches.r e) (λ t h. (r.routine a, subst (λ o. IsSomeAnd o (λ of. IsValue here.core sees of t)) (sym (r.result ∙ is)) h))))
-exit_whole s r n (procedures.two e f) = whole_refused
-exit_whole s r n procedures.others = whole_refused
+exit_whole s r n (procedures.two e f) = whole_rule
+exit_whole s r n procedures.others = whole_rule
 
 halt_whole : {sees : Sees} {here : Here} (at : place.Here) → IsSettled sees here → (n : Name) (given : Values) → Whole (Is sees here at) (checked (halt_means here n given))
 halt_whole {sees} at s n procedures.none = whole_gives (zero_integer sees s.founded)
 halt_whole {sees} at s n (procedures.one e) = whole_changed_so halt (given_to_whole s table.integer false e) (λ t h. has_integer sees s.founded t h)
-halt_whole at s n (procedures.two e f) = whole_refused
-halt_whole at s n procedures.others = whole_refused
+halt_whole at s n (procedures.two e f) = whole_rule
+halt_whole at s n procedures.others = whole_rule
 
 leaving_whole : {P : Statement → Type 0} (at : Place) (s : Statement) (reach : Reach) → (reach ≡ Inside → P s) → Whole P (checked (by_reach at s reach))
-leaving_whole at s Nowhere h = whole_refused
+leaving_whole at s Nowhere h = whole_rule
 leaving_whole at s Inside h = whole_gives (h refl)
-leaving_whole at s Beyond h = whole_refused
+leaving_whole at s Beyond h = whole_rule
 
 jumps : (core : Core) (sees : Sees) (at : place.Here) (jump : Jump) → at.loop ≡ true → IsStatement core sees at (jump_of jump)
 jumps core sees at Break h = h
@@ -323,9 +302,9 @@ jumps core sees at Continue h = h
 
 jump_whole : {sees : Sees} {here : Here} {at : place.Here} → Surrounds here at → (jump : Jump) (n : Name) (given : Values) → Whole (Is sees here at) (checked (jump_means here jump n given))
 jump_whole {sees} {here} {at} r jump n procedures.none = leaving_whole n.position.place (jump_of jump) (reach_of here.around) (λ e. jumps here.core sees at jump (r.loop e))
-jump_whole r jump n (procedures.one e) = whole_refused
-jump_whole r jump n (procedures.two e f) = whole_refused
-jump_whole r jump n procedures.others = whole_refused
+jump_whole r jump n (procedures.one e) = whole_rule
+jump_whole r jump n (procedures.two e f) = whole_rule
+jump_whole r jump n procedures.others = whole_rule
 
 plain_whole : {sees : Sees} {here : Here} (at : place.Here) → IsSettled sees here → (d : Designator) → Whole (Is sees here at) (checked (plain_call here d))
 plain_whole at s d = whole_changed_so call_statement (called_alone_whole s d) (λ t h. h)

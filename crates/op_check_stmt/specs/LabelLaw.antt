@@ -1,5 +1,5 @@
 -- The first label that has a value of an earlier one is found by the tests. (The law stands here, since the judgement of a case cites it.)
-use Rattle.std.proofs.Common.{◌≡◌, ℤ, pos, negsuc, ◌≤ℤ◌, ◌<ℤ◌, ◌||◌, ◌↔◌, T, inl, inr, Bool, true, false, is_some, List, [], ◌∷◌, ◌++◌, Option, Some, None, if◌then◌else◌, refl, sym, ap, subst}
+use Rattle.std.proofs.Common.{◌≡◌, ℤ, pos, negsuc, ◌≤ℤ◌, ◌<ℤ◌, ◌||◌, ◌↔◌, T, inl, inr, Bool, true, false, List, [], ◌∷◌, ◌++◌, Option, Some, None, if◌then◌else◌, refl, sym, ap, subst}
 use Rattle.std.proofs.Math.Facts.{ltb_yes, yes_leb}
 use Rattle.std.proofs.Math.Nat.{le_of_lt}
 use Rattle.std.proofs.lemmas.Bool.{and_from, and_parts, false≢true, or_cases, or_right}
@@ -7,16 +7,14 @@ use Rattle.std.proofs.lemmas.Int.{by_lt_z}
 use Rattle.std.specs.Int.Signed.{clash_ℤ, le_z_yes, lt_z, le_z, ≤ℤ_refl, <ℤ-≤ℤ_trans}
 use Rattle.std.specs.Prelude.{int_le}
 use Rattle.op_base.specs.declared.place.Place.{Place}
-use Rattle.op_core.proofs.Agreeing.{either_by, holds_none, lists_one, some_is}
+use Rattle.op_core.proofs.Agreeing.{either_by, holds_none, lists_one, none_is, some_is}
 use Rattle.op_core.specs.Relations.{Agrees, Either, Entry, Holds, Never, Only, Through, Where}
 use Rattle.op_core.specs.declared.statement.Label.{Label}
-use Rattle.op_judgement.specs.Judgement.{fault}
-use Rattle.op_judgement.specs.Rules.{label_twice}
+use Rattle.op_judgement.proofs.Told.{has_text}
+use Rattle.op_judgement.specs.Judgement.{HaveTexts, fault}
+use Rattle.op_judgement.specs.declared.rules.LanguageRule.TheVariants.{LabelTwice}
 use Rattle.op_check_stmt.specs.Labels.{Common, FirstMet, IsMet, NoneMet, TwiceBreaks, is_repeated, once, overlap, repeated, repeated_after}
 use Rattle.op_check_stmt.specs.declared.case.Spot.{Spot}
-
-none_is : {A : Type 0} {a : A} → None ≡ Some a → ⊥
-none_is e = false≢true (ap is_some e)
 
 -- ---- numbers
 
@@ -28,7 +26,7 @@ tells false t = absurd t
 is_at_most : {a b : ℤ} → a ≤ℤ b → int_le a b ≡ true
 is_at_most {a} {b} h = tells (le_z a b) h.le
 
-at_most : {a b : ℤ} → int_le a b ≡ true → a ≤ℤ b
+pub at_most : {a b : ℤ} → int_le a b ≡ true → a ≤ℤ b
 at_most e = le_z_yes (subst T (sym e) tt)
 
 below_test : (a b : ℤ) → T (lt_z a b) → T (le_z a b)
@@ -87,13 +85,18 @@ first_met front (s ∷ ss) = holds_if (is_repeated front s) (met front s, is_met
 
 -- ---- what has these labels
 
-once_law : {A : Type 0} (a : Option A) (o : Option Place) (R : Place → Type 0) → Holds o R → Agrees (once a o) (Where ((place : Place) → R place → ⊥) (Entry a)) (Through R (λ place. Only (fault label_twice place)))
+once_law : {A : Type 0} (a : Option A) (o : Option Place) (R : Place → Type 0) → Holds o R → Agrees (once a o) (Where ((place : Place) → R place → ⊥) (Entry a)) (Through R (λ place. Only (fault LabelTwice place)))
 once_law a None R k =
     (λ x. (λ e. (λ p r. none_is ((k p).1 r), e), λ s. s.1), λ r. (λ i. elim i [ ], λ s. absurd (none_is ((k s.0).1 s.1))))
 once_law a (Some p) R k = (
   λ x. (λ e. absurd (none_is e), λ s. absurd (s.0 p ((k p).0 refl))),
-  λ r. (λ i. (p, (k p).0 refl, (lists_one (fault label_twice p) r).0 i), λ s. (lists_one (fault label_twice p) r).1 (subst (λ q. fault label_twice q ≡ r) (sym (some_is ((k s.0).1 s.1))) s.2)),
+  λ r. (λ i. (p, (k p).0 refl, (lists_one (fault LabelTwice p) r).0 i), λ s. (lists_one (fault LabelTwice p) r).1 (subst (λ q. fault LabelTwice q ≡ r) (sym (some_is ((k s.0).1 s.1))) s.2)),
 )
 
 pub distinct_law : {A : Type 0} (a : Option A) (ss : List Spot) → Agrees (once a (repeated ss)) (Where (NoneMet ss) (Entry a)) (TwiceBreaks ss)
 distinct_law a ss = once_law a (repeated ss) (FirstMet [] ss) (first_met [] ss)
+
+-- the rule that it breaks has a text
+pub once_told : {A : Type 0} (a : Option A) (o : Option Place) → HaveTexts (once a o).faults
+once_told a None = tt
+once_told a (Some place) = has_text LabelTwice

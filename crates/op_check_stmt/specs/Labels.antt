@@ -7,7 +7,7 @@ use Rattle.op_core.specs.Faults.{Checked, none, one}
 use Rattle.op_core.specs.Relations.{Either, Never, Only, Through, Where}
 use Rattle.op_core.specs.declared.statement.Label.{Label}
 use Rattle.op_judgement.specs.Judgement.{fault}
-use Rattle.op_judgement.specs.Rules.{label_twice}
+use Rattle.op_judgement.specs.declared.rules.LanguageRule.TheVariants.{LabelTwice}
 use Rattle.op_check_stmt.specs.declared.case.Spot.{Spot}
 
 abbrev pub HasValue : Label → ℤ → Type 0
@@ -33,7 +33,7 @@ NoneMet ss = (place : Place) → FirstMet [] ss place → ⊥
 
 -- where the first one stands that has, the rule is broken
 abbrev pub TwiceBreaks : List Spot → Refusal → Type 0
-TwiceBreaks ss = Through (FirstMet [] ss) (λ place. Only (fault label_twice place))
+TwiceBreaks ss = Through (FirstMet [] ss) (λ place. Only (fault LabelTwice place))
 
 -- ---- the same, as tests
 
@@ -54,4 +54,4 @@ repeated ss = repeated_after [] ss
 -- what has labels of which one, at this place, has a value of an earlier one
 abbrev pub once : {A : Type 0} → Option A → Option Place → Checked A
 once a None = record { typed = a; faults = none }
-once a (Some place) = record { typed = None; faults = one (fault label_twice place) }
+once a (Some place) = record { typed = None; faults = one (fault LabelTwice place) }

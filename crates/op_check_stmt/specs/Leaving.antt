@@ -5,10 +5,9 @@ use Rattle.std.specs.List.{fold, list_any}
 use Rattle.op_base.specs.declared.place.Place.{Place}
 use Rattle.op_check_expr.specs.declared.scope.Around.{Around}
 use Rattle.op_check_expr.specs.declared.scope.Around.TheVariants.{Loop, Handler, Finally}
-use Rattle.op_core.specs.Faults.{Checked}
 use Rattle.op_core.specs.Statement.{Statement, break, continue}
-use Rattle.op_judgement.specs.Judgement.{Judgement, by_entry, by_test, checked, fine, refused}
-use Rattle.op_judgement.specs.Rules.{leaves_finally, no_loop}
+use Rattle.op_judgement.specs.Judgement.{Judgement, by_entry, by_test, fine, refused}
+use Rattle.op_judgement.specs.declared.rules.LanguageRule.TheVariants.{LeavesFinally, NoLoop}
 use Rattle.op_check_stmt.specs.declared.leaving.Jump.{Jump}
 use Rattle.op_check_stmt.specs.declared.leaving.Jump.TheVariants.{Break, Continue}
 use Rattle.op_check_stmt.specs.declared.leaving.Reach.{Reach}
@@ -38,7 +37,7 @@ within_loop (part ∷ parts) = within_loop parts
 
 -- what leaves a loop, or its turn, at the word
 abbrev pub leaves : {A : Type 0} → Place → A → List Around → Judgement A
-leaves place statement around = by_entry no_loop place (λ parts. by_test leaves_finally place (fine statement) (may_leave parts)) (within_loop around)
+leaves place statement around = by_entry NoLoop place (λ parts. by_test LeavesFinally place (fine statement) (may_leave parts)) (within_loop around)
 
 -- ---- the same, part by part
 
@@ -54,10 +53,6 @@ abbrev pub reach_of : List Around → Reach
 reach_of around = fold entered Nowhere around
 
 abbrev pub by_reach : {A : Type 0} → Place → A → Reach → Judgement A
-by_reach place statement Nowhere = refused no_loop place
+by_reach place statement Nowhere = refused NoLoop place
 by_reach place statement Inside = fine statement
-by_reach place statement Beyond = refused leaves_finally place
-
--- as the crates above read it
-abbrev pub leaving_means : {A : Type 0} → Place → A → Reach → Checked A
-leaving_means place statement reach = checked (by_reach place statement reach)
+by_reach place statement Beyond = refused LeavesFinally place

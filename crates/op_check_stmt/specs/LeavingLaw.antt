@@ -8,7 +8,7 @@ use Rattle.op_check_expr.specs.declared.scope.Around.TheVariants.{Loop, Handler,
 use Rattle.op_core.specs.Relations.{Agrees}
 use Rattle.op_judgement.proofs.Judging.{agrees}
 use Rattle.op_judgement.specs.Judgement.{Breaks, Means, by_entry, by_test, checked, fine}
-use Rattle.op_judgement.specs.Rules.{leaves_finally, no_loop}
+use Rattle.op_judgement.specs.declared.rules.LanguageRule.TheVariants.{LeavesFinally, NoLoop}
 use Rattle.op_check_stmt.specs.Leaving.{by_reach, entered, in_finally, leaves, may_leave, reach_of, within_loop}
 use Rattle.op_check_stmt.specs.declared.leaving.Reach.{Reach}
 use Rattle.op_check_stmt.specs.declared.leaving.Reach.TheVariants.{Nowhere, Inside, Beyond}
@@ -46,7 +46,7 @@ reached r (Loop variable ∷ parts) = reached Inside parts ∙ in_loop parts (wi
 reached r (Handler ∷ parts) = reached r parts ∙ in_handler r parts (within_loop parts)
 reached r (Finally ∷ parts) = reached (entered r Finally) parts ∙ in_finally_part r parts (within_loop parts)
 
-left : {A : Type 0} (place : Place) (x : A) (b : Bool) → checked (by_reach place x (past Inside b)) ≡ checked (by_test leaves_finally place (fine x) (not b))
+left : {A : Type 0} (place : Place) (x : A) (b : Bool) → checked (by_reach place x (past Inside b)) ≡ checked (by_test LeavesFinally place (fine x) (not b))
 left place x true = refl
 left place x false = refl
 
@@ -54,7 +54,7 @@ nowhere : (b : Bool) → past Nowhere b ≡ Nowhere
 nowhere true = refl
 nowhere false = refl
 
-by_loop : {A : Type 0} (place : Place) (x : A) (around : List Around) (o : Option (List Around)) → checked (by_reach place x (ahead Nowhere around o)) ≡ checked (by_entry no_loop place (λ parts. by_test leaves_finally place (fine x) (may_leave parts)) o)
+by_loop : {A : Type 0} (place : Place) (x : A) (around : List Around) (o : Option (List Around)) → checked (by_reach place x (ahead Nowhere around o)) ≡ checked (by_entry NoLoop place (λ parts. by_test LeavesFinally place (fine x) (may_leave parts)) o)
 by_loop place x around None = ap (λ r. checked (by_reach place x r)) (nowhere (in_finally around))
 by_loop place x around (Some parts) = left place x (in_finally parts)
 

@@ -1,16 +1,12 @@
 pub mod Case
-pub mod Cases
 pub mod LabelLaw
 pub mod Labels
 pub mod Leaving
 pub mod LeavingLaw
 pub mod Parts
 pub mod Procedure
-pub mod Procedures
 pub mod Seen
 pub mod Statement
-pub mod Statements
 pub mod Surrounding
 pub mod Unplaced
 pub mod Variable
-pub mod Variables

@@ -8,8 +8,10 @@ use Rattle.op_check_expr.specs.Scopes.{Here}
 use Rattle.op_check_expr.specs.declared.scope.Around.{Around}
 use Rattle.op_check_expr.specs.Values.{Value, conversion, tree_of, type_of}
 use Rattle.op_core.specs.Expression.{Expression as Tree, expression, constant, no_steps}
+use Rattle.op_judgement.proofs.Told.{all_told}
 use Rattle.op_judgement.specs.Judgement.{Breaks, Judgement, Means, by_entry, by_test, changed, checked, fine, given, known, of_two, refused, through}
-use Rattle.op_judgement.specs.Rules.{fraction_width, leaves_finally, not_ordinal, not_written, variable_of_another_type, wrong_arguments}
+use Rattle.op_judgement.specs.declared.rules.Feature.TheVariants.{FractionWidth}
+use Rattle.op_judgement.specs.declared.rules.LanguageRule.TheVariants.{LeavesFinally, NotInProfile, NotOrdinal, NotWritten, VariableOfAnotherType, WrongArguments}
 use Rattle.op_core.specs.Sizes.{type_at}
 use Rattle.op_core.specs.Statement.{Item, plain, padded, Target, write, count, include, exclude, Statement, call as call_statement, exit, exit_with, halt, built_in}
 use Rattle.op_core.specs.Typing as typing
@@ -77,7 +79,7 @@ is_text String = true
 is_text _ = false
 
 abbrev pub text_means : Core → Place → Value → Judgement Tree
-text_means core place v = by_test not_written place (fine (tree_of v)) (is_text (sort_of core (type_of v)))
+text_means core place v = by_test NotWritten place (fine (tree_of v)) (is_text (sort_of core (type_of v)))
 
 abbrev pub text : Here → Expression → Judgement Tree
 text here e = through (phrase.value here None e) (text_means here.core (start_of e))
@@ -85,7 +87,7 @@ text here e = through (phrase.value here None e) (text_means here.core (start_of
 abbrev pub item : Here → Argument → Judgement Item
 item here (value_argument e) = changed plain (text here e)
 item here (padded_argument e width) = of_two padded (text here e) (phrase.given here table.integer false width)
-item here (rounded e width digits) = refused fraction_width (start_of digits)
+item here (rounded e width digits) = refused (NotInProfile FractionWidth) (start_of digits)
 
 abbrev pub items : Here → Arguments → Judgement (List Item)
 items here no_arguments = fine []
@@ -105,7 +107,7 @@ abbrev pub place_counted : Core → Bool → Tree → Target
 place_counted core ranges place = record { place = place; store = unwrap_or (conversion core ranges table.integer (typing.type_of place)) Keep }
 
 abbrev pub counted_means : Core → Place → Bool → Tree → Judgement Target
-counted_means core at ranges place = by_test not_ordinal at (fine (place_counted core ranges place)) (is_ordinal (sort_of core (typing.type_of place)))
+counted_means core at ranges place = by_test NotOrdinal at (fine (place_counted core ranges place)) (is_ordinal (sort_of core (typing.type_of place)))
 
 abbrev pub counted : Here → Bool → Expression → Judgement Target
 counted here ranges e = through (phrase.variable here None e) (counted_means here.core (start_of e) ranges)
@@ -117,7 +119,7 @@ count_by direction overflow target amount = of_two (λ t n. built_in (count dire
 abbrev pub count_means : Here → Direction → Name → Values → Judgement Statement
 count_means here direction n (one e) = count_by direction n.position.switches.q (counted here (position_of e).switches.r e) (fine (unwritten (pos 1)))
 count_means here direction n (two e f) = count_by direction n.position.switches.q (counted here (position_of e).switches.r e) (phrase.given here table.integer false f)
-count_means here direction n _ = refused wrong_arguments n.position.place
+count_means here direction n _ = refused WrongArguments n.position.place
 
 -- ---- Include and Exclude
 
@@ -130,7 +132,7 @@ abbrev pub base_of : Core → TypeId → Option TypeId
 base_of core of = base_by (type_at core of)
 
 abbrev pub set_means : Core → Place → Tree → Judgement Tree
-set_means core at place = by_test variable_of_another_type at (fine place) (is_some (base_of core (typing.type_of place)))
+set_means core at place = by_test VariableOfAnotherType at (fine place) (is_some (base_of core (typing.type_of place)))
 
 -- a variable that is a set
 abbrev pub set : Here → Expression → Judgement Tree
@@ -151,7 +153,7 @@ change false s e = built_in (exclude s e)
 -- Include or Exclude, at its name
 abbrev pub change_means : Here → Bool → Name → Values → Judgement Statement
 change_means here includes n (two s e) = of_two (change includes) (set here s) (given (set here s) (λ place. member here (base_in here.core place) e))
-change_means here includes n _ = refused wrong_arguments n.position.place
+change_means here includes n _ = refused WrongArguments n.position.place
 
 -- ---- Exit, Halt, Break and Continue
 
@@ -164,27 +166,27 @@ result_of here = option_and_then (result_at here.core) here.routine
 
 -- at the word, unless a finally part would be left
 abbrev pub exits : Here → Place → Judgement Statement → Judgement Statement
-exits here place c = by_test leaves_finally place c (not (in_finally here.around))
+exits here place c = by_test LeavesFinally place c (not (in_finally here.around))
 
 abbrev pub exit_means : Here → Name → Values → Judgement Statement
 exit_means here n none = exits here n.position.place (fine exit)
-exit_means here n (one e) = by_entry wrong_arguments n.position.place (λ of. exits here n.position.place (changed exit_with (phrase.given here of (position_of e).switches.r e))) (result_of here)
-exit_means here n _ = refused wrong_arguments n.position.place
+exit_means here n (one e) = by_entry WrongArguments n.position.place (λ of. exits here n.position.place (changed exit_with (phrase.given here of (position_of e).switches.r e))) (result_of here)
+exit_means here n _ = refused WrongArguments n.position.place
 
 -- the program ends with this status, or with 0
 abbrev pub halt_means : Here → Name → Values → Judgement Statement
 halt_means here n none = fine (halt (unwritten (pos 0)))
 halt_means here n (one e) = changed halt (phrase.given here table.integer false e)
-halt_means here n _ = refused wrong_arguments n.position.place
+halt_means here n _ = refused WrongArguments n.position.place
 
 -- what leaves a loop, or its turn, at the word
 abbrev pub leaving : {A : Type 0} → Place → A → List Around → Judgement A
 leaving place statement around =
-    known (checked (by_reach place statement (reach_of around))) (Means (leaves place statement around)) (Breaks (leaves place statement around)) (leaving_law place statement around)
+    known (checked (by_reach place statement (reach_of around))) (Means (leaves place statement around)) (Breaks (leaves place statement around)) (leaving_law place statement around) (all_told (by_reach place statement (reach_of around)))
 
 abbrev pub jump_means : Here → Jump → Name → Values → Judgement Statement
 jump_means here jump n none = leaving n.position.place (jump_of jump) here.around
-jump_means here jump n _ = refused wrong_arguments n.position.place
+jump_means here jump n _ = refused WrongArguments n.position.place
 
 -- ---- calls
 

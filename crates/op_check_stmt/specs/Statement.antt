@@ -28,7 +28,8 @@ use Rattle.op_types.specs.Assignable.{assignable}
 use Rattle.op_types.specs.ConstantParts.{start_of}
 use Rattle.op_types.specs.Operators as table
 use Rattle.op_judgement.specs.Judgement.{Breaks, Judgement, Means, by_test, changed, checked, fine, followed, given, of_two, refused, through}
-use Rattle.op_judgement.specs.Rules.{classes, dynamic_arrays, exceptions, not_boolean}
+use Rattle.op_judgement.specs.declared.rules.Feature.TheVariants.{Classes, DynamicArrays, Exceptions}
+use Rattle.op_judgement.specs.declared.rules.LanguageRule.TheVariants.{NotBoolean, NotInProfile}
 use Rattle.op_check_stmt.specs.Case.{branch_labels, distinct, selector, spots}
 use Rattle.op_check_stmt.specs.Procedure.{call_means}
 use Rattle.op_check_stmt.specs.Unplaced.{place_of_body}
@@ -56,7 +57,7 @@ of_three f a b c = of_two (λ p c. f p.0 p.1 c) (paired a b) c
 -- ---- expressions in statements
 
 abbrev pub condition_means : Core → Place → Value → Judgement Tree
-condition_means core place v = by_test not_boolean place (fine (as_type core false table.boolean v)) (assignable core (type_of v) table.boolean)
+condition_means core place v = by_test NotBoolean place (fine (as_type core false table.boolean v)) (assignable core (type_of v) table.boolean)
 
 abbrev pub condition : Here → Expression → Judgement Tree
 condition here e = through (phrase.value here None e) (condition_means here.core (start_of e))
@@ -90,7 +91,7 @@ place_of_handlers here (Some place) = place
 
 -- what stands behind a body that may raise exceptions: the feature at a place
 abbrev pub excepted : Place → Judgement Statements → Judgement Statement
-excepted place body = followed body (λ ss. refused exceptions place)
+excepted place body = followed body (λ ss. refused (NotInProfile Exceptions) place)
 
 -- a whole, unless handlers stand behind its body
 abbrev pub tried : Option Place → Judgement Statements → Judgement Statement → Judgement Statement
@@ -135,15 +136,15 @@ abbrev mutual
       of_three (for_statement direction) (counter here n)
       (given (counter here n) (λ c. paired (bound_of here c e) (bound_of here c f)))
       (given (counter here n) (λ c. statement (counted here c) s))
-  statement here (tree.for_in n e s) = refused dynamic_arrays n.position.place
+  statement here (tree.for_in n e s) = refused (NotInProfile DynamicArrays) n.position.place
   statement here (tree.try_finally ss ts) = of_two try_finally (statements here ss) (statements (within here Finally) ts)
   statement here (tree.try_except ss ts) = excepted (place_of_body here) (statements here ss)
   statement here (tree.try_on ss hs) = tried (first_class hs) (statements here ss) (changed block (statements here ss))
   statement here (tree.try_on_else ss hs ts) = excepted (place_of_handlers here (first_class hs)) (statements here ss)
-  statement here (tree.raise p e) = refused exceptions p.place
-  statement here (tree.reraise p) = refused exceptions p.place
-  statement here (tree.inherited p) = refused classes p.place
-  statement here (tree.inherited_call p d) = refused classes p.place
+  statement here (tree.raise p e) = refused (NotInProfile Exceptions) p.place
+  statement here (tree.reraise p) = refused (NotInProfile Exceptions) p.place
+  statement here (tree.inherited p) = refused (NotInProfile Classes) p.place
+  statement here (tree.inherited_call p d) = refused (NotInProfile Classes) p.place
   statement here (tree.call d) = call_means here d
   statement here (tree.assign d p e) = assign_means here d p e
 

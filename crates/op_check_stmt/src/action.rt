@@ -21,7 +21,7 @@ use op_core::{
     Const, Conversion, Core, CoreAction, CoreExpr, CoreItem, CoreStmt, CoreTarget, CoreType,
     FirstRefusal, Root, TypeId, type_at,
 };
-use op_judgement::{refuse, rules};
+use op_judgement::{Feature, LanguageRule, refuse};
 use op_tree::{Argument, Direction, Expr, Name};
 use op_types::{OrdinalKind, Sort, sort_of, start_of};
 use std::alloc::Global;
@@ -79,7 +79,7 @@ fn item(
         }
         Argument::Rounded(_, _, digits) => Ok(refuse(
             sink,
-            rules::FRACTION_WIDTH,
+            LanguageRule::NotInProfile(Feature::FractionWidth),
             start_of(digits),
         )),
     }
@@ -116,7 +116,7 @@ fn text_of(
     if is_text(sort_of(core, value.type_of())) {
         Some(value.into_tree(alloc))
     } else {
-        refuse(sink, rules::NOT_WRITTEN, place)
+        refuse(sink, LanguageRule::NotWritten, place)
     }
 }
 
@@ -153,7 +153,7 @@ pub fn count(
             let amount = here.given(sink, TypeId::INTEGER, false, by)?;
             count_by(here.alloc, direction, checked, pair(target, amount))
         }
-        _ => Ok(refuse(sink, rules::WRONG_ARGUMENTS, name.position.place)),
+        _ => Ok(refuse(sink, LanguageRule::WrongArguments, name.position.place)),
     }
 }
 
@@ -217,7 +217,7 @@ fn counted_of(
 {
     let of = type_of(&place);
     if !is_ordinal(sort_of(core, of)) {
-        return refuse(sink, rules::NOT_ORDINAL, at);
+        return refuse(sink, LanguageRule::NotOrdinal, at);
     }
     let store = conversion(core, checked, TypeId::INTEGER, of).unwrap_or(Conversion::Keep);
     Some(CoreTarget { place, store })
@@ -240,7 +240,7 @@ pub fn change(
             let element = member(here, sink, base, element)?;
             changed(here.alloc, includes, pair(set, element))
         }
-        _ => Ok(refuse(sink, rules::WRONG_ARGUMENTS, name.position.place)),
+        _ => Ok(refuse(sink, LanguageRule::WrongArguments, name.position.place)),
     }
 }
 
@@ -274,7 +274,7 @@ fn set_of(core: &Core, sink: &mut FirstRefusal, at: Place, place: CoreExpr) -> O
     ensures { Reports (set_means core.now at (typed_of place)) sink.old sink.new (option_map typed_of result) }
 {
     match base_of(core, type_of(&place)) {
-        None => refuse(sink, rules::VARIABLE_OF_ANOTHER_TYPE, at),
+        None => refuse(sink, LanguageRule::VariableOfAnotherType, at),
         Some(_) => Some(place),
     }
 }

@@ -17,7 +17,7 @@ use crate::variable::host_of;
 use op_base::{NoMemory, Place};
 use op_check_expr::{Checker, Value, as_type};
 use op_core::{Const, Core, CoreExpr, FirstRefusal, Label, TypeId};
-use op_judgement::{refuse, rules};
+use op_judgement::{Feature, LanguageRule, refuse};
 use op_tree::{Element, Expr};
 use op_types::{Constant, Sort, Weight, assignable, plus, sort_of, start_of};
 use std::alloc::Global;
@@ -37,6 +37,7 @@ pub struct Spot {
 }
 
 /// What selects a branch, as a value of its type's host: rule 23 where it is not ordinal. Cases of strings are left out.
+#[inline(never)]
 pub fn selector(
     here: Checker,
     sink: &mut FirstRefusal,
@@ -62,13 +63,18 @@ fn selected(
     let of = value.type_of();
     match sort_of(core, of) {
         Sort::Ordinal(_) => Ok(Some(as_type(alloc, core, false, host_of(core, of), value)?)),
-        Sort::String => Ok(refuse(sink, rules::CASE_ON_STRINGS, place)),
-        _ => Ok(refuse(sink, rules::NOT_ORDINAL, place)),
+        Sort::String => Ok(refuse(
+            sink,
+            LanguageRule::NotInProfile(Feature::CaseOnStrings),
+            place,
+        )),
+        _ => Ok(refuse(sink, LanguageRule::NotOrdinal, place)),
     }
 }
 
 /// The labels of a branch, where the selector has this type; those that have values go behind the others of the case. The grammar has one at
 /// least: a branch without any breaks rule 9.
+#[inline(never)]
 pub fn branch_labels(
     here: Checker,
     sink: &mut FirstRefusal,
@@ -80,7 +86,7 @@ pub fn branch_labels(
     ensures notes { IfOk result (λ l. others.new.items ≡ others.old.items ++ spots (here_of here.entry.scope) of (elements_of elements.now)) }
 {
     match elements.split_first() {
-        None => Ok(refuse(sink, rules::SYNTAX, place_of_body(here))),
+        None => Ok(refuse(sink, LanguageRule::Syntax, place_of_body(here))),
         Some(_) => labels(here, sink, others, of, elements),
     }
 }
@@ -175,7 +181,7 @@ fn range_of(
     if low.number <= high.number {
         Some(make_spot(place, low, high, plus(low.weight, high.weight)))
     } else {
-        refuse(sink, rules::EMPTY_RANGE, place)
+        refuse(sink, LanguageRule::EmptyRange, place)
     }
 }
 
@@ -204,10 +210,10 @@ fn bound_of(
     ensures { Reports (bound_means core.now place of (value_of value)) sink.old sink.new result }
 {
     if !fits(core, value.type_of(), of) {
-        return refuse(sink, rules::NOT_ASSIGNABLE, place);
+        return refuse(sink, LanguageRule::NotAssignable, place);
     }
     match &value {
-        Value::Computed(_) => refuse(sink, rules::NO_CONSTANT, place),
+        Value::Computed(_) => refuse(sink, LanguageRule::NoConstant, place),
         Value::Constant(c) => of_type(of, c),
     }
 }
@@ -243,6 +249,7 @@ fn number(c: &Constant) -> Bound
 
 /// What has these labels, where no value has two of them: rule 32 at the first label, in the order of the text, that has a value of
 /// another one in front of it.
+#[inline(never)]
 pub fn distinct<T: Drop>(
     alloc: Global,
     sink: &mut FirstRefusal,
@@ -253,6 +260,6 @@ pub fn distinct<T: Drop>(
 {
     match repeated(alloc, labels)? {
         None => Ok(typed),
-        Some(place) => Ok(refuse(sink, rules::LABEL_TWICE, place)),
+        Some(place) => Ok(refuse(sink, LanguageRule::LabelTwice, place)),
     }
 }

@@ -9,7 +9,7 @@ ghost use Rattle.op_check_stmt.specs.Procedure.{leaving};
 use op_base::{NoMemory, Place};
 use op_check_expr::Around;
 use op_core::{CoreStmt, FirstRefusal};
-use op_judgement::{refuse, rules};
+use op_judgement::{LanguageRule, refuse};
 use std::alloc::Global;
 
 /// How far the innermost loop is from a place.
@@ -24,6 +24,7 @@ pub enum Reach {
 }
 
 /// What stands round a place within one part more.
+#[inline(never)]
 pub fn within(alloc: Global, around: &[Around], part: Around) -> Result<Vec<Around>, NoMemory>
     ensures { IfOk result (λ v. v.items ≡ around.now ++ part ∷ []) }
 {
@@ -49,9 +50,9 @@ pub fn leaving(
     ensures { Reports (leaving place (jump_of jump) around.now) sink.old sink.new (option_map stmt_of result) }
 {
     match reach_of(around) {
-        Reach::Nowhere => refuse(sink, rules::NO_LOOP, place),
+        Reach::Nowhere => refuse(sink, LanguageRule::NoLoop, place),
         Reach::Inside => Some(jump_of(jump)),
-        Reach::Beyond => refuse(sink, rules::LEAVES_FINALLY, place),
+        Reach::Beyond => refuse(sink, LanguageRule::LeavesFinally, place),
     }
 }
 

@@ -6,6 +6,7 @@ ghost use Rattle.op_check_stmt.specs.Parts.{items_of, with_last};
 use op_base::NoMemory;
 
 /// Puts a part behind those of a list. A list with a part that is not typed is none.
+#[inline(never)]
 pub fn collect<T: Drop>(list: &mut Option<Vec<T>>, part: Option<T>) -> Result<(), NoMemory>
     ensures { IfOk result (λ _. items_of list.new ≡ with_last (items_of list.old) part) }
 {

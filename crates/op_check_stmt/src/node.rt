@@ -1,11 +1,12 @@
 //! Typed statements, made of parts that may have no type.
 ghost use Rattle.std.specs.Prelude.{◌≡◌, IfOk, Some};
 ghost use Rattle.std.specs.Option.{option_map};
-ghost use Rattle.op_check_stmt.specs.Parts.{both_typed, bounds_of, branch_of, head_of, joined, statements_in};
+ghost use Rattle.op_check_stmt.specs.Parts.{bounds_of, boxed_of, branch_of, front_of, head_of, items_of, statements_in, three_typed};
 ghost use Rattle.op_check_stmt.specs.Statement.{case_statement, for_statement};
-ghost use Rattle.op_core.specs.Expression.{expr_of};
+ghost use Rattle.op_core.specs.Expression.{Expression, expr_of};
 ghost use Rattle.op_core.specs.Nodes.{branches_of};
-ghost use Rattle.op_core.specs.Statement.{assign, block, case_of, for_to, if_else, if_then, repeat_until, stmt_of, stmts_of, try_finally, while_do};
+ghost use Rattle.op_core.specs.Statement.{Statement, assign, block, case_of, for_to, if_else, if_then, repeat_until, stmt_of, stmts_of, try_finally, while_do};
+ghost use Rattle.op_judgement.specs.Judgement.{both_typed};
 
 use crate::variable::Counter;
 use op_base::{NoMemory, Sequence};
@@ -26,6 +27,7 @@ pub fn block(statements: Option<Vec<CoreStmt>>) -> Option<CoreStmt>
 }
 
 /// Both parts, where both are typed.
+#[inline(never)]
 pub fn pair<A: Drop, B: Drop>(a: Option<A>, b: Option<B>) -> Option<(A, B)>
     ensures { result ≡ both_typed (λ a b. (a, b)) a b }
 {
@@ -35,85 +37,69 @@ pub fn pair<A: Drop, B: Drop>(a: Option<A>, b: Option<B>) -> Option<(A, B)>
     Some((a, b))
 }
 
-/// The same, where the second part was just checked.
-pub fn joined<A: Drop, B: Drop>(
-    a: Option<A>,
-    b: Result<Option<B>, NoMemory>,
-) -> Result<Option<(A, B)>, NoMemory>
-    ensures { result ≡ joined a b }
+/// A part in memory of its own.
+#[inline(never)]
+pub fn boxed(alloc: Global, statement: Option<CoreStmt>) -> Result<Option<Box<CoreStmt>>, NoMemory>
+    ensures { IfOk result (λ s. option_map boxed_of s ≡ option_map stmt_of statement) }
 {
-    match b {
-        Ok(b) => Ok(pair(a, b)),
-        Err(e) => Err(e),
-    }
-}
-
-pub fn if_then(alloc: Global, parts: Option<(CoreExpr, CoreStmt)>) -> Typed
-    ensures { IfOk result (λ s. option_map stmt_of s ≡ option_map (λ p. if_then (expr_of p.0) (stmt_of p.1)) parts) }
-{
-    match parts {
+    match statement {
         None => Ok(None),
-        Some((condition, then)) => {
-            let then = Box::new(alloc, then)?;
-            Ok(Some(CoreStmt::If { condition, then }))
-        }
+        Some(statement) => Ok(Some(Box::new(alloc, statement)?)),
     }
 }
 
-pub fn if_else(alloc: Global, parts: Option<((CoreExpr, CoreStmt), CoreStmt)>) -> Typed
-    ensures { IfOk result (λ s. option_map stmt_of s ≡ option_map (λ p. if_else (expr_of p.0.0) (stmt_of p.0.1) (stmt_of p.1)) parts) }
+#[inline(never)]
+pub fn if_then(condition: Option<CoreExpr>, then: Option<Box<CoreStmt>>) -> Option<CoreStmt>
+    ensures { option_map stmt_of result ≡ both_typed if_then (option_map expr_of condition) (option_map boxed_of then) }
 {
-    match parts {
-        None => Ok(None),
-        Some(((condition, then), otherwise)) => {
-            let then = Box::new(alloc, then)?;
-            if_else_with(alloc, condition, then, otherwise)
-        }
-    }
+    let (Some(condition), Some(then)) = (condition, then) else {
+        return None;
+    };
+    Some(CoreStmt::If { condition, then })
 }
 
-fn if_else_with(
-    alloc: Global,
-    condition: CoreExpr,
-    then: Box<CoreStmt>,
-    otherwise: CoreStmt,
-) -> Typed
-    ensures { IfOk result (λ s. option_map stmt_of s ≡ Some (if_else (expr_of condition) (stmt_of then.value) (stmt_of otherwise))) }
+#[inline(never)]
+pub fn if_else(
+    front: Option<(CoreExpr, Box<CoreStmt>)>,
+    otherwise: Option<Box<CoreStmt>>,
+) -> Option<CoreStmt>
+    ensures { option_map stmt_of result ≡ both_typed (λ (f : Expression × Statement) s. if_else f.0 f.1 s) (option_map front_of front) (option_map boxed_of otherwise) }
 {
-    let otherwise = Box::new(alloc, otherwise)?;
-    Ok(Some(CoreStmt::IfElse {
+    let (Some((condition, then)), Some(otherwise)) = (front, otherwise) else {
+        return None;
+    };
+    Some(CoreStmt::IfElse {
         condition,
         then,
         otherwise,
-    }))
+    })
 }
 
-pub fn while_do(alloc: Global, parts: Option<(CoreExpr, CoreStmt)>) -> Typed
-    ensures { IfOk result (λ s. option_map stmt_of s ≡ option_map (λ p. while_do (expr_of p.0) (stmt_of p.1)) parts) }
+#[inline(never)]
+pub fn while_do(condition: Option<CoreExpr>, body: Option<Box<CoreStmt>>) -> Option<CoreStmt>
+    ensures { option_map stmt_of result ≡ both_typed while_do (option_map expr_of condition) (option_map boxed_of body) }
 {
-    match parts {
-        None => Ok(None),
-        Some((condition, body)) => {
-            let body = Box::new(alloc, body)?;
-            Ok(Some(CoreStmt::While { condition, body }))
-        }
-    }
+    let (Some(condition), Some(body)) = (condition, body) else {
+        return None;
+    };
+    Some(CoreStmt::While { condition, body })
 }
 
+#[inline(never)]
 pub fn for_to(
     alloc: Global,
     direction: Direction,
-    parts: Option<((Counter, (CoreExpr, CoreExpr)), CoreStmt)>,
+    counter: Option<Counter>,
+    bounds: Option<(CoreExpr, CoreExpr)>,
+    body: Option<Box<CoreStmt>>,
 ) -> Typed
-    ensures { IfOk result (λ s. option_map stmt_of s ≡ option_map (λ p. for_statement direction p.0.0 (bounds_of p.0.1) (stmt_of p.1)) parts) }
+    ensures { IfOk result (λ s. option_map stmt_of s ≡ three_typed (for_statement direction) counter (option_map bounds_of bounds) (option_map boxed_of body)) }
 {
-    match parts {
-        None => Ok(None),
-        Some(((counter, (first, last)), body)) => {
-            let first = Box::new(alloc, first)?;
-            for_with_first(alloc, counter.variable, first, direction, last, body)
-        }
-    }
+    let (Some(counter), Some((first, last)), Some(body)) = (counter, bounds, body) else {
+        return Ok(None);
+    };
+    let first = Box::new(alloc, first)?;
+    for_with_first(alloc, counter.variable, first, direction, last, body)
 }
 
 fn for_with_first(
@@ -122,25 +108,11 @@ fn for_with_first(
     first: Box<CoreExpr>,
     direction: Direction,
     last: CoreExpr,
-    body: CoreStmt,
+    body: Box<CoreStmt>,
 ) -> Typed
-    ensures { IfOk result (λ s. option_map stmt_of s ≡ Some (for_to variable (expr_of first.value) direction (expr_of last) (stmt_of body))) }
+    ensures { IfOk result (λ s. option_map stmt_of s ≡ Some (for_to variable (expr_of first.value) direction (expr_of last) (stmt_of body.value))) }
 {
     let last = Box::new(alloc, last)?;
-    for_with_last(alloc, variable, first, direction, last, body)
-}
-
-fn for_with_last(
-    alloc: Global,
-    variable: VariableId,
-    first: Box<CoreExpr>,
-    direction: Direction,
-    last: Box<CoreExpr>,
-    body: CoreStmt,
-) -> Typed
-    ensures { IfOk result (λ s. option_map stmt_of s ≡ Some (for_to variable (expr_of first.value) direction (expr_of last.value) (stmt_of body))) }
-{
-    let body = Box::new(alloc, body)?;
     Ok(Some(CoreStmt::For {
         variable,
         first,
@@ -150,37 +122,56 @@ fn for_with_last(
     }))
 }
 
-pub fn repeat_until(alloc: Global, parts: Option<(Vec<CoreStmt>, CoreExpr)>) -> Typed
-    ensures { IfOk result (λ s. option_map stmt_of s ≡ option_map (λ p. repeat_until (stmts_of p.0.items) (expr_of p.1)) parts) }
+#[inline(never)]
+pub fn repeat_until(
+    alloc: Global,
+    body: Option<Vec<CoreStmt>>,
+    condition: Option<CoreExpr>,
+) -> Typed
+    ensures { IfOk result (λ s. option_map stmt_of s ≡ both_typed repeat_until (statements_in body) (option_map expr_of condition)) }
 {
-    match parts {
-        None => Ok(None),
-        Some((body, condition)) => Ok(Some(repeat_of(body, Box::new(alloc, condition)?))),
-    }
+    let (Some(body), Some(condition)) = (body, condition) else {
+        return Ok(None);
+    };
+    Ok(Some(repeat_of(body, Box::new(alloc, condition)?)))
 }
 
-pub fn try_finally(parts: Option<(Vec<CoreStmt>, Vec<CoreStmt>)>) -> Option<CoreStmt>
-    ensures { option_map stmt_of result ≡ option_map (λ p. try_finally (stmts_of p.0.items) (stmts_of p.1.items)) parts }
+#[inline(never)]
+pub fn try_finally(
+    body: Option<Vec<CoreStmt>>,
+    finalization: Option<Vec<CoreStmt>>,
+) -> Option<CoreStmt>
+    ensures { option_map stmt_of result ≡ both_typed try_finally (statements_in body) (statements_in finalization) }
 {
-    match parts {
-        None => None,
-        Some((body, finalization)) => Some(finally_of(body, finalization)),
-    }
+    let (Some(body), Some(finalization)) = (body, finalization) else {
+        return None;
+    };
+    Some(finally_of(body, finalization))
 }
 
-pub fn case_of(alloc: Global, parts: Option<((CoreExpr, Vec<CoreBranch>), Vec<CoreStmt>)>) -> Typed
-    ensures { IfOk result (λ s. option_map stmt_of s ≡ option_map (λ p. case_statement (head_of p.0) (stmts_of p.1.items)) parts) }
+#[inline(never)]
+pub fn case_of(
+    alloc: Global,
+    head: Option<(CoreExpr, Vec<CoreBranch>)>,
+    otherwise: Option<Vec<CoreStmt>>,
+) -> Typed
+    ensures { IfOk result (λ s. option_map stmt_of s ≡ both_typed case_statement (option_map head_of head) (statements_in otherwise)) }
 {
-    match parts {
-        None => Ok(None),
-        Some(((selector, branches), otherwise)) => {
-            let selector = Box::new(alloc, selector)?;
-            Ok(Some(case_with(selector, branches, otherwise)))
-        }
-    }
+    let (Some((selector, branches)), Some(otherwise)) = (head, otherwise) else {
+        return Ok(None);
+    };
+    let selector = Box::new(alloc, selector)?;
+    Ok(Some(case_with(selector, branches, otherwise)))
 }
 
-pub fn branch(parts: Option<(Vec<Label>, CoreStmt)>) -> Option<CoreBranch>
+#[inline(never)]
+pub fn branch(labels: Option<Vec<Label>>, body: Option<CoreStmt>) -> Option<CoreBranch>
+    ensures { option_map branch_of result ≡ both_typed (λ l s. (l, s)) (items_of labels) (option_map stmt_of body) }
+{
+    branch_with(pair(labels, body))
+}
+
+fn branch_with(parts: Option<(Vec<Label>, CoreStmt)>) -> Option<CoreBranch>
     ensures { option_map branch_of result ≡ option_map (λ p. (p.0.items, stmt_of p.1)) parts }
 {
     match parts {

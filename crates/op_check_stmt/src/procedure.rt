@@ -17,7 +17,7 @@ use crate::leaving::{Jump, in_finally, leaving};
 use op_base::NoMemory;
 use op_check_expr::{Checker, position_of};
 use op_core::{Core, CoreStmt, FirstRefusal, RoutineId, TypeId};
-use op_judgement::{refuse, rules};
+use op_judgement::{LanguageRule, refuse};
 use op_tree::{Argument, Designator, Direction, Name, Root, Selector};
 use op_types::{BuiltIn, Meaning, Visible};
 use std::alloc::Global;
@@ -31,6 +31,7 @@ pub struct Called<'t> {
 }
 
 /// A call as a statement.
+#[inline(never)]
 pub fn call(
     here: Checker,
     sink: &mut FirstRefusal,
@@ -170,23 +171,23 @@ fn exit(
     match values {
         Given::Nothing => {
             if stays {
-                return Ok(refuse(sink, rules::LEAVES_FINALLY, place));
+                return Ok(refuse(sink, LanguageRule::LeavesFinally, place));
             }
             Ok(Some(CoreStmt::Exit))
         }
         Given::One(e) => {
             let Some(of) = result_of(here.scope.core, here.scope.routine) else {
-                return Ok(refuse(sink, rules::WRONG_ARGUMENTS, place));
+                return Ok(refuse(sink, LanguageRule::WrongArguments, place));
             };
             if stays {
-                return Ok(refuse(sink, rules::LEAVES_FINALLY, place));
+                return Ok(refuse(sink, LanguageRule::LeavesFinally, place));
             }
             match here.given(sink, of, position_of(e).switches.r, e)? {
                 None => Ok(None),
                 Some(result) => Ok(Some(CoreStmt::ExitWith(result))),
             }
         }
-        _ => Ok(refuse(sink, rules::WRONG_ARGUMENTS, place)),
+        _ => Ok(refuse(sink, LanguageRule::WrongArguments, place)),
     }
 }
 
@@ -213,7 +214,7 @@ fn halt(
             None => Ok(None),
             Some(status) => Ok(Some(CoreStmt::Halt(status))),
         },
-        _ => Ok(refuse(sink, rules::WRONG_ARGUMENTS, name.position.place)),
+        _ => Ok(refuse(sink, LanguageRule::WrongArguments, name.position.place)),
     }
 }
 
@@ -229,6 +230,6 @@ fn check_jump(
 {
     match values {
         Given::Nothing => leaving(sink, here.scope.around, name.position.place, jump),
-        _ => refuse(sink, rules::WRONG_ARGUMENTS, name.position.place),
+        _ => refuse(sink, LanguageRule::WrongArguments, name.position.place),
     }
 }

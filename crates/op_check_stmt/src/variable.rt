@@ -9,7 +9,7 @@ ghost use Rattle.op_types.specs.Sorts.{sort_of};
 use op_base::{NoMemory, Place};
 use op_check_expr::Checker;
 use op_core::{Core, CoreType, FirstRefusal, TypeId, VariableId, type_at};
-use op_judgement::{refuse, rules};
+use op_judgement::{LanguageRule, refuse};
 use op_tree::Name;
 use op_types::{Meaning, Sort, sort_of};
 
@@ -22,6 +22,7 @@ pub struct Counter {
 
 /// What the name behind `for` stands for: rule 15 where it is unknown, 16 where it is no variable, 23 where that is not ordinal,
 /// 29 where it cannot be written.
+#[inline(never)]
 pub fn check_counter(
     here: Checker,
     sink: &mut FirstRefusal,
@@ -42,7 +43,7 @@ fn counter_named(
     ensures { Reports (counter_named (here_of here.entry.scope) place (option_copied meaning.entry)) sink.old sink.new result }
 {
     match meaning {
-        None => refuse(sink, rules::UNKNOWN_NAME, place),
+        None => refuse(sink, LanguageRule::UnknownName, place),
         Some(Meaning::Spoiled) => None,
         Some(Meaning::Variable { id, .. }) => {
             let variable = here.scope.core.variables.as_slice().get(id.0 as usize)?;
@@ -55,7 +56,7 @@ fn counter_named(
                 here.is_writable_variable(*id),
             )
         }
-        Some(_) => refuse(sink, rules::WRONG_KIND_OF_NAME, place),
+        Some(_) => refuse(sink, LanguageRule::WrongKindOfName, place),
     }
 }
 
@@ -71,10 +72,10 @@ fn counter_of(
     ensures { Reports (counter_means core.now place variable of is_writable) sink.old sink.new result }
 {
     if !is_ordinal(sort_of(core, of)) {
-        return refuse(sink, rules::NOT_ORDINAL, place);
+        return refuse(sink, LanguageRule::NotOrdinal, place);
     }
     if !is_writable {
-        return refuse(sink, rules::NOT_WRITABLE, place);
+        return refuse(sink, LanguageRule::NotWritable, place);
     }
     let bounds = host_of(core, of);
     Some(Counter { variable, bounds })

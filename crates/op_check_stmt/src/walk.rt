@@ -1,29 +1,30 @@
 //! Statements, part by part.
-ghost use Rattle.std.specs.Prelude.{◌≡◌, [], ◌∷◌, ◌++◌, IfOk};
+ghost use Rattle.std.specs.Prelude.{◌≡◌, [], ◌∷◌, ◌++◌, IfErr, IfOk};
 ghost use Rattle.std.specs.Option.{option_map};
 ghost use Rattle.op_check_expr.specs.Scopes.{here_of};
 ghost use Rattle.op_check_expr.specs.Values.{value_of};
-ghost use Rattle.op_judgement.specs.Judgement.{Reports};
-ghost use Rattle.op_check_stmt.specs.Parts.{bounds_of, branches_in, head_of, statements_in};
-ghost use Rattle.op_check_stmt.specs.Statement.{StmtIs, StmtMeans, all_spots, assign_means, bound_of, branches, case_head, condition, condition_means, first_class, paired, place_of_handlers, statement, statements, stored, type_in};
+ghost use Rattle.op_check_expr.specs.declared.scope.Around.TheVariants.{Finally};
+ghost use Rattle.op_judgement.specs.Judgement.{RefusalHasText, Reports, refused};
+ghost use Rattle.op_check_stmt.specs.Parts.{bounds_of, boxed_of, branches_in, front_of, head_of, statements_in};
+ghost use Rattle.op_check_stmt.specs.Statement.{StmtIs, StmtMeans, all_spots, assign_means, bound_of, branches, case_head, condition, condition_means, excepted, first_class, looped, paired, place_of_handlers, statement, statements, stored, type_in, within as surrounded};
 ghost use Rattle.op_core.specs.Expression.{expr_of as typed_of};
 ghost use Rattle.op_core.specs.Statement.{stmt_of as typed_statement};
 ghost use Rattle.op_tree.specs.Expression.{expr_of};
 ghost use Rattle.op_tree.specs.Lists.{branches_of, handlers_of};
-ghost use Rattle.op_tree.specs.Statement.{designator_of, stmt_of, stmts_of};
+ghost use Rattle.op_tree.specs.Statement.{block, case_of, designator_of, for_to, if_then, repeat_until, stmt_of, stmts_of, while_do};
 
 use crate::case::{Spot, branch_labels, distinct, selector};
 use crate::leaving::within;
 use crate::list::{collect, fitted};
-use crate::node::{self, Typed, joined, pair};
+use crate::node::{self, Typed, pair};
 use crate::procedure::call;
 use crate::unplaced::place_of_body;
 use crate::variable::{Counter, check_counter};
 use op_base::{NoMemory, Place};
 use op_check_expr::{Around, Checker, Scope, Value, as_type, type_of};
 use op_core::{CheckError, CoreBranch, CoreExpr, CoreStmt, FirstRefusal, TypeId, VariableId};
-use op_judgement::{refuse, rules};
-use op_tree::{Branch, Designator, Expr, Handler, Position, Stmt};
+use op_judgement::{Feature, LanguageRule, refuse};
+use op_tree::{Branch, Designator, Direction, Expr, Handler, Name, Position, Stmt};
 use op_types::{assignable, start_of};
 use std::alloc::Global;
 
@@ -32,6 +33,7 @@ use std::alloc::Global;
 pub fn stmt(alloc: Global, scope: &Scope, s: &Stmt) -> Result<CoreStmt, CheckError>
     ensures exact { StmtIs (statement (here_of scope.now) (stmt_of s.now)) result }
     ensures law { StmtMeans (statement (here_of scope.now) (stmt_of s.now)) result }
+    ensures told { IfErr result RefusalHasText }
 {
     let mut sink = FirstRefusal::new();
     let here = Checker {
@@ -47,102 +49,76 @@ pub fn stmt(alloc: Global, scope: &Scope, s: &Stmt) -> Result<CoreStmt, CheckErr
     }
 }
 
-/// Checks a statement; the rules that it breaks go into the sink.
+/// Checks a statement; the rules that it breaks go into the sink. What has parts is checked by a function of its own, so that a statement
+/// within others takes little of the stack.
+#[inline(never)]
 #[cycle(statements)]
 pub fn statement(here: Checker, sink: &mut FirstRefusal, s: &Stmt) -> Typed
     ensures { IfOk result (λ t. Reports (statement (here_of here.entry.scope) (stmt_of s.now)) sink.old sink.new (option_map typed_statement t)) }
 {
     match s {
         Stmt::Empty => Ok(Some(CoreStmt::Empty)),
-        Stmt::Block(list) => Ok(node::block(statements(here, sink, list)?)),
-        Stmt::If { condition, then } => {
-            let condition = check_condition(here, sink, condition)?;
-            let parts = joined(condition, statement(here, sink, then))?;
-            node::if_then(here.alloc, parts)
-        }
+        Stmt::Block(list) => block(&here, sink, list),
+        Stmt::If { condition, then } => if_then(&here, sink, then, condition),
         Stmt::IfElse {
             condition,
             then,
             otherwise,
         } => {
-            let condition = check_condition(here, sink, condition)?;
-            let front = joined(condition, statement(here, sink, then))?;
-            let parts = joined(front, statement(here, sink, otherwise))?;
-            node::if_else(here.alloc, parts)
+            let front = if_front(&here, sink, then, condition)?;
+            let otherwise = boxed(&here, sink, otherwise)?;
+            Ok(node::if_else(front, otherwise))
         }
-        Stmt::Case { selector, branches } => {
-            let head = case_head(here, sink, branches, selector)?;
-            node::case_of(here.alloc, pair(head, Some(Vec::new(here.alloc))))
-        }
+        Stmt::Case { selector, branches } => case_of(&here, sink, branches, selector),
         Stmt::CaseElse {
             selector,
             branches,
             otherwise,
         } => {
-            let head = case_head(here, sink, branches, selector)?;
-            let parts = joined(head, statements(here, sink, otherwise))?;
-            node::case_of(here.alloc, parts)
+            let head = case_head(&here, sink, branches, selector)?;
+            let otherwise = statements(here, sink, otherwise)?;
+            node::case_of(here.alloc, head, otherwise)
         }
-        Stmt::While { condition, body } => {
-            let around = within(here.alloc, here.scope.around, Around::Loop(None))?;
-            let condition = check_condition(here, sink, condition)?;
-            let parts = joined(
-                condition,
-                statement(inside(here, around.as_slice()), sink, body),
-            )?;
-            node::while_do(here.alloc, parts)
-        }
-        Stmt::Repeat { body, condition } => {
-            let around = within(here.alloc, here.scope.around, Around::Loop(None))?;
-            let body = statements(inside(here, around.as_slice()), sink, body)?;
-            let parts = joined(body, check_condition(here, sink, condition))?;
-            node::repeat_until(here.alloc, parts)
-        }
+        Stmt::While { condition, body } => while_do(&here, sink, body, condition),
+        Stmt::Repeat { body, condition } => repeat_until(&here, sink, body, condition),
         Stmt::For {
             variable,
             first,
             direction,
             last,
             body,
-        } => {
-            let counter = check_counter(here, sink, variable)?;
-            let part = Around::Loop(variable_of(counter));
-            let around = within(here.alloc, here.scope.around, part)?;
-            let head = joined(counter, bounds(here, sink, counter, first, last))?;
-            let parts = joined(head, statement(inside(here, around.as_slice()), sink, body))?;
-            node::for_to(here.alloc, *direction, parts)
-        }
-        Stmt::ForIn { variable, .. } => Ok(refuse(
+        } => for_to(&here, sink, body, variable, first, *direction, last),
+        Stmt::ForIn { variable, .. } => refused(
             sink,
-            rules::DYNAMIC_ARRAYS,
+            LanguageRule::NotInProfile(Feature::DynamicArrays),
             variable.position.place,
-        )),
+        ),
         Stmt::TryFinally { body, finalization } => {
-            let around = within(here.alloc, here.scope.around, Around::Finally)?;
             let body = statements(here, sink, body)?;
-            let last = statements(inside(here, around.as_slice()), sink, finalization);
-            Ok(node::try_finally(joined(body, last)?))
+            let last = finally_part(&here, sink, finalization)?;
+            Ok(node::try_finally(body, last))
         }
-        Stmt::TryExcept { body, .. } => {
-            statements(here, sink, body)?;
-            Ok(refuse(sink, rules::EXCEPTIONS, place_of_body(here)))
-        }
-        Stmt::TryOn { body, handlers } => {
-            let body = statements(here, sink, body)?;
-            match first_class(handlers) {
-                None => Ok(node::block(body)),
-                Some(place) => Ok(refuse(sink, rules::EXCEPTIONS, place)),
-            }
-        }
+        Stmt::TryExcept { body, .. } => excepted(&here, sink, body, None),
+        Stmt::TryOn { body, handlers } => match first_class(handlers) {
+            None => block(&here, sink, body),
+            Some(place) => excepted(&here, sink, body, Some(place)),
+        },
         Stmt::TryOnElse { body, handlers, .. } => {
-            statements(here, sink, body)?;
-            Ok(refuse(sink, rules::EXCEPTIONS, place_of_handlers(here, handlers)))
+            excepted(&here, sink, body, first_class(handlers))
         }
         Stmt::Raise { position, .. } | Stmt::Reraise { position } => {
-            Ok(refuse(sink, rules::EXCEPTIONS, position.place))
+            refused(
+                sink,
+                LanguageRule::NotInProfile(Feature::Exceptions),
+                position.place,
+            )
         }
         Stmt::Inherited { position } | Stmt::InheritedCall { position, .. } => {
-            Ok(refuse(sink, rules::CLASSES, position.place))
+            refused(
+                sink,
+                LanguageRule::NotInProfile(Feature::Classes),
+                position.place,
+            )
         }
         Stmt::Call(called) => call(here, sink, called),
         Stmt::Assign {
@@ -154,6 +130,7 @@ pub fn statement(here: Checker, sink: &mut FirstRefusal, s: &Stmt) -> Typed
 }
 
 /// Checks statements, one after the other.
+#[inline(never)]
 #[cycle(statements)]
 pub fn statements(
     here: Checker,
@@ -170,40 +147,192 @@ pub fn statements(
     Ok(fitted(typed))
 }
 
+/// A statement that is left out.
+#[inline(never)]
+fn refused(sink: &mut FirstRefusal, rule: LanguageRule, place: Place) -> Typed
+    ensures { IfOk result (λ t. Reports (refused rule place) sink.old sink.new (option_map typed_statement t)) }
+{
+    Ok(refuse(sink, rule, place))
+}
+
+#[inline(never)]
+#[cycle(statements)]
+fn block(here: &Checker, sink: &mut FirstRefusal, list: &[Stmt]) -> Typed
+    ensures { IfOk result (λ t. Reports (statement (here_of here.now.scope) (block (stmts_of list.now))) sink.old sink.new (option_map typed_statement t)) }
+{
+    let typed = statements(*here, sink, list)?;
+    Ok(node::block(typed))
+}
+
+#[inline(never)]
+#[cycle(statements)]
+fn if_then(here: &Checker, sink: &mut FirstRefusal, then: &Stmt, e: &Expr) -> Typed
+    ensures { IfOk result (λ t. Reports (statement (here_of here.now.scope) (if_then (expr_of e.now) (stmt_of then.now))) sink.old sink.new (option_map typed_statement t)) }
+{
+    let condition = check_condition(*here, sink, e)?;
+    let then = boxed(here, sink, then)?;
+    Ok(node::if_then(condition, then))
+}
+
+/// The condition of an `if` with `else`, and what stands in front of the `else`.
+#[inline(never)]
+#[cycle(statements)]
+fn if_front(
+    here: &Checker,
+    sink: &mut FirstRefusal,
+    then: &Stmt,
+    e: &Expr,
+) -> Result<Option<(CoreExpr, Box<CoreStmt>)>, NoMemory>
+    ensures { IfOk result (λ t. Reports (paired (condition (here_of here.now.scope) (expr_of e.now)) (statement (here_of here.now.scope) (stmt_of then.now))) sink.old sink.new (option_map front_of t)) }
+{
+    let condition = check_condition(*here, sink, e)?;
+    let then = boxed(here, sink, then)?;
+    Ok(pair(condition, then))
+}
+
+#[inline(never)]
+#[cycle(statements)]
+fn case_of(here: &Checker, sink: &mut FirstRefusal, list: &[Branch], e: &Expr) -> Typed
+    ensures { IfOk result (λ t. Reports (statement (here_of here.now.scope) (case_of (expr_of e.now) (branches_of list.now))) sink.old sink.new (option_map typed_statement t)) }
+{
+    let head = case_head(here, sink, list, e)?;
+    node::case_of(here.alloc, head, Some(Vec::new(here.alloc)))
+}
+
+#[inline(never)]
+#[cycle(statements)]
+fn while_do(here: &Checker, sink: &mut FirstRefusal, body: &Stmt, e: &Expr) -> Typed
+    ensures { IfOk result (λ t. Reports (statement (here_of here.now.scope) (while_do (expr_of e.now) (stmt_of body.now))) sink.old sink.new (option_map typed_statement t)) }
+{
+    let condition = check_condition(*here, sink, e)?;
+    let body = loop_body(here, sink, None, body)?;
+    Ok(node::while_do(condition, body))
+}
+
+#[inline(never)]
+#[cycle(statements)]
+fn repeat_until(here: &Checker, sink: &mut FirstRefusal, body: &[Stmt], e: &Expr) -> Typed
+    ensures { IfOk result (λ t. Reports (statement (here_of here.now.scope) (repeat_until (stmts_of body.now) (expr_of e.now))) sink.old sink.new (option_map typed_statement t)) }
+{
+    let around = within(here.alloc, here.scope.around, Around::Loop(None))?;
+    let body = statements(inside(*here, around.as_slice()), sink, body)?;
+    let condition = check_condition(*here, sink, e)?;
+    node::repeat_until(here.alloc, body, condition)
+}
+
+#[inline(never)]
+#[cycle(statements)]
+fn for_to(
+    here: &Checker,
+    sink: &mut FirstRefusal,
+    body: &Stmt,
+    variable: &Name,
+    first: &Expr,
+    direction: Direction,
+    last: &Expr,
+) -> Typed
+    ensures { IfOk result (λ t. Reports (statement (here_of here.now.scope) (for_to variable.now (expr_of first.now) direction (expr_of last.now) (stmt_of body.now))) sink.old sink.new (option_map typed_statement t)) }
+{
+    let counter = check_counter(*here, sink, variable)?;
+    let bounds = bounds(*here, sink, counter, first, last)?;
+    let body = loop_body(here, sink, variable_of(counter), body)?;
+    node::for_to(here.alloc, direction, counter, bounds, body)
+}
+
+/// What stands behind `finally`.
+#[inline(never)]
+#[cycle(statements)]
+fn finally_part(
+    here: &Checker,
+    sink: &mut FirstRefusal,
+    list: &[Stmt],
+) -> Result<Option<Vec<CoreStmt>>, NoMemory>
+    ensures { IfOk result (λ t. Reports (statements (surrounded (here_of here.now.scope) Finally) (stmts_of list.now)) sink.old sink.new (statements_in t)) }
+{
+    let around = within(here.alloc, here.scope.around, Around::Finally)?;
+    statements(inside(*here, around.as_slice()), sink, list)
+}
+
+/// What stands behind a body that may raise exceptions is left out: it is refused at this class, where there is one.
+#[inline(never)]
+#[cycle(statements)]
+fn excepted(here: &Checker, sink: &mut FirstRefusal, body: &[Stmt], class: Option<Place>) -> Typed
+    ensures { IfOk result (λ t. Reports (excepted (place_of_handlers (here_of here.now.scope) class) (statements (here_of here.now.scope) (stmts_of body.now))) sink.old sink.new (option_map typed_statement t)) }
+{
+    statements(*here, sink, body)?;
+    refused(
+        sink,
+        LanguageRule::NotInProfile(Feature::Exceptions),
+        place_of_handlers(*here, class),
+    )
+}
+
+/// A part that is a statement.
+#[inline(never)]
+#[cycle(statements)]
+fn boxed(
+    here: &Checker,
+    sink: &mut FirstRefusal,
+    s: &Stmt,
+) -> Result<Option<Box<CoreStmt>>, NoMemory>
+    ensures { IfOk result (λ t. Reports (statement (here_of here.now.scope) (stmt_of s.now)) sink.old sink.new (option_map boxed_of t)) }
+{
+    let typed = statement(*here, sink, s)?;
+    node::boxed(here.alloc, typed)
+}
+
+/// The body of a loop, of a `for` with its variable.
+#[inline(never)]
+#[cycle(statements)]
+fn loop_body(
+    here: &Checker,
+    sink: &mut FirstRefusal,
+    counter: Option<VariableId>,
+    s: &Stmt,
+) -> Result<Option<Box<CoreStmt>>, NoMemory>
+    ensures { IfOk result (λ t. Reports (statement (looped (here_of here.now.scope) counter) (stmt_of s.now)) sink.old sink.new (option_map boxed_of t)) }
+{
+    let around = within(here.alloc, here.scope.around, Around::Loop(counter))?;
+    let typed = statement(inside(*here, around.as_slice()), sink, s)?;
+    node::boxed(here.alloc, typed)
+}
+
 /// The selector and the branches of a case.
+#[inline(never)]
 #[cycle(statements)]
 fn case_head(
-    here: Checker,
+    here: &Checker,
     sink: &mut FirstRefusal,
     list: &[Branch],
     e: &Expr,
 ) -> Result<Option<(CoreExpr, Vec<CoreBranch>)>, NoMemory>
-    ensures { IfOk result (λ t. Reports (case_head (here_of here.entry.scope) (expr_of e.now) (branches_of list.now) (λ of. branches (here_of here.entry.scope) of (branches_of list.now))) sink.old sink.new (option_map head_of t)) }
+    ensures { IfOk result (λ t. Reports (case_head (here_of here.now.scope) (expr_of e.now) (branches_of list.now) (λ of. branches (here_of here.now.scope) of (branches_of list.now))) sink.old sink.new (option_map head_of t)) }
 {
-    let selector = selector(here, sink, e)?;
+    let selector = selector(*here, sink, e)?;
     let of = type_in(&selector);
     let mut spots = Vec::new(here.alloc);
-    let head = joined(selector, branches(here, sink, list, &mut spots, of))?;
-    distinct(here.alloc, sink, spots.as_slice(), head)
+    let branches = branches(here, sink, list, &mut spots, of)?;
+    distinct(here.alloc, sink, spots.as_slice(), pair(selector, branches))
 }
 
 /// The branches of a case, where the selector has this type. Their labels go behind the others of the case.
+#[inline(never)]
 #[cycle(statements)]
 fn branches(
-    here: Checker,
+    here: &Checker,
     sink: &mut FirstRefusal,
     list: &[Branch],
     spots: &mut Vec<Spot>,
     of: Option<TypeId>,
 ) -> Result<Option<Vec<CoreBranch>>, NoMemory>
-    ensures reports { IfOk result (λ t. Reports (branches (here_of here.entry.scope) of (branches_of list.now)) sink.old sink.new (branches_in t)) }
-    ensures notes { IfOk result (λ t. spots.new.items ≡ spots.old.items ++ all_spots (here_of here.entry.scope) of (branches_of list.now)) }
+    ensures reports { IfOk result (λ t. Reports (branches (here_of here.now.scope) of (branches_of list.now)) sink.old sink.new (branches_in t)) }
+    ensures notes { IfOk result (λ t. spots.new.items ≡ spots.old.items ++ all_spots (here_of here.now.scope) of (branches_of list.now)) }
 {
     let mut typed = Some(Vec::new(here.alloc));
     for branch in list {
-        let labels = branch_labels(here, sink, spots, of, &branch.labels)?;
-        let parts = joined(labels, statement(here, sink, &branch.body))?;
-        collect(&mut typed, node::branch(parts))?;
+        let labels = branch_labels(*here, sink, spots, of, &branch.labels)?;
+        let body = statement(*here, sink, &branch.body)?;
+        collect(&mut typed, node::branch(labels, body))?;
     }
     Ok(fitted(typed))
 }
@@ -242,10 +371,11 @@ fn type_in(e: &Option<CoreExpr>) -> Option<TypeId>
 }
 
 /// Where handlers are left out: at the first one's class, if there is one.
-fn place_of_handlers(here: Checker, handlers: &[Handler]) -> Place
-    ensures { result ≡ place_of_handlers (here_of here.entry.scope) (first_class (handlers_of handlers.now)) }
+#[inline(never)]
+fn place_of_handlers(here: Checker, class: Option<Place>) -> Place
+    ensures { result ≡ place_of_handlers (here_of here.entry.scope) class }
 {
-    match first_class(handlers) {
+    match class {
         None => place_of_body(here),
         Some(place) => place,
     }
@@ -262,6 +392,7 @@ fn first_class(handlers: &[Handler]) -> Option<Place>
 }
 
 /// What is tested: rule 22 where it is no Boolean.
+#[inline(never)]
 fn check_condition(
     here: Checker,
     sink: &mut FirstRefusal,
@@ -287,7 +418,7 @@ fn tested(
     if assignable(core, value.type_of(), TypeId::BOOLEAN) {
         Ok(Some(as_type(here.alloc, core, false, TypeId::BOOLEAN, value)?))
     } else {
-        Ok(refuse(sink, rules::NOT_BOOLEAN, place))
+        Ok(refuse(sink, LanguageRule::NotBoolean, place))
     }
 }
 
@@ -311,6 +442,7 @@ fn stored(
 }
 
 /// The bounds of a `for`.
+#[inline(never)]
 fn bounds(
     here: Checker,
     sink: &mut FirstRefusal,
@@ -330,6 +462,7 @@ fn bounds(
 }
 
 /// An assignment, with the position of its `:=`, whose switch R tells whether ranges are checked.
+#[inline(never)]
 fn assignment(
     here: Checker,
     sink: &mut FirstRefusal,

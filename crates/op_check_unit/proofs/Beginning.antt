@@ -4,14 +4,11 @@ use Rattle.std.proofs.lemmas.Bool.{lt-ltb}
 use Rattle.std.specs.Option.{option_map}
 use Rattle.op_base.specs.declared.memory_error.NoMemory.{NoMemory}
 use Rattle.op_base.specs.declared.place.Place.{Place}
-use Rattle.op_check_expr.specs.Words.{Reports, changed, followed}
 use Rattle.op_check_stmt.proofs.Parts.{Completes, gathered, in_front, then as behind}
-use Rattle.op_check_stmt.specs.Parts.{of_two}
-use Rattle.op_check_unit.specs.Initials as judged
-use Rattle.op_check_unit.specs.Initials.{is_bracketed, one_value, shape_of, start_of_initial, starts, wrong_count}
+use Rattle.op_check_unit.specs.Initials.{by_brackets, counted, fields, first, first_expression, is_bracketed, of_type, one_value, shape_of, single, start_of_initial, starts, unless_wrong, wrong_count}
 use Rattle.op_check_unit.specs.Naming.{is_name}
-use Rattle.op_check_unit.specs.Readings.{by_brackets, constant_part, fields, first, first_expression, of_type, single, unless_wrong}
-use Rattle.op_core.specs.Faults.{Checked, broken, earlier, refused, with_part}
+use Rattle.op_check_unit.specs.Types.{constant_part}
+use Rattle.op_core.specs.Faults.{Checked, earlier}
 use Rattle.op_core.specs.Initial.{FirstValue, first_value_of, no_values, values}
 use Rattle.op_core.specs.Nodes.{first_values_of}
 use Rattle.op_core.specs.declared.constant.Initial.{Initial as TypedInitial}
@@ -19,6 +16,10 @@ use Rattle.op_core.specs.declared.first_refusal.FirstRefusal.{FirstRefusal}
 use Rattle.op_core.specs.declared.ids.TypeId.{TypeId}
 use Rattle.op_core.specs.declared.program.Core.{Core}
 use Rattle.op_core.specs.declared.types.Field.{Field}
+use Rattle.op_judgement.proofs.Computed.{Reports, changed, followed, of_two}
+use Rattle.op_judgement.specs.Judgement.{by, checked, fault}
+use Rattle.op_judgement.specs.declared.rules.LanguageRule.{LanguageRule}
+use Rattle.op_judgement.specs.declared.rules.LanguageRule.TheVariants.{NoMember}
 use Rattle.op_judgement.specs.Judgement as judgement
 use Rattle.op_tree.specs.Expression.{Expression, chain, prefixed, number, nil, set, literal, designated, inherited, designator, named, string, bracketed, Selectors, no_selectors, selectors}
 use Rattle.op_tree.specs.Initial.{Initial, FieldInitials, field_initials, initial_of}
@@ -26,17 +27,13 @@ use Rattle.op_tree.specs.Lists.{initials_of}
 use Rattle.op_tree.specs.declared.initializer.Initializer.{Initializer}
 use Rattle.op_tree.specs.declared.position.Name.{Name}
 use Rattle.op_tree.specs.declared.position.Position.{Position}
-use Rattle.op_types.specs.Constants.{start_of}
+use Rattle.op_types.specs.ConstantParts.{start_of}
 use Rattle.op_types.specs.Names.{Named}
 use Rattle.op_types.specs.declared.constant.Constant.{Constant}
 
 pub all_values : (xs : List TypedInitial) → in_front first_value_of values xs no_values ≡ first_values_of xs
 all_values [] = refl
 all_values (x ∷ xs) = ap (values (first_value_of x)) (all_values xs)
-
-pub nothing : {A : Type 0} (xs : List A) → length xs ≡ 0 → xs ≡ []
-nothing [] h = refl
-nothing (x ∷ xs) h = absurd (omega (arith, h))
 
 -- ---- lists that break a rule
 
@@ -47,20 +44,20 @@ gathered_nothing view add (Some xs) = refl
 pub dies : {T A B : Type 0} (view : T → A) (add : A → B → B) (list : Option (List T)) (whole rest : Checked B) (old mid new : FirstRefusal) → Completes view add list whole rest old mid → Reports rest mid new None → Reports whole old new None
 dies view add list whole rest old mid new c h = subst (Reports whole old new) (gathered_nothing view add list) (c.completes new None h)
 
-pub refused_at : {T A B : Type 0} (view : T → A) (add : A → B → B) (list : Option (List T)) (whole rest : Checked B) (rule : ℕ) (place : Place) (old mid new : FirstRefusal) → Completes view add list whole rest old mid → rest ≡ refused rule place → new.kept ≡ earlier mid.kept (broken rule place) → Reports whole old new None
+pub refused_at : {T A B : Type 0} (view : T → A) (add : A → B → B) (list : Option (List T)) (whole rest : Checked B) (rule : LanguageRule) (place : Place) (old mid new : FirstRefusal) → Completes view add list whole rest old mid → rest ≡ checked (judgement.refused rule place) → new.kept ≡ earlier mid.kept (fault rule place) → Reports whole old new None
 refused_at view add list whole rest rule place old mid new c e k = dies view add list whole rest old mid new c (subst (λ r. Reports r mid new None) (sym e) (refl, k))
 
 -- ---- fields
 
-pub next_field : (core : Core) (names : List Named) (bracket : Place) (f : Field) (fs : List Field) (n : Name) (i : Initial) (is : FieldInitials) → is_name (Some f.name) n ≡ true → fields core names bracket (f ∷ fs) (field_initials n i is) ≡ of_two values (first core names f.of i) (fields core names bracket fs is)
-next_field core names bracket f fs n i is e = ap (λ b. if b then of_two values (first core names f.of i) (fields core names bracket fs is) else refused 25 n.position.place) e
+pub next_field : (core : Core) (names : List Named) (bracket : Place) (f : Field) (fs : List Field) (n : Name) (i : Initial) (is : FieldInitials) → is_name (Some f.name) n ≡ true → checked (fields core names bracket (f ∷ fs) (field_initials n i is)) ≡ of_two values (checked (first core names f.of i)) (checked (fields core names bracket fs is))
+next_field core names bracket f fs n i is e = ap (λ b. if b then of_two values (checked (first core names f.of i)) (checked (fields core names bracket fs is)) else checked (judgement.refused NoMember n.position.place)) e
 
-pub other_field : (core : Core) (names : List Named) (bracket : Place) (f : Field) (fs : List Field) (n : Name) (i : Initial) (is : FieldInitials) → is_name (Some f.name) n ≡ false → fields core names bracket (f ∷ fs) (field_initials n i is) ≡ refused 25 n.position.place
-other_field core names bracket f fs n i is e = ap (λ b. if b then of_two values (first core names f.of i) (fields core names bracket fs is) else refused 25 n.position.place) e
+pub other_field : (core : Core) (names : List Named) (bracket : Place) (f : Field) (fs : List Field) (n : Name) (i : Initial) (is : FieldInitials) → is_name (Some f.name) n ≡ false → checked (fields core names bracket (f ∷ fs) (field_initials n i is)) ≡ checked (judgement.refused NoMember n.position.place)
+other_field core names bracket f fs n i is e = ap (λ b. if b then of_two values (checked (first core names f.of i)) (checked (fields core names bracket fs is)) else checked (judgement.refused NoMember n.position.place)) e
 
 -- ---- expressions
 
-pub alone : (core : Core) (names : List Named) (of : TypeId) (e : Expression) → is_bracketed e ≡ false → first_expression core names of e ≡ single core names of e
+pub alone : (core : Core) (names : List Named) (of : TypeId) (e : Expression) → is_bracketed e ≡ false → checked (first_expression core names of e) ≡ checked (single core names of e)
 alone core names of (chain x xs) h = refl
 alone core names of (prefixed o p e) h = refl
 alone core names of (number n p) h = refl
@@ -73,21 +70,21 @@ alone core names of (designated (designator (string p) ss)) h = refl
 alone core names of (designated (designator (bracketed p e) (selectors s ss))) h = refl
 alone core names of (designated (designator (bracketed p e) no_selectors)) h = absurd (cc)
 
-pub bracketed_means : (core : Core) (names : List Named) (of : TypeId) (p : Position) (e : Expression) (ss : Selectors) → is_bracketed (designated (designator (bracketed p e) ss)) ≡ true → first_expression core names of (designated (designator (bracketed p e) ss)) ≡ by_brackets p.place (judged.single core names of (designated (designator (bracketed p e) ss))) (λ count element. judged.counted p.place count (start_of e ∷ []) (judgement.changed one_value (judged.first_expression core names element e))) (shape_of core of)
+pub bracketed_means : (core : Core) (names : List Named) (of : TypeId) (p : Position) (e : Expression) (ss : Selectors) → is_bracketed (designated (designator (bracketed p e) ss)) ≡ true → checked (first_expression core names of (designated (designator (bracketed p e) ss))) ≡ checked (by_brackets p.place (single core names of (designated (designator (bracketed p e) ss))) (λ count element. counted p.place count (start_of e ∷ []) (judgement.changed one_value (first_expression core names element e))) (shape_of core of))
 bracketed_means core names of p e no_selectors h = refl
 bracketed_means core names of p e (selectors s ss) h = absurd (cc)
 
 -- a constant, and what is made of it
-pub single_behind : (r : Result (Option TypedInitial) NoMemory) (core : Core) (names : List Named) (of : TypeId) (e : Expression) (x : Constant) (place : Place) (typed : Option Constant) (old mid new : FirstRefusal) → Reports (constant_part core names e) old mid typed → typed ≡ Some x → place ≡ start_of e → IfOk r (λ v. Reports (of_type core place of x) mid new (option_map first_value_of v)) → IfOk r (λ v. Reports (single core names of e) old new (option_map first_value_of v))
+pub single_behind : (r : Result (Option TypedInitial) NoMemory) (core : Core) (names : List Named) (of : TypeId) (e : Expression) (x : Constant) (place : Place) (typed : Option Constant) (old mid new : FirstRefusal) → Reports (checked (constant_part core names e)) old mid typed → typed ≡ Some x → place ≡ start_of e → IfOk r (λ v. Reports (checked (of_type core place of x)) mid new (option_map first_value_of v)) → IfOk r (λ v. Reports (checked (single core names of e)) old new (option_map first_value_of v))
 single_behind (Ok v) core names of e x place typed old mid new h is s k =
-    behind (constant_part core names e) (with_part (of_type core (start_of e) of)) old mid new (Some x) (option_map first_value_of v) (subst (Reports (constant_part core names e) old mid) is h)
-    (subst (λ place. Reports (of_type core place of x) mid new (option_map first_value_of v)) s k)
+    behind (checked (constant_part core names e)) (by (λ c. checked (of_type core (start_of e) of c))) old mid new (Some x) (option_map first_value_of v) (subst (Reports (checked (constant_part core names e)) old mid) is h)
+    (subst (λ place. Reports (checked (of_type core place of x)) mid new (option_map first_value_of v)) s k)
 single_behind (Err z) core names of e x place typed old mid new h is s k = k
 
 -- what is made of the one part of a list
-pub one_listed : (r : Result (Option TypedInitial) NoMemory) (c : Checked FirstValue) (wrong : Option Place) (old mid new : FirstRefusal) (part : Option TypedInitial) → Reports c old mid (option_map first_value_of part) → IfOk r (λ v. Reports (unless_wrong wrong (option_map one_value (option_map first_value_of part))) mid new (option_map first_value_of v)) → IfOk r (λ v. Reports (followed (changed one_value c) (unless_wrong wrong)) old new (option_map first_value_of v))
+pub one_listed : (r : Result (Option TypedInitial) NoMemory) (c : Checked FirstValue) (wrong : Option Place) (old mid new : FirstRefusal) (part : Option TypedInitial) → Reports c old mid (option_map first_value_of part) → IfOk r (λ v. Reports (checked (unless_wrong wrong (option_map one_value (option_map first_value_of part)))) mid new (option_map first_value_of v)) → IfOk r (λ v. Reports (followed (changed one_value c) (λ vs. checked (unless_wrong wrong vs))) old new (option_map first_value_of v))
 one_listed (Ok v) c wrong old mid new part h k =
-    behind (changed one_value c) (unless_wrong wrong) old mid new (option_map one_value (option_map first_value_of part)) (option_map first_value_of v) (ap (option_map one_value) h.0, h.1) k
+    behind (changed one_value c) (λ vs. checked (unless_wrong wrong vs)) old mid new (option_map one_value (option_map first_value_of part)) (option_map first_value_of v) (ap (option_map one_value) h.0, h.1) k
 one_listed (Err e) c wrong old mid new part h k = k
 
 -- ---- places

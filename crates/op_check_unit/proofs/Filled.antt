@@ -2,21 +2,15 @@
 use Rattle.std.proofs.Common.{◌≡◌, ℕ, List, [], ◌∷◌, map, slice_get, IsTrue, Option, Some, None, refl, sym, ap, subst, ◌∙◌}
 use Rattle.std.proofs.lemmas.Option.{slice_get-map}
 use Rattle.std.specs.Option.{option_map}
-use Rattle.op_check_unit.proofs.Tables.{tabled_beside}
-use Rattle.op_check_unit.specs.Checking.{Fills, bare, without_bodies}
+use Rattle.op_check_unit.specs.Checking.{bare, without_bodies}
 use Rattle.op_check_unit.specs.FirstValues.{bare_variable, without_first_values}
-use Rattle.op_check_unit.specs.Tables.{IsTabled}
 use Rattle.op_core.proofs.Agreeing.{some_is}
 use Rattle.op_core.proofs.Growing.{front_same, some_and}
 use Rattle.op_core.proofs.OneType.{parameters_themselves, result_itself}
 use Rattle.op_core.specs.Growing.{Grows, SameRoutine, SameVariable, Stay}
 use Rattle.op_core.specs.Heading.{same_parameters, same_result}
-use Rattle.op_core.specs.Initial.{FirstValue}
 use Rattle.op_core.specs.Members.{There}
 use Rattle.op_core.specs.Rows.{rows}
-use Rattle.op_core.specs.Statement.{Statements}
-use Rattle.op_core.specs.declared.ids.RoutineId.{RoutineId}
-use Rattle.op_core.specs.declared.ids.VariableId.{VariableId}
 use Rattle.op_core.specs.declared.program.Core.{Core}
 use Rattle.op_core.specs.declared.routine.Routine.{Routine}
 
@@ -59,13 +53,3 @@ pub filled_grows : (core : Core) → Grows (without_first_values (without_bodies
 filled_grows core =
     alike_grow (without_first_values (without_bodies core)) core
     (λ i. record core { routines = sym (twice bare (λ r. refl) core.routines) i; variables = sym (twice bare_variable (λ v. refl) core.variables) i })
-
-pub fills_grow : {bs : List (RoutineId × Statements)} {vs : List (VariableId × FirstValue)} {old new : Core} → Fills bs vs old new → Grows old new
-fills_grow {old = old} {new = new} f = alike_grow old new f.others
-
-pub fills_back : {bs : List (RoutineId × Statements)} {vs : List (VariableId × FirstValue)} {old new : Core} → Fills bs vs old new → Grows new old
-fills_back {old = old} {new = new} f = alike_grow new old (sym f.others)
-
-pub tabled_filled : {bs : List (RoutineId × Statements)} {vs : List (VariableId × FirstValue)} {old new : Core} → Fills bs vs old new → IsTabled old → IsTabled new
-tabled_filled {old = old} {new = new} f s =
-    subst IsTabled (sym (ap (λ (c : Core). record c { routines = new.routines; variables = new.variables }) f.others)) (tabled_beside old.parameters new.variables old.globals new.routines old.units s)

@@ -2,7 +2,6 @@
 use Rattle.std.proofs.Common.{◌≡◌, ℕ, ◌+◌, Bool, true, false, if◌then◌else◌, List, [], ◌∷◌, length, nat_eq, slice_get, Option, Some, None, Result, Ok, Err, refl, arith}
 use Rattle.std.proofs.lemmas.Bool.Decides.{nat_tests}
 use Rattle.op_base.specs.declared.rule.Refusal.{Refusal}
-use Rattle.op_check_unit.proofs.Clear.{lists_unless}
 use Rattle.op_check_unit.specs.Checking.{CheckIs}
 use Rattle.op_check_unit.specs.Interfaces.{interface_order, unit_at}
 use Rattle.op_check_unit.specs.Programs.{Outline, blank_outline, faulted, faults_among, files_mean, in_unit, interface_faults_by, interface_means, outline, outline_faults, outlined, parts_of_program, program_declared, program_means, start, unit_completes, units_mean}
@@ -16,9 +15,10 @@ use Rattle.op_core.specs.Relations.{Lists, Where}
 use Rattle.op_core.specs.declared.error.CheckError.{CheckError}
 use Rattle.op_core.specs.declared.error.CheckError.TheVariants.{Refused, NoMemory}
 use Rattle.op_core.specs.declared.program.Core.{Core}
+use Rattle.op_judgement.proofs.Clear.{lists_unless}
 use Rattle.op_judgement.proofs.Stepping.{agrees}
 use Rattle.op_judgement.specs.Judgement.{fault}
-use Rattle.op_judgement.specs.Rules.{other_file}
+use Rattle.op_judgement.specs.declared.rules.LanguageRule.TheVariants.{OtherFile}
 use Rattle.op_judgement.specs.Steps.{Breaks, Step, done}
 use Rattle.op_tree.specs.File.{File, Program, UnitFile, program, unit}
 
@@ -65,8 +65,8 @@ parts_of_program_law p order fs faults B o l =
     (broken (program_declared o.exports p (in_unit (length order) (units_mean fs o.exports faults 0 o.exports o.here).here)))
 
 files_law : (fs : List File) (order : List (List ℕ)) (h : Here) → Lists (files_mean fs order h).faults (FilesBreak fs order h)
-files_law [] order h = lists_one (fault other_file start)
-files_law (unit u ∷ fs) order h = lists_one (fault other_file start)
+files_law [] order h = lists_one (fault OtherFile start)
+files_law (unit u ∷ fs) order h = lists_one (fault OtherFile start)
 files_law (program p ∷ fs) order h =
     parts_of_program_law p order fs (outline_faults order fs h) (BreaksAmong order fs (interface_order order fs) (blank_outline order h)) (outline order fs h) (among_law order fs (interface_order order fs) (blank_outline order h))
 

@@ -6,6 +6,7 @@ pub mod Clear
 pub mod Visiting
 pub mod UnitSteps
 pub mod Law
+pub mod Told
 pub mod Tables
 pub mod Filled
 pub mod WholeGrowth

@@ -2,19 +2,20 @@
 use Rattle.std.proofs.Common.{◌≡◌, ℕ, zero, suc, Bool, true, false, if◌then◌else◌, List, [], ◌∷◌, length, nat_eq, replicate, slice_get, slice_set, Option, Some, None, Result, Ok, Err, IfOk, refl, sym, ap, ap₂, subst, ◌∙◌, arith}
 use Rattle.std.proofs.lemmas.Option.{slice_get_within}
 use Rattle.op_base.specs.declared.memory_error.NoMemory.{NoMemory}
+use Rattle.op_check_expr.proofs.LeafWhole.{there_is}
 use Rattle.op_check_unit.proofs.Law.{other_number, same_number}
 use Rattle.op_check_unit.proofs.WholeUnits.{all_same_count}
-use Rattle.op_check_unit.proofs.WholeDeclaring.{row_at}
-use Rattle.op_check_unit.proofs.WholeRoutines.{set_apart, set_there, some_eq}
+use Rattle.op_check_unit.proofs.WholeRoutines.{set_apart, set_there}
 use Rattle.op_check_unit.specs.Interfaces.{interface_order, unit_at}
 use Rattle.op_check_unit.specs.Outlines.{AllTell, Tells, is_blank, outline_of}
-use Rattle.op_check_unit.specs.Programs.{Outline, all_outlined, blank_outline, faults_among, files_mean, in_unit, interface_faults_by, outline, outline_faults, outlined, outlined_by, parts_of_program, with_interface, with_units}
-use Rattle.op_check_unit.specs.Readings.{interface_means}
+use Rattle.op_check_unit.specs.Programs.{Outline, all_outlined, blank_outline, faults_among, files_mean, in_unit, interface_faults_by, interface_means, outline, outline_faults, outlined, outlined_by, parts_of_program, with_interface, with_units}
 use Rattle.op_check_unit.specs.Steps.{Declared, Given, Here, here_of}
 use Rattle.op_check_unit.specs.Uses.{exported}
 use Rattle.op_check_unit.specs.declared.declarer.Declarer.{Declarer}
 use Rattle.op_check_unit.specs.declared.uses.Export.{Export}
+use Rattle.op_core.proofs.Agreeing.{some_is as some_eq}
 use Rattle.op_core.specs.Faults.{Faults, both, kept, none}
+use Rattle.op_judgement.specs.Steps.{done}
 use Rattle.op_tree.specs.File.{File, Program, UnitFile, program}
 
 tells_same : (e : Option Export) (f g : Faults) → kept None f ≡ kept None g → Tells e f → Tells e g
@@ -33,7 +34,7 @@ tells_step : (j k : ℕ) (s : Option (Option Export)) (u : Option UnitFile) (o :
 tells_step j k (Some None) (Some u) o x f is there t = one (nat_eq j k) refl
   where
     g : Given (Unit {0})
-    g = interface_means o.exports u (in_unit j o.here)
+    g = done (interface_means o.exports u (in_unit j o.here))
 
     -- it is declared now
     told : None ≡ x → Tells (Some (exported u.name g)) (both f g.faults)
@@ -67,7 +68,7 @@ all_told order fs h k e is =
     let o = blank_outline order h in
     let lt = slice_get_within (all_outlined order fs ks o).exports k e is in
     let count = all_same_count order fs ks o in
-    let x = row_at o.exports k (omega (arith, lt, count)) in
+    let x = there_is o.exports k (omega (arith, lt, count)) in
     tells_same e (both none (faults_among order fs ks o k)) (faults_among order fs ks o k) refl (tells_among order fs ks o k x.0 e none x.1 is (subst (λ x. Tells x none) (none_there (length order) k x.0 x.1) refl))
 
 -- ---- the interface part of one unit

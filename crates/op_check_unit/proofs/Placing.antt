@@ -1,6 +1,6 @@
 -- Bodies that are put into the rows of their routines.
-use Rattle.std.proofs.Common.{◌≡◌, ◌≤◌, List, [], ◌∷◌, ◌++◌, Option, Some, None, Result, Ok, Err, map, length, get_or, slice_set, ap, sym, subst, refl, ◌∙◌}
-use Rattle.std.proofs.lemmas.List.{length-map, map-append, map-set, set_past}
+use Rattle.std.proofs.Common.{◌≡◌, List, [], ◌∷◌, ◌++◌, Option, Some, None, Result, Ok, Err, map, get_or, slice_set, ap, sym, subst, refl, ◌∙◌}
+use Rattle.std.proofs.lemmas.List.{map-append, map-set}
 use Rattle.std.proofs.Math.Seq.{map-set_same}
 use Rattle.op_base.specs.declared.rule.Refusal.{Refusal}
 use Rattle.op_check_unit.specs.Bodies.{said}
@@ -30,13 +30,6 @@ pub in_row : (core : Core) (id : RoutineId) (ss : Statements) (row old : Routine
 in_row core id ss row old h e b = record {
   others = ap (λ rs. record core { routines = rs }) (map-set_same bare core.routines id.0 row old (e ∙ ap bare h));
   bodies = map-set body_in core.routines id.0 row ∙ ap (slice_set (map body_in core.routines) id.0) b;
-}
-
--- there is no such row
-pub in_no_row : (core : Core) (id : RoutineId) (ss : Statements) → length core.routines ≤ id.0 → Places ((id, ss) ∷ []) core core
-in_no_row core id ss h = record {
-  others = refl;
-  bodies = sym (set_past (map body_in core.routines) id.0 (Some ss) (subst (λ n. n ≤ id.0) (sym (length-map core.routines body_in)) h));
 }
 
 -- the last of the bodies that are left

@@ -22,9 +22,6 @@ next_visit visit order k so_far lt =
     let e : drop k order ≡ get_or order k [] ∷ drop (k + 1) order = rw add-one (drop-cons order k [] lt) in
     ap (λ ns. visited_from visit k ns so_far) e
 
-pub last_visit : (visit : ℕ → List ℕ → List ℕ) (order : List (List ℕ)) (k : ℕ) (so_far : List ℕ) → length order ≤ k → visited_from visit k (drop k order) so_far ≡ so_far
-last_visit visit order k so_far le = ap (λ ns. visited_from visit k ns so_far) (drop_all k order le)
-
 pub all_done : (visit : ℕ → List ℕ → List ℕ) (order : List (List ℕ)) (names used : List Name) (k : ℕ) (mid so_far : List ℕ) → length names ≤ k → names ≡ used → all_visited visit order (drop k names) mid ≡ all_visited visit order names so_far → mid ≡ all_visited visit order used so_far
 all_done visit order names used k mid so_far le e is =
     sym (ap (λ ns. all_visited visit order ns mid) (drop_all k names le)) ∙ is ∙ ap (λ ns. all_visited visit order ns so_far) e

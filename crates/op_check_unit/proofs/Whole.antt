@@ -16,14 +16,13 @@ use Rattle.op_check_unit.proofs.WholeSteps.{from_breaks, from_gives, from_so, fr
 use Rattle.op_check_unit.proofs.WholeTypes.{entered_is, first_behind, wide, with_name_settled}
 use Rattle.op_check_unit.specs.Complete.{Around, From, IsAwaited, IsBareVariable, IsBareRoutine, IsOpen, IsPeopled, IsTypedBody, IsTypedFirst, Settled, faulty, outside, scope, scope_of, settled, IsDone, IsDonePart, IsExported, IsShown}
 use Rattle.op_check_unit.specs.Naming.{with_name}
-use Rattle.op_check_unit.specs.Programs.{blank_unit, main_head, with_heading, with_units}
-use Rattle.op_check_unit.specs.Readings.{all_completed, all_declared, declaration_means, missing, part_means, used, used_by, uses_mean}
+use Rattle.op_check_unit.specs.Programs.{all_completed, all_declared, awaited, blank_unit, declaration_means, main_head, part_means, with_heading, with_units}
 use Rattle.op_check_unit.specs.Routines.{next_routine, no_rows, routine_row, with_routine}
-use Rattle.op_check_unit.specs.Steps.{Here, gives}
+use Rattle.op_check_unit.specs.Steps.{Here}
 use Rattle.op_check_unit.specs.System as system
-use Rattle.op_check_unit.specs.System.{beginning, character_names, class_names, empty, floating_names, function_names, integer_names, meaning_of_known, native_names, other_names, pointer_names, rest_names, short_names, sized_names, statement_names, string_names, system_core, system_names, system_unit, text_names, type_names, value_names, with_classes, with_known, with_left_out, with_table}
+use Rattle.op_check_unit.specs.System.{beginning, character_names, class_names, empty, floating_names, function_names, integer_names, meaning_of_known, native_names, other_names, pointer_names, rest_names, short_names, sized_names, statement_names, string_names, system_names, system_unit, text_names, type_names, value_names, with_classes, with_known, with_left_out, with_table}
 use Rattle.op_check_unit.specs.Tables.{IsTabled}
-use Rattle.op_check_unit.specs.Uses.{exports_of, is_system, with_own, with_used}
+use Rattle.op_check_unit.specs.Uses.{exports_of, is_system, used, used_by, uses_mean, with_own, with_used}
 use Rattle.op_check_unit.specs.declared.uses.Export.{Export}
 use Rattle.op_check_unit.specs.declared.system.Known.{Known}
 use Rattle.op_check_unit.specs.declared.system.Known.TheVariants.{Named as Type_, Form, Value}
@@ -42,6 +41,8 @@ use Rattle.op_core.specs.declared.program.Core.{Core}
 use Rattle.op_core.specs.declared.routine.Routine.{Routine}
 use Rattle.op_core.specs.declared.types.CoreType.{CoreType}
 use Rattle.op_core.specs.declared.types.Extent.{Extent}
+use Rattle.op_judgement.specs.Judgement.{checked}
+use Rattle.op_judgement.specs.Steps.{done, gives, when}
 use Rattle.op_tree.specs.Declaration.{Declaration, constants, types, variables, heading, routine, Declarations, no_declarations, declarations, forward}
 use Rattle.op_tree.specs.Statement.{Statements}
 use Rattle.op_tree.specs.declared.file.ProgramHeading.{ProgramHeading}
@@ -179,14 +180,14 @@ beginning_settled order = let e = system_is system.types (with_classes empty) in
 
 -- ---- declarations
 
-declaration_settled : {around : Around} (d : Declaration) (h : Here) → Settled (outside around None) h → From (Rests around) (declaration_means d h)
+declaration_settled : {around : Around} (d : Declaration) (h : Here) → Settled (outside around None) h → From (Rests around) (done (declaration_means d h))
 declaration_settled {around} (constants cs) h y = from_so (constants_settled cs h y) (λ t i r. r.state)
 declaration_settled {around} (types ts) h y = from_so (types_settled ts h y) (λ t i r. r.state)
 declaration_settled {around} (variables vs) h y = from_so (variables_settled vs h y) (λ t i r. r.state)
 declaration_settled {around} (heading m) h y = routine_settled m.heading m.directives forward h y
 declaration_settled {around} (routine x ds b) h y = routine_settled x ds b h y
 
-pub declarations_settled : {around : Around} (ds : Declarations) (h : Here) → Settled (outside around None) h → From (Rests around) (all_declared ds h)
+pub declarations_settled : {around : Around} (ds : Declarations) (h : Here) → Settled (outside around None) h → From (Rests around) (done (all_declared ds h))
 declarations_settled {around} no_declarations h y = from_gives y
 declarations_settled {around} (declarations d ds) h y = from_then (all_declared ds) (declaration_settled d h y) (λ t i z. declarations_settled ds i z)
 
@@ -205,19 +206,19 @@ none_last [] h (suc n) a = a
 none_last (p ∷ ps) h zero a = h zero a
 none_last (p ∷ ps) h (suc n) a = none_last ps (λ k. h (suc k)) n a
 
-none_or_missing : (ps : List (Option Place)) → NoneAwaited ps ⊎ ((r : Refusal) × IsIn r (missing ps))
+none_or_missing : (ps : List (Option Place)) → NoneAwaited ps ⊎ ((r : Refusal) × IsIn r (checked (awaited ps)).faults)
 none_or_missing [] = inl (λ n a. a)
 none_or_missing (Some place ∷ ps) = inr (_, front here)
 none_or_missing (None ∷ ps) = one (none_or_missing ps)
   where
-    one : NoneAwaited ps ⊎ ((r : Refusal) × IsIn r (missing ps)) → NoneAwaited (None ∷ ps) ⊎ ((r : Refusal) × IsIn r (missing (None ∷ ps)))
+    one : NoneAwaited ps ⊎ ((r : Refusal) × IsIn r (checked (awaited ps)).faults) → NoneAwaited (None ∷ ps) ⊎ ((r : Refusal) × IsIn r (checked (awaited (None ∷ ps))).faults)
     one (inl h) = inl (none_first ps h)
     one (inr m) = inr (m.0, behind m.1)
 
-pub completed_settled : {around : Around} (h : Here) → Settled (outside around None) h → From (λ t g. Settled (outside around None) g × NoneAwaited g.awaited) (all_completed h)
+pub completed_settled : {around : Around} (h : Here) → Settled (outside around None) h → From (λ t g. Settled (outside around None) g × NoneAwaited g.awaited) (done (all_completed h))
 completed_settled {around} h y = one (none_or_missing h.awaited)
   where
-    one : NoneAwaited h.awaited ⊎ ((r : Refusal) × IsIn r (missing h.awaited)) → From (λ t g. Settled (outside around None) g × NoneAwaited g.awaited) (all_completed h)
+    one : NoneAwaited h.awaited ⊎ ((r : Refusal) × IsIn r (checked (awaited h.awaited)).faults) → From (λ t g. Settled (outside around None) g × NoneAwaited g.awaited) (done (all_completed h))
     one (inl n) = settled (filled tt (y, n))
     one (inr m) = faulty m.0 m.1
 
@@ -292,18 +293,18 @@ export_found apart core (Some e ∷ es) n a = one (str_eq_ignore_ascii_case e.un
     one true x = All-head (IsShown apart core) (Some e) es a
     one false x = x
 
-used_settled : {around : Around} (n : Name) (h : Here) → Settled (outside around None) h → From (Uses around h) (used around.exports n h)
+used_settled : {around : Around} (n : Name) (h : Here) → Settled (outside around None) h → From (Uses around h) (done (used around.exports n h))
 used_settled {around} n h y = one (is_system n)
   where
-    by_export : (o : Option Export) → IfSome o (IsExported around.apart h.core) → From (Uses around h) (used_by n o h)
+    by_export : (o : Option Export) → IfSome o (IsExported around.apart h.core) → From (Uses around h) (done (used_by n o h))
     by_export None x = from_breaks
     by_export (Some e) x = from_gives (with_used_settled e h x y, refl)
 
-    one : (b : Bool) → From (Uses around h) (if b then gives tt h else used_by n (exports_of around.exports n) h)
+    one : (b : Bool) → From (Uses around h) (done (when b (gives tt h) (used_by n (exports_of around.exports n) h)))
     one true = from_gives (y, refl)
     one false = by_export (exports_of around.exports n) (export_found around.apart h.core around.exports n y.exports)
 
-pub uses_settled : {around : Around} (ns : List Name) (h : Here) → Settled (outside around None) h → From (Uses around h) (uses_mean around.exports ns h)
+pub uses_settled : {around : Around} (ns : List Name) (h : Here) → Settled (outside around None) h → From (Uses around h) (done (uses_mean around.exports ns h))
 uses_settled [] h y = from_gives (y, refl)
 uses_settled {around} (n ∷ ns) h y = from_then (uses_mean around.exports ns) (used_settled n h y) (λ t i r. from_so (uses_settled ns i r.0) (λ u j q. (q.0, q.1 ∙ r.1)))
 
@@ -313,18 +314,18 @@ uses_settled {around} (n ∷ ns) h y = from_then (uses_mean around.exports ns) (
 pub record Parted (around : Around) (h : Here) (a : Option RoutineId) (g : Here) : Type 0 where
   pub state : Settled (outside around None) g
   pub none : NoneAwaited h.awaited → NoneAwaited g.awaited
-  pub done : IfSome a (IsDonePart g.core None g.awaited)
+  pub part : IfSome a (IsDonePart g.core None g.awaited)
   pub keeps : KeepsParts h.core g.core None None h.awaited g.awaited
 
-pub part_settled : {around : Around} (n : Name) (o : Option Statements) (h : Here) → Settled (outside around None) h → From (Parted around h) (part_means n o h)
-part_settled n None h y = from_gives (record { state = y; none = λ z. z; done = tt; keeps = λ p lt d. (refl, d) })
+pub part_settled : {around : Around} (n : Name) (o : Option Statements) (h : Here) → Settled (outside around None) h → From (Parted around h) (done (part_means n o h))
+part_settled n None h y = from_gives (record { state = y; none = λ z. z; part = tt; keeps = λ p lt d. (refl, d) })
 part_settled {around} n (Some ss) h y =
     from_then (gives (Some (next_routine h)))
     (statements_settled (next_routine h) ss (with_routine n main_head None h) row refl (with_routine_settled (Some (length h.core.routines)) n main_head None h y (omega arith, tt) (inr refl) (inl refl) refl) (there, (λ v lt c. global v c), main_rows))
     (λ t g c. from_gives (record {
       state = c.0;
       none = λ z. subst NoneAwaited (sym c.2) (none_last h.awaited z);
-      done = subst (λ core. IsDonePart core None g.awaited (next_routine h)) (sym c.1) (subst (λ ps. IsDonePart new None ps (next_routine h)) (sym c.2) (some_and (λ r. r.parameters.count ≡ 0) there refl, λ z. last_closed z));
+      part = subst (λ core. IsDonePart core None g.awaited (next_routine h)) (sym c.1) (subst (λ ps. IsDonePart new None ps (next_routine h)) (sym c.2) (some_and (λ r. r.parameters.count ≡ 0) there refl, λ z. last_closed z));
       keeps = subst (λ core. KeepsParts h.core core None None h.awaited g.awaited) (sym c.1) (subst (λ ps. KeepsParts h.core new None None h.awaited ps) (sym c.2) (λ p lt d. (stays_in_front h.core.routines (row ∷ []) p lt, λ z. closed p lt d z)));
     }))
   where

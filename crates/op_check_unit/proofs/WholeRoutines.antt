@@ -6,32 +6,32 @@ use Rattle.std.proofs.lemmas.List.Elements.{All-append, All-cons, All-drop, All-
 use Rattle.std.proofs.lemmas.Bool.{and_from, and_parts}
 use Rattle.std.proofs.lemmas.Option.{slice_get_within}
 use Rattle.op_base.specs.declared.place.Place.{Place}
+use Rattle.op_check_expr.proofs.LeafWhole.{whole_unshown}
 use Rattle.op_check_expr.specs.Naming.{feature_of_type}
-use Rattle.op_check_expr.specs.Parts.{by_feature}
 use Rattle.op_check_expr.specs.Settled.{IsSettled}
 use Rattle.op_check_stmt.proofs.Whole.{statements_whole}
-use Rattle.op_check_stmt.specs.Statements.{statements}
+use Rattle.op_check_stmt.specs.Statement.{statements}
 use Rattle.op_check_stmt.specs.Surrounding.{Surrounds}
 use Rattle.op_check_unit.proofs.Tables.{tabled_beside}
 use Rattle.op_check_unit.proofs.WholeDeclaring.{beside, constants_settled, locals_more, settled_local, types_settled, variables_settled}
-use Rattle.op_judgement.specs.Judgement.{checked, refused}
-use Rattle.op_judgement.specs.Rules.{wrong_kind_of_name}
+use Rattle.op_judgement.specs.Judgement.{by_test, checked, fine, refused}
+use Rattle.op_judgement.specs.declared.rules.LanguageRule.TheVariants.{HeadingDiffers, LocalsTooLarge, WrongKindOfName}
 use Rattle.op_types.proofs.Extents.{front}
 use Rattle.op_check_unit.proofs.WholeGrowth.{Wider, bare_routines_on, bare_variable_on, body_on, exports_on, names_on, some_is, units_on, value_on}
 use Rattle.op_check_unit.proofs.WholeHeadings.{IsHead, form_whole, head_settled}
-use Rattle.op_check_unit.proofs.WholeSteps.{Moves, founded, from_breaks, from_checked, from_followed, from_gives, from_so, from_then, later_itself, lead_followed, leads, leads_on, settled_ahead, settled_named, wider}
-use Rattle.op_check_unit.proofs.WholeTypes.{behind_front, declared_settled, entered_from, first_behind, found, with_declared_core, with_declared_settled, with_name_settled}
+use Rattle.op_check_unit.proofs.WholeSteps.{Moves, founded, from_behind, from_breaks, from_checked, from_followed, from_gives, from_so, from_then, later_itself, lead_followed, leads, leads_on, settled_ahead, settled_named, wider}
+use Rattle.op_check_unit.proofs.WholeTypes.{behind_front, declared_settled, entered_from, first_behind, with_declared_core, with_declared_settled, with_name_settled}
 use Rattle.op_check_unit.specs.Complete.{Around, From, HasBody, Inside, IsAwaited, IsBareRoutine, IsBareVariable, IsOpen, IsTypedBody, IsTypedFirst, Later, Settled, Stage, declared_in, faulty, outside, scope, scope_of, settled}
+use Rattle.op_check_unit.specs.Headings.{head_means}
 use Rattle.op_check_unit.specs.Naming.{ended, is_declared, told_by, with_ahead}
-use Rattle.op_check_unit.specs.Readings.{ahead_declared, block_means, by_standing, class_meant, first_declared, head_means, headed, if_same, inner, local_declared, locals_declared, locals_fit, plain_declared, routine_by, routine_declared, statements_mean}
-use Rattle.op_check_unit.specs.Routines.{awaited_by, awaited_named, awaited_of, awaits, both_typed, completed, entered, is_heading_of, left, most_bytes, next_routine, no_rows, parameter_names, parameter_variable, result_name, routine_row, with_body, with_local, with_parameters, with_result, with_routine, with_variables}
+use Rattle.op_check_unit.specs.Routines.{ahead_declared, awaited_by, awaited_named, awaits, block_means, both_typed, by_standing, class_meant, completed, entered, first_declared, headed, inner, is_heading_of, left, local_declared, locals_declared, locals_fit, most_bytes, next_routine, no_rows, parameter_names, parameter_variable, plain_declared, result_name, routine_by, routine_declared, routine_row, statements_mean, with_body, with_local, with_parameters, with_result, with_routine, with_variables}
 use Rattle.op_check_unit.specs.Routines as spec
-use Rattle.op_check_unit.specs.Steps.{Here, followed, gives}
+use Rattle.op_check_unit.specs.Steps.{Here}
 use Rattle.op_check_unit.specs.Types.{in_core}
 use Rattle.op_check_unit.specs.declared.heading.Head.{Head}
-use Rattle.op_core.proofs.Completing.{whole_gives, whole_refused, whole_rule, whole_tested}
+use Rattle.op_core.proofs.Agreeing.{some_is as some_eq}
 use Rattle.op_core.proofs.Growing.{all_at, front_fit, front_itself, front_row, front_rows, grows_heading, heading_itself, parameters_on, result_on, some_and}
-use Rattle.op_core.specs.Faults.{Checked, broken, by_test, fine, here}
+use Rattle.op_core.specs.Faults.{Checked}
 use Rattle.op_core.specs.Growing.{IsFrontOf}
 use Rattle.op_core.specs.Heading.{is_same_heading, same_parameters}
 use Rattle.op_core.specs.Members.{InRun}
@@ -52,10 +52,13 @@ use Rattle.op_core.specs.declared.routine.Parameter.{Parameter}
 use Rattle.op_core.specs.declared.routine.Role.TheVariants.{Parameter as ParameterRole, Result}
 use Rattle.op_core.specs.declared.routine.Routine.{Routine}
 use Rattle.op_core.specs.declared.routine.Variable.{Variable as VariableRow}
+use Rattle.op_judgement.proofs.Completing.{whole_gives, whole_rule, whole_tested}
+use Rattle.op_judgement.specs.Steps.{done, followed, gives}
 use Rattle.op_tree.specs.Declaration.{Body, forward, body, Declaration, constants, types, variables, heading, routine, Declarations, no_declarations, declarations, Heading}
 use Rattle.op_tree.specs.Statement.{Statements}
 use Rattle.op_tree.specs.declared.heading.Directive.{Directive}
 use Rattle.op_tree.specs.declared.position.Name.{Name}
+use Rattle.op_types.proofs.ConstantWhole.{stands_if}
 use Rattle.op_types.specs.Names.{Named, lower, meaning_of}
 use Rattle.op_types.specs.Standing.{AllStand, StandsFor}
 use Rattle.op_types.specs.declared.visible.BuiltIn.TheVariants.{LeftOut}
@@ -125,9 +128,6 @@ last_or (suc k) (suc m) h = step (last_or k m (omega (arith, h)))
     step : (k < m) ⊎ (k ≡ m) → (suc k < suc m) ⊎ (suc k ≡ suc m)
     step (inl a) = inl (omega (arith, a))
     step (inr e) = inr (ap suc e)
-
-pub some_eq : {A : Type 0} {a b : A} → Some a ≡ Some b → a ≡ b
-some_eq e = cc
 
 pub set_apart : {A : Type 0} (xs : List A) (k : ℕ) (y : A) (n : ℕ) → (n ≡ k → ⊥) → slice_get (slice_set xs k y) n ≡ slice_get xs n
 set_apart [] k y n d = refl
@@ -319,8 +319,8 @@ with_body_settled {s} id h r c x e q (filled ss t) = record {
 abbrev pub Closes : Stage → Here → Unit {0} → Here → Type 0
 Closes s h t g = Settled (closed_stage s) g × (g.core ≡ h.core) × (g.awaited ≡ h.awaited)
 
-pub statements_settled : {s : Stage} (id : RoutineId) (ss : Statements) (h : Here) (r : Routine) → s.current ≡ Some id.0 → Settled s h → IsRowOf s h id r → From (Closes s h) (statements_mean id ss h)
-statements_settled {s} id ss h r c x k = from (statements (spec.scope_of id h) ss) (statements_whole (at_start r) (scope_settled h id r x k) (surrounded h id r k.0) ss)
+pub statements_settled : {s : Stage} (id : RoutineId) (ss : Statements) (h : Here) (r : Routine) → s.current ≡ Some id.0 → Settled s h → IsRowOf s h id r → From (Closes s h) (done (statements_mean id ss h))
+statements_settled {s} id ss h r c x k = from (checked (statements (spec.scope_of id h) ss)) (statements_whole (at_start r) (scope_settled h id r x k) (surrounded h id r k.0) ss)
   where
     one : {o : Option Typed} → Filled (AreStatements h.core (scope_of s.around.apart h.core r) (at_start r)) o → Closes s h tt (with_body id o h)
     one (filled ts t) = (with_body_settled id h r c x k.0 k.2 (filled ts t), refl, refl)
@@ -580,14 +580,14 @@ row_scope {around} {i} id n x h y b = (set_there h.core.routines id.0 (body_row 
 
 -- ---- bodies
 
-local_settled : {s : Stage} (d : Declaration) (h : Here) → Settled s h → From (Moves s h) (local_declared d h)
+local_settled : {s : Stage} (d : Declaration) (h : Here) → Settled s h → From (Moves s h) (done (local_declared d h))
 local_settled (constants cs) h x = constants_settled cs h x
 local_settled (types ts) h x = types_settled ts h x
 local_settled (variables vs) h x = variables_settled vs h x
 local_settled (heading m) h x = from_gives (leads x later_itself tt)
 local_settled (routine y ds b) h x = from_checked {A = Unit {0}} {P = λ t. Unit {0}} whole_rule (λ t z. leads x later_itself tt)
 
-locals_settled : {s : Stage} (ds : Declarations) (h : Here) → Settled s h → From (Moves s h) (locals_declared ds h)
+locals_settled : {s : Stage} (ds : Declarations) (h : Here) → Settled s h → From (Moves s h) (done (locals_declared ds h))
 locals_settled no_declarations h x = from_gives (leads x later_itself tt)
 locals_settled (declarations d ds) h x = from_then (locals_declared ds) (local_settled d h x) (λ t i r. leads_on r.later (locals_settled ds i r.state))
 
@@ -595,12 +595,12 @@ locals_settled (declarations d ds) h x = from_then (locals_declared ds) (local_s
 abbrev Ended : Around → Inside → Unit {0} → Here → Type 0
 Ended around i t g = Settled (record { around = around; current = None; inside = Some i }) g
 
-inner_settled : {around : Around} {i : Inside} (id : RoutineId) (n : Name) (x : Head) (ds : Declarations) (ss : Statements) (h : Here) → IsHead x h.core → HasHead id n x h.core → Settled (body_stage around id i) h → BeginWith (head_rows n x h.core) (drop i.first h.core.variables) → From (Ended around i) (inner id n x i.first ds ss h)
+inner_settled : {around : Around} {i : Inside} (id : RoutineId) (n : Name) (x : Head) (ds : Declarations) (ss : Statements) (h : Here) → IsHead x h.core → HasHead id n x h.core → Settled (body_stage around id i) h → BeginWith (head_rows n x h.core) (drop i.first h.core.variables) → From (Ended around i) (done (inner id n x i.first ds ss h))
 inner_settled {around} {i} id n x ds ss h k head y b =
     from_then (λ h. followed (locals_fit n h) (λ t h. statements_mean id ss (with_variables id n x i.first h))) (locals_settled ds h y)
     (λ t j r. from_then {R = λ t g. (g ≡ j) × (j.bytes ≤ most_bytes)} (λ h. statements_mean id ss (with_variables id n x i.first h))
-    (from_checked {P = λ t. j.bytes ≤ most_bytes} (whole_tested 69 n.position.place (nat_le j.bytes most_bytes) (λ e. whole_gives (leb-true j.bytes most_bytes e))) (λ t le. (refl, le)))
-    (λ t g q. subst (λ g. From (Ended around i) (statements_mean id ss (with_variables id n x i.first g))) (sym q.0)
+    (from_checked {P = λ t. j.bytes ≤ most_bytes} (whole_tested LocalsTooLarge n.position.place (nat_le j.bytes most_bytes) (λ e. whole_gives (leb-true j.bytes most_bytes e))) (λ t le. (refl, le)))
+    (λ t g q. subst (λ g. From (Ended around i) (done (statements_mean id ss (with_variables id n x i.first g)))) (sym q.0)
     (from_so (statements_settled id ss (with_variables id n x i.first j) (body_row j.unit n x i j.core) refl (with_variables_settled id n x j q.1 (head_later x (reads_later r.later) k) (has_head_later id n x y (reads_later r.later) k head) r.state) (row_scope id n x j r.state (begins_later n x i.first r.later k y.inside.first b))) (λ a g w. w.0))))
 
 left_settled : {around : Around} {c : Option ℕ} (h g : Here) → Settled (outside around c) h → Settled (record { around = around; current = None; inside = Some (inside_of h) }) g → Settled (outside around None) (left h g)
@@ -628,14 +628,14 @@ left_settled {around} h g y z = record {
 abbrev pub Rests : {A : Type 0} → Around → A → Here → Type 0
 Rests around a h = Settled (outside around None) h
 
-block_settled : {around : Around} (id : RoutineId) (n : Name) (x : Head) (ds : Declarations) (ss : Statements) (h : Here) → IsHead x h.core → HasHead id n x h.core → Settled (outside around (Some id.0)) h → From (Rests around) (block_means id n x ds ss h)
+block_settled : {around : Around} (id : RoutineId) (n : Name) (x : Head) (ds : Declarations) (ss : Statements) (h : Here) → IsHead x h.core → HasHead id n x h.core → Settled (outside around (Some id.0)) h → From (Rests around) (done (block_means id n x ds ss h))
 block_settled {around} id n x ds ss h k head y =
     let e = entered_settled id n x h k y in
     from_then (λ i. gives tt (left h i)) (inner_settled id n x ds ss (entered id n x h) (head_later x e.1 k) (has_head_later id n x y e.1 k head) e.0 (subst (λ ss. BeginWith ss (drop (length h.core.variables) (entered id n x h).core.variables)) (sym (head_rows_on h.core (entered id n x h).core n x e.1.parameters k.0)) (entered_begins id n x h))) (λ t i z. from_gives (left_settled h i y z))
 
 -- ---- declarations
 
-first_settled : {around : Around} (n : Name) (x : Head) (b : Body) (h : Here) → IsHead x h.core → Settled (outside around None) h → From (Rests around) (first_declared n x b h)
+first_settled : {around : Around} (n : Name) (x : Head) (b : Body) (h : Here) → IsHead x h.core → Settled (outside around None) h → From (Rests around) (done (first_declared n x b h))
 first_settled {around} n x forward h k y =
     from_then (λ h. gives tt h)
     (declared_settled n (RoutineName (next_routine h)) (with_routine n x (Some n.position.place) h) (with_routine_settled None n x (Some n.position.place) h y k (inl refl) (inr (subst (IsAwaited (h.awaited ++ Some n.position.place ∷ [])) y.awaits (last_awaited h.awaited n.position.place))) tt) (lt, lt))
@@ -657,29 +657,23 @@ first_settled {around} n x (body ds ss) h k y =
     head : HasHead (next_routine h) n x new.core
     head = some_and (λ r. IsTrue (is_same_heading new.core r (routine_row h.unit n x no_rows))) (first_behind h.core.routines (routine_row h.unit n x no_rows) []) (heading_itself new.core (routine_row h.unit n x no_rows))
 
-if_same_settled : {around : Around} (id : RoutineId) (n : Name) (x : Head) (ds : Declarations) (ss : Statements) {t : Option (Unit {0})} (h : Here) → IsHead x h.core → Filled (λ t. HasHead id n x h.core) t → Settled (outside around (Some id.0)) h → From (Rests around) (if_same id n x ds ss t h)
-if_same_settled {around} id n x ds ss h k (filled t a) y = block_settled id n x ds ss h k a y
-
-ahead_settled : {around : Around} (id : RoutineId) (n : Name) {x : Option Head} (b : Body) (h : Here) → Filled (λ x. IsHead x h.core) x → IsAwaited h.awaited id.0 → Settled (outside around None) h → From (Rests around) (ahead_declared id n x b h)
+ahead_settled : {around : Around} (id : RoutineId) (n : Name) {x : Option Head} (b : Body) (h : Here) → Filled (λ x. IsHead x h.core) x → IsAwaited h.awaited id.0 → Settled (outside around None) h → From (Rests around) (done (ahead_declared id n x b h))
 ahead_settled {around} id n forward h f a y = from_breaks
 ahead_settled {around} id n (body ds ss) h (filled x k) a y =
-    from_followed {R = λ t g. (g ≡ completed id h) × HasHead id n x h.core} {f = if_same id n x ds ss} (from_checked (same (slice_get h.core.routines id.0)) (λ t z. (refl, z)))
-    (λ t g f. one g f)
+    from_behind {R = λ t g. (g ≡ completed id h) × HasHead id n x h.core} (λ t g. block_means id n x ds ss g) (from_checked (same (slice_get h.core.routines id.0)) (λ t z. (refl, z)))
+    (λ t g q.
+    let r = some_is (slice_get h.core.routines id.0) q.1 in
+    subst (λ g. From (Rests around) (done (block_means id n x ds ss g))) (sym q.0) (block_settled id n x ds ss (completed id h) k q.1 (completed_settled id h y a (slice_get_within h.core.routines id.0 r.0 r.1))))
   where
-    same : (o : Option Routine) → Whole {A = Unit {0}} (λ t. IsSomeAnd o (λ r. IsTrue (is_same_heading h.core r (routine_row h.unit n x no_rows)))) (by_test 19 n.position.place (fine tt) (is_heading_of h.core (routine_row h.unit n x no_rows) o))
-    same None = whole_refused
-    same (Some r) = whole_tested 19 n.position.place (is_heading_of h.core (routine_row h.unit n x no_rows) (Some r)) (λ e. whole_gives e)
+    same : (o : Option Routine) → Whole {A = Unit {0}} (λ t. IsSomeAnd o (λ r. IsTrue (is_same_heading h.core r (routine_row h.unit n x no_rows)))) (checked (by_test HeadingDiffers n.position.place (fine tt) (is_heading_of h.core (routine_row h.unit n x no_rows) o)))
+    same None = whole_rule
+    same (Some r) = whole_tested HeadingDiffers n.position.place (is_heading_of h.core (routine_row h.unit n x no_rows) (Some r)) (λ e. whole_gives e)
 
-    one : {t : Option (Unit {0})} (g : Here) → Filled (λ t. (g ≡ completed id h) × HasHead id n x h.core) t → From (Rests around) (if_same id n x ds ss t g)
-    one g (filled t q) =
-        let r = some_is (slice_get h.core.routines id.0) q.1 in
-        subst (λ g. From (Rests around) (if_same id n x ds ss (Some t) g)) (sym q.0) (block_settled id n x ds ss (completed id h) k q.1 (completed_settled id h y a (slice_get_within h.core.routines id.0 r.0 r.1)))
-
-standing_settled : {around : Around} (o : Option RoutineId) (n : Name) {x : Option Head} (b : Body) (h : Here) → Filled (λ x. IsHead x h.core) x → IfSome o (λ id. IsAwaited h.awaited id.0) → Settled (outside around None) h → From (Rests around) (by_standing o n x b h)
+standing_settled : {around : Around} (o : Option RoutineId) (n : Name) {x : Option Head} (b : Body) (h : Here) → Filled (λ x. IsHead x h.core) x → IfSome o (λ id. IsAwaited h.awaited id.0) → Settled (outside around None) h → From (Rests around) (done (by_standing o n x b h))
 standing_settled {around} (Some id) n b h f a y = ahead_settled id n b h f a y
 standing_settled {around} None n b h (filled x k) a y = first_settled n x b h k y
 
--- what is found as awaited is awaited
+-- what is stands_if as awaited is awaited
 found_awaited : (h : Here) (n : Name) → IfSome (awaited_named h n) (λ id. IsAwaited h.awaited id.0)
 found_awaited h n = one (is_declared h n)
   where
@@ -696,34 +690,27 @@ found_awaited h n = one (is_declared h n)
     one true = named (meaning_of h.names (lower n.text))
     one false = tt
 
-both_filled : {P : Head → Type 0} {t : Option (Unit {0})} {u : Option Head} → Filled (λ t. Unit {0}) t → Filled P u → Filled P (both_typed t u)
-both_filled (filled t _) f = f
-
-plain_settled : {around : Around} (x : Heading) (ds : List Directive) (b : Body) (h : Here) → Settled (outside around None) h → From (Rests around) (plain_declared x ds b h)
+plain_settled : {around : Around} (x : Heading) (ds : List Directive) (b : Body) (h : Here) → Settled (outside around None) h → From (Rests around) (done (plain_declared x ds b h))
 plain_settled {around} x ds b h y =
-    from_followed {R = λ t g. g ≡ with_ahead x.name h} {f = λ t h. followed (head_means x h) (λ u h. headed x.name (both_typed t u) b (ended h))} (from_checked {P = λ t. Unit {0}} (form_whole x ds) (λ t z. refl))
+    from_followed {R = λ t g. g ≡ with_ahead x.name h} (λ t h. followed (head_means x h) (λ u h. headed x.name (both_typed t u) b (ended h))) (from_checked {P = λ t. Unit {0}} (form_whole x ds) (λ t z. refl))
     (λ t i f. one i f)
   where
-    one : {t : Option (Unit {0})} (i : Here) → Filled (λ t. i ≡ with_ahead x.name h) t → From (Rests around) (followed (head_means x i) (λ u h. headed x.name (both_typed t u) b (ended h)))
-    one i (filled t e) = subst (λ i. From (Rests around) (followed (head_means x i) (λ u h. headed x.name (both_typed (Some t) u) b (ended h)))) (sym e)
-        (lead_followed {h = with_ahead x.name h} {P = IsHead} {f = λ u h. headed x.name (both_typed (Some t) u) b (ended h)} (head_settled x (with_ahead x.name h) (settled_ahead _ y))
+    one : {t : Option (Unit {0})} (i : Here) → Filled (λ t. i ≡ with_ahead x.name h) t → From (Rests around) (done (followed (head_means x i) (λ u h. headed x.name (both_typed t u) b (ended h))))
+    one i (filled t e) = subst (λ i. From (Rests around) (done (followed (head_means x i) (λ u h. headed x.name (both_typed (Some t) u) b (ended h))))) (sym e)
+        (lead_followed {h = with_ahead x.name h} {P = IsHead} (λ u h. headed x.name (both_typed (Some t) u) b (ended h)) (head_settled x (with_ahead x.name h) (settled_ahead _ y))
         (λ u j z l g. standing_settled (awaited_named (ended j) x.name) x.name b (ended j) g (found_awaited (ended j) x.name) (settled_ahead [] z)))
 
-class_fault : {P : Unit {0} → Type 0} (place : Place) (o : Option ℕ) → Whole P (checked (by_feature place o (refused wrong_kind_of_name place)))
-class_fault place None = rule_broken (broken 16 place) here
-class_fault place (Some f) = rule_broken _ here
-
-class_whole : (core : Core) (sees : Sees) (place : Place) (m : Option Meaning) → IfSome m (StandsFor core sees) → IsWhole (class_meant core place (told_by m))
-class_whole core sees place None u = whole_refused
+class_whole : (core : Core) (sees : Sees) (place : Place) (m : Option Meaning) → IfSome m (StandsFor core sees) → IsWhole (checked (class_meant core place (told_by m)))
+class_whole core sees place None u = whole_rule
 class_whole core sees place (Some meaning.Spoiled) u = absurd u
-class_whole core sees place (Some (meaning.TypeName of)) u = class_fault place (feature_of_type (type_at core of))
+class_whole core sees place (Some (meaning.TypeName of)) u = whole_unshown (refused WrongKindOfName place) place (feature_of_type (type_at core of)) (λ _. whole_rule)
 class_whole core sees place (Some (meaning.BuiltIn (LeftOut feature))) u = whole_rule
-class_whole core sees place (Some (meaning.BuiltIn b)) u = whole_refused
-class_whole core sees place (Some m) u = whole_refused
+class_whole core sees place (Some (meaning.BuiltIn b)) u = whole_rule
+class_whole core sees place (Some m) u = whole_rule
 
-routine_by_settled : {around : Around} (c : Option Name) (x : Heading) (ds : List Directive) (b : Body) (h : Here) → Settled (outside around None) h → From (Rests around) (routine_by c x ds b h)
+routine_by_settled : {around : Around} (c : Option Name) (x : Heading) (ds : List Directive) (b : Body) (h : Here) → Settled (outside around None) h → From (Rests around) (done (routine_by c x ds b h))
 routine_by_settled {around} None x ds b h y = plain_settled x ds b h y
-routine_by_settled {around} (Some c) x ds b h y = from_checked (class_whole h.core (scope around.apart None h.core) c.position.place (meaning_of h.names (lower c.text)) (found h.core (scope around.apart None h.core) h.names y.names (lower c.text))) (λ t z. y)
+routine_by_settled {around} (Some c) x ds b h y = from_checked (class_whole h.core (scope around.apart None h.core) c.position.place (meaning_of h.names (lower c.text)) (stands_if h.core (scope around.apart None h.core) h.names y.names (lower c.text))) (λ t z. y)
 
-pub routine_settled : {around : Around} (x : Heading) (ds : List Directive) (b : Body) (h : Here) → Settled (outside around None) h → From (Rests around) (routine_declared x ds b h)
+pub routine_settled : {around : Around} (x : Heading) (ds : List Directive) (b : Body) (h : Here) → Settled (outside around None) h → From (Rests around) (done (routine_declared x ds b h))
 routine_settled {around} x ds b h y = routine_by_settled x.class x ds b h y

@@ -7,13 +7,14 @@ use Rattle.std.proofs.lemmas.List.Elements.{All-cons, All-drop, All-head, All-ni
 use Rattle.std.proofs.lemmas.List.Sums.{sum_by-append, sum_by-cons}
 use Rattle.std.proofs.lemmas.Option.{slice_get_within}
 use Rattle.op_base.specs.declared.place.Place.{Place}
+use Rattle.op_check_expr.proofs.LeafWhole.{there_is}
 use Rattle.op_check_unit.proofs.Filled.{filled_grows}
 use Rattle.op_check_unit.proofs.Tables.{if_none, tabled_beside, tabled_sound}
 use Rattle.op_check_unit.proofs.WholeUnits.{Finished, all_have_bodies, files_settled}
-use Rattle.op_check_unit.proofs.WholeDeclaring.{row_at}
 use Rattle.op_check_unit.proofs.WholeGrowth.{some_is}
-use Rattle.op_check_unit.proofs.WholeRoutines.{rows_typed, set_there, some_eq}
+use Rattle.op_check_unit.proofs.WholeRoutines.{rows_typed, set_there}
 use Rattle.op_check_unit.proofs.WholeSteps.{founded_in}
+use Rattle.op_check_unit.proofs.WholeTypes.{if_some}
 use Rattle.op_check_unit.specs.Checking.{CheckIs, Fills, bare, body_in, placed, without_bodies}
 use Rattle.op_check_unit.specs.Complete.{From, HasBody, IsBareRoutine, IsBareVariable, IsDone, IsDonePart, IsOpen, IsPeopled, IsTypedBody, IsTypedFirst, faulty, scope_of, settled}
 use Rattle.op_check_unit.specs.FirstValues.{bare_variable, begins_with, begun, without_first_values}
@@ -21,6 +22,7 @@ use Rattle.op_check_unit.specs.Programs.{files_mean, program_means}
 use Rattle.op_check_unit.specs.Steps.{Given, Here}
 use Rattle.op_check_unit.specs.System.{beginning}
 use Rattle.op_check_unit.specs.Tables.{IsTabled}
+use Rattle.op_core.proofs.Agreeing.{some_is as some_eq}
 use Rattle.op_core.proofs.Growing.{all_at, some_and}
 use Rattle.op_core.proofs.GrowingRows.{first_grows}
 use Rattle.op_core.proofs.GrowingStatements.{statements_grow}
@@ -54,7 +56,7 @@ boxed o = option_map (λ i. first_value_of i.value) o
 
 -- ---- lists
 
-all_rows : {A : Type 0} {P : A → Type 0} (xs : List A) → ((n : ℕ) (a : A) → slice_get xs n ≡ Some a → P a) → All P xs
+pub all_rows : {A : Type 0} {P : A → Type 0} (xs : List A) → ((n : ℕ) (a : A) → slice_get xs n ≡ Some a → P a) → All P xs
 all_rows {P = P} [] k = All-nil P
 all_rows {P = P} (x ∷ xs) k = All-cons P x xs (k 0 x refl) (all_rows xs (λ n a e. k (suc n) a e))
 
@@ -63,7 +65,7 @@ map_at f [] n = refl
 map_at f (x ∷ xs) zero = refl
 map_at f (x ∷ xs) (suc n) = map_at f xs n
 
-set_cases : {A : Type 0} (xs : List A) (k : ℕ) (y : A) (n : ℕ) (a : A) → slice_get (slice_set xs k y) n ≡ Some a → ((n ≡ k) × (a ≡ y)) ⊎ (slice_get xs n ≡ Some a)
+pub set_cases : {A : Type 0} (xs : List A) (k : ℕ) (y : A) (n : ℕ) (a : A) → slice_get (slice_set xs k y) n ≡ Some a → ((n ≡ k) × (a ≡ y)) ⊎ (slice_get xs n ≡ Some a)
 set_cases [] k y n a e = inr e
 set_cases (x ∷ xs) zero y zero a e = inl (refl, cc)
 set_cases (x ∷ xs) zero y (suc n) a e = inr e
@@ -76,7 +78,7 @@ set_cases (x ∷ xs) (suc k) y (suc n) a e = next (set_cases xs k y n a e)
 
 -- ---- rows without bodies and first values
 
-abbrev bared : Core → Core
+abbrev pub bared : Core → Core
 bared core = without_first_values (without_bodies core)
 
 bare_itself : (core : Core) (rs : List Routine) → All (IsBareRoutine core) rs → map bare rs ≡ rs
@@ -91,7 +93,7 @@ is_bare : {core : Core} → IsPeopled core → bared core ≡ core
 is_bare {core} p = ap₂ (λ rs vs. record core { routines = rs; variables = vs }) (bare_itself core core.routines p.routines) (bare_variables core core.variables p.variables)
 
 -- what is put into a row is one of those that are put
-from_placed : {P : RoutineId × Statements → Type 0} (bs : List (RoutineId × Statements)) (xs : List (Option Statements)) (n : ℕ) (ss : Statements) → All P bs → slice_get (placed bs xs) n ≡ Some (Some ss) → (slice_get xs n ≡ Some (Some ss)) ⊎ ((b : RoutineId × Statements) × P b × (b.0.0 ≡ n) × (b.1 ≡ ss))
+pub from_placed : {P : RoutineId × Statements → Type 0} (bs : List (RoutineId × Statements)) (xs : List (Option Statements)) (n : ℕ) (ss : Statements) → All P bs → slice_get (placed bs xs) n ≡ Some (Some ss) → (slice_get xs n ≡ Some (Some ss)) ⊎ ((b : RoutineId × Statements) × P b × (b.0.0 ≡ n) × (b.1 ≡ ss))
 from_placed [] xs n ss a e = inl e
 from_placed {P = P} (b ∷ bs) xs n ss a e = one (from_placed bs xs n ss (All-tail P b bs a)) (set_cases (placed bs xs) b.0.0 (Some b.1) n (Some ss) e)
   where
@@ -99,7 +101,7 @@ from_placed {P = P} (b ∷ bs) xs n ss a e = one (from_placed bs xs n ss (All-ta
     one rest (inl p) = inr (b, All-head P b bs a, sym p.0, sym (some_eq p.1))
     one rest (inr f) = rest f
 
-from_begun : {P : VariableId × FirstValue → Type 0} (bs : List (VariableId × FirstValue)) (xs : List (Option FirstValue)) (n : ℕ) (v : FirstValue) → All P bs → slice_get (begun bs xs) n ≡ Some (Some v) → (slice_get xs n ≡ Some (Some v)) ⊎ ((b : VariableId × FirstValue) × P b × (b.0.0 ≡ n) × (b.1 ≡ v))
+pub from_begun : {P : VariableId × FirstValue → Type 0} (bs : List (VariableId × FirstValue)) (xs : List (Option FirstValue)) (n : ℕ) (v : FirstValue) → All P bs → slice_get (begun bs xs) n ≡ Some (Some v) → (slice_get xs n ≡ Some (Some v)) ⊎ ((b : VariableId × FirstValue) × P b × (b.0.0 ≡ n) × (b.1 ≡ v))
 from_begun [] xs n v a e = inl e
 from_begun {P = P} (b ∷ bs) xs n v a e = one (from_begun bs xs n v (All-tail P b bs a)) (set_cases (begun bs xs) b.0.0 (Some b.1) n (Some v) e)
   where
@@ -238,15 +240,11 @@ begins_at {h} {core} k n v i e f = one (from_begun h.first_values (map begins_wi
         let same : q.0 ≡ bare_variable v = some_eq (sym q.1 ∙ ap (slice_get (map bare_variable core.variables)) x.2 ∙ map_at bare_variable core.variables n ∙ ap (option_map bare_variable) e) in
         subst (λ i. IsSomeAnd (type_at core v.of) (λ t. IsFirst (bared core) t v.of i)) x.3 (subst (λ q. IsSomeAnd (type_at core q.of) (λ t. IsFirst (bared core) t q.of x.0.1)) same q.2)
 
-if_first : {A : Type 0} {P : A → Type 0} (o : Option A) → ((a : A) → o ≡ Some a → P a) → IfSome o P
-if_first None k = tt
-if_first (Some a) k = k a refl
-
 variable_sound : {h : Here} {core : Core} → Known h core → (n : ℕ) (v : Variable) → slice_get core.variables n ≡ Some v → IsVariableRow core v
 variable_sound {h} {core} k n v e =
     let b = all_at (IsBareVariable (bared core)) (map bare_variable core.variables) n (bare_variable v) k.people.variables (map_at bare_variable core.variables n ∙ ap (option_map bare_variable) e) in
-    let t = row_at core.types v.of.0 b.0 in
-    some_and (λ t. IfSome v.first_value (λ i. IsFirst core t v.of (first_value_of i.value))) t.1 (if_first v.first_value (λ i f. first t.0 t.1 (first_value_of i.value) (begins_at k n v (first_value_of i.value) e (ap boxed f))))
+    let t = there_is core.types v.of.0 b.0 in
+    some_and (λ t. IfSome v.first_value (λ i. IsFirst core t v.of (first_value_of i.value))) t.1 (if_some v.first_value (λ i f. first t.0 t.1 (first_value_of i.value) (begins_at k n v (first_value_of i.value) e (ap boxed f))))
   where
     first : (t : CoreType) → slice_get core.types v.of.0 ≡ Some t → (i : FirstValue) → IsSomeAnd (type_at core v.of) (λ t. IsFirst (bared core) t v.of i) → IsFirst core t v.of i
     first t f i s =
@@ -330,10 +328,10 @@ sees_within {core = core} k n r e = record { variable = λ v x. one v x; routine
     one v (inr i) = inr (n, itself, some_and (λ r. InRun r.variables v.0) e i)
 
     alone : (q : RoutineId) → q.0 < length (map bare core.routines) → (within core n).routine q
-    alone q lt = let a = row_at core.routines q.0 (row_of bare core.routines q.0 lt) in some_and _ a.1 (inl (bare_at k q.0 a.0 a.1).enclosing)
+    alone q lt = let a = there_is core.routines q.0 (row_of bare core.routines q.0 lt) in some_and _ a.1 (inl (bare_at k q.0 a.0 a.1).enclosing)
 
 body_sound : {h : Here} {core : Core} {sees : Sees} → Known h core → (n : ℕ) (r : Routine) → slice_get core.routines n ≡ Some r → SeesMore (scope_of [] (bared core) (bare r)) sees → IsBody core sees r
-body_sound {core = core} k n r e m = if_first r.body (λ b f. statements_grow (filled_grows core) m (at_start r) (stmts_of b.statements.items) (typed_at k n r (stmts_of b.statements.items) e (ap (option_map (λ b. stmts_of b.statements.items)) f)).1)
+body_sound {core = core} k n r e m = if_some r.body (λ b f. statements_grow (filled_grows core) m (at_start r) (stmts_of b.statements.items) (typed_at k n r (stmts_of b.statements.items) e (ap (option_map (λ b. stmts_of b.statements.items)) f)).1)
 
 there_of : {A B : Type 0} (P : B → Type 0) (Q : A → Type 0) (f : A → B) (xs : List A) (n : ℕ) → ((a : A) → P (f a) → Q a) → IsSomeAnd (slice_get (map f xs) n) P → IsSomeAnd (slice_get xs n) Q
 there_of P Q f [] n k h = h

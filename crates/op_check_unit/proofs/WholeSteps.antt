@@ -3,15 +3,16 @@ use Rattle.std.proofs.Common.{◌≡◌, ◌≤◌, ℕ, Bool, true, false, List
 use Rattle.std.proofs.lemmas.List.{take-append-le}
 use Rattle.std.proofs.lemmas.List.Elements.{All-append, All-nil, All-push, All-weaker}
 use Rattle.op_base.specs.declared.place.Place.{Place}
+use Rattle.op_base.specs.declared.rule.Refusal.{Refusal}
 use Rattle.op_check_unit.proofs.WholeGrowth.{Wider, body_on, counts_on, declared_bytes, exports_on, front_length, names_on, people_on, units_on, value_on}
 use Rattle.op_check_unit.specs.Complete.{Counts, From, Inside, IsBareRoutine, IsBareVariable, IsDone, IsInside, IsOpen, IsPeopled, IsTypedBody, IsTypedFirst, Later, Leads, Settled, Stage, WithBlockRows, declared_in, faulty, scope, settled}
 use Rattle.op_check_unit.specs.Declaring.{most_global_bytes}
 use Rattle.op_check_unit.specs.Naming.{all_ahead, with_ahead}
-use Rattle.op_check_unit.specs.Steps.{Given, Here, breaks, by, checked, each, followed, gives, where_true}
+use Rattle.op_check_unit.specs.Steps.{Given, Here, breaks, by, checked, followed, gives, where_true}
 use Rattle.op_check_unit.specs.Tables.{IsTabled}
 use Rattle.op_check_unit.specs.Types.{in_core}
 use Rattle.op_core.proofs.Growing.{front_itself, front_through, grows_behind}
-use Rattle.op_core.specs.Faults.{Checked, Faults, both, broken, here, front, behind}
+use Rattle.op_core.specs.Faults.{Checked, Faults, behind, both, front, here, one}
 use Rattle.op_core.specs.Growing.{IsFrontOf}
 use Rattle.op_core.specs.Initial.{FirstValue}
 use Rattle.op_core.specs.Relations.{Filled, Whole, filled, typed, faulty as broken_rule}
@@ -20,6 +21,9 @@ use Rattle.op_core.specs.declared.ids.VariableId.{VariableId}
 use Rattle.op_core.specs.declared.program.Core.{Core}
 use Rattle.op_core.specs.declared.routine.Parameter.{Parameter}
 use Rattle.op_core.specs.declared.routine.Variable.{Variable}
+use Rattle.op_judgement.specs.Steps as step
+use Rattle.op_judgement.specs.Steps.{Step, done}
+use Rattle.op_judgement.specs.declared.rules.LanguageRule.{LanguageRule}
 use Rattle.op_tree.specs.declared.position.Name.{Name}
 use Rattle.op_types.specs.Names.{Named}
 use Rattle.op_types.specs.Standing.{AllStand, StandsFor}
@@ -32,8 +36,8 @@ filled_so (filled a p) k = filled a (k a p)
 pub from_gives : {A : Type 0} {R : A → Here → Type 0} {a : A} {h : Here} → R a h → From R (gives a h)
 from_gives {a} r = settled (filled a r)
 
-pub from_breaks : {A : Type 0} {R : A → Here → Type 0} {number : ℕ} {place : Place} {h : Here} → From R (breaks number place h)
-from_breaks {number} {place} = faulty (broken number place) here
+pub from_breaks : {A : Type 0} {R : A → Here → Type 0} {f : Refusal} {h : Here} → From R (record { typed = None; here = h; faults = one f })
+from_breaks {f} = faulty f here
 
 pub from_checked : {A : Type 0} {P : A → Type 0} {R : A → Here → Type 0} {h : Here} {c : Checked A} → Whole P c → ((a : A) → P a → R a h) → From R (checked h c)
 from_checked (typed p) k = settled (filled_so p k)
@@ -44,27 +48,27 @@ from_after faults g (settled p) = settled p
 from_after faults g (faulty r i) = faulty r (behind i)
 
 -- a part, and what comes behind it
-pub from_followed : {A B : Type 0} {R : A → Here → Type 0} {Q : B → Here → Type 0} {g : Given A} {f : Option A → Here → Given B} → From R g → ((o : Option A) (h : Here) → Filled (λ a. R a h) o → From Q (f o h)) → From Q (followed g f)
-from_followed {g} {f} (settled p) k = from_after g.faults (f g.typed g.here) (k g.typed g.here p)
-from_followed (faulty r i) k = faulty r (front i)
+pub from_followed : {A B : Type 0} {R : A → Here → Type 0} {Q : B → Here → Type 0} {g : Given A} (f : Option A → Here → Step Here B) → From R g → ((o : Option A) (h : Here) → Filled (λ a. R a h) o → From Q (done (f o h))) → From Q (followed g (λ o h. done (f o h)))
+from_followed {g} f (settled p) k = from_after g.faults (done (f g.typed g.here)) (k g.typed g.here p)
+from_followed f (faulty r i) k = faulty r (front i)
 
-pub from_by : {A B : Type 0} {P : A → Type 0} {Q : B → Here → Type 0} {o : Option A} {h : Here} (f : A → Here → Given B) → Filled P o → ((a : A) → P a → From Q (f a h)) → From Q (by f o h)
-from_by f (filled a p) k = k a p
+pub from_by : {A B : Type 0} {P : A → Type 0} {Q : B → Here → Type 0} {o : Option A} (f : A → Here → Step Here B) (h : Here) → Filled P o → ((a : A) → P a → From Q (done (f a h))) → From Q (by (λ a h. done (f a h)) o h)
+from_by f h (filled a p) k = k a p
 
 -- a part, and what is made of its meaning
-pub from_behind : {A B : Type 0} {R : A → Here → Type 0} {Q : B → Here → Type 0} {g : Given A} (f : A → Here → Given B) → From R g → ((a : A) (h : Here) → R a h → From Q (f a h)) → From Q (followed g (by f))
-from_behind f d k = from_followed {f = by f} d (λ o h p. from_by f p (λ a r. k a h r))
+pub from_behind : {A B : Type 0} {R : A → Here → Type 0} {Q : B → Here → Type 0} {g : Given A} (f : A → Here → Step Here B) → From R g → ((a : A) (h : Here) → R a h → From Q (done (f a h))) → From Q (followed g (by (λ a h. done (f a h))))
+from_behind f d k = from_followed (step.by f) d (λ o h p. from_by f h p (λ a r. k a h r))
 
 -- a part, and what is made of the state behind it
-pub from_then : {A B : Type 0} {R : A → Here → Type 0} {Q : B → Here → Type 0} {g : Given A} (f : Here → Given B) → From R g → ((a : A) (h : Here) → R a h → From Q (f h)) → From Q (followed g (λ t h. f h))
-from_then {A} {B} {R} {Q} f d k = from_followed {f = λ t h. f h} d (λ o h p. one h p)
+pub from_then : {A B : Type 0} {R : A → Here → Type 0} {Q : B → Here → Type 0} {g : Given A} (f : Here → Step Here B) → From R g → ((a : A) (h : Here) → R a h → From Q (done (f h))) → From Q (followed g (λ t h. done (f h)))
+from_then {A} {B} {R} {Q} f d k = from_followed (λ t h. f h) d (λ o h p. one h p)
   where
-    one : {o : Option A} (h : Here) → Filled (λ a. R a h) o → From Q (f h)
+    one : {o : Option A} (h : Here) → Filled (λ a. R a h) o → From Q (done (f h))
     one h (filled a r) = k a h r
 
-pub from_where : {A : Type 0} {R : A → Here → Type 0} (b : Bool) (number : ℕ) (place : Place) (h : Here) {g : Given A} → (b ≡ true → From R g) → From R (where_true b number place h g)
-from_where true number place h d = d refl
-from_where false number place h d = from_breaks
+pub from_where : {A : Type 0} {R : A → Here → Type 0} (b : Bool) (rule : LanguageRule) (place : Place) (h : Here) {g : Given A} → (b ≡ true → From R g) → From R (where_true b rule place h g)
+from_where true rule place h d = d refl
+from_where false rule place h d = from_breaks
 
 pub from_so : {A : Type 0} {R Q : A → Here → Type 0} {g : Given A} → From R g → ((a : A) (h : Here) → R a h → Q a h) → From Q g
 from_so {g} (settled p) k = settled (filled_so p (λ a r. k a g.here r))
@@ -102,21 +106,21 @@ pub leads_on : {A : Type 0} {s : Stage} {h i : Here} {P : A → Core → Type 0}
 leads_on l d = from_so d (λ a j r. leads r.state (later_through l r.later) r.so)
 
 -- a part that leads somewhere, and what is made of that
-pub lead_followed : {A B : Type 0} {s : Stage} {h : Here} {P : A → Core → Type 0} {Q : B → Here → Type 0} {g : Given A} {f : Option A → Here → Given B} → From (Leads s h P) g → ((o : Option A) (i : Here) → Settled s i → Later h.core i.core → Filled (λ a. P a i.core) o → From Q (f o i)) → From Q (followed g f)
-lead_followed {A} {B} {s} {h} {P} {Q} {f = f} d k = from_followed {f = f} d one
+pub lead_followed : {A B : Type 0} {s : Stage} {h : Here} {P : A → Core → Type 0} {Q : B → Here → Type 0} {g : Given A} (f : Option A → Here → Step Here B) → From (Leads s h P) g → ((o : Option A) (i : Here) → Settled s i → Later h.core i.core → Filled (λ a. P a i.core) o → From Q (done (f o i))) → From Q (followed g (λ o i. done (f o i)))
+lead_followed {A} {B} {s} {h} {P} {Q} f d k = from_followed f d one
   where
-    one : (o : Option A) (i : Here) → Filled (λ a. Leads s h P a i) o → From Q (f o i)
+    one : (o : Option A) (i : Here) → Filled (λ a. Leads s h P a i) o → From Q (done (f o i))
     one o i (filled a r) = k (Some a) i r.state r.later (filled a r.so)
 
-pub lead_behind : {A B : Type 0} {s : Stage} {h : Here} {P : A → Core → Type 0} {Q : B → Here → Type 0} {g : Given A} (f : A → Here → Given B) → From (Leads s h P) g → ((a : A) (i : Here) → Settled s i → Later h.core i.core → P a i.core → From Q (f a i)) → From Q (followed g (by f))
+pub lead_behind : {A B : Type 0} {s : Stage} {h : Here} {P : A → Core → Type 0} {Q : B → Here → Type 0} {g : Given A} (f : A → Here → Step Here B) → From (Leads s h P) g → ((a : A) (i : Here) → Settled s i → Later h.core i.core → P a i.core → From Q (done (f a i))) → From Q (followed g (by (λ a i. done (f a i))))
 lead_behind f d k = from_behind f d (λ a i r. k a i r.state r.later r.so)
 
 abbrev pub Moves : {A : Type 0} → Stage → Here → A → Here → Type 0
 Moves s h = Leads s h (λ a core. Unit {0})
 
-pub moves_each : {A : Type 0} {s : Stage} (f : A → Here → Given (Unit {0})) → ((a : A) (h : Here) → Settled s h → From (Moves s h) (f a h)) → (as_ : List A) (h : Here) → Settled s h → From (Moves s h) (each f as_ h)
+pub moves_each : {A : Type 0} {s : Stage} (f : A → Here → Step Here (Unit {0})) → ((a : A) (h : Here) → Settled s h → From (Moves s h) (done (f a h))) → (as_ : List A) (h : Here) → Settled s h → From (Moves s h) (done (step.each f as_ h))
 moves_each f k [] h s = from_gives (leads s later_itself tt)
-moves_each f k (a ∷ as_) h s = from_then (each f as_) (k a h s) (λ t i r. leads_on r.later (moves_each f k as_ i r.state))
+moves_each f k (a ∷ as_) h s = from_then (step.each f as_) (k a h s) (λ t i r. leads_on r.later (moves_each f k as_ i r.state))
 
 -- ---- what a settled state has
 

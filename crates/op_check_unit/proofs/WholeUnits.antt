@@ -6,22 +6,23 @@ use Rattle.std.proofs.lemmas.List.Elements.{All-drop, All-head, All-nil, All-pus
 use Rattle.std.proofs.lemmas.List.Sums.{sum_by_push}
 use Rattle.std.proofs.lemmas.Option.{slice_get_within}
 use Rattle.op_base.specs.declared.rule.Refusal.{Refusal}
-use Rattle.op_check_unit.proofs.Clear.{from_unless, some_fault}
+use Rattle.op_check_expr.proofs.LeafWhole.{there_is}
+use Rattle.op_check_unit.proofs.Clear.{from_unless}
 use Rattle.op_check_unit.proofs.Tables.{tabled_beside}
 use Rattle.op_check_unit.proofs.Whole.{NoneAwaited, beginning_settled, completed_settled, cut_settled, declarations_settled, heading_settled, opened_settled, own_settled, part_settled, uses_settled}
-use Rattle.op_check_unit.proofs.WholeDeclaring.{capped, row_at}
+use Rattle.op_check_unit.proofs.WholeDeclaring.{capped}
 use Rattle.op_check_unit.proofs.WholeGrowth.{Broader, Wider, bare_routines_on, body_known, body_on, exports_known, exports_on, names_known, names_on, part_on, units_on, value_known, value_on}
-use Rattle.op_check_unit.proofs.WholeRoutines.{Rests, some_eq}
+use Rattle.op_check_unit.proofs.WholeRoutines.{Rests}
 use Rattle.op_check_unit.proofs.WholeSteps.{from_behind, from_breaks, from_gives, from_so, from_then, from_where, founded, settled_named, wider}
 use Rattle.op_check_unit.specs.Complete.{Around, Counts, From, HasBody, IsBareRoutine, IsOpen, IsTypedBody, IsTypedFirst, Settled, faulty, outside, scope, settled, IsDone, IsDonePart, IsExported, IsGlobalOf, IsShown}
 use Rattle.op_check_unit.specs.Declaring.{most_global_bytes, with_bytes}
 use Rattle.op_check_unit.specs.Interfaces.{interface_order, unit_at, unit_named}
-use Rattle.op_check_unit.specs.Programs.{Outline, all_outlined, blank_outline, faulted, faults_among, files_mean, in_unit, interface_faults, interface_faults_by, main_tail, name_of, outline, outline_faults, outlined, outlined_by, own_globals, parts_of_program, unit_left, units_mean, with_heading, with_interface, with_unit, with_units}
-use Rattle.op_check_unit.specs.Readings.{all_declared, counted_global, global_counted, globals_counted, implementation_means, interface_means, part_means, parts_mean, program_declared, program_ends, reopened, unit_completed, unit_completes, unit_ends, unit_means, uses_mean}
-use Rattle.op_check_unit.specs.Steps.{Given, Here, by, followed, gives, is_clear, unless, unless_faulty}
+use Rattle.op_check_unit.specs.Programs.{Outline, all_declared, all_outlined, blank_outline, counted_global, faulted, faults_among, files_mean, global_counted, globals_counted, implementation_means, in_unit, interface_faults, interface_faults_by, interface_means, main_tail, name_of, outline, outline_faults, outlined, outlined_by, own_globals, part_means, parts_mean, parts_of_program, program_declared, program_ends, reopened, unit_completed, unit_completes, unit_ends, unit_left, unit_means, units_mean, with_heading, with_interface, with_unit, with_units}
+use Rattle.op_check_unit.specs.Steps.{Given, Here, is_clear, unless, unless_faulty}
 use Rattle.op_check_unit.specs.System.{beginning}
-use Rattle.op_check_unit.specs.Uses.{exported, put_apart, put_back, with_own}
+use Rattle.op_check_unit.specs.Uses.{exported, put_apart, put_back, uses_mean, with_own}
 use Rattle.op_check_unit.specs.declared.uses.Export.{Export}
+use Rattle.op_core.proofs.Agreeing.{some_is as some_eq}
 use Rattle.op_core.proofs.Growing.{all_at, front_itself, grows_behind}
 use Rattle.op_core.specs.Faults.{Faults, IsIn, behind, front, none}
 use Rattle.op_core.specs.Relations.{Filled, filled}
@@ -35,6 +36,9 @@ use Rattle.op_core.specs.declared.program.Core.{Core}
 use Rattle.op_core.specs.declared.program.Unit.{Unit as RustUnit}
 use Rattle.op_core.specs.declared.routine.Routine.{Routine}
 use Rattle.op_core.specs.declared.routine.Variable.{Variable}
+use Rattle.op_judgement.proofs.Clear.{some_fault}
+use Rattle.op_judgement.specs.declared.rules.LanguageRule.TheVariants.{GlobalsTooLarge}
+use Rattle.op_judgement.specs.Steps.{by, done, followed, gives}
 use Rattle.op_tree.specs.File.{File, Program, Tail, UnitFile, program, unit}
 use Rattle.op_tree.specs.declared.position.Name.{Name}
 use Rattle.op_types.specs.Standing.{AllStand, StandsFor}
@@ -112,11 +116,11 @@ record Ended (exports : List (Option Export)) (apart : List VariableId) (h g : H
   state : Settled (outside (record { exports = exports; apart = apart; start = start }) None) g
   none : NoneAwaited h.awaited → NoneAwaited g.awaited
 
-parts_settled : {around : Around} (n : Name) (t : Tail) (h : Here) → Settled (outside around None) h → From (λ u g. Ended around.exports around.apart h g) (parts_mean around.start n t h)
+parts_settled : {around : Around} (n : Name) (t : Tail) (h : Here) → Settled (outside around None) h → From (λ u g. Ended around.exports around.apart h g) (done (parts_mean around.start n t h))
 parts_settled {around} n t h y =
     from_behind (λ a g. followed (part_means n t.finalization g) (by (λ b i. gives tt (with_unit around.start n a b i)))) (part_settled n t.initialization h y)
     (λ a g r. from_behind (λ b i. gives tt (with_unit around.start n a b i)) (part_settled n t.finalization g r.state)
-    (λ b i q. from_gives (record { start = length i.core.globals; state = with_unit_settled n a b i q.state (part_on g.core i.core None None g.awaited i.awaited q.keeps a r.done) q.done; none = λ z. q.none (r.none z) })))
+    (λ b i q. from_gives (record { start = length i.core.globals; state = with_unit_settled n a b i q.state (part_on g.core i.core None None g.awaited i.awaited q.keeps a r.part) q.part; none = λ z. q.none (r.none z) })))
 
 -- ---- interface parts
 
@@ -144,7 +148,7 @@ unit_here_settled id h lt y = record {
 in_unit_settled : {around : Around} (k : ℕ) (h : Here) → k ≤ length around.exports → Settled (outside around None) h → Settled (outside around None) (in_unit k h)
 in_unit_settled k h le y = unit_here_settled (record { 0 = k }) h (let lt = y.rows in omega (arith, le, lt)) y
 
-interface_settled : {around : Around} (u : UnitFile) (h : Here) → Settled (outside around None) h → From (Rests around) (interface_means around.exports u h)
+interface_settled : {around : Around} (u : UnitFile) (h : Here) → Settled (outside around None) h → From (Rests around) (done (interface_means around.exports u h))
 interface_settled u h y =
     from_then (λ g. all_declared u.interface.declarations (with_own u.name g)) (uses_settled u.interface.uses h y)
     (λ t g r. declarations_settled u.interface.declarations (with_own u.name g) (own_settled u.name g r.0))
@@ -251,7 +255,7 @@ outlined_by_settled : (k : ℕ) (e : Option (Option Export)) (u : Option UnitFil
 outlined_by_settled k (Some None) (Some u) o there y = one g.typed (interface_settled u (in_unit k o.here) (in_unit_settled k o.here (let lt = slice_get_within o.exports k None there in omega (arith, lt)) y))
   where
     g : Given (Unit {0})
-    g = interface_means o.exports u (in_unit k o.here)
+    g = done (interface_means o.exports u (in_unit k o.here))
 
     state : {t : Option (Unit {0})} → Filled (λ t. Settled (outside (around_of o.exports) None) g.here) t → IsOutlined (with_interface k u o)
     state (filled t z) = left_settled o.here (put_apart g.here) (apart_settled o.exports k u.name g there z)
@@ -263,7 +267,7 @@ outlined_by_settled k (Some None) None o there y = inl y
 outlined_by_settled k (Some (Some e)) u o there y = inl y
 outlined_by_settled k None u o there y = inl y
 
-same_count : (k : ℕ) (e : Option (Option Export)) (u : Option UnitFile) (o : Outline) → length (outlined_by k e u o).exports ≡ length o.exports
+pub same_count : (k : ℕ) (e : Option (Option Export)) (u : Option UnitFile) (o : Outline) → length (outlined_by k e u o).exports ≡ length o.exports
 same_count k (Some None) (Some u) o = length-set o.exports k _
 same_count k (Some None) None o = refl
 same_count k (Some (Some e)) u o = refl
@@ -280,7 +284,7 @@ SomeFault count faults = (k : ℕ) × (k < count) × ((r : Refusal) × IsIn r (f
 nat_eq_itself : (k : ℕ) → nat_eq k k ≡ true
 nat_eq_itself k = grind (arith, nat_tests)
 
-own_fault : (k : ℕ) (f : Faults) (r : Refusal) → IsIn r f → IsIn r (if nat_eq k k then f else none)
+pub own_fault : (k : ℕ) (f : Faults) (r : Refusal) → IsIn r f → IsIn r (if nat_eq k k then f else none)
 own_fault k f r i = subst (λ b. IsIn r (if b then f else none)) (sym (nat_eq_itself k)) i
 
 all_outlined_settled : (order : List (List ℕ)) (fs : List File) (ks : List ℕ) (o : Outline) → IsOutlined o → IsOutlined (all_outlined order fs ks o) ⊎ SomeFault (length o.exports) (faults_among order fs ks o)
@@ -372,31 +376,31 @@ with_global_settled exports apart start v x h there fits y = record {
     counts : Counts new None (with_global v x h).bytes
     counts le = capped h.bytes size (bytes_of h.core (globals_of h.core)) _ total y.counts le
 
-global_settled : (exports : List (Option Export)) (apart : List VariableId) (start : ℕ) (v : VariableId) (h : Here) → Row h.core.variables v.0 → Settled (outside (around_at exports (v ∷ apart) start) None) h → From (λ t g. Settled (outside (around_at exports apart start) None) g × (g.core.variables ≡ h.core.variables)) (global_counted v h)
+global_settled : (exports : List (Option Export)) (apart : List VariableId) (start : ℕ) (v : VariableId) (h : Here) → Row h.core.variables v.0 → Settled (outside (around_at exports (v ∷ apart) start) None) h → From (λ t g. Settled (outside (around_at exports apart start) None) g × (g.core.variables ≡ h.core.variables)) (done (global_counted v h))
 global_settled exports apart start v h lt y =
-    let x = row_at h.core.variables v.0 lt in
-    subst (λ o. From (λ t g. Settled (outside (around_at exports apart start) None) g × (g.core.variables ≡ h.core.variables)) (counted_global v o h)) (sym x.1)
-    (from_where (is_some h.routine || nat_le (with_global v x.0 h).bytes most_global_bytes) 72 x.0.name.position.place (with_global v x.0 h)
+    let x = there_is h.core.variables v.0 lt in
+    subst (λ o. From (λ t g. Settled (outside (around_at exports apart start) None) g × (g.core.variables ≡ h.core.variables)) (done (counted_global v o h))) (sym x.1)
+    (from_where (is_some h.routine || nat_le (with_global v x.0 h).bytes most_global_bytes) GlobalsTooLarge x.0.name.position.place (with_global v x.0 h)
     (λ f. from_gives (with_global_settled exports apart start v x.0 h x.1 (second (is_some h.routine) (nat_le (with_global v x.0 h).bytes most_global_bytes) y.routine f) y, refl)))
 
-globals_settled : (exports : List (Option Export)) (apart : List VariableId) (start : ℕ) (vs : List VariableId) (h : Here) → All (λ v. Row h.core.variables v.0) vs → Settled (outside (around_at exports (vs ++ apart) start) None) h → From (Rests (around_at exports apart start)) (globals_counted vs h)
+globals_settled : (exports : List (Option Export)) (apart : List VariableId) (start : ℕ) (vs : List VariableId) (h : Here) → All (λ v. Row h.core.variables v.0) vs → Settled (outside (around_at exports (vs ++ apart) start) None) h → From (Rests (around_at exports apart start)) (done (globals_counted vs h))
 globals_settled exports apart start [] h a y = from_gives y
 globals_settled exports apart start (v ∷ vs) h a y =
     from_then (globals_counted vs) (global_settled exports (vs ++ apart) start v h (All-head (λ v. Row h.core.variables v.0) v vs a) y)
     (λ t g z. globals_settled exports apart start vs g (subst (λ rs. All (λ v. Row rs v.0) vs) (sym z.1) (All-tail (λ v. Row h.core.variables v.0) v vs a)) z.0)
 
-reopened_settled : {around : Around} (e : Export) (u : UnitFile) (h : Here) → IsExported around.apart h.core e → Settled (outside around None) h → From (Rests around) (reopened around.exports e u h)
+reopened_settled : {around : Around} (e : Export) (u : UnitFile) (h : Here) → IsExported around.apart h.core e → Settled (outside around None) h → From (Rests around) (done (reopened around.exports e u h))
 reopened_settled {around} e u h x y =
     from_then (λ f. followed (uses_mean around.exports u.implementation.uses f) (λ t g. gives tt (put_back e (with_own u.name g)))) (uses_settled u.interface.uses h y)
     (λ t f r. from_then (λ g. gives tt (put_back e (with_own u.name g))) (uses_settled u.implementation.uses f r.0)
     (λ s g q. from_gives (settled_named {count = e.count} e.names (own_settled u.name g q.0) (subst (λ c. AllStand c (scope around.apart None c) e.names) (sym (q.1 ∙ r.1)) x.names))))
 
-unit_ends_settled : {around : Around} (n : Name) (t : Tail) (h : Here) → Settled (outside around None) h → From (λ u g. Ended around.exports around.apart h g) (unit_ends around.start n t h)
+unit_ends_settled : {around : Around} (n : Name) (t : Tail) (h : Here) → Settled (outside around None) h → From (λ u g. Ended around.exports around.apart h g) (done (unit_ends around.start n t h))
 unit_ends_settled {around} n t h y =
     from_then {R = λ u g. g ≡ h} (parts_mean around.start n t) here_still
-    (λ u g e. subst (λ i. From (λ u g. Ended around.exports around.apart h g) (parts_mean around.start n t i)) (sym e) (parts_settled n t h y))
+    (λ u g e. subst (λ i. From (λ u g. Ended around.exports around.apart h g) (done (parts_mean around.start n t i))) (sym e) (parts_settled n t h y))
   where
-    here_still : From {A = Unit {0}} (λ u g. g ≡ h) (unit_completed h)
+    here_still : From {A = Unit {0}} (λ u g. g ≡ h) (done (unit_completed h))
     here_still = settled (filled tt refl)
 
 -- behind a unit
@@ -407,17 +411,17 @@ record Left (exports : List (Option Export)) (apart : List VariableId) (g : Here
 abbrev IsLeft : List (Option Export) → List VariableId → Unit {0} → Here → Type 0
 IsLeft exports apart t g = Left exports apart g
 
-implementation_settled : {around : Around} (e : Export) (u : UnitFile) (h : Here) → IsExported around.apart h.core e → Settled (outside around None) h → From (IsLeft around.exports around.apart) (implementation_means around.exports around.start e u h)
+implementation_settled : {around : Around} (e : Export) (u : UnitFile) (h : Here) → IsExported around.apart h.core e → Settled (outside around None) h → From (IsLeft around.exports around.apart) (done (implementation_means around.exports around.start e u h))
 implementation_settled {around} e u h x y =
     from_then (λ g. followed (all_declared u.implementation.declarations g) (λ t i. unit_ends around.start u.name u.tail i)) (reopened_settled e u h x y)
     (λ t g z. from_then (unit_ends around.start u.name u.tail) (declarations_settled u.implementation.declarations g z) (λ s i w. from_so (unit_ends_settled u.name u.tail i w) (λ a j f. record { start = f.start; state = f.state })))
 
-unit_settled : {around : Around} (e : Export) (u : Option UnitFile) (h : Here) → IsExported around.apart h.core e → Settled (outside around None) h → From (IsLeft around.exports around.apart) (unit_means around.exports around.start e u h)
+unit_settled : {around : Around} (e : Export) (u : Option UnitFile) (h : Here) → IsExported around.apart h.core e → Settled (outside around None) h → From (IsLeft around.exports around.apart) (done (unit_means around.exports around.start e u h))
 unit_settled {around} e None h x y = from_gives (record { start = around.start; state = y })
 unit_settled {around} e (Some u) h x y =
     from_then (λ i. gives tt (unit_left h i)) (implementation_settled e u h x y) (λ t i z. from_gives (record { start = z.start; state = left_settled h i z.state }))
 
-completes_settled : (fs : List File) (exports : List (Option Export)) (e : Option Export) (apart : List VariableId) (start k : ℕ) (h : Here) → slice_get exports k ≡ Some e → Settled (outside (around_at exports (globals_apart e ++ apart) start) None) h → From (IsLeft exports apart) (unit_completes fs exports e h)
+completes_settled : (fs : List File) (exports : List (Option Export)) (e : Option Export) (apart : List VariableId) (start k : ℕ) (h : Here) → slice_get exports k ≡ Some e → Settled (outside (around_at exports (globals_apart e ++ apart) start) None) h → From (IsLeft exports apart) (done (unit_completes fs exports e h))
 completes_settled fs exports None apart start k h there y = from_gives (record { start = start; state = y })
 completes_settled fs exports (Some e) apart start k h there y =
     let shown = all_at (IsShown (e.globals ++ apart) h.core) exports k (Some e) y.exports there in
@@ -437,13 +441,13 @@ units_settled : (fs : List File) (exports : List (Option Export)) (faults : ℕ 
 units_settled fs exports faults k [] h among y = from_gives y
 units_settled fs exports faults k (e ∷ rest) h among y =
     let there = among 0 e refl in
-    from_unless (faulted (faults k) (unit_completes fs exports e h)) (units_mean fs exports faults (k + 1) rest)
-    (from_faulted (faults k) (unit_completes fs exports e h) (completes_settled fs exports e (all_apart rest) y.start there.0 h there.1 y.state))
+    from_unless (faulted (faults k) (done (unit_completes fs exports e h))) (units_mean fs exports faults (k + 1) rest)
+    (from_faulted (faults k) (done (unit_completes fs exports e h)) (completes_settled fs exports e (all_apart rest) y.start there.0 h there.1 y.state))
     (λ t i z. units_settled fs exports faults (k + 1) rest i (λ n x is. among (suc n) x is) z)
 
 -- ---- a rule that an interface part breaks
 
-fault_behind : {A : Type 0} (g : Given A) (f : Here → Given A) (q : Refusal) → IsIn q g.faults → IsIn q (unless_faulty g f).faults
+pub fault_behind : {A : Type 0} (g : Given A) (f : Here → Given A) (q : Refusal) → IsIn q g.faults → IsIn q (unless_faulty g f).faults
 fault_behind g f q i = one (is_clear g.faults)
   where
     one : (b : Bool) → IsIn q (unless b g f).faults
@@ -451,14 +455,14 @@ fault_behind g f q i = one (is_clear g.faults)
     one false = i
 
 -- it is told, or one of a unit before
-units_fault : (fs : List File) (exports : List (Option Export)) (faults : ℕ → Faults) (k m : ℕ) (rest : List (Option Export)) (h : Here) (r : Refusal) → m < length rest → IsIn r (faults (k + m)) → (q : Refusal) × IsIn q (units_mean fs exports faults k rest h).faults
+pub units_fault : (fs : List File) (exports : List (Option Export)) (faults : ℕ → Faults) (k m : ℕ) (rest : List (Option Export)) (h : Here) (r : Refusal) → m < length rest → IsIn r (faults (k + m)) → (q : Refusal) × IsIn q (units_mean fs exports faults k rest h).faults
 units_fault fs exports faults k m [] h r lt i = absurd (omega (arith, lt))
 units_fault fs exports faults k zero (e ∷ rest) h r lt i =
-    (r, fault_behind (faulted (faults k) (unit_completes fs exports e h)) (units_mean fs exports faults (k + 1) rest) r (front (subst (λ n. IsIn r (faults n)) (omega arith) i)))
+    (r, fault_behind (faulted (faults k) (done (unit_completes fs exports e h))) (units_mean fs exports faults (k + 1) rest) r (front (subst (λ n. IsIn r (faults n)) (omega arith) i)))
 units_fault fs exports faults k (suc m) (e ∷ rest) h r lt i = one (is_clear g.faults) refl (λ j. units_fault fs exports faults (k + 1) m rest j r (omega (arith, lt)) (subst (λ n. IsIn r (faults n)) (omega arith) i))
   where
     g : Given (Unit {0})
-    g = faulted (faults k) (unit_completes fs exports e h)
+    g = faulted (faults k) (done (unit_completes fs exports e h))
 
     one : (b : Bool) → is_clear g.faults ≡ b → ((j : Here) → (q : Refusal) × IsIn q (units_mean fs exports faults (k + 1) rest j).faults) → (q : Refusal) × IsIn q (unless b g (units_mean fs exports faults (k + 1) rest)).faults
     one true c later = let s = later g.here in (s.0, behind s.1)
@@ -473,11 +477,11 @@ pub record Finished (h : Here) : Type 0 where
   pub state : Settled (outside (record { exports = exports; apart = []; start = start }) None) h
   pub none : NoneAwaited h.awaited
 
-program_ends_settled : {around : Around} (n : Name) (t : Tail) (h : Here) → Settled (outside around None) h → From (λ u g. (start : ℕ) × Settled (outside (around_at around.exports around.apart start) None) g × NoneAwaited g.awaited) (program_ends around.start n t h)
+program_ends_settled : {around : Around} (n : Name) (t : Tail) (h : Here) → Settled (outside around None) h → From (λ u g. (start : ℕ) × Settled (outside (around_at around.exports around.apart start) None) g × NoneAwaited g.awaited) (done (program_ends around.start n t h))
 program_ends_settled {around} n t h y =
     from_then (parts_mean around.start n t) (completed_settled h y) (λ u g z. from_so (parts_settled n t g z.0) (λ v i f. (f.start, f.state, f.none z.1)))
 
-program_settled : (exports : List (Option Export)) (n : ℕ) (p : Program) (h : Here) → n ≤ length exports → Left exports [] h → From (λ t g. Finished g) (program_declared exports p (in_unit n h))
+program_settled : (exports : List (Option Export)) (n : ℕ) (p : Program) (h : Here) → n ≤ length exports → Left exports [] h → From (λ t g. Finished g) (done (program_declared exports p (in_unit n h)))
 program_settled exports n p h le left =
     let y = later_start (in_unit n h) (in_unit_settled n h le left.state) in
     let start = length h.core.globals in
@@ -494,11 +498,11 @@ blank_settled order = subst (λ vs. Settled (outside (around_at (replicate (leng
 
 parts_of_program_settled : (p : Program) (order : List (List ℕ)) (fs : List File) (faults : ℕ → Faults) (o : Outline) → length o.exports ≡ length order → IsOutlined o ⊎ SomeFault (length order) faults → From (λ t g. Finished g) (parts_of_program p order fs faults o)
 parts_of_program_settled p order fs faults o count (inl y) =
-    from_unless (units_mean fs o.exports faults 0 o.exports o.here) (λ h. program_declared o.exports p (in_unit (length order) h)) (units_settled fs o.exports faults 0 o.exports o.here (λ n e is. (n, is)) (record { start = 0; state = y }))
+    from_unless (units_mean fs o.exports faults 0 o.exports o.here) (λ h. done (program_declared o.exports p (in_unit (length order) h))) (units_settled fs o.exports faults 0 o.exports o.here (λ n e is. (n, is)) (record { start = 0; state = y }))
     (λ t g z. program_settled o.exports (length order) p g (omega (arith, count)) z)
 parts_of_program_settled p order fs faults o count (inr s) =
     let q = units_fault fs o.exports faults 0 s.0 o.exports o.here s.2.0 (let lt = s.1 in omega (arith, lt, count)) (subst (λ n. IsIn s.2.0 (faults n)) (omega arith) s.2.1) in
-    faulty q.0 (fault_behind (units_mean fs o.exports faults 0 o.exports o.here) (λ h. program_declared o.exports p (in_unit (length order) h)) q.0 q.1)
+    faulty q.0 (fault_behind (units_mean fs o.exports faults 0 o.exports o.here) (λ h. done (program_declared o.exports p (in_unit (length order) h))) q.0 q.1)
 
 pub files_settled : (fs : List File) (order : List (List ℕ)) → From (λ t g. Finished g) (files_mean fs order beginning)
 files_settled [] order = from_breaks

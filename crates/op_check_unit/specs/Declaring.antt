@@ -14,7 +14,8 @@ use Rattle.op_core.specs.declared.ids.VariableId.{VariableId}
 use Rattle.op_core.specs.declared.routine.Role.{Role}
 use Rattle.op_core.specs.declared.routine.Role.TheVariants.{Plain, Constant}
 use Rattle.op_judgement.specs.Judgement.{refused}
-use Rattle.op_judgement.specs.Rules.{classes, globals_too_large, interfaces, no_constant}
+use Rattle.op_judgement.specs.declared.rules.Feature.TheVariants.{Classes, Interfaces}
+use Rattle.op_judgement.specs.declared.rules.LanguageRule.TheVariants.{GlobalsTooLarge, NoConstant, NotInProfile}
 use Rattle.op_judgement.specs.Steps.{Step, breaks, each, followed, gives, judged, next, silent, where_true}
 use Rattle.op_tree.specs.Denoter.{Denoter}
 use Rattle.op_tree.specs.Declaration.{Constant as ConstantTree, TypeDeclaration, TypeDefinition, Variables, class, denotes, forward_class, forward_interface, interface}
@@ -29,10 +30,10 @@ use Rattle.op_types.specs.declared.visible.Meaning.TheVariants.{Constant as Cons
 -- classes and interfaces are left out
 abbrev pub defined : Name → TypeDefinition → Here → Step Here TypeId
 defined own (denotes t) h = denoted (Some own) false t h
-defined own forward_class h = judged h (refused classes own.position.place)
-defined own (class c) h = judged h (refused classes own.position.place)
-defined own (forward_interface i) h = judged h (refused interfaces own.position.place)
-defined own (interface i) h = judged h (refused interfaces own.position.place)
+defined own forward_class h = judged h (refused (NotInProfile Classes) own.position.place)
+defined own (class c) h = judged h (refused (NotInProfile Classes) own.position.place)
+defined own (forward_interface i) h = judged h (refused (NotInProfile Interfaces) own.position.place)
+defined own (interface i) h = judged h (refused (NotInProfile Interfaces) own.position.place)
 
 -- a name whose declaration is broken is spoiled
 abbrev pub type_meaning : Option TypeId → Meaning
@@ -82,7 +83,7 @@ abbrev pub most_global_bytes : ℕ
 most_global_bytes = 8388608
 
 abbrev pub globals_fit : Place → Here → Step Here (Unit {0})
-globals_fit place h = where_true (is_some h.routine || nat_le h.bytes most_global_bytes) globals_too_large place h (gives tt h)
+globals_fit place h = where_true (is_some h.routine || nat_le h.bytes most_global_bytes) GlobalsTooLarge place h (gives tt h)
 
 -- a variable or typed constant, up to its name
 abbrev pub row_entered : Role → TypeId → Option Initial → Name → Here → Step Here (Unit {0})
@@ -93,8 +94,8 @@ row_entered role of i n h = followed (first_means of i h) (λ v h. globals_fit n
 -- a constant without a type is an expression
 abbrev pub value_means : Initial → Here → Step Here Value
 value_means (value e) h = judged h (constant_part h.core h.names e)
-value_means (list p items) h = breaks no_constant p.place h
-value_means (record_ p fields) h = breaks no_constant p.place h
+value_means (list p items) h = breaks NoConstant p.place h
+value_means (record_ p fields) h = breaks NoConstant p.place h
 
 abbrev pub constant_meaning : Option Value → Meaning
 constant_meaning None = Spoiled

@@ -12,7 +12,8 @@ use Rattle.op_check_unit.specs.declared.heading.Head.{Head}
 use Rattle.op_check_unit.specs.declared.heading.ParameterRows.{ParameterRows}
 use Rattle.op_core.specs.declared.ids.TypeId.{TypeId}
 use Rattle.op_judgement.specs.Judgement.{Judgement, by_test, fine, refused, when as judged_when}
-use Rattle.op_judgement.specs.Rules.{declared_twice, dynamic_arrays, overloads, too_many_parameters, wrong_kind_of_name}
+use Rattle.op_judgement.specs.declared.rules.Feature.TheVariants.{DynamicArrays, Overloads}
+use Rattle.op_judgement.specs.declared.rules.LanguageRule.TheVariants.{DeclaredTwice, NotInProfile, TooManyParameters, WrongKindOfName}
 use Rattle.op_judgement.specs.Steps.{Step, followed, gather, gives, judged, onward, silent, unchanged, when}
 use Rattle.op_tree.specs.Declaration.{Heading}
 use Rattle.op_tree.specs.Denoter.{Denoter}
@@ -42,8 +43,8 @@ is_plain _ result = false
 -- at its name
 abbrev pub form_means : Heading → List Directive → Judgement (Unit {0})
 form_means x ds =
-    judged_when (list_any is_overload ds) (refused overloads x.name.position.place)
-    (by_test wrong_kind_of_name x.name.position.place (fine tt) (is_plain x.kind (is_some x.result)))
+    judged_when (list_any is_overload ds) (refused (NotInProfile Overloads) x.name.position.place)
+    (by_test WrongKindOfName x.name.position.place (fine tt) (is_plain x.kind (is_some x.result)))
 
 -- ---- parameters
 
@@ -74,8 +75,8 @@ most_parameters = 64
 
 abbrev pub one_parameter : Option Name → ParameterMode → Option TypeId → Name → ParameterRows → Here → Step Here ParameterRows
 one_parameter own mode t n r h =
-    when (is_taken own r n) (unchanged declared_twice n.position.place r h)
-    (when (nat_lt (length r.seen) most_parameters) (gives (with_parameter mode t n r) h) (unchanged too_many_parameters n.position.place r h))
+    when (is_taken own r n) (unchanged DeclaredTwice n.position.place r h)
+    (when (nat_lt (length r.seen) most_parameters) (gives (with_parameter mode t n r) h) (unchanged TooManyParameters n.position.place r h))
 
 abbrev pub some_parameters : Option Name → ParameterMode → Option TypeId → List Name → ParameterRows → Here → Step Here ParameterRows
 some_parameters own mode t ns r h = gather (one_parameter own mode t) ns r h
@@ -89,7 +90,7 @@ start_of_type (Named q) = start_of_name q.name q.unit
 start_of_type (String p) = p.place
 
 abbrev type_by : Bool → ParameterType → Here → Step Here TypeId
-type_by true t h = judged h (refused dynamic_arrays (start_of_type t))
+type_by true t h = judged h (refused (NotInProfile DynamicArrays) (start_of_type t))
 type_by false (String p) h = judged h (string_means p)
 type_by false (Named q) h = judged h (type_named h.core h.names None false q)
 

@@ -21,11 +21,11 @@ use Rattle.op_core.specs.declared.types.CoreType.{CoreType}
 use Rattle.op_core.specs.declared.types.CoreType.TheVariants as type
 use Rattle.op_core.specs.declared.types.Field.{Field}
 use Rattle.op_judgement.specs.Judgement.{Judgement, by_entry, by_test, changed, fine, followed, of_two, refused, through, when}
-use Rattle.op_judgement.specs.Rules.{no_member, not_assignable, out_of_range}
+use Rattle.op_judgement.specs.declared.rules.LanguageRule.TheVariants.{NoMember, NotAssignable, OutOfRange}
 use Rattle.op_tree.specs.Expression.{Expression, designated, Designator, designator, bracketed, no_selectors}
 use Rattle.op_tree.specs.Initial.{Initial, value, list, record_, Initials, no_initials, initials, FieldInitials, no_field_initials, field_initials}
 use Rattle.op_types.specs.Assignable.{assignable}
-use Rattle.op_types.specs.Constants.{start_of}
+use Rattle.op_types.specs.ConstantParts.{start_of}
 use Rattle.op_types.specs.Names.{Named}
 use Rattle.op_types.specs.declared.constant.Constant.{Constant}
 
@@ -33,7 +33,7 @@ use Rattle.op_types.specs.declared.constant.Constant.{Constant}
 
 -- a constant that has to be assignable to the type, and in its range
 abbrev pub of_type : Core → Place → TypeId → Constant → Judgement FirstValue
-of_type core place of c = by_test not_assignable place (by_entry out_of_range place (λ v. fine (constant v)) (retyped core of c.value)) (assignable core c.of of)
+of_type core place of c = by_test NotAssignable place (by_entry OutOfRange place (λ v. fine (constant v)) (retyped core of c.value)) (assignable core c.of of)
 
 abbrev pub single : Core → List Named → TypeId → Expression → Judgement FirstValue
 single core names of e = through (constant_part core names e) (of_type core (start_of e) of)
@@ -57,7 +57,7 @@ wrong_count bracket count starts = if nat_lt (length starts) count then Some bra
 
 abbrev pub unless_wrong : Option Place → Option FirstValues → Judgement FirstValue
 unless_wrong None vs = standing (option_map parts vs)
-unless_wrong (Some place) vs = refused not_assignable place
+unless_wrong (Some place) vs = refused NotAssignable place
 
 -- parts that begin at these places, where so many are needed
 abbrev pub counted : Place → ℕ → List Place → Judgement FirstValues → Judgement FirstValue
@@ -84,7 +84,7 @@ one_value v = values v no_values
 -- an expression in brackets is a list of one where the type is an array, and an array without bounds has no list
 abbrev pub by_brackets : Place → Judgement FirstValue → (ℕ → TypeId → Judgement FirstValue) → Shape → Judgement FirstValue
 by_brackets bracket c f (Elements count of) = f count of
-by_brackets bracket c f Unbounded = refused not_assignable bracket
+by_brackets bracket c f Unbounded = refused NotAssignable bracket
 by_brackets bracket c f _ = c
 
 abbrev mutual
@@ -107,11 +107,11 @@ is_bracketed _ = false
 -- only an array that has bounds has a list
 abbrev pub by_elements : Place → (ℕ → TypeId → Judgement FirstValue) → Shape → Judgement FirstValue
 by_elements bracket f (Elements count of) = f count of
-by_elements bracket f _ = refused not_assignable bracket
+by_elements bracket f _ = refused NotAssignable bracket
 
 abbrev pub by_fields : Place → (Run → Judgement FirstValue) → Shape → Judgement FirstValue
 by_fields bracket f (Fields run) = f run
-by_fields bracket f _ = refused not_assignable bracket
+by_fields bracket f _ = refused NotAssignable bracket
 
 -- the first value of a variable of a type
 abbrev mutual
@@ -127,7 +127,7 @@ abbrev mutual
   -- every field, in order of declaration
   pub fields : Core → List Named → Place → List Field → FieldInitials → Judgement FirstValues
   fields core names bracket [] no_field_initials = fine no_values
-  fields core names bracket (f ∷ fs) no_field_initials = refused not_assignable bracket
-  fields core names bracket [] (field_initials n i is) = refused no_member n.position.place
+  fields core names bracket (f ∷ fs) no_field_initials = refused NotAssignable bracket
+  fields core names bracket [] (field_initials n i is) = refused NoMember n.position.place
   fields core names bracket (f ∷ fs) (field_initials n i is) =
-      when (is_name (Some f.name) n) (of_two values (first core names f.of i) (fields core names bracket fs is)) (refused no_member n.position.place)
+      when (is_name (Some f.name) n) (of_two values (first core names f.of i) (fields core names bracket fs is)) (refused NoMember n.position.place)

@@ -14,7 +14,6 @@ pub mod System
 pub mod Tables
 pub mod Interfaces
 pub mod Programs
-pub mod Readings
 pub mod Outlines
 pub mod Checking
 pub mod Rules

@@ -11,11 +11,11 @@ use Rattle.op_core.specs.Sizes.{type_at}
 use Rattle.op_core.specs.declared.ids.TypeId.{TypeId}
 use Rattle.op_core.specs.declared.program.Core.{Core}
 use Rattle.op_judgement.specs.Judgement.{Judgement, fine, refused, untyped, when}
-use Rattle.op_judgement.specs.Rules.{contains_itself, declared_twice, left_out, too_many_names, unknown_name, wrong_kind_of_name}
+use Rattle.op_judgement.specs.declared.rules.LanguageRule.TheVariants.{ContainsItself, DeclaredTwice, NotInProfile, TooManyNames, UnknownName, WrongKindOfName}
 use Rattle.op_judgement.specs.Steps.{Step, gives, where_true}
 use Rattle.op_tree.specs.declared.position.Name.{Name}
 use Rattle.op_tree.specs.declared.position.QualifiedName.{QualifiedName}
-use Rattle.op_types.specs.Constants.{joined_name}
+use Rattle.op_types.specs.ConstantParts.{joined_name}
 use Rattle.op_types.specs.Names.{Named, lower, meaning_of}
 use Rattle.op_types.specs.declared.visible.BuiltIn.TheVariants.{LeftOut}
 use Rattle.op_types.specs.declared.visible.Meaning.{Meaning}
@@ -41,16 +41,16 @@ by_type core place of j = by_feature place (feature_of_type (type_at core of)) j
 
 -- the name is unknown, its declaration breaks a rule, the type is left out, or it is of another kind
 abbrev pub type_meant : Core → Place → Told → Judgement TypeId
-type_meant core place Unknown = refused unknown_name place
+type_meant core place Unknown = refused UnknownName place
 type_meant core place Spoiled = untyped
 type_meant core place (Known of) = by_type core place of (fine of)
-type_meant core place (LeftOutType feature) = refused (left_out feature) place
-type_meant core place _ = refused wrong_kind_of_name place
+type_meant core place (LeftOutType feature) = refused (NotInProfile feature) place
+type_meant core place _ = refused WrongKindOfName place
 
 -- a name of a unit
 abbrev pub type_of_unit : Core → List Named → Name → Name → Told → Judgement TypeId
 type_of_unit core names u n Unit' = type_meant core n.position.place (told_in names (joined_name u.text n.text))
-type_of_unit core names u n (Known of) = by_type core u.position.place of (refused wrong_kind_of_name u.position.place)
+type_of_unit core names u n (Known of) = by_type core u.position.place of (refused WrongKindOfName u.position.place)
 type_of_unit core names u n t = type_meant core u.position.place t
 
 abbrev pub is_name : Option Name → Name → Bool
@@ -63,7 +63,7 @@ place_of place (Some own) = own.position.place
 
 -- A type that is named in its own declaration: within a record or an array it would contain itself, elsewhere it is not known yet.
 abbrev pub own_type : Option Name → Bool → Place → Judgement TypeId
-own_type own inside place = when inside (refused contains_itself (place_of place own)) (refused unknown_name place)
+own_type own inside place = when inside (refused ContainsItself (place_of place own)) (refused UnknownName place)
 
 abbrev pub type_alone : Core → List Named → Option Name → Bool → Name → Judgement TypeId
 type_alone core names own inside n =
@@ -105,7 +105,7 @@ with_declared n m h = qualified h.own n m (with_name n m h)
 -- A name, unless it is taken in this scope or too many are. So many stand in front of it and are declared later.
 abbrev pub entered_name : Bool → ℕ → Name → Meaning → Here → Step Here (Unit {0})
 entered_name taken more n m h =
-    where_true (not taken) declared_twice n.position.place h (where_true (has_room more h) too_many_names n.position.place h (gives tt (with_declared n m h)))
+    where_true (not taken) DeclaredTwice n.position.place h (where_true (has_room more h) TooManyNames n.position.place h (gives tt (with_declared n m h)))
 
 abbrev pub declared : Name → Meaning → Here → Step Here (Unit {0})
 declared n m h = entered_name (is_declared h n) 0 n m h

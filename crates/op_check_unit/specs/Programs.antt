@@ -22,7 +22,7 @@ use Rattle.op_core.specs.declared.routine.Routine.{Routine}
 use Rattle.op_core.specs.declared.routine.Variable.{Variable}
 use Rattle.op_judgement.specs.Given as made
 use Rattle.op_judgement.specs.Judgement.{Judgement, fine, of_two, refused}
-use Rattle.op_judgement.specs.Rules.{no_body, other_file}
+use Rattle.op_judgement.specs.declared.rules.LanguageRule.TheVariants.{NoBody, OtherFile}
 use Rattle.op_judgement.specs.Steps.{Step, changes, done, each, each_declaration, gives, judged, next, onward}
 use Rattle.op_tree.specs.Declaration.{Declaration, constants, types, variables, heading, routine, Declarations, forward}
 use Rattle.op_tree.specs.File.{File, Program, Tail, UnitFile, program}
@@ -49,7 +49,7 @@ all_declared ds h = each_declaration declaration_means ds h
 -- where a body is still awaited from
 abbrev pub awaited_one : Option Place → Judgement (Unit {0})
 awaited_one None = fine tt
-awaited_one (Some place) = refused no_body place
+awaited_one (Some place) = refused NoBody place
 
 abbrev pub awaited : List (Option Place) → Judgement (Unit {0})
 awaited [] = fine tt
@@ -249,7 +249,7 @@ start = record { file = 0; line = 1; col = 1 }
 -- interface parts, units and the program
 abbrev pub files_mean : List File → List (List ℕ) → Here → Given (Unit {0})
 files_mean (program p ∷ fs) order h = parts_of_program p order fs (outline_faults order fs h) (outline order fs h)
-files_mean _ order h = made.breaks other_file start h
+files_mean _ order h = made.breaks OtherFile start h
 
 -- the files of a program, the main one first, and the names of its units in their order
 abbrev pub program_means : List File → List (List ℕ) → Given (Unit {0})

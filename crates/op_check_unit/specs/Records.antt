@@ -8,7 +8,7 @@ use Rattle.op_check_unit.specs.declared.record.FieldRows.{FieldRows}
 use Rattle.op_core.specs.declared.ids.TypeId.{TypeId}
 use Rattle.op_core.specs.declared.types.CoreType.TheVariants.{Record}
 use Rattle.op_core.specs.declared.types.Field.{Field}
-use Rattle.op_judgement.specs.Rules.{declared_twice, too_many_names}
+use Rattle.op_judgement.specs.declared.rules.LanguageRule.TheVariants.{DeclaredTwice, TooManyNames}
 use Rattle.op_judgement.specs.Steps.{Step, gather, gives, silent, unchanged, when}
 use Rattle.op_tree.specs.declared.class.Visibility.TheVariants.{Public}
 use Rattle.op_tree.specs.declared.position.Name.{Name}
@@ -33,8 +33,8 @@ with_field (Some of) n r = record { fields = r.fields ++ record { name = n; of =
 -- a field, unless its name is taken in the record or too many are
 abbrev pub one_field : Option TypeId → Name → FieldRows → Here → Step Here FieldRows
 one_field t n r h =
-    when (is_seen r n) (unchanged declared_twice n.position.place r h)
-    (when (nat_lt (length r.seen) most_names) (gives (with_field t n r) h) (unchanged too_many_names n.position.place r h))
+    when (is_seen r n) (unchanged DeclaredTwice n.position.place r h)
+    (when (nat_lt (length r.seen) most_names) (gives (with_field t n r) h) (unchanged TooManyNames n.position.place r h))
 
 -- fields of one type
 abbrev pub some_fields : Option TypeId → List Name → FieldRows → Here → Step Here FieldRows

@@ -27,7 +27,8 @@ use Rattle.op_core.specs.declared.routine.Role.TheVariants.{Parameter as Paramet
 use Rattle.op_core.specs.declared.routine.Routine.{Routine}
 use Rattle.op_core.specs.declared.routine.Variable.{Variable as VariableRow}
 use Rattle.op_judgement.specs.Judgement.{Judgement, by_test, fine, refused, untyped}
-use Rattle.op_judgement.specs.Rules.{declared_twice, heading_differs, left_out, locals_too_large, nested_routines, unknown_name, wrong_kind_of_name}
+use Rattle.op_judgement.specs.declared.rules.Feature.TheVariants.{NestedRoutines}
+use Rattle.op_judgement.specs.declared.rules.LanguageRule.TheVariants.{DeclaredTwice, HeadingDiffers, LocalsTooLarge, NotInProfile, UnknownName, WrongKindOfName}
 use Rattle.op_judgement.specs.Steps.{Step, breaks, changes, each_declaration, followed, gives, judged, next, onward, silent}
 use Rattle.op_tree.specs.Declaration.{Body, forward, body, Declaration, constants, types, variables, heading, routine, Declarations, Heading}
 use Rattle.op_tree.specs.Statement.{Statements}
@@ -109,7 +110,7 @@ local_declared (constants cs) h = constants_declared cs h
 local_declared (types ts) h = types_declared ts h
 local_declared (variables vs) h = variables_declared vs h
 local_declared (heading m) h = gives tt h
-local_declared (routine x ds b) h = judged h (refused nested_routines x.name.position.place)
+local_declared (routine x ds b) h = judged h (refused (NotInProfile NestedRoutines) x.name.position.place)
 
 abbrev pub locals_declared : Declarations → Here → Step Here (Unit {0})
 locals_declared ds h = each_declaration local_declared ds h
@@ -119,7 +120,7 @@ abbrev pub most_bytes : ℕ
 most_bytes = 1048576
 
 abbrev pub locals_fit : Name → Here → Step Here (Unit {0})
-locals_fit n h = judged h (by_test locals_too_large n.position.place (fine tt) (nat_le h.bytes most_bytes))
+locals_fit n h = judged h (by_test LocalsTooLarge n.position.place (fine tt) (nat_le h.bytes most_bytes))
 
 -- the row, with all variables from the first one on
 abbrev pub with_variables : RoutineId → Name → Head → ℕ → Here → Here
@@ -176,11 +177,11 @@ is_heading_of core a (Some b) = is_same_heading core b a
 
 -- the body of a routine that is declared ahead has the same heading
 abbrev pub same_means : RoutineId → Name → Head → Here → Judgement (Unit {0})
-same_means id n x h = by_test heading_differs n.position.place (fine tt) (is_heading_of h.core (routine_row h.unit n x no_rows) (slice_get h.core.routines id.0))
+same_means id n x h = by_test HeadingDiffers n.position.place (fine tt) (is_heading_of h.core (routine_row h.unit n x no_rows) (slice_get h.core.routines id.0))
 
 -- The body of a routine that is declared ahead. A second declaration ahead breaks rule 14.
 abbrev pub ahead_declared : RoutineId → Name → Option Head → Body → Here → Step Here (Unit {0})
-ahead_declared id n x forward h = breaks declared_twice n.position.place h
+ahead_declared id n x forward h = breaks DeclaredTwice n.position.place h
 ahead_declared id n None (body ds ss) h = silent (completed id h)
 ahead_declared id n (Some x) (body ds ss) h = onward (judged (completed id h) (same_means id n x h)) (λ t h. block_means id n x ds ss h)
 
@@ -215,11 +216,11 @@ plain_declared x ds b h =
 
 -- a method, whose class is no class here
 abbrev pub class_meant : Core → Place → Told → Judgement (Unit {0})
-class_meant core place told.Unknown = refused unknown_name place
+class_meant core place told.Unknown = refused UnknownName place
 class_meant core place told.Spoiled = untyped
-class_meant core place (told.Known of) = by_type core place of (refused wrong_kind_of_name place)
-class_meant core place (told.LeftOutType feature) = refused (left_out feature) place
-class_meant core place _ = refused wrong_kind_of_name place
+class_meant core place (told.Known of) = by_type core place of (refused WrongKindOfName place)
+class_meant core place (told.LeftOutType feature) = refused (NotInProfile feature) place
+class_meant core place _ = refused WrongKindOfName place
 
 abbrev pub routine_by : Option Name → Heading → List Directive → Body → Here → Step Here (Unit {0})
 routine_by None x ds b h = plain_declared x ds b h

@@ -12,7 +12,7 @@ use Rattle.op_core.specs.declared.error.CheckError.{CheckError}
 use Rattle.op_core.specs.declared.error.CheckError.TheVariants.{Refused, NoMemory}
 use Rattle.op_core.specs.declared.program.Core.{Core}
 use Rattle.op_judgement.specs.Judgement.{fault}
-use Rattle.op_judgement.specs.Rules.{other_file}
+use Rattle.op_judgement.specs.declared.rules.LanguageRule.TheVariants.{OtherFile}
 use Rattle.op_judgement.specs.Steps.{Breaks, behind}
 use Rattle.op_tree.specs.File.{File, Program, UnitFile, program}
 
@@ -46,7 +46,7 @@ PartsOfProgramBreak p order fs B faults o =
 abbrev pub FilesBreak : List File → List (List ℕ) → Here → Refusal → Type 0
 FilesBreak (program p ∷ fs) order h =
     PartsOfProgramBreak p order fs (BreaksAmong order fs (interface_order order fs) (blank_outline order h)) (outline_faults order fs h) (outline order fs h)
-FilesBreak _ order h = Only (fault other_file start)
+FilesBreak _ order h = Only (fault OtherFile start)
 
 -- a program and its units stand behind the unit System
 abbrev pub ProgramBreaks : List File → List (List ℕ) → Refusal → Type 0

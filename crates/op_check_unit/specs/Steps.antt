@@ -1,5 +1,5 @@
 -- Declarations change what is declared.
-use Rattle.std.specs.Prelude.{◌≡◌, ℕ, Bool, List, Option, map}
+use Rattle.std.specs.Prelude.{◌≡◌, ℕ, List, Option, map}
 use Rattle.op_base.specs.declared.place.Place.{Place}
 use Rattle.op_check_unit.specs.Bodies.{said}
 use Rattle.op_check_unit.specs.FirstValues.{begins_so}
@@ -12,7 +12,7 @@ use Rattle.op_core.specs.declared.ids.UnitId.{UnitId}
 use Rattle.op_core.specs.declared.ids.VariableId.{VariableId}
 use Rattle.op_core.specs.declared.program.Core.{Core}
 use Rattle.op_judgement.specs.Given as made
-pub use Rattle.op_judgement.specs.Given.{is_clear, gives, silent, checked, followed, unless, unless_faulty, by, each, each_declaration, gather}
+pub use Rattle.op_judgement.specs.Given.{breaks, by, checked, each, each_declaration, followed, gather, gives, is_clear, silent, unless, unless_faulty, where_true}
 use Rattle.op_judgement.specs.Steps.{Step, done}
 use Rattle.op_types.specs.Names.{Named}
 
@@ -39,13 +39,6 @@ pub record Here : Type 0 where
 -- without a type where anything in the part breaks a rule
 abbrev pub Given : Type 0 → Type 0
 Given A = made.Given Here A
-
-abbrev pub breaks : {A : Type 0} → ℕ → Place → Here → Given A
-breaks number place h = made.breaks (record { number = number; feature = 0 }) place h
-
--- the rule is broken where a test fails
-abbrev pub where_true : {A : Type 0} → Bool → ℕ → Place → Here → Given A → Given A
-where_true b number place h g = made.where_true b (record { number = number; feature = 0 }) place h g
 
 -- ---- answers
 

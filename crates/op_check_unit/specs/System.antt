@@ -14,7 +14,8 @@ use Rattle.op_core.specs.declared.program.Core.{Core}
 use Rattle.op_core.specs.declared.types.CoreType.{CoreType}
 use Rattle.op_core.specs.declared.types.CoreType.TheVariants.{Integer, Boolean, Char, String, Nil, Nothing, EmptySet, Subrange, Set, Class, Interface}
 use Rattle.op_core.specs.declared.types.IntegerKind.TheVariants.{Signed8, Unsigned8, Signed16, Unsigned16, Signed32}
-use Rattle.op_types.specs.Constants.{made, nodes}
+use Rattle.op_judgement.specs.declared.rules.Feature.TheVariants.{Files, FloatingPoint, Metaclasses, OtherIntegers, OtherStrings, Pointers, ProceduralTypes, ShortStrings}
+use Rattle.op_types.specs.ConstantParts.{made, nodes}
 use Rattle.op_types.specs.Entering.{entered}
 use Rattle.op_types.specs.Names.{Named, lower}
 use Rattle.op_types.specs.declared.visible.BuiltIn.TheVariants as form
@@ -159,94 +160,94 @@ other_names =
 -- floating point
 abbrev pub floating_names : List (List ℕ × Known)
 floating_names =
-    (codes "Real", Form (form.LeftOut 1))
-    ∷ (codes "Single", Form (form.LeftOut 1))
-    ∷ (codes "Double", Form (form.LeftOut 1))
-    ∷ (codes "Extended", Form (form.LeftOut 1))
-    ∷ (codes "Currency", Form (form.LeftOut 1))
-    ∷ (codes "Comp", Form (form.LeftOut 1))
-    ∷ (codes "ValReal", Form (form.LeftOut 1))
-    ∷ (codes "TDateTime", Form (form.LeftOut 1))
+    (codes "Real", Form (form.LeftOut FloatingPoint))
+    ∷ (codes "Single", Form (form.LeftOut FloatingPoint))
+    ∷ (codes "Double", Form (form.LeftOut FloatingPoint))
+    ∷ (codes "Extended", Form (form.LeftOut FloatingPoint))
+    ∷ (codes "Currency", Form (form.LeftOut FloatingPoint))
+    ∷ (codes "Comp", Form (form.LeftOut FloatingPoint))
+    ∷ (codes "ValReal", Form (form.LeftOut FloatingPoint))
+    ∷ (codes "TDateTime", Form (form.LeftOut FloatingPoint))
     ∷ []
 
 -- other integer types
 abbrev pub integer_names : List (List ℕ × Known)
 integer_names =
-    (codes "Int64", Form (form.LeftOut 2))
-    ∷ (codes "UInt64", Form (form.LeftOut 2))
-    ∷ (codes "QWord", Form (form.LeftOut 2))
-    ∷ (codes "Cardinal", Form (form.LeftOut 2))
-    ∷ (codes "LongWord", Form (form.LeftOut 2))
-    ∷ (codes "DWord", Form (form.LeftOut 2))
+    (codes "Int64", Form (form.LeftOut OtherIntegers))
+    ∷ (codes "UInt64", Form (form.LeftOut OtherIntegers))
+    ∷ (codes "QWord", Form (form.LeftOut OtherIntegers))
+    ∷ (codes "Cardinal", Form (form.LeftOut OtherIntegers))
+    ∷ (codes "LongWord", Form (form.LeftOut OtherIntegers))
+    ∷ (codes "DWord", Form (form.LeftOut OtherIntegers))
     ∷ []
 
 -- integer types of the width of the machine
 abbrev pub native_names : List (List ℕ × Known)
 native_names =
-    (codes "NativeInt", Form (form.LeftOut 2))
-    ∷ (codes "NativeUInt", Form (form.LeftOut 2))
-    ∷ (codes "PtrInt", Form (form.LeftOut 2))
-    ∷ (codes "PtrUInt", Form (form.LeftOut 2))
+    (codes "NativeInt", Form (form.LeftOut OtherIntegers))
+    ∷ (codes "NativeUInt", Form (form.LeftOut OtherIntegers))
+    ∷ (codes "PtrInt", Form (form.LeftOut OtherIntegers))
+    ∷ (codes "PtrUInt", Form (form.LeftOut OtherIntegers))
     ∷ []
 
 -- integer types by their bits, and those of sizes
 abbrev pub sized_names : List (List ℕ × Known)
 sized_names =
-    (codes "Int8", Form (form.LeftOut 2))
-    ∷ (codes "Int16", Form (form.LeftOut 2))
-    ∷ (codes "Int32", Form (form.LeftOut 2))
-    ∷ (codes "UInt8", Form (form.LeftOut 2))
-    ∷ (codes "UInt16", Form (form.LeftOut 2))
-    ∷ (codes "UInt32", Form (form.LeftOut 2))
-    ∷ (codes "SizeInt", Form (form.LeftOut 2))
-    ∷ (codes "SizeUInt", Form (form.LeftOut 2))
+    (codes "Int8", Form (form.LeftOut OtherIntegers))
+    ∷ (codes "Int16", Form (form.LeftOut OtherIntegers))
+    ∷ (codes "Int32", Form (form.LeftOut OtherIntegers))
+    ∷ (codes "UInt8", Form (form.LeftOut OtherIntegers))
+    ∷ (codes "UInt16", Form (form.LeftOut OtherIntegers))
+    ∷ (codes "UInt32", Form (form.LeftOut OtherIntegers))
+    ∷ (codes "SizeInt", Form (form.LeftOut OtherIntegers))
+    ∷ (codes "SizeUInt", Form (form.LeftOut OtherIntegers))
     ∷ []
 
 -- short strings
 abbrev pub short_names : List (List ℕ × Known)
 short_names =
-    (codes "ShortString", Form (form.LeftOut 3))
-    ∷ (codes "OpenString", Form (form.LeftOut 3))
+    (codes "ShortString", Form (form.LeftOut ShortStrings))
+    ∷ (codes "OpenString", Form (form.LeftOut ShortStrings))
     ∷ []
 
 -- other string types
 abbrev pub string_names : List (List ℕ × Known)
 string_names =
-    (codes "WideString", Form (form.LeftOut 4))
-    ∷ (codes "UnicodeString", Form (form.LeftOut 4))
-    ∷ (codes "UTF8String", Form (form.LeftOut 4))
-    ∷ (codes "RawByteString", Form (form.LeftOut 4))
+    (codes "WideString", Form (form.LeftOut OtherStrings))
+    ∷ (codes "UnicodeString", Form (form.LeftOut OtherStrings))
+    ∷ (codes "UTF8String", Form (form.LeftOut OtherStrings))
+    ∷ (codes "RawByteString", Form (form.LeftOut OtherStrings))
     ∷ []
 
 -- pointers to characters and texts
 abbrev pub character_names : List (List ℕ × Known)
 character_names =
-    (codes "PChar", Form (form.LeftOut 5))
-    ∷ (codes "PAnsiChar", Form (form.LeftOut 5))
-    ∷ (codes "PWideChar", Form (form.LeftOut 5))
-    ∷ (codes "PPChar", Form (form.LeftOut 5))
-    ∷ (codes "PString", Form (form.LeftOut 5))
-    ∷ (codes "PAnsiString", Form (form.LeftOut 5))
+    (codes "PChar", Form (form.LeftOut Pointers))
+    ∷ (codes "PAnsiChar", Form (form.LeftOut Pointers))
+    ∷ (codes "PWideChar", Form (form.LeftOut Pointers))
+    ∷ (codes "PPChar", Form (form.LeftOut Pointers))
+    ∷ (codes "PString", Form (form.LeftOut Pointers))
+    ∷ (codes "PAnsiString", Form (form.LeftOut Pointers))
     ∷ []
 
 -- other pointers
 abbrev pub pointer_names : List (List ℕ × Known)
 pointer_names =
-    (codes "Pointer", Form (form.LeftOut 5))
-    ∷ (codes "PPointer", Form (form.LeftOut 5))
-    ∷ (codes "PByte", Form (form.LeftOut 5))
-    ∷ (codes "PInteger", Form (form.LeftOut 5))
-    ∷ (codes "PLongInt", Form (form.LeftOut 5))
-    ∷ (codes "PBoolean", Form (form.LeftOut 5))
+    (codes "Pointer", Form (form.LeftOut Pointers))
+    ∷ (codes "PPointer", Form (form.LeftOut Pointers))
+    ∷ (codes "PByte", Form (form.LeftOut Pointers))
+    ∷ (codes "PInteger", Form (form.LeftOut Pointers))
+    ∷ (codes "PLongInt", Form (form.LeftOut Pointers))
+    ∷ (codes "PBoolean", Form (form.LeftOut Pointers))
     ∷ []
 
 -- a procedural type, a metaclass and files
 abbrev pub rest_names : List (List ℕ × Known)
 rest_names =
-    (codes "TProcedure", Form (form.LeftOut 6))
-    ∷ (codes "TClass", Form (form.LeftOut 7))
-    ∷ (codes "Text", Form (form.LeftOut 11))
-    ∷ (codes "TextFile", Form (form.LeftOut 11))
+    (codes "TProcedure", Form (form.LeftOut ProceduralTypes))
+    ∷ (codes "TClass", Form (form.LeftOut Metaclasses))
+    ∷ (codes "Text", Form (form.LeftOut Files))
+    ∷ (codes "TextFile", Form (form.LeftOut Files))
     ∷ []
 
 abbrev pub with_left_out : List Named → List Named

@@ -14,15 +14,17 @@ use Rattle.op_core.specs.declared.program.Core.{Core}
 use Rattle.op_core.specs.declared.types.CoreType.{CoreType}
 use Rattle.op_core.specs.declared.types.CoreType.TheVariants.{Enumeration, Subrange, Set, Array}
 use Rattle.op_judgement.specs.Judgement.{Judgement, by_entry, by_test, fine, of_two, refused, through, when}
-use Rattle.op_judgement.specs.Rules.{dynamic_arrays, empty_range, left_out, no_constant as not_constant, no_set_element, not_assignable, not_ordinal, type_too_large}
+use Rattle.op_judgement.specs.declared.rules.Feature.{Feature}
+use Rattle.op_judgement.specs.declared.rules.Feature.TheVariants.{DynamicArrays, ShortStrings, Strings}
+use Rattle.op_judgement.specs.declared.rules.LanguageRule.TheVariants.{EmptyRange, NoConstant, NoSetElement, NotAssignable, NotInProfile, NotOrdinal, TypeTooLarge}
 use Rattle.op_judgement.specs.Steps.{Step, followed, gives, judged, next, onward, silent, where_true}
 use Rattle.op_tree.specs.Denoter.{Denoter, named, string, subrange, enumeration, set, array, record_}
 use Rattle.op_tree.specs.Expression.{Expression}
 use Rattle.op_tree.specs.declared.position.Name.{Name}
 use Rattle.op_tree.specs.declared.position.Position.{Position}
-use Rattle.op_types.specs.Constants.{made, nodes, start_of}
+use Rattle.op_types.specs.ConstantParts.{made, nodes, start_of}
 use Rattle.op_types.specs.Entering.{entered}
-use Rattle.op_types.specs.Folding.{constant, is_constant}
+use Rattle.op_types.specs.Folding.{constant, is_constant, pair}
 use Rattle.op_types.specs.Names.{Named}
 use Rattle.op_types.specs.Operators as table
 use Rattle.op_types.specs.Sorts.{kind_of, same_kind}
@@ -52,12 +54,12 @@ start_of_denoter (record_ p packed lists) = p.place
 -- ---- strings
 
 -- where long strings are off at the word `string`, it is the short string
-abbrev pub feature_of_string : Position → ℕ
-feature_of_string p = if p.switches.h then 40 else 3
+abbrev pub feature_of_string : Position → Feature
+feature_of_string p = if p.switches.h then Strings else ShortStrings
 
 -- `string` as a type is left out
 abbrev pub string_means : Position → Judgement TypeId
-string_means p = refused (left_out (feature_of_string p)) p.place
+string_means p = refused (NotInProfile (feature_of_string p)) p.place
 
 -- ---- rows
 
@@ -89,7 +91,7 @@ abbrev pub sized_row : Place → CoreType → Here → Step Here TypeId
 sized_row place t h =
     let core = entered h.core t in
     let of = number_of_next h.core in
-    where_true (is_small core of t) type_too_large place (in_core core h) (gives of (in_core core h))
+    where_true (is_small core of t) TypeTooLarge place (in_core core h) (gives of (in_core core h))
 
 -- ---- constants
 
@@ -99,15 +101,15 @@ scope_outside core names = record { core = core; visible = names; routine = None
 
 -- what is no constant expression, where no rule is broken in it
 abbrev pub no_constant : Core → List Named → Expression → Judgement Constant
-no_constant core names e = through (value (scope_outside core names) None e) (λ v. refused not_constant (start_of e))
+no_constant core names e = through (value (scope_outside core names) None e) (λ v. refused NoConstant (start_of e))
 
 -- the value of an expression that has to be constant, `nil` among others
 abbrev pub needed : Core → List Named → Expression → Judgement Constant
 needed core names e = when (is_constant core names e) (constant core names e) (no_constant core names e)
 
 -- the feature that a constant shows: `nil` is left out
-abbrev pub feature_of_constant : Const → Option ℕ
-feature_of_constant Nil = Some 41
+abbrev pub feature_of_constant : Const → Option Feature
+feature_of_constant Nil = Some DynamicArrays
 feature_of_constant v = None
 
 -- a constant that begins at a place, unless it shows a feature that is left out
@@ -129,7 +131,7 @@ whole_type (kind.Enumeration of) = of
 
 -- a lower bound: its kind, and its number
 abbrev pub lower_bound : Core → Place → Constant → Judgement (OrdinalKind × ℤ)
-lower_bound core place c = by_entry not_ordinal place (λ kind. fine (kind, number_of c.value)) (kind_of core c.of)
+lower_bound core place c = by_entry NotOrdinal place (λ kind. fine (kind, number_of c.value)) (kind_of core c.of)
 
 abbrev pub is_kind : OrdinalKind → Option OrdinalKind → Bool
 is_kind kind None = false
@@ -138,16 +140,13 @@ is_kind kind (Some other) = same_kind kind other
 -- the upper bound is of the same kind, and not below the lower one
 abbrev pub bounds : Core → Place → Place → OrdinalKind × ℤ → Constant → Judgement CoreType
 bounds core first last low c =
-    by_test not_assignable last (by_test empty_range first (fine (Subrange (whole_type low.0) low.1 (number_of c.value))) (int_le low.1 (number_of c.value))) (is_kind low.0 (kind_of core c.of))
+    by_test NotAssignable last (by_test EmptyRange first (fine (Subrange (whole_type low.0) low.1 (number_of c.value))) (int_le low.1 (number_of c.value))) (is_kind low.0 (kind_of core c.of))
 
 abbrev pub lower_of : Core → List Named → Expression → Judgement (OrdinalKind × ℤ)
 lower_of core names e = through (constant_part core names e) (lower_bound core (start_of e))
 
 abbrev pub bounds_of : Core → Place → Place → (OrdinalKind × ℤ) × Constant → Judgement CoreType
 bounds_of core first last both = bounds core first last both.0 both.1
-
-abbrev pub pair : {A B : Type 0} → A → B → A × B
-pair a b = (a, b)
 
 abbrev pub subrange_of : Core → List Named → Expression → Expression → Judgement CoreType
 subrange_of core names first last =
@@ -179,11 +178,11 @@ is_within_set r = int_le (pos 0) r.0 && int_le r.1 (pos 31)
 
 -- the base is ordinal, with numbers from 0 to 31
 abbrev pub set_over : Core → Place → TypeId → Judgement CoreType
-set_over core place of = by_entry not_ordinal place (λ r. by_test no_set_element place (fine (Set of)) (is_within_set r)) (range_of (type_at core of))
+set_over core place of = by_entry NotOrdinal place (λ r. by_test NoSetElement place (fine (Set of)) (is_within_set r)) (range_of (type_at core of))
 
 -- the type of an index is ordinal
 abbrev pub index_over : Core → Place → TypeId → Judgement TypeId
-index_over core place of = by_test not_ordinal place (fine of) (is_some (range_of (type_at core of)))
+index_over core place of = by_test NotOrdinal place (fine of) (is_some (range_of (type_at core of)))
 
 abbrev pub one_array : Place → Option TypeId → Option TypeId → Here → Step Here TypeId
 one_array place (Some index) (Some element) h = sized_row place (Array index element) h
@@ -196,5 +195,5 @@ arrays place element (index ∷ indices) h = followed (one_array place index ele
 
 -- one without indices is dynamic, which is left out
 abbrev pub array_of : Place → List (Option TypeId) → Option TypeId → Here → Step Here TypeId
-array_of place [] element h = judged h (refused dynamic_arrays place)
+array_of place [] element h = judged h (refused (NotInProfile DynamicArrays) place)
 array_of place (index ∷ indices) element h = arrays place element (index ∷ indices) h

@@ -5,7 +5,7 @@ use Rattle.op_check_unit.specs.Naming.{with_name}
 use Rattle.op_check_unit.specs.Steps.{Given, Here}
 use Rattle.op_check_unit.specs.declared.uses.Export.{Export}
 use Rattle.op_core.specs.Faults.{kept}
-use Rattle.op_judgement.specs.Rules.{missing_file}
+use Rattle.op_judgement.specs.declared.rules.LanguageRule.TheVariants.{MissingFile}
 use Rattle.op_judgement.specs.Steps.{Step, breaks, each, gives, when}
 use Rattle.op_tree.specs.declared.position.Name.{Name}
 use Rattle.op_types.specs.Names.{lower}
@@ -48,7 +48,7 @@ with_used e h = record h { names = (h.names ++ record { name = lower e.unit; mea
 
 -- there is such a unit; it is so where the program was loaded
 abbrev pub used_by : Name → Option Export → Here → Step Here (Unit {0})
-used_by n None h = breaks missing_file n.position.place h
+used_by n None h = breaks MissingFile n.position.place h
 used_by n (Some e) h = gives tt (with_used e h)
 
 -- the names of System are there without its use

@@ -3,14 +3,15 @@ ghost use Rattle.op_judgement.specs.Judgement.{Reports, both_typed, with_part};
 ghost use Rattle.op_judgement.specs.Steps.{judged};
 ghost use Rattle.std.specs.Prelude.{◌≡◌, IfOk};
 ghost use Rattle.op_check_unit.specs.Steps.{Leaves, here_of};
-ghost use Rattle.op_check_unit.specs.Types.{bounds_of, built, constant_part, is_kind, lower_of, needed, no_constant, pair, subrange_of, whole_type};
+ghost use Rattle.op_check_unit.specs.Types.{bounds_of, built, constant_part, is_kind, lower_of, needed, no_constant, subrange_of, whole_type};
 ghost use Rattle.op_tree.specs.Expression.{expr_of};
+ghost use Rattle.op_types.specs.Folding.{pair};
 
 use crate::Declarer;
 use op_base::{NoMemory, Place};
 use op_check_expr::{Checker, Scope};
 use op_core::{Const, CoreType, FirstRefusal, TypeId};
-use op_judgement::{refuse, rules};
+use op_judgement::{Feature, LanguageRule, refuse};
 use op_tree::Expr;
 use op_types::{Constant, OrdinalKind, Setting, kind_of, number_of, start_of};
 
@@ -34,7 +35,11 @@ fn built(sink: &mut FirstRefusal, place: Place, constant: Constant) -> Option<Co
     ensures { Reports (built place constant) sink.old sink.new result }
 {
     match constant.value {
-        Const::Nil => refuse(sink, rules::DYNAMIC_ARRAYS, place),
+        Const::Nil => refuse(
+            sink,
+            LanguageRule::NotInProfile(Feature::DynamicArrays),
+            place,
+        ),
         _ => Some(constant),
     }
 }
@@ -72,7 +77,7 @@ fn no_constant(
         scope,
     };
     match checker.value(sink, None, e)? {
-        Some(_) => Ok(refuse(sink, rules::NO_CONSTANT, start_of(e))),
+        Some(_) => Ok(refuse(sink, LanguageRule::NoConstant, start_of(e))),
         None => Ok(None),
     }
 }
@@ -110,7 +115,7 @@ impl Declarer {
         match kind_of(&self.core, constant.of) {
             Some(kind) => Ok(Some((kind, number_of(&constant.value)))),
             None => {
-                self.refuse(rules::NOT_ORDINAL, start_of(e));
+                self.refuse(LanguageRule::NotOrdinal, start_of(e));
                 Ok(None)
             }
         }
@@ -129,12 +134,12 @@ impl Declarer {
         let (kind, low) = low?;
         let high = high?;
         if !is_kind(kind, kind_of(&self.core, high.of)) {
-            self.refuse(rules::NOT_ASSIGNABLE, last);
+            self.refuse(LanguageRule::NotAssignable, last);
             return None;
         }
         let high = number_of(&high.value);
         if high < low {
-            self.refuse(rules::EMPTY_RANGE, first);
+            self.refuse(LanguageRule::EmptyRange, first);
             return None;
         }
         let base = whole_type(kind);

@@ -8,7 +8,7 @@ ghost use Rattle.op_check_unit.specs.Types.{array_of, index_over, one_array, row
 use crate::Declarer;
 use op_base::{NoMemory, Place};
 use op_core::{CoreType, TypeId, range_of};
-use op_judgement::rules;
+use op_judgement::{Feature, LanguageRule};
 
 impl Declarer {
     /// A row of a type, if there is one.
@@ -27,13 +27,13 @@ impl Declarer {
     {
         let base = base?;
         let Some((low, high)) = range_of(&self.core, base) else {
-            self.refuse(rules::NOT_ORDINAL, place);
+            self.refuse(LanguageRule::NotOrdinal, place);
             return None;
         };
         if 0 <= low && high <= 31 {
             return Some(CoreType::Set { base });
         }
-        self.refuse(rules::NO_SET_ELEMENT, place);
+        self.refuse(LanguageRule::NoSetElement, place);
         None
     }
 
@@ -45,7 +45,7 @@ impl Declarer {
         match range_of(&self.core, index) {
             Some(_) => Some(index),
             None => {
-                self.refuse(rules::NOT_ORDINAL, place);
+                self.refuse(LanguageRule::NotOrdinal, place);
                 None
             }
         }
@@ -62,7 +62,7 @@ impl Declarer {
     {
         let mut indices = indices;
         if indices.is_empty() {
-            self.refuse(rules::DYNAMIC_ARRAYS, place);
+            self.refuse(LanguageRule::NotInProfile(Feature::DynamicArrays), place);
             return Ok(None);
         }
         let mut of = element;

@@ -9,7 +9,7 @@ ghost use Rattle.op_tree.specs.Initial.{initial_of};
 use crate::Declarer;
 use op_base::NoMemory;
 use op_core::{Role, TypeId};
-use op_judgement::rules;
+use op_judgement::{Feature, LanguageRule};
 use op_tree::{
     Constant as ConstantTree, Initializer, Name, TypeDeclaration, TypeDefinition, TypeDenoter,
 };
@@ -45,11 +45,17 @@ impl Declarer {
         match definition {
             TypeDefinition::Denoter(denoter) => self.denoted(Some(own), false, denoter),
             TypeDefinition::ForwardClass | TypeDefinition::Class(_) => {
-                self.refuse(rules::CLASSES, own.position.place);
+                self.refuse(
+                    LanguageRule::NotInProfile(Feature::Classes),
+                    own.position.place,
+                );
                 Ok(None)
             }
             TypeDefinition::ForwardInterface { .. } | TypeDefinition::Interface(_) => {
-                self.refuse(rules::INTERFACES, own.position.place);
+                self.refuse(
+                    LanguageRule::NotInProfile(Feature::Interfaces),
+                    own.position.place,
+                );
                 Ok(None)
             }
         }
@@ -119,7 +125,7 @@ impl Declarer {
         match value {
             Initializer::Value(e) => self.constant_part(e),
             Initializer::List { position, .. } | Initializer::Record { position, .. } => {
-                self.refuse(rules::NO_CONSTANT, position.place);
+                self.refuse(LanguageRule::NoConstant, position.place);
                 Ok(None)
             }
         }

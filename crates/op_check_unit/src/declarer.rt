@@ -8,9 +8,9 @@ ghost use Rattle.op_core.specs.Faults.{earlier};
 
 use crate::body::Owned;
 use crate::first_value::Begun;
-use op_base::{NoMemory, Place, Refusal, Rule};
+use op_base::{NoMemory, Place, Refusal};
 use op_core::{Core, FirstRefusal, RoutineId, Table, UnitId};
-use op_judgement::rules;
+use op_judgement::LanguageRule;
 use op_scan::CompactText;
 use op_tree::Name;
 use op_types::{Meaning, Visible};
@@ -52,10 +52,11 @@ pub struct Declarer {
 
 impl Declarer {
     /// Reports a rule at a place.
-    pub fn refuse(&mut self, rule: Rule, place: Place)
+    pub fn refuse(&mut self, rule: LanguageRule, place: Place)
         ensures stays { here_of self.new ≡ here_of self.old }
         ensures kept { self.new.sink.kept ≡ earlier self.old.sink.kept (fault rule place) }
     {
+        let rule = rule.rule();
         self.sink.report(Refusal { rule, place });
     }
 
@@ -123,11 +124,11 @@ impl Declarer {
     {
         let place = name.position.place;
         if taken {
-            self.refuse(rules::DECLARED_TWICE, place);
+            self.refuse(LanguageRule::DeclaredTwice, place);
             return Ok(());
         }
         if !self.has_room(more) {
-            self.refuse(rules::TOO_MANY_NAMES, place);
+            self.refuse(LanguageRule::TooManyNames, place);
             return Ok(());
         }
         self.enter_declared(name, meaning)

@@ -12,7 +12,7 @@ use crate::Declarer;
 use crate::record::FieldRows;
 use op_base::{NoMemory, Place};
 use op_core::TypeId;
-use op_judgement::rules;
+use op_judgement::{Feature, LanguageRule};
 use op_tree::{Fields, Name, Position, TypeDenoter};
 use op_types::start_of;
 
@@ -67,7 +67,10 @@ impl Declarer {
     pub fn string(&mut self, position: Position) -> Option<TypeId>
         ensures { Leaves (judged (here_of self.old) (string_means position)) self.old self.new result }
     {
-        self.refuse(rules::left_out(feature_of_string(position)), position.place);
+        self.refuse(
+            LanguageRule::NotInProfile(feature_of_string(position)),
+            position.place,
+        );
         None
     }
 
@@ -108,10 +111,14 @@ impl Declarer {
 }
 
 /// The feature that `string` shows: where long strings are off at the word, it is the short string.
-fn feature_of_string(position: Position) -> u8
+fn feature_of_string(position: Position) -> Feature
     ensures { result ≡ feature_of_string position }
 {
-    if position.switches.h { 40 } else { 3 }
+    if position.switches.h {
+        Feature::Strings
+    } else {
+        Feature::ShortStrings
+    }
 }
 
 /// The first token of a type.

@@ -14,7 +14,7 @@ use crate::declarer::is_name;
 use crate::variable::copy_of;
 use op_base::{NoMemory, Place};
 use op_core::{Core, CoreType, Parameter, Routine, Run, Table, TypeId, one_type};
-use op_judgement::rules;
+use op_judgement::{Feature, LanguageRule};
 use op_tree::{
     Directive, Heading, Name, Parameter as ParameterTree, ParameterMode, ParameterType,
     RoutineKind, TypeDenoter,
@@ -103,13 +103,13 @@ impl Declarer {
     {
         let place = heading.name.position.place;
         if overloads(directives) {
-            self.refuse(rules::OVERLOADS, place);
+            self.refuse(LanguageRule::NotInProfile(Feature::Overloads), place);
             return None;
         }
         if is_plain(heading.kind, heading.result.is_some()) {
             return Some(());
         }
-        self.refuse(rules::WRONG_KIND_OF_NAME, place);
+        self.refuse(LanguageRule::WrongKindOfName, place);
         None
     }
 
@@ -143,7 +143,10 @@ impl Declarer {
         ensures { IfOk result (Leaves (parameter_type group.now (here_of self.old)) self.old self.new) }
     {
         if group.open_array {
-            self.refuse(rules::DYNAMIC_ARRAYS, start_of_type(&group.of));
+            self.refuse(
+                LanguageRule::NotInProfile(Feature::DynamicArrays),
+                start_of_type(&group.of),
+            );
             return Ok(None);
         }
         match &group.of {
@@ -181,13 +184,13 @@ impl Declarer {
     {
         let place = name.position.place;
         if rows.is_taken(own, name)? {
-            self.refuse(rules::DECLARED_TWICE, place);
+            self.refuse(LanguageRule::DeclaredTwice, place);
             return Ok(());
         }
         if rows.seen.len() < MOST_PARAMETERS {
             return rows.push(self.alloc, mode, of, name);
         }
-        self.refuse(rules::TOO_MANY_PARAMETERS, place);
+        self.refuse(LanguageRule::TooManyParameters, place);
         Ok(())
     }
 

@@ -3,6 +3,7 @@ ghost use Rattle.op_judgement.specs.Judgement.{Reports, changed};
 ghost use Rattle.op_judgement.specs.Steps.{judged};
 ghost use Rattle.std.specs.Prelude.{◌≡◌, ◌∷◌, [], true, IfOk};
 ghost use Rattle.std.specs.Option.{option_map};
+ghost use Rattle.op_check_stmt.specs.Parts.{items_of, with_last};
 ghost use Rattle.op_check_unit.specs.Initials.{by_elements, by_fields, counted, elements, fields, first, first_expression, is_bracketed, of_type, one_value, shape_of, single, starts, start_of_initial, unless_wrong, values_in, wrong_count};
 ghost use Rattle.op_check_unit.specs.Steps.{Leaves, here_of};
 ghost use Rattle.op_core.specs.Initial.{first_value_of, parts};
@@ -10,15 +11,15 @@ ghost use Rattle.op_core.specs.Rows.{rows};
 ghost use Rattle.op_tree.specs.Expression.{expr_of};
 ghost use Rattle.op_tree.specs.Initial.{initial_of};
 ghost use Rattle.op_tree.specs.Lists.{field_initials_of, initials_of};
-ghost use Rattle.op_types.specs.Constants.{start_of};
+ghost use Rattle.op_types.specs.ConstantParts.{start_of};
 
 use crate::Declarer;
 use crate::bound::needed_constant;
 use crate::declarer::is_name;
-use crate::shared::{collect, retyped};
 use op_base::{NoMemory, Place};
+use op_check_expr::retyped;
 use op_core::{Core, CoreType, Field, FirstRefusal, Initial, Run, TypeId, type_at, values_of};
-use op_judgement::{refuse, rules};
+use op_judgement::{LanguageRule, refuse};
 use op_tree::{Expr, FieldInitializer, Initializer, Root};
 use op_types::{Constant, Setting, assignable, start_of};
 use std::alloc::Global;
@@ -94,7 +95,7 @@ fn list(
     ensures { IfOk result (λ v. Reports (by_elements bracket (λ count element. counted bracket count (starts (initials_of items.now)) (elements setting.entry.core.now setting.entry.visible.now element (initials_of items.now))) (shape_of setting.entry.core.now of)) sink.old sink.new (option_map first_value_of v)) }
 {
     let Shape::Elements(count, element) = shape_of(setting.core, of) else {
-        return Ok(refuse(sink, rules::NOT_ASSIGNABLE, bracket));
+        return Ok(refuse(sink, LanguageRule::NotAssignable, bracket));
     };
     let typed = elements(setting, sink, element, items)?;
     Ok(unless_wrong(sink, wrong_count(bracket, count, items), typed))
@@ -124,7 +125,7 @@ fn record(
     ensures { IfOk result (λ v. Reports (by_fields bracket (λ run. changed parts (fields setting.entry.core.now setting.entry.visible.now bracket (rows setting.entry.core.now.fields run) (field_initials_of items.now))) (shape_of setting.entry.core.now of)) sink.old sink.new (option_map first_value_of v)) }
 {
     let Shape::Fields(run) = shape_of(setting.core, of) else {
-        return Ok(refuse(sink, rules::NOT_ASSIGNABLE, bracket));
+        return Ok(refuse(sink, LanguageRule::NotAssignable, bracket));
     };
     let typed = fields(setting, sink, bracket, setting.core.fields.rows(run), items)?;
     Ok(joined(typed))
@@ -145,10 +146,10 @@ fn fields(
     let mut left = declared;
     for item in items {
         let Some((field, others)) = left.split_first() else {
-            return Ok(refuse(sink, rules::NO_MEMBER, item.name.position.place));
+            return Ok(refuse(sink, LanguageRule::NoMember, item.name.position.place));
         };
         if !is_name(Some(&field.name), &item.name) {
-            return Ok(refuse(sink, rules::NO_MEMBER, item.name.position.place));
+            return Ok(refuse(sink, LanguageRule::NoMember, item.name.position.place));
         }
         let part = first(setting, sink, field.of, &item.value)?;
         collect(&mut typed, part)?;
@@ -156,7 +157,7 @@ fn fields(
     }
     match left.split_first() {
         None => Ok(typed),
-        Some(_) => Ok(refuse(sink, rules::NOT_ASSIGNABLE, bracket)),
+        Some(_) => Ok(refuse(sink, LanguageRule::NotAssignable, bracket)),
     }
 }
 
@@ -190,7 +191,7 @@ fn in_brackets(setting: Setting, sink: &mut FirstRefusal, of: TypeId, e: &Expr) 
             let wrong = wrong_one(position.place, count, start_of(inside));
             one_part(setting.alloc, sink, wrong, part)
         }
-        Shape::Unbounded => Ok(refuse(sink, rules::NOT_ASSIGNABLE, position.place)),
+        Shape::Unbounded => Ok(refuse(sink, LanguageRule::NotAssignable, position.place)),
         Shape::Single | Shape::Fields(_) => single(setting, sink, of, e),
     }
 }
@@ -228,10 +229,10 @@ fn of_type(
     ensures { IfOk result (λ v. Reports (of_type setting.entry.core.now place of constant) sink.old sink.new (option_map first_value_of v)) }
 {
     if !assignable(setting.core, constant.of, of) {
-        return Ok(refuse(sink, rules::NOT_ASSIGNABLE, place));
+        return Ok(refuse(sink, LanguageRule::NotAssignable, place));
     }
     match retyped(setting.alloc, setting.core, of, &constant.value)? {
-        None => Ok(refuse(sink, rules::OUT_OF_RANGE, place)),
+        None => Ok(refuse(sink, LanguageRule::OutOfRange, place)),
         Some(value) => Ok(Some(Initial::Value(value))),
     }
 }
@@ -270,7 +271,7 @@ fn unless_wrong(
 {
     match wrong {
         None => joined(typed),
-        Some(place) => refuse(sink, rules::NOT_ASSIGNABLE, place),
+        Some(place) => refuse(sink, LanguageRule::NotAssignable, place),
     }
 }
 
@@ -284,7 +285,7 @@ fn one_part(
     ensures { IfOk result (λ v. Reports (unless_wrong wrong (option_map one_value (option_map first_value_of part))) sink.old sink.new (option_map first_value_of v)) }
 {
     match (wrong, part) {
-        (Some(place), _) => Ok(refuse(sink, rules::NOT_ASSIGNABLE, place)),
+        (Some(place), _) => Ok(refuse(sink, LanguageRule::NotAssignable, place)),
         (None, None) => Ok(None),
         (None, Some(value)) => {
             let mut list = Vec::new(alloc);
@@ -312,5 +313,20 @@ fn start_of_initial(value: &Initializer) -> Place
         Initializer::List { position, .. } | Initializer::Record { position, .. } => {
             position.place
         }
+    }
+}
+
+/// Puts a part behind those of a list. A list with a part that is not typed is none.
+fn collect<T: Drop>(list: &mut Option<Vec<T>>, part: Option<T>) -> Result<(), NoMemory>
+    ensures { IfOk result (λ _. items_of list.new ≡ with_last (items_of list.old) part) }
+{
+    match (list.take(), part) {
+        (Some(parts), Some(part)) => {
+            let mut parts = parts;
+            parts.push(part)?;
+            *list = Some(parts);
+            Ok(())
+        }
+        _ => Ok(()),
     }
 }

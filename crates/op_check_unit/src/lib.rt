@@ -19,7 +19,6 @@ mod naming;
 mod program;
 mod record;
 mod routine;
-mod shared;
 mod system;
 mod table;
 mod units;

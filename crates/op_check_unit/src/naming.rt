@@ -1,7 +1,7 @@
 //! Types that are named.
 ghost use Rattle.op_core.specs.declared.ids.TypeId.{TypeId as TypeId'};
 ghost use Rattle.op_judgement.specs.Judgement.{fine, refused};
-ghost use Rattle.op_judgement.specs.Rules.{wrong_kind_of_name};
+ghost use Rattle.op_judgement.specs.declared.rules.LanguageRule.TheVariants.{WrongKindOfName};
 ghost use Rattle.op_judgement.specs.Steps.{judged};
 ghost use Rattle.std.specs.Prelude.{◌≡◌, IfOk};
 ghost use Rattle.op_check_expr.specs.Naming.{feature_of_type};
@@ -13,8 +13,9 @@ ghost use Rattle.op_types.specs.Names.{lower};
 use crate::Declarer;
 use crate::declarer::is_name;
 use op_base::{NoMemory, Place};
-use op_core::{CoreType, TypeId, type_at};
-use op_judgement::rules;
+use op_check_expr::feature_of_type;
+use op_core::{TypeId, type_at};
+use op_judgement::{Feature, LanguageRule};
 use op_tree::{Name, QualifiedName};
 use op_types::{BuiltIn, Meaning};
 
@@ -26,8 +27,8 @@ pub enum Told {
     Spoiled,
     /// It is a type.
     Known(TypeId),
-    /// It is a type that is not in this profile, by the number of the feature.
-    LeftOutType(u8),
+    /// It is a type that is not in this profile, by its feature.
+    LeftOutType(Feature),
     Unit,
     Other,
 }
@@ -106,17 +107,17 @@ impl Declarer {
     {
         match meaning {
             Told::Unknown => {
-                self.refuse(rules::UNKNOWN_NAME, place);
+                self.refuse(LanguageRule::UnknownName, place);
                 None
             }
             Told::Spoiled => None,
             Told::Known(of) => self.built(place, of),
             Told::LeftOutType(feature) => {
-                self.refuse(rules::left_out(feature), place);
+                self.refuse(LanguageRule::NotInProfile(feature), place);
                 None
             }
             Told::Unit | Told::Other => {
-                self.refuse(rules::WRONG_KIND_OF_NAME, place);
+                self.refuse(LanguageRule::WrongKindOfName, place);
                 None
             }
         }
@@ -129,7 +130,7 @@ impl Declarer {
         match feature_of_type(type_at(&self.core, of)) {
             None => Some(of),
             Some(feature) => {
-                self.refuse(rules::left_out(feature), place);
+                self.refuse(LanguageRule::NotInProfile(feature), place);
                 None
             }
         }
@@ -137,12 +138,12 @@ impl Declarer {
 
     /// A type where something else is needed.
     pub fn no_type(&mut self, place: Place, of: TypeId)
-        ensures as_type { Leaves (judged (here_of self.old) (by_type {A = TypeId'} self.old.core place of (refused wrong_kind_of_name place))) self.old self.new None }
-        ensures as_class { Declares (judged (here_of self.old) (by_type {A = Unit {0}} self.old.core place of (refused wrong_kind_of_name place))) self.old self.new }
+        ensures as_type { Leaves (judged (here_of self.old) (by_type {A = TypeId'} self.old.core place of (refused WrongKindOfName place))) self.old self.new None }
+        ensures as_class { Declares (judged (here_of self.old) (by_type {A = Unit {0}} self.old.core place of (refused WrongKindOfName place))) self.old self.new }
     {
         match feature_of_type(type_at(&self.core, of)) {
-            None => self.refuse(rules::WRONG_KIND_OF_NAME, place),
-            Some(feature) => self.refuse(rules::left_out(feature), place),
+            None => self.refuse(LanguageRule::WrongKindOfName, place),
+            Some(feature) => self.refuse(LanguageRule::NotInProfile(feature), place),
         }
     }
 
@@ -151,30 +152,11 @@ impl Declarer {
         ensures { Leaves (judged (here_of self.old) (own_type (option_copied own.entry) inside place)) self.old self.new result }
     {
         if inside {
-            self.refuse(rules::CONTAINS_ITSELF, place_of(place, own));
+            self.refuse(LanguageRule::ContainsItself, place_of(place, own));
         } else {
-            self.refuse(rules::UNKNOWN_NAME, place);
+            self.refuse(LanguageRule::UnknownName, place);
         }
         None
-    }
-}
-
-/// The feature that the name of a type shows: strings, classes, interfaces.
-fn feature_of_type(of: Option<CoreType>) -> Option<u8>
-    ensures { result ≡ feature_of_type of }
-{
-    match of {
-        Some(CoreType::String) => Some(40),
-        Some(CoreType::Class(id)) => match id.0 {
-            0 => Some(42),
-            1 => Some(43),
-            _ => None,
-        },
-        Some(CoreType::Interface(id)) => match id.0 {
-            0 => Some(43),
-            _ => None,
-        },
-        _ => None,
     }
 }
 

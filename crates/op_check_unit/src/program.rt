@@ -1,16 +1,16 @@
 //! Whole programs.
-ghost use Rattle.op_check_unit.specs.Readings.{missing, missing_in, missing_one};
-ghost use Rattle.std.specs.Prelude.{◌≡◌, ◌∷◌, ℕ, IfOk, None, Some, if◌then◌else◌, map, slice_get};
+ghost use Rattle.std.specs.Prelude.{◌≡◌, ◌∷◌, ℕ, IfErr, IfOk, None, Some, if◌then◌else◌, map, slice_get};
 ghost use Rattle.std.specs.Option.{option_map};
 ghost use Rattle.op_check_unit.specs.Bodies.{said};
 ghost use Rattle.op_check_unit.specs.Checking.{CheckIs, Fills, Finishes};
 ghost use Rattle.op_check_unit.specs.FirstValues.{begins_so};
 ghost use Rattle.op_check_unit.specs.Outlines.{AllTell, outline_of};
-ghost use Rattle.op_check_unit.specs.Programs.{all_completed, all_declared, declaration_means, files_mean, is_of, name_of, part_means, parts_of_program, program_declared, program_means, unit_completed, with_heading, with_unit};
+ghost use Rattle.op_check_unit.specs.Programs.{all_completed, all_declared, awaited, awaited_in, awaited_one, declaration_means, files_mean, is_of, name_of, part_means, parts_of_program, program_declared, program_means, unit_completed, with_heading, with_unit};
 ghost use Rattle.op_check_unit.specs.Rules.{Obeys, ProgramBreaks};
 ghost use Rattle.op_check_unit.specs.Steps.{Declared, Declares, Leaves, here_of};
 ghost use Rattle.op_core.specs.Faults.{Faults, kept};
 ghost use Rattle.op_core.specs.Sound.{IsSound, IsSoundNesting};
+ghost use Rattle.op_judgement.specs.Judgement.{RefusalHasText, checked};
 ghost use Rattle.op_tree.specs.Declaration.{declaration_of, declarations_of};
 ghost use Rattle.op_tree.specs.File.{file_of, program as program_tree, program_of};
 ghost use Rattle.op_tree.specs.Statement.{stmts_of};
@@ -25,7 +25,7 @@ use crate::uses::Export;
 use crate::variable::copy_of;
 use op_base::{NoMemory, Place, Refusal, Rule, Text};
 use op_core::{CheckError, Core, FirstRefusal, Routine, RoutineId, Run, Unit as UnitRow, UnitId};
-use op_judgement::rules;
+use op_judgement::LanguageRule;
 use op_scan::CompactText;
 use op_tree::{
     Body, Declaration, Name, Position, Program, ProgramHeading, RoutineKind, Stmt, Tree,
@@ -40,6 +40,7 @@ use std::alloc::Global;
 pub fn check(alloc: Global, trees: &[Tree], order: &[Text]) -> Result<Core, CheckError>
     ensures means { CheckIs (program_means (map file_of trees.now) order.now) result }
     ensures law { Obeys (ProgramBreaks (map file_of trees.now) order.now) result }
+    ensures told { IfErr result RefusalHasText }
     ensures sound { IfOk result (λ core. IsSound core × IsSoundNesting core) }
 {
     let mut declarer = Declarer::new(alloc)?;
@@ -56,7 +57,7 @@ impl Declarer {
         match trees.split_first() {
             Some((Tree::Program(program), others)) => self.program_of(program, others, order),
             _ => {
-                self.refuse(rules::OTHER_FILE, START);
+                self.refuse(LanguageRule::OtherFile, START);
                 Ok(())
             }
         }
@@ -281,7 +282,7 @@ fn name_of(
 
 /// Reports where bodies are still awaited from.
 fn report_missing(sink: &mut FirstRefusal, places: &[Option<Place>])
-    ensures { sink.new.kept ≡ kept sink.old.kept (missing places.now) }
+    ensures { sink.new.kept ≡ kept sink.old.kept (checked (awaited places.now)).faults }
 {
     for place in places {
         report_missing_one(sink, *place);
@@ -295,7 +296,7 @@ fn report_missing_in(
     routines: &[Routine],
     places: &[Option<Place>],
 )
-    ensures { sink.new.kept ≡ kept sink.old.kept (missing_in unit routines.now 0 places.now) }
+    ensures { sink.new.kept ≡ kept sink.old.kept (checked (awaited_in unit routines.now 0 places.now)).faults }
 {
     for (number, place) in places.iter().enumerate() {
         report_missing_if(sink, is_of(unit, routines, number), *place);
@@ -303,7 +304,7 @@ fn report_missing_in(
 }
 
 fn report_missing_if(sink: &mut FirstRefusal, asked: bool, place: Option<Place>)
-    ensures { sink.new.kept ≡ kept sink.old.kept (missing_one (if asked then place else None)) }
+    ensures { sink.new.kept ≡ kept sink.old.kept (checked (awaited_one (if asked then place else None))).faults }
 {
     if asked {
         report_missing_one(sink, place);
@@ -322,10 +323,10 @@ fn is_of(unit: UnitId, routines: &[Routine], number: usize) -> bool
 
 /// Reports where a body is still awaited from.
 fn report_missing_one(sink: &mut FirstRefusal, place: Option<Place>)
-    ensures { sink.new.kept ≡ kept sink.old.kept (missing_one place) }
+    ensures { sink.new.kept ≡ kept sink.old.kept (checked (awaited_one place)).faults }
 {
     if let Some(place) = place {
-        let rule = rules::NO_BODY;
+        let rule = LanguageRule::NoBody.rule();
         sink.report(Refusal { rule, place });
     }
 }

@@ -8,7 +8,7 @@ use crate::declarer::MOST_NAMES;
 use crate::variable::copy_of;
 use op_base::{NoMemory, Place};
 use op_core::{CoreType, Field, Run, Table, TypeId};
-use op_judgement::rules;
+use op_judgement::LanguageRule;
 use op_tree::{Name, Visibility};
 use op_types::{Meaning, Visible};
 use std::alloc::Global;
@@ -79,13 +79,13 @@ impl Declarer {
         let place = name.position.place;
         let taken = rows.seen.look_up(name.text.as_slice())?.is_some();
         if taken {
-            self.refuse(rules::DECLARED_TWICE, place);
+            self.refuse(LanguageRule::DeclaredTwice, place);
             return Ok(());
         }
         if rows.seen.len() < MOST_NAMES {
             return rows.push(self.alloc, of, name);
         }
-        self.refuse(rules::TOO_MANY_NAMES, place);
+        self.refuse(LanguageRule::TooManyNames, place);
         Ok(())
     }
 

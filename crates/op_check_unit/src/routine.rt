@@ -19,7 +19,7 @@ use op_core::{
     Core, Owner, Parameter, Role, Routine, RoutineId, Run, Table, TypeId, UnitId, Variable,
     VariableId,
 };
-use op_judgement::rules;
+use op_judgement::{Feature, LanguageRule};
 use op_scan::CompactText;
 use op_tree::{Body, Declaration, Directive, Heading, Name, Stmt};
 use op_types::{Meaning, Visible};
@@ -53,11 +53,11 @@ impl Declarer {
     {
         let place = class.position.place;
         match told_by(self.visible.look_up(class.text.as_slice())?) {
-            Told::Unknown => self.refuse(rules::UNKNOWN_NAME, place),
+            Told::Unknown => self.refuse(LanguageRule::UnknownName, place),
             Told::Spoiled => {}
             Told::Known(of) => self.no_type(place, of),
-            Told::LeftOutType(feature) => self.refuse(rules::left_out(feature), place),
-            Told::Unit | Told::Other => self.refuse(rules::WRONG_KIND_OF_NAME, place),
+            Told::LeftOutType(feature) => self.refuse(LanguageRule::NotInProfile(feature), place),
+            Told::Unit | Told::Other => self.refuse(LanguageRule::WrongKindOfName, place),
         }
         Ok(())
     }
@@ -143,7 +143,7 @@ impl Declarer {
         ensures { IfOk result (λ _. Declares (ahead_declared id name.now head (body_of body.now) (here_of self.old)) self.old self.new) }
     {
         if matches!(body, Body::Forward) {
-            self.refuse(rules::DECLARED_TWICE, name.position.place);
+            self.refuse(LanguageRule::DeclaredTwice, name.position.place);
             return Ok(());
         }
         self.complete(id);
@@ -173,7 +173,7 @@ impl Declarer {
         if has_heading(&self.core, id, &row) {
             return Ok(Some(()));
         }
-        self.refuse(rules::HEADING_DIFFERS, name.position.place);
+        self.refuse(LanguageRule::HeadingDiffers, name.position.place);
         Ok(None)
     }
 
@@ -301,7 +301,10 @@ impl Declarer {
             Declaration::Variables(list) => self.variables(list),
             Declaration::Heading(_) => Ok(()),
             Declaration::Routine(routine) => {
-                self.refuse(rules::NESTED_ROUTINES, routine.heading.name.position.place);
+                self.refuse(
+                    LanguageRule::NotInProfile(Feature::NestedRoutines),
+                    routine.heading.name.position.place,
+                );
                 Ok(())
             }
         }
@@ -312,7 +315,7 @@ impl Declarer {
         ensures { Declares (locals_fit name.now (here_of self.old)) self.old self.new }
     {
         if self.bytes > MOST_BYTES {
-            self.refuse(rules::LOCALS_TOO_LARGE, name.position.place);
+            self.refuse(LanguageRule::LocalsTooLarge, name.position.place);
         }
     }
 

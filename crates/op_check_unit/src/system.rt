@@ -11,6 +11,7 @@ use op_core::{
     Class, ClassId, Const, Core, CoreType, FirstRefusal, Function, IntegerKind, Interface,
     InterfaceId, InterfaceKind, Run, Table, TypeId, UnitId,
 };
+use op_judgement::Feature;
 use op_types::{BuiltIn, Constant, Meaning, Visible, Weight, enter_type};
 use std::alloc::Global;
 
@@ -374,106 +375,111 @@ fn enter_left_out(alloc: Global, visible: &mut Visible) -> Result<(), NoMemory>
 fn enter_floating(alloc: Global, visible: &mut Visible) -> Result<(), NoMemory>
     ensures { IfOk result (λ _. visible.new ≡ with_table floating_names visible.old) }
 {
-    leave_out(alloc, visible, b"Real", 1)?;
-    leave_out(alloc, visible, b"Single", 1)?;
-    leave_out(alloc, visible, b"Double", 1)?;
-    leave_out(alloc, visible, b"Extended", 1)?;
-    leave_out(alloc, visible, b"Currency", 1)?;
-    leave_out(alloc, visible, b"Comp", 1)?;
-    leave_out(alloc, visible, b"ValReal", 1)?;
-    leave_out(alloc, visible, b"TDateTime", 1)
+    leave_out(alloc, visible, b"Real", Feature::FloatingPoint)?;
+    leave_out(alloc, visible, b"Single", Feature::FloatingPoint)?;
+    leave_out(alloc, visible, b"Double", Feature::FloatingPoint)?;
+    leave_out(alloc, visible, b"Extended", Feature::FloatingPoint)?;
+    leave_out(alloc, visible, b"Currency", Feature::FloatingPoint)?;
+    leave_out(alloc, visible, b"Comp", Feature::FloatingPoint)?;
+    leave_out(alloc, visible, b"ValReal", Feature::FloatingPoint)?;
+    leave_out(alloc, visible, b"TDateTime", Feature::FloatingPoint)
 }
 
 /// Other integer types.
 fn enter_integers(alloc: Global, visible: &mut Visible) -> Result<(), NoMemory>
     ensures { IfOk result (λ _. visible.new ≡ with_table integer_names visible.old) }
 {
-    leave_out(alloc, visible, b"Int64", 2)?;
-    leave_out(alloc, visible, b"UInt64", 2)?;
-    leave_out(alloc, visible, b"QWord", 2)?;
-    leave_out(alloc, visible, b"Cardinal", 2)?;
-    leave_out(alloc, visible, b"LongWord", 2)?;
-    leave_out(alloc, visible, b"DWord", 2)
+    leave_out(alloc, visible, b"Int64", Feature::OtherIntegers)?;
+    leave_out(alloc, visible, b"UInt64", Feature::OtherIntegers)?;
+    leave_out(alloc, visible, b"QWord", Feature::OtherIntegers)?;
+    leave_out(alloc, visible, b"Cardinal", Feature::OtherIntegers)?;
+    leave_out(alloc, visible, b"LongWord", Feature::OtherIntegers)?;
+    leave_out(alloc, visible, b"DWord", Feature::OtherIntegers)
 }
 
 /// Integer types of the width of the machine.
 fn enter_natives(alloc: Global, visible: &mut Visible) -> Result<(), NoMemory>
     ensures { IfOk result (λ _. visible.new ≡ with_table native_names visible.old) }
 {
-    leave_out(alloc, visible, b"NativeInt", 2)?;
-    leave_out(alloc, visible, b"NativeUInt", 2)?;
-    leave_out(alloc, visible, b"PtrInt", 2)?;
-    leave_out(alloc, visible, b"PtrUInt", 2)
+    leave_out(alloc, visible, b"NativeInt", Feature::OtherIntegers)?;
+    leave_out(alloc, visible, b"NativeUInt", Feature::OtherIntegers)?;
+    leave_out(alloc, visible, b"PtrInt", Feature::OtherIntegers)?;
+    leave_out(alloc, visible, b"PtrUInt", Feature::OtherIntegers)
 }
 
 /// Integer types by their bits, and those of sizes.
 fn enter_sized(alloc: Global, visible: &mut Visible) -> Result<(), NoMemory>
     ensures { IfOk result (λ _. visible.new ≡ with_table sized_names visible.old) }
 {
-    leave_out(alloc, visible, b"Int8", 2)?;
-    leave_out(alloc, visible, b"Int16", 2)?;
-    leave_out(alloc, visible, b"Int32", 2)?;
-    leave_out(alloc, visible, b"UInt8", 2)?;
-    leave_out(alloc, visible, b"UInt16", 2)?;
-    leave_out(alloc, visible, b"UInt32", 2)?;
-    leave_out(alloc, visible, b"SizeInt", 2)?;
-    leave_out(alloc, visible, b"SizeUInt", 2)
+    leave_out(alloc, visible, b"Int8", Feature::OtherIntegers)?;
+    leave_out(alloc, visible, b"Int16", Feature::OtherIntegers)?;
+    leave_out(alloc, visible, b"Int32", Feature::OtherIntegers)?;
+    leave_out(alloc, visible, b"UInt8", Feature::OtherIntegers)?;
+    leave_out(alloc, visible, b"UInt16", Feature::OtherIntegers)?;
+    leave_out(alloc, visible, b"UInt32", Feature::OtherIntegers)?;
+    leave_out(alloc, visible, b"SizeInt", Feature::OtherIntegers)?;
+    leave_out(alloc, visible, b"SizeUInt", Feature::OtherIntegers)
 }
 
 /// Short strings.
 fn enter_short(alloc: Global, visible: &mut Visible) -> Result<(), NoMemory>
     ensures { IfOk result (λ _. visible.new ≡ with_table short_names visible.old) }
 {
-    leave_out(alloc, visible, b"ShortString", 3)?;
-    leave_out(alloc, visible, b"OpenString", 3)
+    leave_out(alloc, visible, b"ShortString", Feature::ShortStrings)?;
+    leave_out(alloc, visible, b"OpenString", Feature::ShortStrings)
 }
 
 /// Other string types.
 fn enter_strings(alloc: Global, visible: &mut Visible) -> Result<(), NoMemory>
     ensures { IfOk result (λ _. visible.new ≡ with_table string_names visible.old) }
 {
-    leave_out(alloc, visible, b"WideString", 4)?;
-    leave_out(alloc, visible, b"UnicodeString", 4)?;
-    leave_out(alloc, visible, b"UTF8String", 4)?;
-    leave_out(alloc, visible, b"RawByteString", 4)
+    leave_out(alloc, visible, b"WideString", Feature::OtherStrings)?;
+    leave_out(alloc, visible, b"UnicodeString", Feature::OtherStrings)?;
+    leave_out(alloc, visible, b"UTF8String", Feature::OtherStrings)?;
+    leave_out(alloc, visible, b"RawByteString", Feature::OtherStrings)
 }
 
 /// Pointers to characters and texts.
 fn enter_characters(alloc: Global, visible: &mut Visible) -> Result<(), NoMemory>
     ensures { IfOk result (λ _. visible.new ≡ with_table character_names visible.old) }
 {
-    leave_out(alloc, visible, b"PChar", 5)?;
-    leave_out(alloc, visible, b"PAnsiChar", 5)?;
-    leave_out(alloc, visible, b"PWideChar", 5)?;
-    leave_out(alloc, visible, b"PPChar", 5)?;
-    leave_out(alloc, visible, b"PString", 5)?;
-    leave_out(alloc, visible, b"PAnsiString", 5)
+    leave_out(alloc, visible, b"PChar", Feature::Pointers)?;
+    leave_out(alloc, visible, b"PAnsiChar", Feature::Pointers)?;
+    leave_out(alloc, visible, b"PWideChar", Feature::Pointers)?;
+    leave_out(alloc, visible, b"PPChar", Feature::Pointers)?;
+    leave_out(alloc, visible, b"PString", Feature::Pointers)?;
+    leave_out(alloc, visible, b"PAnsiString", Feature::Pointers)
 }
 
 /// Other pointers.
 fn enter_pointers(alloc: Global, visible: &mut Visible) -> Result<(), NoMemory>
     ensures { IfOk result (λ _. visible.new ≡ with_table pointer_names visible.old) }
 {
-    leave_out(alloc, visible, b"Pointer", 5)?;
-    leave_out(alloc, visible, b"PPointer", 5)?;
-    leave_out(alloc, visible, b"PByte", 5)?;
-    leave_out(alloc, visible, b"PInteger", 5)?;
-    leave_out(alloc, visible, b"PLongInt", 5)?;
-    leave_out(alloc, visible, b"PBoolean", 5)
+    leave_out(alloc, visible, b"Pointer", Feature::Pointers)?;
+    leave_out(alloc, visible, b"PPointer", Feature::Pointers)?;
+    leave_out(alloc, visible, b"PByte", Feature::Pointers)?;
+    leave_out(alloc, visible, b"PInteger", Feature::Pointers)?;
+    leave_out(alloc, visible, b"PLongInt", Feature::Pointers)?;
+    leave_out(alloc, visible, b"PBoolean", Feature::Pointers)
 }
 
 /// A procedural type, a metaclass and files.
 fn enter_rest(alloc: Global, visible: &mut Visible) -> Result<(), NoMemory>
     ensures { IfOk result (λ _. visible.new ≡ with_table rest_names visible.old) }
 {
-    leave_out(alloc, visible, b"TProcedure", 6)?;
-    leave_out(alloc, visible, b"TClass", 7)?;
-    leave_out(alloc, visible, b"Text", 11)?;
-    leave_out(alloc, visible, b"TextFile", 11)
+    leave_out(alloc, visible, b"TProcedure", Feature::ProceduralTypes)?;
+    leave_out(alloc, visible, b"TClass", Feature::Metaclasses)?;
+    leave_out(alloc, visible, b"Text", Feature::Files)?;
+    leave_out(alloc, visible, b"TextFile", Feature::Files)
 }
 
-/// Enters the name of a type that is not in this profile, by the number of the feature.
-fn leave_out(alloc: Global, visible: &mut Visible, name: &[u8], feature: u8) -> Result<(), NoMemory>
+/// Enters the name of a type that is not in this profile, by its feature.
+fn leave_out(
+    alloc: Global,
+    visible: &mut Visible,
+    name: &[u8],
+    feature: Feature,
+) -> Result<(), NoMemory>
     ensures { IfOk result (λ _. visible.new ≡ with_known name.now (Form (form.LeftOut feature)) visible.old) }
 {
     enter(alloc, visible, name, Known::Form(BuiltIn::LeftOut(feature)))

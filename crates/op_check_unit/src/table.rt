@@ -6,7 +6,7 @@ ghost use Rattle.op_check_unit.specs.Types.{has_few_elements, is_small, row, siz
 use crate::Declarer;
 use op_base::{NoMemory, Place};
 use op_core::{Core, CoreType, TypeId, size_of, values_of};
-use op_judgement::rules;
+use op_judgement::LanguageRule;
 use op_types::enter_type;
 
 /// The most bytes that a value of a type may have.
@@ -31,7 +31,7 @@ impl Declarer {
         if is_small(&self.core, id, of) {
             return Ok(Some(id));
         }
-        self.refuse(rules::TYPE_TOO_LARGE, place);
+        self.refuse(LanguageRule::TypeTooLarge, place);
         Ok(None)
     }
 }

@@ -10,7 +10,7 @@ ghost use Rattle.op_types.specs.declared.visible.Meaning.TheVariants.{Unit as Un
 use crate::Declarer;
 use op_base::{NoMemory, Refusal};
 use op_core::{Table, UnitId, VariableId};
-use op_judgement::rules;
+use op_judgement::LanguageRule;
 use op_scan::CompactText;
 use op_tree::Name;
 use op_types::{Meaning, Visible};
@@ -92,7 +92,7 @@ impl Declarer {
         }
         match exports_of(exports, name) {
             None => {
-                self.refuse(rules::MISSING_FILE, name.position.place);
+                self.refuse(LanguageRule::MissingFile, name.position.place);
                 Ok(())
             }
             Some(export) => enter_used(&mut self.visible, export),

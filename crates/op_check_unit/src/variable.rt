@@ -12,7 +12,7 @@ use crate::Declarer;
 use crate::first_value::Begun;
 use op_base::{NoMemory, Place};
 use op_core::{Initial, Role, TypeId, Variable, VariableId, size_of};
-use op_judgement::rules;
+use op_judgement::LanguageRule;
 use op_scan::CompactText;
 use op_tree::{Initializer, Name, Variables};
 use op_types::Meaning;
@@ -186,7 +186,7 @@ impl Declarer {
         ensures { Declares (globals_fit place (here_of self.old)) self.old self.new }
     {
         if self.routine.is_none() && self.bytes > MOST_GLOBAL_BYTES {
-            self.refuse(rules::GLOBALS_TOO_LARGE, place);
+            self.refuse(LanguageRule::GlobalsTooLarge, place);
         }
     }
 }

@@ -1,5 +1,5 @@
 pub mod Agreeing
-pub mod Completing
+pub mod FieldIndex
 pub mod First
 pub mod Growing
 pub mod GrowingRows

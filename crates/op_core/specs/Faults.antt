@@ -1,6 +1,5 @@
--- Rules that a part breaks, and the words in which checking crates say what a part means: a typed tree or none, and a tree
--- of faults.
-use Rattle.std.specs.Prelude.{◌≡◌, ℕ, Bool, true, false, ◌&&◌, ◌||◌, Option, Some, None, nat_lt, nat_eq, if◌then◌else◌, Result, Ok, Err}
+-- What is computed of a part: a typed tree or none, and a tree of faults; and which of these is the first.
+use Rattle.std.specs.Prelude.{◌≡◌, ℕ, Bool, false, ◌&&◌, ◌||◌, Option, Some, None, nat_lt, nat_eq, if◌then◌else◌, Result, Ok, Err}
 use Rattle.op_base.specs.declared.place.Place.{Place}
 use Rattle.op_base.specs.declared.rule.Refusal.{Refusal}
 use Rattle.op_core.specs.declared.error.CheckError.{CheckError}
@@ -21,31 +20,6 @@ pub record Checked (A : Type 0) : Type 0 where
 -- the rule number, at a place
 abbrev pub broken : ℕ → Place → Refusal
 broken number place = record { rule = record { number = number; feature = 0 }; place = place }
-
-abbrev pub fine : {A : Type 0} → A → Checked A
-fine a = record { typed = Some a; faults = none }
-
-abbrev pub refused : {A : Type 0} → ℕ → Place → Checked A
-refused number place = record { typed = None; faults = one (broken number place) }
-
--- a part has no type, so what would have to read it is silent
-abbrev pub untyped : {A : Type 0} → Checked A
-untyped = record { typed = None; faults = none }
-
--- the rule is broken where a table has no entry
-abbrev pub by_entry : {A B : Type 0} → ℕ → Place → (A → Checked B) → Option A → Checked B
-by_entry number place f None = refused number place
-by_entry number place f (Some a) = f a
-
--- the rule is broken where a test fails
-abbrev pub by_test : {A : Type 0} → ℕ → Place → Checked A → Bool → Checked A
-by_test number place c true = c
-by_test number place c false = refused number place
-
--- what reads a part speaks only where the part has a type
-abbrev pub with_part : {A B : Type 0} → (A → Checked B) → Option A → Checked B
-with_part f None = untyped
-with_part f (Some a) = f a
 
 -- with the faults of the parts in front
 abbrev pub after : {A : Type 0} → Faults → Checked A → Checked A

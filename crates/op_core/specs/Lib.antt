@@ -1,5 +1,6 @@
 pub mod Expression
 pub mod Faults
+pub mod FieldNames
 pub mod Growing
 pub mod Heading
 pub mod Initial

@@ -1,8 +1,7 @@
 -- What a part means and which rules it breaks, said as relations; and when what is checked agrees with them.
-use Rattle.std.specs.Prelude.{◌≡◌, ℕ, ◌⊎◌, ◌↔◌, Bool, false, Option, Some, None}
-use Rattle.op_base.specs.declared.place.Place.{Place}
+use Rattle.std.specs.Prelude.{◌≡◌, ◌⊎◌, ◌↔◌, false, Option, Some}
 use Rattle.op_base.specs.declared.rule.Refusal.{Refusal}
-use Rattle.op_core.specs.Faults.{Checked, Faults, IsIn, broken, comes_before}
+use Rattle.op_core.specs.Faults.{Checked, Faults, IsIn, comes_before}
 
 -- ---- the words of relations
 
@@ -27,18 +26,6 @@ Where C P a = C × P a
 
 abbrev pub Never : {A : Type 0} → A → Type 0
 Never a = ⊥
-
--- the rule number, at a place
-abbrev pub At : ℕ → Place → Refusal → Type 0
-At number place r = broken number place ≡ r
-
--- the table has no entry: the rule, at a place
-abbrev pub Lacks : {A : Type 0} → Option A → ℕ → Place → Refusal → Type 0
-Lacks o number place r = (o ≡ None) × At number place r
-
--- the test fails: the rule, at a place
-abbrev pub Fails : Bool → ℕ → Place → Refusal → Type 0
-Fails b number place r = (b ≡ false) × At number place r
 
 -- ---- what is checked
 

@@ -10,6 +10,7 @@ mod class;
 mod constant;
 mod error;
 mod expression;
+mod fields;
 mod first_refusal;
 mod heading;
 mod ids;
@@ -26,6 +27,7 @@ pub use class::{Accessor, Binding, Class, Interface, InterfaceKind, Method, Prop
 pub use constant::{Const, Initial};
 pub use error::CheckError;
 pub use expression::{Action, CoreArgument, CoreElement, CoreExpr, Root, Step};
+pub use fields::{Fields, lowered};
 pub use first_refusal::{FirstRefusal, first_is_kept};
 pub use heading::{one_type, same_heading};
 pub use ids::{ClassId, FieldId, InterfaceId, RoutineId, Run, TypeId, UnitId, VariableId};

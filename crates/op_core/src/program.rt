@@ -2,7 +2,7 @@
 ghost use Rattle.std.specs.Prelude.{◌≡◌, [], None};
 
 use crate::{
-    Class, ClassId, CoreType, Extent, Field, FieldId, Interface, InterfaceId, Method, Parameter,
+    Class, ClassId, CoreType, Extent, FieldId, Fields, Interface, InterfaceId, Method, Parameter,
     Property, Routine, RoutineId, Run, Table, Variable, VariableId,
 };
 use op_base::Text;
@@ -42,7 +42,7 @@ pub struct Core {
     pub types: Table<CoreType>,
     /// For each type the extent of its values.
     pub extents: Table<Extent>,
-    pub fields: Table<Field>,
+    pub fields: Fields,
     pub classes: Table<Class>,
     pub interfaces: Table<Interface>,
     /// The interfaces that classes list.
@@ -67,7 +67,7 @@ impl Core {
         Core {
             types: Table::new(alloc),
             extents: Table::new(alloc),
-            fields: Table::new(alloc),
+            fields: Fields::new(alloc),
             classes: Table::new(alloc),
             interfaces: Table::new(alloc),
             listed: Table::new(alloc),

@@ -1,5 +1,5 @@
 //! A table that grows.
-ghost use Rattle.std.specs.Prelude.{◌≡◌, ◌<◌, [], ◌∷◌, ◌++◌, IfOk, length, slice_set};
+ghost use Rattle.std.specs.Prelude.{◌≡◌, ◌<◌, [], ◌∷◌, ◌++◌, IfOk, OnErr, length, slice_set};
 ghost use Rattle.op_core.specs.Rows.{rows};
 
 use crate::Run;
@@ -56,9 +56,10 @@ impl<T: Drop> Table<T> {
         Ok(())
     }
 
-    /// Puts the rows of another table behind the others.
+    /// Puts the rows of another table behind the others, or leaves those as they are.
     pub fn append(&mut self, more: Table<T>) -> Result<(), NoMemory>
-        ensures { IfOk result (λ _. self.new ≡ self.old ++ more) }
+        ensures appended { IfOk result (λ _. self.new ≡ self.old ++ more) }
+        ensures kept { OnErr result (self.new ≡ self.old) }
     {
         let mut rows = more.rows;
         self.rows.append(&mut rows)?;

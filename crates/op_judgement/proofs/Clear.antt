@@ -2,11 +2,10 @@
 use Rattle.std.proofs.Common.{◌≡◌, inl, inr, ◌&&◌, Bool, true, false, refl, sym, ap, ◌∙◌}
 use Rattle.std.proofs.lemmas.Bool.{and_parts}
 use Rattle.op_base.specs.declared.rule.Refusal.{Refusal}
-use Rattle.op_core.proofs.Agreeing.{lists_both}
+use Rattle.op_core.proofs.Agreeing.{lists_both, none_is}
 use Rattle.op_core.specs.Faults.{Faults, none, one, both, IsIn, here, front, behind}
 use Rattle.op_core.specs.Relations.{Either, Holds, Lists, NoneBroken, Where}
 use Rattle.op_judgement.specs.Given.{Given, is_clear, unless, unless_faulty}
-use Rattle.std.specs.Prelude.{Some, None}
 
 pub no_fault : (f : Faults) → is_clear f ≡ true → (r : Refusal) → IsIn r f → ⊥
 no_fault none e r i = elim i [ ]
@@ -29,9 +28,6 @@ none_broken f P l e r p = no_fault f e r ((l r).1 p)
 
 some_broken : (f : Faults) (P : Refusal → Type 0) → Lists f P → is_clear f ≡ false → NoneBroken P → ⊥
 some_broken f P l e n = let s = some_fault f e in n s.0 ((l s.0).0 s.1)
-
-none_is : {A : Type 0} {a : A} → None ≡ Some a → ⊥
-none_is e = absurd (cc)
 
 -- what comes behind a part that breaks no rule
 pub holds_unless : {S A B : Type 0} (g : Given S A) (f : S → Given S B) {T : B → Type 0} {P : Refusal → Type 0} → Lists g.faults P → Holds (f g.here).typed T → Holds (unless_faulty g f).typed (Where (NoneBroken P) T)

@@ -1,16 +1,11 @@
 -- What is computed by a judgement is what is said by it.
 use Rattle.std.proofs.Common.{◌≡◌, ◌↔◌, inl, inr, Bool, true, false, Option, Some, None, if◌then◌else◌, refl, sym, ap, subst, ◌∙◌}
+use Rattle.std.proofs.lemmas.Bool.{false≢true}
 use Rattle.op_base.specs.declared.rule.Refusal.{Refusal}
-use Rattle.op_core.proofs.Agreeing.{agrees_after, agrees_changed, agrees_fine, agrees_rule, agrees_untyped, lists_both, lists_one, some_is}
+use Rattle.op_core.proofs.Agreeing.{agrees_after, agrees_changed, agrees_fine, agrees_rule, agrees_untyped, lists_both, lists_one, none_is, some_is}
 use Rattle.op_core.specs.Faults.{Checked, IsIn, one}
 use Rattle.op_judgement.specs.Judgement.{Judgement, Breaks, Means, When, Whether, both_typed, by, by_entry, by_test, changed, checked, fault, fine, followed, given, known, of_two, or_fault, refused, through, unless, untyped, when, with_part}
 use Rattle.op_core.specs.Relations.{Agrees, Either, Entry, Holds, Only, Through, Where}
-
-none_is : {A : Type 0} {a : A} → None ≡ Some a → ⊥
-none_is e = absurd (cc)
-
-false_is : false ≡ true → ⊥
-false_is e = absurd (cc)
 
 true_is : true ≡ false → ⊥
 true_is e = absurd (cc)
@@ -73,7 +68,7 @@ passed fault r Q (inr w) = w.1
 
 failed : (fault r : Refusal) (Q : Refusal → Type 0) → Either (Where (false ≡ false) (Only fault)) (Where (false ≡ true) Q) r → IsIn r (one fault)
 failed fault r Q (inl w) = (lists_one fault r).1 w.1
-failed fault r Q (inr w) = absurd (false_is w.0)
+failed fault r Q (inr w) = absurd (false≢true w.0)
 
 pub agrees_unless : {A : Type 0} (fault : Refusal) (c : Checked A) (b : Bool) {T : A → Type 0} {Q : Refusal → Type 0} → Agrees c T Q → Agrees (unless fault c b) (Where (b ≡ true) T) (Either (Where (b ≡ false) (Only fault)) (Where (b ≡ true) Q))
 agrees_unless fault c true {Q} h = (
@@ -81,7 +76,7 @@ agrees_unless fault c true {Q} h = (
   λ r. (λ i. inr (refl, (h.1 r).0 i), λ e. (h.1 r).1 (passed fault r Q e)),
 )
 agrees_unless fault c false {Q} h = (
-  λ a. (λ e. absurd (none_is e), λ t. absurd (false_is t.0)),
+  λ a. (λ e. absurd (none_is e), λ t. absurd (false≢true t.0)),
   λ r. (λ i. inl (refl, (lists_one fault r).0 i), failed fault r Q),
 )
 
@@ -103,4 +98,4 @@ agrees (with_part g o) = agrees_by (λ a. checked (g a)) o (λ a. (λ e. e, λ e
 agrees (by_entry rule place g o) = agrees_or_fault (fault rule place) (λ a. checked (g a)) o (λ a. agrees (g a))
 agrees (by_test rule place j b) = agrees_unless (fault rule place) (checked j) b (agrees j)
 agrees (when b j k) = agrees_when b (checked j) (checked k) (agrees j) (agrees k)
-agrees (known c T B law) = law
+agrees (known c T B law told) = law

@@ -2,7 +2,6 @@
 use Rattle.std.proofs.Common.{◌≡◌, Bool, true, false, List, [], ◌∷◌, Option, Some, None, if◌then◌else◌}
 use Rattle.op_base.specs.declared.place.Place.{Place}
 use Rattle.op_base.specs.declared.rule.Refusal.{Refusal}
-use Rattle.op_base.specs.declared.rule.Rule.{Rule}
 use Rattle.op_core.proofs.Agreeing.{agrees_fine, agrees_rule, agrees_untyped, holds_some, lists_both, lists_none, lists_one}
 use Rattle.op_core.specs.Faults.{Checked, both}
 use Rattle.op_core.specs.Relations.{Either, Holds, Lists, Only, Through, Where}
@@ -11,6 +10,7 @@ use Rattle.op_judgement.proofs.Judging.{agrees as judged_agrees, agrees_by, agre
 use Rattle.op_judgement.specs.Given as made
 use Rattle.op_judgement.specs.Given.{Given}
 use Rattle.op_judgement.specs.Judgement.{When, fault}
+use Rattle.op_judgement.specs.declared.rules.LanguageRule.{LanguageRule}
 use Rattle.op_judgement.specs.Steps.{Breaks, EachBreaks, EachDeclarationBreaks, GatherBreaks, GatherMeans, Means, Step, behind, breaks, by, changes, done, each, each_declaration, followed, gather, gives, judged, next, onward, silent, unchanged, unless_faulty, when, where_true}
 use Rattle.op_tree.specs.Declaration.{Declaration, Declarations, no_declarations, declarations}
 
@@ -26,7 +26,7 @@ AgreesFrom g T B = Holds g.typed T × Lists g.faults B
 from_part : {S A B : Type 0} (g : Given S A) (f : Given S B) {P Q : Refusal → Type 0} {T : B → Type 0} → Lists g.faults P → AgreesFrom f T Q → Holds f.typed T × Lists (both g.faults f.faults) (Either P Q)
 from_part g f {P} {Q} l a = (a.0, lists_both g.faults f.faults P Q l a.1)
 
-from_where : {S A : Type 0} (b : Bool) (rule : Rule) (place : Place) (h : S) (g : Given S A) {T : A → Type 0} {Q : Refusal → Type 0} → AgreesFrom g T Q → AgreesFrom (made.where_true b rule place h g) (Where (b ≡ true) T) (Either (Where (b ≡ false) (Only (fault rule place))) (Where (b ≡ true) Q))
+from_where : {S A : Type 0} (b : Bool) (rule : LanguageRule) (place : Place) (h : S) (g : Given S A) {T : A → Type 0} {Q : Refusal → Type 0} → AgreesFrom g T Q → AgreesFrom (made.where_true b rule place h g) (Where (b ≡ true) T) (Either (Where (b ≡ false) (Only (fault rule place))) (Where (b ≡ true) Q))
 from_where true rule place h g a = agrees_unless (fault rule place) (told g) true a
 from_where false rule place h g a = agrees_unless (fault rule place) (told g) false a
 

@@ -1,9 +1,9 @@
 -- What is computed of a part that changes a state: what it denotes, the state behind it, and its faults.
 use Rattle.std.specs.Prelude.{Bool, true, false, ◌&&◌, List, Option, Some, None, [], ◌∷◌}
 use Rattle.op_base.specs.declared.place.Place.{Place}
-use Rattle.op_base.specs.declared.rule.Rule.{Rule}
 use Rattle.op_core.specs.Faults.{Checked, Faults, both, none, one}
 use Rattle.op_judgement.specs.Judgement.{fault}
+use Rattle.op_judgement.specs.declared.rules.LanguageRule.{LanguageRule}
 use Rattle.op_tree.specs.Declaration.{Declaration, Declarations, no_declarations, declarations}
 
 -- no rule is broken
@@ -25,15 +25,15 @@ gives a h = record { typed = Some a; here = h; faults = none }
 abbrev pub silent : {S A : Type 0} → S → Given S A
 silent h = record { typed = None; here = h; faults = none }
 
-abbrev pub breaks : {S A : Type 0} → Rule → Place → S → Given S A
+abbrev pub breaks : {S A : Type 0} → LanguageRule → Place → S → Given S A
 breaks rule place h = record { typed = None; here = h; faults = one (fault rule place) }
 
 -- the rule is broken, and what there is stays
-abbrev pub unchanged : {S A : Type 0} → Rule → Place → A → S → Given S A
+abbrev pub unchanged : {S A : Type 0} → LanguageRule → Place → A → S → Given S A
 unchanged rule place a h = record { typed = Some a; here = h; faults = one (fault rule place) }
 
 -- the rule is broken where a test fails
-abbrev pub where_true : {S A : Type 0} → Bool → Rule → Place → S → Given S A → Given S A
+abbrev pub where_true : {S A : Type 0} → Bool → LanguageRule → Place → S → Given S A → Given S A
 where_true true rule place h g = g
 where_true false rule place h g = breaks rule place h
 

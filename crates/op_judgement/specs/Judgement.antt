@@ -4,10 +4,20 @@ use Rattle.std.specs.Prelude.{◌≡◌, Bool, true, false, Option, Some, None, 
 use Rattle.std.specs.Option.{option_map}
 use Rattle.op_base.specs.declared.place.Place.{Place}
 use Rattle.op_base.specs.declared.rule.Refusal.{Refusal}
-use Rattle.op_base.specs.declared.rule.Rule.{Rule}
-use Rattle.op_core.specs.Faults.{Checked, after, both, kept, none, one}
+use Rattle.op_base.specs.Rule.{HasText}
+use Rattle.op_core.specs.Faults.{Checked, Faults, after, both, kept, none, one}
 use Rattle.op_core.specs.Relations.{Agrees, Either, Entry, Holds, Never, Only, Through, Where}
+use Rattle.op_core.specs.declared.error.CheckError.{CheckError}
+use Rattle.op_core.specs.declared.error.CheckError.TheVariants.{Refused, NoMemory}
 use Rattle.op_core.specs.declared.first_refusal.FirstRefusal.{FirstRefusal}
+use Rattle.op_judgement.specs.Rules.{rule_of}
+use Rattle.op_judgement.specs.declared.rules.LanguageRule.{LanguageRule}
+
+-- each of them is of a rule that has a text
+abbrev pub HaveTexts : Faults → Type 0
+HaveTexts none = Unit {0}
+HaveTexts (one r) = HasText r.rule
+HaveTexts (both first others) = HaveTexts first × HaveTexts others
 
 pub data Judgement : Type 0 → Type 1 where
   -- it means this
@@ -15,7 +25,7 @@ pub data Judgement : Type 0 → Type 1 where
   -- it has no meaning, since a part of it has none, which is told there
   untyped : {A : Type 0} → Judgement A
   -- it breaks the rule, at a place
-  refused : {A : Type 0} → Rule → Place → Judgement A
+  refused : {A : Type 0} → LanguageRule → Place → Judgement A
   -- it is what such a part is made to
   changed : {A B : Type 0} → (A → B) → Judgement A → Judgement B
   -- it is made of two parts
@@ -29,19 +39,19 @@ pub data Judgement : Type 0 → Type 1 where
   -- it is what an entry makes it, if there is an entry
   with_part : {A B : Type 0} → (A → Judgement B) → Option A → Judgement B
   -- the same; where there is none it breaks the rule
-  by_entry : {A B : Type 0} → Rule → Place → (A → Judgement B) → Option A → Judgement B
+  by_entry : {A B : Type 0} → LanguageRule → Place → (A → Judgement B) → Option A → Judgement B
   -- it breaks the rule where the test fails
-  by_test : {A : Type 0} → Rule → Place → Judgement A → Bool → Judgement A
+  by_test : {A : Type 0} → LanguageRule → Place → Judgement A → Bool → Judgement A
   -- it is the first where the test holds, else the second
   when : {A : Type 0} → Bool → Judgement A → Judgement A → Judgement A
   -- it is judged so by another law
-  known : {A : Type 0} (c : Checked A) (T : A → Type 0) (B : Refusal → Type 0) → Agrees c T B → Judgement A
+  known : {A : Type 0} (c : Checked A) (T : A → Type 0) (B : Refusal → Type 0) → Agrees c T B → HaveTexts c.faults → Judgement A
 
 -- ---- what is computed
 
 -- the rule is broken at the place
-abbrev pub fault : Rule → Place → Refusal
-fault rule place = record { rule = rule; place = place }
+abbrev pub fault : LanguageRule → Place → Refusal
+fault rule place = record { rule = rule_of rule; place = place }
 
 abbrev pub both_typed : {A B C : Type 0} → (A → B → C) → Option A → Option B → Option C
 both_typed f None b = None
@@ -74,7 +84,7 @@ checked (with_part g o) = by (λ a. checked (g a)) o
 checked (by_entry rule place g o) = or_fault (fault rule place) (λ a. checked (g a)) o
 checked (by_test rule place j b) = unless (fault rule place) (checked j) b
 checked (when b j k) = if b then checked j else checked k
-checked (known c T B law) = c
+checked (known c T B law told) = c
 
 -- ---- what is said
 
@@ -101,7 +111,7 @@ Means (with_part g o) = Through (Entry o) (λ a. Means (g a))
 Means (by_entry rule place g o) = Through (Entry o) (λ a. Means (g a))
 Means (by_test rule place j b) = Where (b ≡ true) (Means j)
 Means (when b j k) = When b (Means j) (Means k)
-Means (known c T B law) = T
+Means (known c T B law told) = T
 
 -- exactly the rules that are broken
 abbrev pub Breaks : {A : Type 0} → Judgement A → Refusal → Type 0
@@ -117,10 +127,15 @@ Breaks (with_part g o) = Through (Entry o) (λ a. Breaks (g a))
 Breaks (by_entry rule place g o) = Either (Where (o ≡ None) (Only (fault rule place))) (Through (Entry o) (λ a. Breaks (g a)))
 Breaks (by_test rule place j b) = Either (Where (b ≡ false) (Only (fault rule place))) (Where (b ≡ true) (Breaks j))
 Breaks (when b j k) = When b (Breaks j) (Breaks k)
-Breaks (known c T B law) = B
+Breaks (known c T B law told) = B
 
 -- ---- what a checker does
 
 -- a part that may be untyped, its faults reported
 abbrev pub Reports : {A : Type 0} → Judgement A → FirstRefusal → FirstRefusal → Option A → Type 0
 Reports j old new typed = (typed ≡ (checked j).typed) × (new.kept ≡ kept old.kept (checked j).faults)
+
+-- where a check refuses, the rule has a text
+abbrev pub RefusalHasText : CheckError → Type 0
+RefusalHasText (Refused r) = HasText r.rule
+RefusalHasText NoMemory = Unit {0}

@@ -3,12 +3,12 @@
 use Rattle.std.specs.Prelude.{◌≡◌, Bool, true, false, List, Option, [], ◌∷◌, if◌then◌else◌}
 use Rattle.op_base.specs.declared.place.Place.{Place}
 use Rattle.op_base.specs.declared.rule.Refusal.{Refusal}
-use Rattle.op_base.specs.declared.rule.Rule.{Rule}
 use Rattle.op_core.specs.Relations.{Either, Entry, Never, NoneBroken, Only, Through, Where}
 use Rattle.op_judgement.specs.Given as made
 use Rattle.op_judgement.specs.Given.{Given}
 use Rattle.op_judgement.specs.Judgement as judgement
 use Rattle.op_judgement.specs.Judgement.{Judgement, When, Whether, fault}
+use Rattle.op_judgement.specs.declared.rules.LanguageRule.{LanguageRule}
 use Rattle.op_tree.specs.Declaration.{Declaration, Declarations, no_declarations, declarations}
 
 pub data Step (S : Type 0) : Type 0 → Type 1 where
@@ -17,11 +17,11 @@ pub data Step (S : Type 0) : Type 0 → Type 1 where
   -- it has no meaning, since a part of it has none, which is told there
   silent : {A : Type 0} → S → Step S A
   -- it breaks the rule, at a place
-  breaks : {A : Type 0} → Rule → Place → S → Step S A
+  breaks : {A : Type 0} → LanguageRule → Place → S → Step S A
   -- it breaks the rule, and means this all the same
-  unchanged : {A : Type 0} → Rule → Place → A → S → Step S A
+  unchanged : {A : Type 0} → LanguageRule → Place → A → S → Step S A
   -- it breaks the rule where the test fails
-  where_true : {A : Type 0} → Bool → Rule → Place → S → Step S A → Step S A
+  where_true : {A : Type 0} → Bool → LanguageRule → Place → S → Step S A → Step S A
   -- it is the first where the test holds, else the second
   when : {A : Type 0} → Bool → Step S A → Step S A → Step S A
   -- it is judged so, and changes nothing

@@ -5,6 +5,7 @@
 #![tactic(auto)]
 
 mod report;
-pub mod rules;
+mod rules;
 
 pub use report::refuse;
+pub use rules::{Feature, LanguageRule};

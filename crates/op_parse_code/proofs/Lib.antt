@@ -20,3 +20,4 @@ pub mod Refusing
 pub mod StatementFronts
 pub mod StatementKnown
 pub mod Statements
+pub mod Told

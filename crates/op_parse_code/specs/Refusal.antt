@@ -1,10 +1,11 @@
 -- What a refusal of a part says.
-use Rattle.std.specs.Prelude.{◌≡◌, ℕ, ◌≤◌, List, [], ◌∷◌, ◌++◌, codes}
+use Rattle.std.specs.Prelude.{◌≡◌, ℕ, ◌≤◌, List, [], ◌∷◌, ◌++◌, Result, Ok, Err, codes}
 use Rattle.op_base.specs.declared.place.Place.{Place}
 use Rattle.op_parse_code.specs.GrammarForm.{HasGrammarForm}
 use Rattle.op_parse_code.specs.Form.{HasForm}
 use Rattle.op_parse_code.specs.declared.error.ParseError.{ParseError}
 use Rattle.op_parse_code.specs.declared.error.ParseError.TheVariants.{Refused, NoMemory}
+use Rattle.op_base.specs.Rule.{HasText}
 use Rattle.op_scan.specs.declared.token.TokenKind.TheVariants as kind
 use Rattle.op_tree.specs.Terminal.{Terminal, ◌at◌, IsWord}
 use Rattle.op_tree.specs.declared.position.Position.{Position}
@@ -86,6 +87,11 @@ abbrev pub IsFree : Place → List Terminal → ParseError → Type 0
 IsFree end ks (Refused refusal) = (feature : ℕ) × (q : List Terminal) × HasGrammarForm feature ks q × (Refused refusal ≡ refused_at 13 feature end q)
 IsFree end ks NoMemory = Unit {0}
 
+-- the rule of a refusal has a text
+abbrev pub RefusalHasText : ParseError → Type 0
+RefusalHasText (Refused refusal) = HasText refusal.rule
+RefusalHasText NoMemory = Unit {0}
+
 -- rule 9 is broken
 abbrev pub IsSyntax : ParseError → Type 0
 IsSyntax (Refused refusal) = refusal.rule.number ≡ 9
@@ -95,3 +101,9 @@ IsSyntax NoMemory = ⊥
 pub data Told (feature : ℕ) (end : Place) (q : List Terminal) (e : ParseError) : ParseError → Type 0 where
   as_it_was : {told : ParseError} → told ≡ e → Told feature end q e told
   by_form : {told : ParseError} → IsSyntax e → told ≡ refused_at 13 feature end q → Told feature end q e told
+
+-- What is made of what was read: it stands so to it, or there was no room for it. A refusal is passed on.
+pub data MadeOf {T U : Type 0} (P : T → U → Type 0) : Result T ParseError → Result U ParseError → Type 0 where
+  made : {x : T} {y : U} → P x y → MadeOf P (Ok x) (Ok y)
+  no_room : {x : T} {e : ParseError} → e ≡ NoMemory → MadeOf P (Ok x) (Err e)
+  passed_on : {e told : ParseError} → told ≡ e → MadeOf P (Err e) (Err told)

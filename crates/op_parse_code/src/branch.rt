@@ -9,7 +9,7 @@ ghost use Rattle.op_tree.specs.Statement.{stmt_of};
 ghost use Rattle.op_tree.specs.Terminal.{terminals};
 
 use crate::ParseError;
-use crate::chain::chain;
+use crate::chain::boxed_expression;
 use crate::compound::{statement_at, statements};
 use crate::error::syntax;
 use crate::list::elements;
@@ -18,11 +18,12 @@ use crate::nodes::fitted;
 use crate::statement_nodes::{case_else_node, case_node};
 use op_base::Place;
 use op_scan::{Token, TokenKind};
-use op_tree::{Branch, Level, Position, Stmt};
+use op_tree::{Branch, Position, Stmt};
 use std::alloc::Global;
 
 /// What stands behind `case`.
 #[cycle(statement)]
+#[inline(never)]
 pub fn case_statement<'a>(
     alloc: Global,
     position: Position,
@@ -34,26 +35,25 @@ pub fn case_statement<'a>(
     ensures refused { IfErr result (Refuses (Behind Case position) left end (terminals tokens.now)) }
     ensures shorter { IfOk result (λ f. length f.1.now ≤ length tokens.now) }
 {
-    let (selector, rest) = chain(alloc, Level::Relational, left, end, tokens)?;
+    let (selector, rest) = boxed_expression(alloc, left, end, tokens)?;
     let rest = after_mark(Mark::Of, end, rest)?;
     let (branches, rest) = branches(alloc, left, end, rest)?;
     match behind_mark(Mark::Else_, rest) {
         None => {
             let rest = after_mark(Mark::End, end, rest)?;
-            let node = case_node(alloc, selector, branches)?;
-            Ok((node, rest))
+            Ok((case_node(selector, branches), rest))
         }
         Some(after) => {
             let (otherwise, rest) = statements(alloc, left, end, after)?;
             let rest = after_mark(Mark::End, end, rest)?;
-            let node = case_else_node(alloc, selector, branches, otherwise)?;
-            Ok((node, rest))
+            Ok((case_else_node(selector, branches, otherwise), rest))
         }
     }
 }
 
 /// Branches, up to `end` or `else`. The last semicolon may be missing.
 #[cycle(statement)]
+#[inline(never)]
 fn branches<'a>(
     alloc: Global,
     left: u32,

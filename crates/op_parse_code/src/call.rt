@@ -10,7 +10,7 @@ ghost use Rattle.op_tree.specs.Statement.{stmt_of};
 ghost use Rattle.op_tree.specs.Terminal.{◌at◌, terminals};
 
 use crate::ParseError;
-use crate::chain::chain;
+use crate::chain::{boxed_expression, chain};
 use crate::designator::designator;
 use crate::mark::{Mark, behind_mark};
 use crate::statement_nodes::{assign_node, call_statement_node, inherited_call_node};
@@ -21,6 +21,7 @@ use op_tree::{Level, Position, Stmt};
 use std::alloc::Global;
 
 /// A designator, and what is assigned to it.
+#[inline(never)]
 pub fn call_or_assignment<'a>(
     alloc: Global,
     left: u32,
@@ -36,12 +37,12 @@ pub fn call_or_assignment<'a>(
     let Some((position, after)) = assignment_at(rest) else {
         return Ok((call_statement_node(target), rest));
     };
-    let (value, rest) = chain(alloc, Level::Relational, left, end, after)?;
-    let node = assign_node(alloc, target, position, value)?;
-    Ok((node, rest))
+    let (value, rest) = boxed_expression(alloc, left, end, after)?;
+    Ok((assign_node(target, position, value), rest))
 }
 
 /// The statement `raise`, from the tokens behind the word; `all` are those from the word on.
+#[inline(never)]
 pub fn raise<'a>(
     alloc: Global,
     position: Position,
@@ -69,6 +70,7 @@ pub fn raise<'a>(
 }
 
 /// What stands behind `inherited`.
+#[inline(never)]
 pub fn inherited_call<'a>(
     alloc: Global,
     position: Position,

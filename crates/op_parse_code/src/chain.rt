@@ -2,24 +2,28 @@
 ghost use Rattle.std.specs.Prelude.{◌≡◌, ◌≤◌, ◌<◌, IfOk, IfErr, IfSome, IsTrue, MatchOption, length};
 ghost use Rattle.op_parse_code.specs.Opening.{NoOperator, NotTighter, StandsOperator};
 ghost use Rattle.op_parse_code.specs.Refusal.{Refuses};
-ghost use Rattle.op_parse_code.specs.Whole.{Chain, Operand, SomeOperations};
+ghost use Rattle.op_parse_code.specs.Whole.{Chain, Factor, Operand, SomeOperations};
 ghost use Rattle.op_tree.specs.Expression.{expr_of};
+ghost use Rattle.op_tree.specs.ExpressionGrammar.{chain_of};
 ghost use Rattle.op_tree.specs.Lists.{operations_of};
 ghost use Rattle.op_tree.specs.Terminal.{terminals};
+ghost use Rattle.op_tree.specs.declared.operator.Level.TheVariants.{Relational};
 ghost use Rattle.op_tree.specs.declared.operator.Operator.TheVariants.{Slash};
 
 use crate::ParseError;
 use crate::error::{FLOATING_POINT, left_out};
 use crate::factor::factor;
-use crate::nodes::chain_node;
+use crate::nodes::{append, chain_node};
 use crate::token::position_of;
-use op_base::Place;
-use op_scan::Token;
+use op_base::{NoMemory, Place};
+use op_scan::{Switches, Token};
 use op_tree::{Expr, Level, Operation, Operator, Position, operator_of};
 use std::alloc::Global;
+use std::mem::replace;
 
 /// An operand, and the operators of a level and operands behind it.
 #[cycle(expression)]
+#[inline(never)]
 pub fn chain<'a>(
     alloc: Global,
     level: Level,
@@ -31,14 +35,64 @@ pub fn chain<'a>(
     ensures refused { IfErr result (Refuses (Chain level) left end (terminals tokens.now)) }
     ensures shorter { IfOk result (λ f. length f.1.now < length tokens.now) }
 {
-    let (first, rest) = operand(alloc, level, left, end, tokens)?;
-    let (operations, rest) = operations(alloc, level, left, end, rest)?;
+    let mut tree = unread(end);
+    let rest = read_chain(alloc, level, left, end, &mut tree, tokens)?;
+    Ok((tree, rest))
+}
+
+/// What stands in the place of an expression before it is read.
+fn unread(end: Place) -> Expr {
+    Expr::Nil {
+        position: Position {
+            place: end,
+            switches: Switches::OFF,
+        },
+    }
+}
+
+/// The same into a place of the caller's, so that the levels within one another keep no expressions on the stack.
+#[cycle(expression)]
+#[inline(never)]
+fn read_chain<'a>(
+    alloc: Global,
+    level: Level,
+    left: u32,
+    end: Place,
+    tree: &mut Expr,
+    tokens: &'a [Token],
+) -> Result<&'a [Token], ParseError>
+    ensures whole { IfOk result (λ rest. Chain level left (expr_of tree.new) (terminals tokens.now) (terminals rest.now)) }
+    ensures refused { IfErr result (Refuses (Chain level) left end (terminals tokens.now)) }
+    ensures shorter { IfOk result (λ rest. length rest.now < length tokens.now) }
+{
+    let behind = read_operand(alloc, level, left, end, tree, tokens)?;
+    let (operations, rest) = operations(alloc, level, left, end, behind)?;
+    extend(alloc, end, tree, operations)?;
+    Ok(rest)
+}
+
+/// Makes the chain of an operand and the operations behind it; where there is none the operand stays.
+#[inline(never)]
+fn extend(
+    alloc: Global,
+    end: Place,
+    tree: &mut Expr,
+    operations: Vec<Operation>,
+) -> Result<(), NoMemory>
+    ensures { IfOk result (λ _. expr_of tree.new ≡ chain_of (expr_of tree.old) (operations_of operations.items)) }
+{
+    if operations.is_empty() {
+        return Ok(());
+    }
+    let first = replace(tree, unread(end));
     let chain = chain_node(alloc, first, operations)?;
-    Ok((chain, rest))
+    *tree = chain;
+    Ok(())
 }
 
 /// The operators of a level and operands at the front. Before them stands an operand of the level.
 #[cycle(expression)]
+#[inline(never)]
 pub fn operations<'a>(
     alloc: Global,
     level: Level,
@@ -57,12 +111,14 @@ pub fn operations<'a>(
         if is_slash(operator) {
             return Err(left_out(FLOATING_POINT, end, rest));
         }
-        let (operand, behind) = operand(alloc, level, left, end, after)?;
-        operations.push(Operation {
+        let mut operand = Expr::Nil { position };
+        let behind = read_operand(alloc, level, left, end, &mut operand, after)?;
+        let operation = Operation {
             operator,
             position,
             operand,
-        })?;
+        };
+        append(&mut operations, operation)?;
         rest = behind;
     }
     Ok((operations, rest))
@@ -89,22 +145,66 @@ fn is_slash(operator: Operator) -> bool
     matches!(operator, Operator::Slash)
 }
 
-/// An operand of a chain of a level.
+/// An operand of a chain of a level, into a place of the caller's.
 #[cycle(expression)]
-fn operand<'a>(
+fn read_operand<'a>(
     alloc: Global,
     level: Level,
     left: u32,
     end: Place,
+    tree: &mut Expr,
     tokens: &'a [Token],
-) -> Result<(Expr, &'a [Token]), ParseError>
-    ensures whole { IfOk result (λ f. Operand level left (expr_of f.0) (terminals tokens.now) (terminals f.1.now)) }
+) -> Result<&'a [Token], ParseError>
+    ensures whole { IfOk result (λ rest. Operand level left (expr_of tree.new) (terminals tokens.now) (terminals rest.now)) }
     ensures refused { IfErr result (Refuses (Operand level) left end (terminals tokens.now)) }
-    ensures shorter { IfOk result (λ f. length f.1.now < length tokens.now) }
+    ensures shorter { IfOk result (λ rest. length rest.now < length tokens.now) }
 {
     match level {
-        Level::Relational => chain(alloc, Level::Additive, left, end, tokens),
-        Level::Additive => chain(alloc, Level::Multiplicative, left, end, tokens),
-        Level::Multiplicative => factor(alloc, left, end, tokens),
+        Level::Relational => read_chain(alloc, Level::Additive, left, end, tree, tokens),
+        Level::Additive => read_chain(alloc, Level::Multiplicative, left, end, tree, tokens),
+        Level::Multiplicative => read_factor(alloc, left, end, tree, tokens),
     }
+}
+
+/// A factor, into a place of the caller's.
+#[cycle(expression)]
+#[inline(never)]
+fn read_factor<'a>(
+    alloc: Global,
+    left: u32,
+    end: Place,
+    tree: &mut Expr,
+    tokens: &'a [Token],
+) -> Result<&'a [Token], ParseError>
+    ensures whole { IfOk result (λ rest. Factor left (expr_of tree.new) (terminals tokens.now) (terminals rest.now)) }
+    ensures refused { IfErr result (Refuses Factor left end (terminals tokens.now)) }
+    ensures shorter { IfOk result (λ rest. length rest.now < length tokens.now) }
+{
+    let (factor, rest) = factor(alloc, left, end, tokens)?;
+    put(tree, factor);
+    Ok(rest)
+}
+
+#[inline(never)]
+fn put(tree: &mut Expr, expression: Expr)
+    ensures { tree.new ≡ expression }
+{
+    *tree = expression;
+}
+
+/// An expression in a box.
+#[inline(never)]
+pub fn boxed_expression<'a>(
+    alloc: Global,
+    left: u32,
+    end: Place,
+    tokens: &'a [Token],
+) -> Result<(Box<Expr>, &'a [Token]), ParseError>
+    ensures whole { IfOk result (λ f. Chain Relational left (expr_of f.0.value) (terminals tokens.now) (terminals f.1.now)) }
+    ensures refused { IfErr result (Refuses (Chain Relational) left end (terminals tokens.now)) }
+    ensures shorter { IfOk result (λ f. length f.1.now < length tokens.now) }
+{
+    let (expression, rest) = chain(alloc, Level::Relational, left, end, tokens)?;
+    let boxed = Box::new(alloc, expression)?;
+    Ok((boxed, rest))
 }

@@ -17,7 +17,7 @@ use crate::mark::{Mark, after_mark, behind_mark};
 use crate::nodes::fitted;
 use crate::opening::{StatementOpening, Word, statement_opening};
 use crate::repetition::{for_loop, repeat_loop, while_loop};
-use crate::statement_nodes::{block_node, if_else_node, if_node};
+use crate::statement_nodes::{block_node, boxed_node, if_else_node, if_node};
 use crate::token::position_of;
 use op_base::Place;
 use op_scan::Token;
@@ -56,6 +56,24 @@ pub fn statement_at<'a>(
     }
 }
 
+/// The statement in a box, where another one holds it: all that the other has of it on the stack is where it is.
+#[cycle(statement)]
+#[inline(never)]
+pub fn boxed_statement<'a>(
+    alloc: Global,
+    left: u32,
+    end: Place,
+    tokens: &'a [Token],
+) -> Result<(Box<Stmt>, &'a [Token]), ParseError>
+    ensures whole { IfOk result (λ f. SomeStatement left (stmt_of f.0.value) (terminals tokens.now) (terminals f.1.now)) }
+    ensures refused { IfErr result (Refuses SomeStatement left end (terminals tokens.now)) }
+    ensures shorter { IfOk result (λ f. length f.1.now ≤ length tokens.now) }
+{
+    let (statement, rest) = statement_at(alloc, left, end, tokens)?;
+    let boxed = boxed_node(alloc, statement)?;
+    Ok((boxed, rest))
+}
+
 /// The statement that begins with a word, from the tokens behind it.
 #[cycle(statement)]
 fn behind_word<'a>(
@@ -84,6 +102,7 @@ fn behind_word<'a>(
 
 /// The statements behind `begin`, up to `end`.
 #[cycle(statement)]
+#[inline(never)]
 fn block<'a>(
     alloc: Global,
     position: Position,
@@ -102,6 +121,7 @@ fn block<'a>(
 
 /// Statements with semicolons between them.
 #[cycle(statement)]
+#[inline(never)]
 pub fn statements<'a>(
     alloc: Global,
     left: u32,
@@ -126,6 +146,7 @@ pub fn statements<'a>(
 
 /// What stands behind `if`. An `else` belongs to the nearest one.
 #[cycle(statement)]
+#[inline(never)]
 fn if_statement<'a>(
     alloc: Global,
     position: Position,
@@ -139,16 +160,12 @@ fn if_statement<'a>(
 {
     let (condition, rest) = chain(alloc, Level::Relational, left, end, tokens)?;
     let rest = after_mark(Mark::Then, end, rest)?;
-    let (then, rest) = statement_at(alloc, left, end, rest)?;
+    let (then, rest) = boxed_statement(alloc, left, end, rest)?;
     match behind_mark(Mark::Else_, rest) {
-        None => {
-            let node = if_node(alloc, condition, then)?;
-            Ok((node, rest))
-        }
+        None => Ok((if_node(condition, then), rest)),
         Some(after) => {
-            let (otherwise, rest) = statement_at(alloc, left, end, after)?;
-            let node = if_else_node(alloc, condition, then, otherwise)?;
-            Ok((node, rest))
+            let (otherwise, rest) = boxed_statement(alloc, left, end, after)?;
+            Ok((if_else_node(condition, then, otherwise), rest))
         }
     }
 }

@@ -1,10 +1,13 @@
 //! Factors: what stands between two operators.
-ghost use Rattle.std.specs.Prelude.{◌≡◌, ◌≤◌, ◌<◌, suc, IfOk, IfErr, length};
+ghost use Rattle.std.specs.Prelude.{◌≡◌, ◌≤◌, ◌<◌, ◌∷◌, Some, suc, IfOk, IfErr, length};
+ghost use Rattle.op_parse_code.specs.Opening.{spelled};
 ghost use Rattle.op_parse_code.specs.Refusal.{Refuses, refused_at};
 ghost use Rattle.op_parse_code.specs.Whole.{CannotEnter, Factor, InsideSet};
+ghost use Rattle.op_scan.specs.declared.token.TokenKind.TheVariants.{CharacterString, Inherited};
 ghost use Rattle.op_tree.specs.Expression.{expr_of};
+ghost use Rattle.op_tree.specs.Operator.{prefix_operator_of};
 ghost use Rattle.op_tree.specs.Statement.{elements_of};
-ghost use Rattle.op_tree.specs.Terminal.{terminals};
+ghost use Rattle.op_tree.specs.Terminal.{terminal_of, terminals};
 
 use crate::ParseError;
 use crate::call::begins_expression;
@@ -17,11 +20,12 @@ use crate::opening::{FactorOpening, factor_opening};
 use crate::token::{position_of, spelled};
 use op_base::Place;
 use op_scan::Token;
-use op_tree::{Element, Expr};
+use op_tree::{Element, Expr, PrefixOperator};
 use std::alloc::Global;
 
 /// A factor.
 #[cycle(expression)]
+#[inline(never)]
 pub fn factor<'a>(
     alloc: Global,
     left: u32,
@@ -44,22 +48,9 @@ pub fn factor<'a>(
             let (elements, rest) = set_elements(alloc, inner, end, rest)?;
             Ok((set_node(position, elements), rest))
         }
-        FactorOpening::Literal => {
-            let text = spelled(alloc, &first.kind)?;
-            let (selectors, rest) = selectors(alloc, left, end, rest)?;
-            Ok((literal_node(text, position, selectors), rest))
-        }
-        FactorOpening::Inherited => {
-            let (designator, rest) = designator(alloc, left, end, rest)?;
-            let factor = inherited_node(alloc, position, designator)?;
-            Ok((factor, rest))
-        }
-        FactorOpening::Prefix(operator) => {
-            let inner = enter_operand(left, end, rest)?;
-            let (operand, rest) = factor(alloc, inner, end, rest)?;
-            let factor = prefix_node(alloc, operator, position, operand)?;
-            Ok((factor, rest))
-        }
+        FactorOpening::Literal => literal(alloc, left, end, first, rest),
+        FactorOpening::Inherited => inherited(alloc, left, end, first, rest),
+        FactorOpening::Prefix(operator) => prefixed(alloc, operator, left, end, first, rest),
         FactorOpening::Designator => {
             let (designator, rest) = designator(alloc, left, end, tokens)?;
             Ok((designator_node(designator), rest))
@@ -68,8 +59,74 @@ pub fn factor<'a>(
     }
 }
 
+/// What stands behind a string, with that token.
+#[cycle(expression)]
+#[inline(never)]
+fn literal<'a>(
+    alloc: Global,
+    left: u32,
+    end: Place,
+    first: &Token,
+    tokens: &'a [Token],
+) -> Result<(Expr, &'a [Token]), ParseError>
+    requires { first.now.kind ≡ CharacterString (spelled first.now.kind) }
+    ensures whole { IfOk result (λ f. Factor left (expr_of f.0) (terminal_of first.now ∷ terminals tokens.now) (terminals f.1.now)) }
+    ensures refused { IfErr result (Refuses Factor left end (terminal_of first.now ∷ terminals tokens.now)) }
+    ensures shorter { IfOk result (λ f. length f.1.now ≤ length tokens.now) }
+{
+    let position = position_of(first);
+    let text = spelled(alloc, &first.kind)?;
+    let (selectors, rest) = selectors(alloc, left, end, tokens)?;
+    Ok((literal_node(text, position, selectors), rest))
+}
+
+/// What stands behind `inherited`, with that token.
+#[cycle(expression)]
+#[inline(never)]
+fn inherited<'a>(
+    alloc: Global,
+    left: u32,
+    end: Place,
+    first: &Token,
+    tokens: &'a [Token],
+) -> Result<(Expr, &'a [Token]), ParseError>
+    requires { first.now.kind ≡ Inherited }
+    ensures whole { IfOk result (λ f. Factor left (expr_of f.0) (terminal_of first.now ∷ terminals tokens.now) (terminals f.1.now)) }
+    ensures refused { IfErr result (Refuses Factor left end (terminal_of first.now ∷ terminals tokens.now)) }
+    ensures shorter { IfOk result (λ f. length f.1.now ≤ length tokens.now) }
+{
+    let position = position_of(first);
+    let (designator, rest) = designator(alloc, left, end, tokens)?;
+    let factor = inherited_node(alloc, position, designator)?;
+    Ok((factor, rest))
+}
+
+/// What stands behind a sign or `not`, with that token.
+#[cycle(expression)]
+#[inline(never)]
+fn prefixed<'a>(
+    alloc: Global,
+    operator: PrefixOperator,
+    left: u32,
+    end: Place,
+    first: &Token,
+    tokens: &'a [Token],
+) -> Result<(Expr, &'a [Token]), ParseError>
+    requires { prefix_operator_of first.now.kind ≡ Some operator }
+    ensures whole { IfOk result (λ f. Factor left (expr_of f.0) (terminal_of first.now ∷ terminals tokens.now) (terminals f.1.now)) }
+    ensures refused { IfErr result (Refuses Factor left end (terminal_of first.now ∷ terminals tokens.now)) }
+    ensures shorter { IfOk result (λ f. length f.1.now ≤ length tokens.now) }
+{
+    let position = position_of(first);
+    let inner = enter_operand(left, end, tokens)?;
+    let (operand, rest) = factor(alloc, inner, end, tokens)?;
+    let factor = prefix_node(alloc, operator, position, operand)?;
+    Ok((factor, rest))
+}
+
 /// The elements of a set behind its opening bracket, up to the closing one.
 #[cycle(expression)]
+#[inline(never)]
 fn set_elements<'a>(
     alloc: Global,
     left: u32,

@@ -32,6 +32,7 @@ pub enum TryRest {
 
 /// What stands behind `try`.
 #[cycle(statement)]
+#[inline(never)]
 pub fn try_statement<'a>(
     alloc: Global,
     position: Position,
@@ -60,6 +61,7 @@ pub fn try_statement<'a>(
 
 /// What stands behind `except`.
 #[cycle(statement)]
+#[inline(never)]
 fn except_part<'a>(
     alloc: Global,
     left: u32,
@@ -91,6 +93,7 @@ fn except_part<'a>(
 
 /// Handlers, up to `end` or `else`. The last semicolon may be missing.
 #[cycle(statement)]
+#[inline(never)]
 fn handlers<'a>(
     alloc: Global,
     left: u32,

@@ -11,7 +11,7 @@ use crate::ParseError;
 use crate::chain::chain;
 use crate::error::{FRACTION_WIDTH, left_out};
 use crate::mark::{Mark, after_mark, behind_mark};
-use crate::nodes::{fitted, padded_node, range_node};
+use crate::nodes::{append, fitted, padded_node, range_node};
 use op_base::Place;
 use op_scan::Token;
 use op_tree::{Argument, Element, Expr, Level};
@@ -35,7 +35,7 @@ pub fn elements<'a>(
     let mut rest = tokens;
     loop {
         let (element, behind) = element(alloc, left, end, rest)?;
-        elements.push(element)?;
+        append(&mut elements, element)?;
         match behind_mark(Mark::Comma, behind) {
             Some(after) => rest = after,
             None => {
@@ -85,7 +85,7 @@ pub fn indices<'a>(
     let mut rest = tokens;
     loop {
         let (index, behind) = chain(alloc, Level::Relational, left, end, rest)?;
-        indices.push(index)?;
+        append(&mut indices, index)?;
         match behind_mark(Mark::Comma, behind) {
             Some(after) => rest = after,
             None => {
@@ -112,7 +112,7 @@ pub fn arguments<'a>(
     let mut rest = tokens;
     loop {
         let (argument, behind) = argument(alloc, left, end, rest)?;
-        arguments.push(argument)?;
+        append(&mut arguments, argument)?;
         match behind_mark(Mark::Comma, behind) {
             Some(after) => rest = after,
             None => {

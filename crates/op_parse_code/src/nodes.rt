@@ -1,5 +1,5 @@
 //! The nodes of expressions, from their parts.
-ghost use Rattle.std.specs.Prelude.{◌≡◌, IfOk};
+ghost use Rattle.std.specs.Prelude.{◌≡◌, ◌∷◌, ◌++◌, [], IfOk};
 ghost use Rattle.op_tree.specs.Expression.{argument_of, bracketed, call, designated, element_of, expr_of, index, inherited, literal, padded, prefixed, range, root_of, selector_of, set};
 ghost use Rattle.op_tree.specs.ExpressionGrammar.{chain_of};
 ghost use Rattle.op_tree.specs.Lists.{arguments_of, expressions_of, operations_of};
@@ -19,6 +19,15 @@ pub fn fitted<T>(list: Vec<T>) -> Vec<T>
     let mut list = list;
     list.shrink_to_fit();
     list
+}
+
+/// Puts a value behind those of a list.
+#[inline(never)]
+pub fn append<T: Drop>(list: &mut Vec<T>, value: T) -> Result<(), NoMemory>
+    ensures { IfOk result (λ _. list.new.items ≡ list.old.items ++ (value ∷ [])) }
+{
+    list.push(value)?;
+    Ok(())
 }
 
 /// An operand and the operations that follow it; where none does, the operand itself.
@@ -86,6 +95,7 @@ pub fn inherited_node(
     })
 }
 
+#[inline(never)]
 pub fn range_node(alloc: Global, first: Expr, last: Expr) -> Result<Element, NoMemory>
     ensures { IfOk result (λ e. element_of e ≡ range (expr_of first) (expr_of last)) }
 {
@@ -94,6 +104,7 @@ pub fn range_node(alloc: Global, first: Expr, last: Expr) -> Result<Element, NoM
     Ok(Element::Range(first, last))
 }
 
+#[inline(never)]
 pub fn padded_node(alloc: Global, value: Expr, width: Expr) -> Result<Argument, NoMemory>
     ensures { IfOk result (λ a. argument_of a ≡ padded (expr_of value) (expr_of width)) }
 {

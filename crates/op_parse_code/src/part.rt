@@ -1,6 +1,6 @@
 //! The parts that other crates ask for.
 ghost use Rattle.std.specs.Prelude.{◌≡◌, ◌-◌, ◌<◌, ◌≤◌, IfOk, IfErr, List, MatchResult, drop, length};
-ghost use Rattle.op_parse_code.specs.Refusal.{IsFree, Refuses};
+ghost use Rattle.op_parse_code.specs.Refusal.{IsFree, RefusalHasText, Refuses};
 ghost use Rattle.op_parse_code.specs.Whole.{Chain};
 ghost use Rattle.op_parse_code.specs.WholeStatement.{SomeStatement};
 ghost use Rattle.op_tree.specs.Ends.{EndsChain, EndsExpr, EndsStatement};
@@ -43,6 +43,8 @@ pub fn expression(
     ensures refused { IfErr result (Refuses (Chain Relational) (200 - depth) tokens.now.end (drop at (terminals tokens.now.list))) }
     // No other one stands there, and where one stands it is refused for a form of statements and expressions alone.
     ensures only { (e : Expression) (r : List Terminal) → IsExpr (200 - depth) e (drop at (terminals tokens.now.list)) r → EndsExpr e r → MatchResult result (λ f. (expr_of f.0 ≡ e) × (drop f.1 (terminals tokens.now.list) ≡ r)) (IsFree tokens.now.end (drop at (terminals tokens.now.list))) }
+    // What is refused breaks a rule that has a text.
+    ensures told { IfErr result RefusalHasText }
 {
     part(alloc, Level::Relational, tokens, at, DEEPEST - depth)
 }
@@ -61,6 +63,7 @@ pub fn simple(
     ensures whole { IfOk result (λ f. EndsChain Additive (expr_of f.0) (drop f.1 (terminals tokens.now.list))) }
     ensures refused { IfErr result (Refuses (Chain Additive) (200 - depth) tokens.now.end (drop at (terminals tokens.now.list))) }
     ensures only { (e : Expression) (r : List Terminal) → IsSimple (200 - depth) e (drop at (terminals tokens.now.list)) r → EndsChain Additive e r → MatchResult result (λ f. (expr_of f.0 ≡ e) × (drop f.1 (terminals tokens.now.list) ≡ r)) (IsFree tokens.now.end (drop at (terminals tokens.now.list))) }
+    ensures told { IfErr result RefusalHasText }
 {
     part(alloc, Level::Additive, tokens, at, DEEPEST - depth)
 }
@@ -99,6 +102,7 @@ pub fn statement(
     ensures whole { IfOk result (λ f. EndsStatement (stmt_of f.0) (drop f.1 (terminals tokens.now.list))) }
     ensures refused { IfErr result (Refuses SomeStatement (200 - depth) tokens.now.end (drop at (terminals tokens.now.list))) }
     ensures only { (s : Statement) (r : List Terminal) → IsStatement (200 - depth) s (drop at (terminals tokens.now.list)) r → EndsStatement s r → MatchResult result (λ f. (stmt_of f.0 ≡ s) × (drop f.1 (terminals tokens.now.list) ≡ r)) (IsFree tokens.now.end (drop at (terminals tokens.now.list))) }
+    ensures told { IfErr result RefusalHasText }
 {
     statement_part(alloc, tokens, at, DEEPEST - depth)
 }

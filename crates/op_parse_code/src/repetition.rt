@@ -8,8 +8,8 @@ ghost use Rattle.op_tree.specs.StatementGrammar.{direction_of};
 ghost use Rattle.op_tree.specs.Terminal.{terminals};
 
 use crate::ParseError;
-use crate::chain::chain;
-use crate::compound::{statement_at, statements};
+use crate::chain::{boxed_expression, chain};
+use crate::compound::{boxed_statement, statements};
 use crate::error::syntax;
 use crate::mark::{Mark, after_mark, behind_mark};
 use crate::statement_nodes::{for_in_node, for_node, repeat_node, while_node};
@@ -21,6 +21,7 @@ use std::alloc::Global;
 
 /// What stands behind `while`.
 #[cycle(statement)]
+#[inline(never)]
 pub fn while_loop<'a>(
     alloc: Global,
     position: Position,
@@ -34,13 +35,13 @@ pub fn while_loop<'a>(
 {
     let (condition, rest) = chain(alloc, Level::Relational, left, end, tokens)?;
     let rest = after_mark(Mark::Do_, end, rest)?;
-    let (body, rest) = statement_at(alloc, left, end, rest)?;
-    let node = while_node(alloc, condition, body)?;
-    Ok((node, rest))
+    let (body, rest) = boxed_statement(alloc, left, end, rest)?;
+    Ok((while_node(condition, body), rest))
 }
 
 /// What stands behind `repeat`.
 #[cycle(statement)]
+#[inline(never)]
 pub fn repeat_loop<'a>(
     alloc: Global,
     position: Position,
@@ -54,13 +55,13 @@ pub fn repeat_loop<'a>(
 {
     let (body, rest) = statements(alloc, left, end, tokens)?;
     let rest = after_mark(Mark::Until, end, rest)?;
-    let (condition, rest) = chain(alloc, Level::Relational, left, end, rest)?;
-    let node = repeat_node(alloc, body, condition)?;
-    Ok((node, rest))
+    let (condition, rest) = boxed_expression(alloc, left, end, rest)?;
+    Ok((repeat_node(body, condition), rest))
 }
 
 /// What stands behind `for`.
 #[cycle(statement)]
+#[inline(never)]
 pub fn for_loop<'a>(
     alloc: Global,
     position: Position,
@@ -75,21 +76,19 @@ pub fn for_loop<'a>(
     let (variable, rest) = name(alloc, end, tokens)?;
     match behind_mark(Mark::Assign, rest) {
         Some(after) => {
-            let (first, rest) = chain(alloc, Level::Relational, left, end, after)?;
+            let (first, rest) = boxed_expression(alloc, left, end, after)?;
             let (direction, rest) = direction_at(end, rest)?;
-            let (last, rest) = chain(alloc, Level::Relational, left, end, rest)?;
+            let (last, rest) = boxed_expression(alloc, left, end, rest)?;
             let rest = after_mark(Mark::Do_, end, rest)?;
-            let (body, rest) = statement_at(alloc, left, end, rest)?;
-            let node = for_node(alloc, variable, first, direction, last, body)?;
-            Ok((node, rest))
+            let (body, rest) = boxed_statement(alloc, left, end, rest)?;
+            Ok((for_node(variable, first, direction, last, body), rest))
         }
         None => {
             let after = after_mark(Mark::In_, end, rest)?;
-            let (collection, rest) = chain(alloc, Level::Relational, left, end, after)?;
+            let (collection, rest) = boxed_expression(alloc, left, end, after)?;
             let rest = after_mark(Mark::Do_, end, rest)?;
-            let (body, rest) = statement_at(alloc, left, end, rest)?;
-            let node = for_in_node(alloc, variable, collection, body)?;
-            Ok((node, rest))
+            let (body, rest) = boxed_statement(alloc, left, end, rest)?;
+            Ok((for_in_node(variable, collection, body), rest))
         }
     }
 }

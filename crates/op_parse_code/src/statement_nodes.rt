@@ -1,5 +1,4 @@
-//! The nodes of statements, from their parts. A function takes room for one box alone: what each further one would leave behind at
-//! want of memory makes its proof longer by far.
+//! The nodes of statements, from their parts.
 ghost use Rattle.std.specs.Prelude.{◌≡◌, IfOk};
 ghost use Rattle.op_parse_code.specs.WholeStatement.{rest_of, try_of};
 ghost use Rattle.op_tree.specs.Expression.{expr_of};
@@ -17,152 +16,85 @@ pub fn block_node(statements: Vec<Stmt>) -> Stmt
     Stmt::Block(statements)
 }
 
-pub fn if_node(alloc: Global, condition: Expr, then: Stmt) -> Result<Stmt, NoMemory>
-    ensures { IfOk result (λ s. stmt_of s ≡ if_then (expr_of condition) (stmt_of then)) }
+/// The statement in a box.
+#[inline(never)]
+pub fn boxed_node(alloc: Global, statement: Stmt) -> Result<Box<Stmt>, NoMemory>
+    ensures { IfOk result (λ s. stmt_of s.value ≡ stmt_of statement) }
 {
-    let then = Box::new(alloc, then)?;
-    Ok(Stmt::If { condition, then })
+    let boxed = Box::new(alloc, statement)?;
+    Ok(boxed)
 }
 
-pub fn if_else_node(
-    alloc: Global,
-    condition: Expr,
-    then: Stmt,
-    otherwise: Stmt,
-) -> Result<Stmt, NoMemory>
-    ensures { IfOk result (λ s. stmt_of s ≡ if_else (expr_of condition) (stmt_of then) (stmt_of otherwise)) }
+pub fn if_node(condition: Expr, then: Box<Stmt>) -> Stmt
+    ensures { stmt_of result ≡ if_then (expr_of condition) (stmt_of then.value) }
 {
-    let then = Box::new(alloc, then)?;
-    if_else_with(alloc, condition, then, otherwise)
+    Stmt::If { condition, then }
 }
 
-fn if_else_with(
-    alloc: Global,
-    condition: Expr,
-    then: Box<Stmt>,
-    otherwise: Stmt,
-) -> Result<Stmt, NoMemory>
-    ensures { IfOk result (λ s. stmt_of s ≡ if_else (expr_of condition) (stmt_of then.value) (stmt_of otherwise)) }
+pub fn if_else_node(condition: Expr, then: Box<Stmt>, otherwise: Box<Stmt>) -> Stmt
+    ensures { stmt_of result ≡ if_else (expr_of condition) (stmt_of then.value) (stmt_of otherwise.value) }
 {
-    let otherwise = Box::new(alloc, otherwise)?;
-    Ok(Stmt::IfElse {
+    Stmt::IfElse {
         condition,
         then,
         otherwise,
-    })
+    }
 }
 
-pub fn while_node(alloc: Global, condition: Expr, body: Stmt) -> Result<Stmt, NoMemory>
-    ensures { IfOk result (λ s. stmt_of s ≡ while_do (expr_of condition) (stmt_of body)) }
+pub fn while_node(condition: Expr, body: Box<Stmt>) -> Stmt
+    ensures { stmt_of result ≡ while_do (expr_of condition) (stmt_of body.value) }
 {
-    let body = Box::new(alloc, body)?;
-    Ok(Stmt::While { condition, body })
+    Stmt::While { condition, body }
 }
 
-pub fn repeat_node(alloc: Global, body: Vec<Stmt>, condition: Expr) -> Result<Stmt, NoMemory>
-    ensures { IfOk result (λ s. stmt_of s ≡ repeat_until (stmts_of body.items) (expr_of condition)) }
+pub fn repeat_node(body: Vec<Stmt>, condition: Box<Expr>) -> Stmt
+    ensures { stmt_of result ≡ repeat_until (stmts_of body.items) (expr_of condition.value) }
 {
-    let condition = Box::new(alloc, condition)?;
-    Ok(Stmt::Repeat { body, condition })
+    Stmt::Repeat { body, condition }
 }
 
 pub fn for_node(
-    alloc: Global,
-    variable: Name,
-    first: Expr,
-    direction: Direction,
-    last: Expr,
-    body: Stmt,
-) -> Result<Stmt, NoMemory>
-    ensures { IfOk result (λ s. stmt_of s ≡ for_to variable (expr_of first) direction (expr_of last) (stmt_of body)) }
-{
-    let first = Box::new(alloc, first)?;
-    for_with_first(alloc, variable, first, direction, last, body)
-}
-
-fn for_with_first(
-    alloc: Global,
-    variable: Name,
-    first: Box<Expr>,
-    direction: Direction,
-    last: Expr,
-    body: Stmt,
-) -> Result<Stmt, NoMemory>
-    ensures { IfOk result (λ s. stmt_of s ≡ for_to variable (expr_of first.value) direction (expr_of last) (stmt_of body)) }
-{
-    let last = Box::new(alloc, last)?;
-    for_with_last(alloc, variable, first, direction, last, body)
-}
-
-fn for_with_last(
-    alloc: Global,
     variable: Name,
     first: Box<Expr>,
     direction: Direction,
     last: Box<Expr>,
-    body: Stmt,
-) -> Result<Stmt, NoMemory>
-    ensures { IfOk result (λ s. stmt_of s ≡ for_to variable (expr_of first.value) direction (expr_of last.value) (stmt_of body)) }
+    body: Box<Stmt>,
+) -> Stmt
+    ensures { stmt_of result ≡ for_to variable (expr_of first.value) direction (expr_of last.value) (stmt_of body.value) }
 {
-    let body = Box::new(alloc, body)?;
-    Ok(Stmt::For {
+    Stmt::For {
         variable,
         first,
         direction,
         last,
         body,
-    })
+    }
 }
 
-pub fn for_in_node(
-    alloc: Global,
-    variable: Name,
-    collection: Expr,
-    body: Stmt,
-) -> Result<Stmt, NoMemory>
-    ensures { IfOk result (λ s. stmt_of s ≡ for_in variable (expr_of collection) (stmt_of body)) }
+pub fn for_in_node(variable: Name, collection: Box<Expr>, body: Box<Stmt>) -> Stmt
+    ensures { stmt_of result ≡ for_in variable (expr_of collection.value) (stmt_of body.value) }
 {
-    let collection = Box::new(alloc, collection)?;
-    for_in_with(alloc, variable, collection, body)
-}
-
-fn for_in_with(
-    alloc: Global,
-    variable: Name,
-    collection: Box<Expr>,
-    body: Stmt,
-) -> Result<Stmt, NoMemory>
-    ensures { IfOk result (λ s. stmt_of s ≡ for_in variable (expr_of collection.value) (stmt_of body)) }
-{
-    let body = Box::new(alloc, body)?;
-    Ok(Stmt::ForIn {
+    Stmt::ForIn {
         variable,
         collection,
         body,
-    })
+    }
 }
 
-pub fn case_node(alloc: Global, selector: Expr, branches: Vec<Branch>) -> Result<Stmt, NoMemory>
-    ensures { IfOk result (λ s. stmt_of s ≡ case_of (expr_of selector) (branches_of branches.items)) }
+pub fn case_node(selector: Box<Expr>, branches: Vec<Branch>) -> Stmt
+    ensures { stmt_of result ≡ case_of (expr_of selector.value) (branches_of branches.items) }
 {
-    let selector = Box::new(alloc, selector)?;
-    Ok(Stmt::Case { selector, branches })
+    Stmt::Case { selector, branches }
 }
 
-pub fn case_else_node(
-    alloc: Global,
-    selector: Expr,
-    branches: Vec<Branch>,
-    otherwise: Vec<Stmt>,
-) -> Result<Stmt, NoMemory>
-    ensures { IfOk result (λ s. stmt_of s ≡ case_else (expr_of selector) (branches_of branches.items) (stmts_of otherwise.items)) }
+pub fn case_else_node(selector: Box<Expr>, branches: Vec<Branch>, otherwise: Vec<Stmt>) -> Stmt
+    ensures { stmt_of result ≡ case_else (expr_of selector.value) (branches_of branches.items) (stmts_of otherwise.items) }
 {
-    let selector = Box::new(alloc, selector)?;
-    Ok(Stmt::CaseElse {
+    Stmt::CaseElse {
         selector,
         branches,
         otherwise,
-    })
+    }
 }
 
 pub fn try_node(body: Vec<Stmt>, rest: TryRest) -> Stmt
@@ -195,18 +127,12 @@ pub fn inherited_call_node(position: Position, callee: Designator) -> Stmt
     }
 }
 
-pub fn assign_node(
-    alloc: Global,
-    target: Designator,
-    position: Position,
-    value: Expr,
-) -> Result<Stmt, NoMemory>
-    ensures { IfOk result (λ s. stmt_of s ≡ assign (designator_of target) position (expr_of value)) }
+pub fn assign_node(target: Designator, position: Position, value: Box<Expr>) -> Stmt
+    ensures { stmt_of result ≡ assign (designator_of target) position (expr_of value.value) }
 {
-    let value = Box::new(alloc, value)?;
-    Ok(Stmt::Assign {
+    Stmt::Assign {
         target,
         position,
         value,
-    })
+    }
 }

@@ -1,6 +1,6 @@
 //! Whole files (Free Pascal Reference Guide, "Programs, units, blocks").
 ghost use Rattle.std.specs.Prelude.{IfErr, IfOk, List, MatchResult, Option, [], ℕ, ◌≡◌};
-ghost use Rattle.op_parse_code.specs.Refusal.{IsFree};
+ghost use Rattle.op_parse_code.specs.Refusal.{IsFree, RefusalHasText};
 ghost use Rattle.op_parse_decl.specs.Declarations.{SomeProgram, SomeProgramHeading, SomeUnit, SomeUses, Whole, WholeFile};
 ghost use Rattle.op_parse_decl.specs.FileParts.{made_heading, made_program, made_tail, made_unit, made_uses, tail_of};
 ghost use Rattle.op_parse_decl.specs.Refusal.{RefusesPart};
@@ -37,6 +37,8 @@ pub fn parse(alloc: Global, tokens: &Tokens) -> Result<Tree, ParseError>
     ensures refused { IfErr result (RefusesPart WholeFile 200 tokens.now.end (terminals tokens.now.list)) }
     // No other tree does, and where one does the tokens are refused for a form of statements and expressions alone.
     ensures only { (file : File) → Spells file (terminals tokens.now.list) → MatchResult result (λ tree. file_of tree ≡ file) (IsFree tokens.now.end (terminals tokens.now.list)) }
+    // What is refused breaks a rule that has a text.
+    ensures told { IfErr result RefusalHasText }
 {
     let setting = Setting {
         alloc,

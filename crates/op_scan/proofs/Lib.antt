@@ -10,3 +10,4 @@ pub mod Quoting
 pub mod Scanning
 pub mod Strings
 pub mod SymbolFronts
+pub mod Told

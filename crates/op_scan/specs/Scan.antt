@@ -5,6 +5,7 @@ use Rattle.op_base.specs.declared.place.Place.{Place}
 use Rattle.op_base.specs.declared.rule.Refusal.{Refusal}
 use Rattle.op_base.specs.declared.rule.Rule.{Rule}
 use Rattle.op_scan.specs.Item.{Item, Stands, effect_of, rule_without}
+use Rattle.op_base.specs.Rule.{HasText}
 use Rattle.op_scan.specs.declared.effect.Effect.TheVariants.{Passes, Gives, Breaks}
 use Rattle.op_scan.specs.declared.token.Switches.{Switches}
 use Rattle.op_scan.specs.declared.token.Token.{Token}
@@ -73,6 +74,11 @@ abbrev pub Answers : ℕ → List ℕ → Result Tokens ScanError → Type 0
 Answers file bytes (Ok tokens) = StandFor file bytes tokens
 Answers file bytes (Err (Refused refusal)) = IsFirstRefusal file bytes refusal
 Answers file bytes (Err NoMemory) = Unit {0}
+
+-- the rule of a refusal has a text
+abbrev pub RefusalHasText : ScanError → Type 0
+RefusalHasText (Refused refusal) = HasText refusal.rule
+RefusalHasText NoMemory = Unit {0}
 
 -- the answer is this outcome, but for want of memory
 abbrev pub IsAnswer : Outcome → Result Tokens ScanError → Type 0

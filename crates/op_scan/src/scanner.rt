@@ -1,7 +1,7 @@
 //! From bytes to tokens.
-ghost use Rattle.std.specs.Prelude.{◌≡◌, ◌≤◌, ◌^◌, IfOk, length, drop};
+ghost use Rattle.std.specs.Prelude.{◌≡◌, ◌≤◌, ◌^◌, IfErr, IfOk, length, drop};
 ghost use Rattle.op_scan.specs.Item.{IsFront};
-ghost use Rattle.op_scan.specs.Scan.{Answers, IsAnswer, IsOutcome, Outcome, mark_length};
+ghost use Rattle.op_scan.specs.Scan.{Answers, IsAnswer, IsOutcome, Outcome, RefusalHasText, mark_length};
 
 use crate::class::{Class, class_at};
 use crate::comment::{comment, line_comment};
@@ -57,6 +57,8 @@ pub fn scan(alloc: Global, bytes: &[u8], file: u32) -> Result<Tokens, ScanError>
     ensures answer { Answers file bytes.now result }
     // No other tokens stand for them, and no other refusal is the first.
     ensures only { (outcome : Outcome) → IsOutcome file bytes.now outcome → IsAnswer outcome result }
+    // What is refused breaks a rule that has a text.
+    ensures told { IfErr result RefusalHasText }
 {
     let mut tokens = Vec::new(alloc);
     let mut rest = without_mark(bytes);

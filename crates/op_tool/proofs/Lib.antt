@@ -9,4 +9,5 @@ pub mod Orders
 pub mod Running
 pub mod RunningFiles
 pub mod Saying
+pub mod Told
 pub mod Words

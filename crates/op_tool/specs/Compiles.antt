@@ -1,5 +1,6 @@
 -- What checking and compiling a file give. `stored` are the files, as far as they tell.
 use Rattle.std.specs.Prelude.{◌≡◌, ◌<◌, ◌≤◌, ℕ, ◌*◌, ◌⊎◌, false, Option, Result, Ok, Err, List, ⊤, map, slice_get, unwrap_or}
+use Rattle.op_base.specs.Rule.{HasText}
 use Rattle.op_base.specs.Outside.{Rose}
 use Rattle.op_base.specs.declared.files.NamedFile.{NamedFile}
 use Rattle.op_base.specs.declared.place.Place.{Place}
@@ -136,6 +137,11 @@ FailsAs stored name settings before after (Refused refusal file) = IsRefused sto
 FailsAs stored name settings before after ReadFault = Rose before after
 FailsAs stored name settings before after Limit = IsTooLarge stored name settings
 FailsAs stored name settings before after NoMemory = ⊤
+
+-- where it is a refusal, the rule has a text
+abbrev pub RefusalHasText : CompileError → Type 0
+RefusalHasText (Refused refusal file) = HasText refusal.rule
+RefusalHasText error = ⊤
 
 -- this refusal of the file, but for want of memory
 abbrev pub RefusesBy : List ℕ → Refusal → CompileError → Type 0

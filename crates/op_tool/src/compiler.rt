@@ -4,7 +4,7 @@ ghost use Rattle.op_accepted.specs.Fit.{any_text};
 ghost use Rattle.op_core.specs.Sound.{IsSound, IsSoundNesting};
 ghost use Rattle.op_link.specs.Memory.{are_in_range};
 ghost use Rattle.op_plain.specs.Plain.{is_plain_by};
-ghost use Rattle.op_tool.specs.Compiles.{FailsAs, FailsToCheck, HasNoImage, IsImage, IsTypedProgram, Made, RefusesBy, name_at};
+ghost use Rattle.op_tool.specs.Compiles.{FailsAs, FailsToCheck, HasNoImage, IsImage, RefusalHasText, IsTypedProgram, Made, RefusesBy, name_at};
 
 use op_base::{Files, NoMemory, Place, Refusal, Rule, Text};
 use op_build::{BuildError, build};
@@ -82,6 +82,7 @@ pub fn compile<F: Files>(
     requires settings { IsTrue (are_in_range settings.now) }
     ensures made { IfOk result (λ image. Made (F.stored files.old) main.now settings.now image.items) }
     ensures failed { IfErr result (FailsAs (F.stored files.old) main.now settings.now (F.faults files.old) (F.faults files.new)) }
+    ensures told { IfErr result RefusalHasText }
     ensures counts { F.faults files.old ≤ F.faults files.new }
     ensures unchanged { F.stored files.new ≡ F.stored files.old }
 {

@@ -1,7 +1,9 @@
 //! The line that the tool itself writes to the errors.
 ghost use Rattle.std.specs.Prelude.{◌≡◌, ◌<◌, ◌≤◌, ◌++◌, IfOk, codes, decimal};
+ghost use Rattle.op_base.specs.Rule.{HasText};
 ghost use Rattle.op_listing.specs.Digits.{eight_digits};
 ghost use Rattle.op_rv.specs.declared.fault.FaultKind.{FaultKind};
+ghost use Rattle.op_tool.specs.Compiles.{RefusalHasText};
 ghost use Rattle.op_tool.specs.Effects.{line, ReportIs};
 ghost use Rattle.op_tool.specs.ImageRun.{fault_front, fault_line};
 ghost use Rattle.op_tool.specs.Owes.{Reports, ReportsBadImage, ReportsError, ReportsRefusal};
@@ -23,15 +25,13 @@ pub(crate) fn report<E: Sink>(err: &mut E, line: &[u8], finish: Finish) -> Finis
     }
 }
 
-/// The line of a refusal in this file. Every rule that is broken has a text; that is not proved, so a rule without one would
-/// end as want of memory.
+/// The line of a refusal in this file.
 fn refusal_line(alloc: Global, file: &[u8], refusal: Refusal) -> Result<Vec<u8>, NoMemory>
+    requires { HasText refusal.rule }
     ensures { IfOk result (λ line. Reports file.now refusal.place refusal.rule line.items) }
 {
     let Refusal { rule, place } = refusal;
-    let Some(text) = rule_text(rule) else {
-        return Err(NoMemory);
-    };
+    let text = rule_text(rule);
     let rest = format!(in alloc;
         ":{}:{}: V{} {}\n",
         place.line, place.col, rule.number, text
@@ -49,6 +49,7 @@ pub(crate) fn report_refusal<E: Sink>(
     refusal: Refusal,
     err: &mut E,
 ) -> Finish
+    requires { HasText refusal.rule }
     ensures says { ReportsRefusal file.now refusal result (E.written err.old) (E.written err.new) (E.faults err.old) (E.faults err.new) }
     ensures counts { E.faults err.old ≤ E.faults err.new }
 {
@@ -64,6 +65,7 @@ pub(crate) fn report_refusal<E: Sink>(
 
 /// Writes the line of an error in compiling.
 pub(crate) fn report_error<E: Sink>(alloc: Global, error: CompileError, err: &mut E) -> Finish
+    requires { RefusalHasText error }
     ensures says { ReportsError error result (E.written err.old) (E.written err.new) (E.faults err.old) (E.faults err.new) }
     ensures counts { E.faults err.old ≤ E.faults err.new }
 {

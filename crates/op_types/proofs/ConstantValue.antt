@@ -1,10 +1,9 @@
 -- A constant expression has a value, or breaks a rule, or a name in it is spoiled.
-use Rattle.std.proofs.Common.{◌≡◌, ◌⊎◌, inl, inr, ℕ, pos, neg_ℤ, Bool, true, false, ◌&&◌, List, Option, Some, None, is_some, if◌then◌else◌, refl}
+use Rattle.std.proofs.Common.{◌≡◌, ◌⊎◌, inl, inr, ℕ, pos, neg_ℤ, Bool, true, false, List, Option, Some, None, is_some, if◌then◌else◌, refl}
+use Rattle.std.proofs.lemmas.Bool.{and_parts, false≢true}
 use Rattle.std.specs.Option.{option_map}
 use Rattle.op_base.specs.declared.place.Place.{Place}
-use Rattle.op_base.specs.declared.rule.Rule.{Rule}
-use Rattle.op_core.proofs.Completing.{whole_after, whole_behind, whole_fine, whole_rule}
-use Rattle.op_core.specs.Faults.{Checked, Faults, FirstIs, after, behind, front, with_part}
+use Rattle.op_core.specs.Faults.{Checked, Faults, FirstIs, after, front}
 use Rattle.op_core.specs.Relations.{Always, Filled, IsWhole, faulty, filled, typed}
 use Rattle.op_core.specs.Sizes.{type_at}
 use Rattle.op_core.specs.declared.constant.Const.{Const}
@@ -12,16 +11,18 @@ use Rattle.op_core.specs.declared.ids.TypeId.{TypeId}
 use Rattle.op_core.specs.declared.operation.Function.{Function}
 use Rattle.op_core.specs.declared.operation.Function.TheVariants.{Low}
 use Rattle.op_core.specs.declared.program.Core.{Core}
-use Rattle.op_judgement.specs.Judgement.{Judgement, both_typed, by_entry, by_test, checked, fine, followed, of_two, through, with_part as when}
-use Rattle.op_judgement.specs.Rules.{no_cast, no_operator, no_set_element, not_assignable, not_ordinal, number_too_large, out_of_range}
+use Rattle.op_judgement.proofs.Completing.{whole_after, whole_behind, whole_entered, whole_fine, whole_rule, whole_tested, whole_two, whole_with}
+use Rattle.op_judgement.specs.Judgement.{Judgement, by, checked, fine, followed, through, with_part as when}
+use Rattle.op_judgement.specs.declared.rules.LanguageRule.{LanguageRule}
+use Rattle.op_judgement.specs.declared.rules.LanguageRule.TheVariants.{NoCast, NoOperator, NoSetElement, NotAssignable, NotOrdinal, NumberTooLarge, OutOfRange}
 use Rattle.op_tree.specs.Expression.{Expression, chain, prefixed, number, nil, set, literal, designated, inherited, Operations, no_operations, operation, Elements, no_elements, elements, Element, one, range, Designator, designator, named, bracketed, no_selectors, selectors, member, call, Arguments, no_arguments, arguments, value}
 use Rattle.op_tree.specs.declared.operator.Operator.{Operator}
 use Rattle.op_tree.specs.declared.operator.PrefixOperator.{PrefixOperator}
 use Rattle.op_tree.specs.declared.position.Name.{Name}
 use Rattle.op_types.specs.Answered.{ArgumentIsSpoiled, DesignatorIsSpoiled, ElementIsSpoiled, ElementsAreSpoiled, IsSpoiled, OperandsAreSpoiled}
 use Rattle.op_types.specs.Assignable.{assignable, true_of}
-use Rattle.op_types.specs.ConstantParts.{behind_name, boxed, is_folded, is_ordinal, joined, joined_name, made, no_members, nodes, number_behind, rule_of, start_of, start_of_element, type_named, use_of, use_of_function}
-use Rattle.op_types.specs.Folding.{all_between, are_constant_elements, are_constant_operands, argument_means, bound_means, call_means, constant, designated_constant, element, element_means, entered, from_to, gathered_means, is_constant, is_constant_argument, is_constant_call, is_constant_designator, is_constant_element, is_constant_name, members, name_means, operation_means, operations, operator_means, or_number, pair, prefix_means, range_means, single_means, union, united, use_means}
+use Rattle.op_types.specs.ConstantParts.{behind_name, boxed, is_folded, is_ordinal, joined, joined_name, no_members, nodes, number_behind, rule_of, start_of, start_of_element, type_named, use_of, use_of_function}
+use Rattle.op_types.specs.Folding.{are_constant_elements, are_constant_operands, argument_means, bound_means, call_means, constant, designated_constant, element, element_means, entered, from_to, gathered_means, is_constant, is_constant_argument, is_constant_call, is_constant_designator, is_constant_element, is_constant_name, members, name_means, operation_means, operations, operator_means, or_number, pair, prefix_means, range_means, single_means, use_means}
 use Rattle.op_types.specs.Operators as table
 use Rattle.op_types.specs.Sets.{common_set}
 use Rattle.op_types.specs.Sorts.{are_sets, sort_of}
@@ -41,13 +42,6 @@ use Rattle.op_types.specs.declared.visible.Meaning.TheVariants.{Constant as Cons
 pub data Told {A : Type 0} (S : Type 0) (c : Checked A) : Type 1 where
   whole : IsWhole c → Told S c
   spoiled : S → Told S c
-
-false_is : false ≡ true → ⊥
-false_is e = absurd (cc)
-
-pub both_true : (a b : Bool) → (a && b) ≡ true → (a ≡ true) × (b ≡ true)
-both_true true b e = (refl, e)
-both_true false b e = absurd (false_is e)
 
 -- without a meaning, and without a rule that is broken
 pub silent : {c : Checked Constant} {S : Type 0} → Told S c → None ≡ option_map (λ a. a.value) c.typed → FirstIs c.faults None → S
@@ -73,27 +67,16 @@ told_followed c f (whole (typed h)) g = told_after (g c.typed h)
 told_followed c f (whole (faulty r i)) g = whole (faulty r (front i))
 told_followed c f (spoiled s) g = spoiled s
 
-told_with : {A B S : Type 0} (f : A → Checked B) {o : Option A} → Filled Always o → ((a : A) → Told S (f a)) → Told S (with_part f o)
+told_with : {A B S : Type 0} (f : A → Checked B) {o : Option A} → Filled Always o → ((a : A) → Told S (f a)) → Told S (by f o)
 told_with f (filled a p) g = g a
 
 told_through : {A B S : Type 0} (j : Judgement A) (f : A → Judgement B) → Told S (checked j) → ((a : A) → IsWhole (checked (f a))) → Told S (checked (through j f))
-told_through j f h g = told_followed (checked j) (with_part (λ a. checked (f a))) h (λ o k. told_with (λ a. checked (f a)) k (λ a. whole (g a)))
+told_through j f h g = told_followed (checked j) (by (λ a. checked (f a))) h (λ o k. told_with (λ a. checked (f a)) k (λ a. whole (g a)))
 
 -- of two parts, each of which may have no meaning
 told_two : {A B C S : Type 0} (j : Judgement A) (k : Judgement B) (f : Option A → Option B → Judgement C) → Told S (checked j) → Told S (checked k) → ((o : Option A) (q : Option B) → Filled Always o → Filled Always q → IsWhole (checked (f o q))) → Told S (checked (followed j (λ a. followed k (f a))))
 told_two j k f h i g =
     told_followed (checked j) (λ o. checked (followed k (f o))) h (λ o m. told_followed (checked k) (λ q. checked (f o q)) i (λ q n. whole (g o q m n)))
-
-whole_pair : {A B : Type 0} (j : Judgement A) (k : Judgement B) → IsWhole (checked j) → IsWhole (checked k) → IsWhole (checked (of_two pair j k))
-whole_pair j k (typed h) (typed i) = typed (both h i)
-  where
-    both : {A B : Type 0} {o : Option A} {q : Option B} → Filled Always o → Filled Always q → Filled Always (both_typed pair o q)
-    both (filled a p) (filled b q) = filled (pair a b) tt
-whole_pair j k (typed h) (faulty r i) = faulty r (behind i)
-whole_pair j k (faulty r i) h = faulty r (front i)
-
-whole_some : {A B : Type 0} (f : A → Checked B) {o : Option A} → Filled Always o → ((a : A) → IsWhole (f a)) → IsWhole (with_part f o)
-whole_some f (filled a p) g = g a
 
 told_changed : {A B S : Type 0} (f : A → B) (c : Checked A) → Told S c → Told S (record { typed = option_map f c.typed; faults = c.faults })
 told_changed f c (whole (typed h)) = whole (typed (mapped f h))
@@ -105,68 +88,60 @@ told_changed f c (spoiled s) = spoiled s
 
 -- ---- what always has a meaning or breaks a rule
 
-entered_whole : (rule : Rule) (place : Place) (of : TypeId) (w : Weight) (v : Option Const) → IsWhole (checked (entered rule place of w v))
+entered_whole : (rule : LanguageRule) (place : Place) (of : TypeId) (w : Weight) (v : Option Const) → IsWhole (checked (entered rule place of w v))
 entered_whole rule place of w None = whole_rule
 entered_whole rule place of w (Some v) = whole_fine
-
-entry_whole : {A B : Type 0} (rule : Rule) (place : Place) (g : A → Judgement B) (o : Option A) → ((a : A) → IsWhole (checked (g a))) → IsWhole (checked (by_entry rule place g o))
-entry_whole rule place g None h = whole_rule
-entry_whole rule place g (Some a) h = h a
-
-test_whole : {A : Type 0} (rule : Rule) (place : Place) (j : Judgement A) (b : Bool) → IsWhole (checked j) → IsWhole (checked (by_test rule place j b))
-test_whole rule place j true h = h
-test_whole rule place j false h = whole_rule
 
 prefix_whole : (core : Core) (place : Place) (o : PrefixOperator) (a : Constant) → IsWhole (checked (prefix_means core place o a))
 prefix_whole core place o a =
     let w = joined a.weight (nodes 0) in
-    entry_whole no_operator place (λ of. entered out_of_range place of w (before o of (number_of a.value))) (table.prefixed o (sort_of core a.of)) (λ of. entered_whole out_of_range place of w (before o of (number_of a.value)))
+    whole_entered NoOperator place (table.prefixed o (sort_of core a.of)) (λ of _. entered_whole OutOfRange place of w (before o of (number_of a.value)))
 
 operator_whole : (core : Core) (start : Place) (o : Operator) (place : Place) (a b : Constant) → IsWhole (checked (operator_means core start o place a b))
 operator_whole core start o place a b =
     let w = joined a.weight b.weight in
     let v = operated o (sort_of core a.of) (sort_of core b.of) a.value b.value in
-    entry_whole no_operator place (λ of. entered out_of_range start of w v) (table.operation o (sort_of core a.of) (sort_of core b.of) (common_set core a.of b.of)) (λ of. entered_whole out_of_range start of w v)
+    whole_entered NoOperator place (table.operation o (sort_of core a.of) (sort_of core b.of) (common_set core a.of b.of)) (λ of _. entered_whole OutOfRange start of w v)
 
 operation_whole : (core : Core) (start : Place) (o : Operator) (place : Place) (a b : Option Constant) → Filled Always a → Filled Always b → IsWhole (checked (operation_means core start o place a b))
 operation_whole core start o place a b h k =
-    whole_some (λ a. checked (when (operator_means core start o place a) b)) h (λ a. whole_some (λ b. checked (operator_means core start o place a b)) k (λ b. operator_whole core start o place a b))
+    whole_with h (λ a _. whole_with k (λ b _. operator_whole core start o place a b))
 
 use_whole : (core : Core) (what : Applied) (place at : Place) (a : Constant) → IsWhole (checked (use_means core what place at a))
 use_whole core (Cast of) place at a =
     let w = joined a.weight (nodes 0) in
     let v = cast (type_at core of) (number_of a.value) in
-    test_whole no_cast place (entered out_of_range place of w v) (is_ordinal (sort_of core a.of)) (entered_whole out_of_range place of w v)
+    whole_tested NoCast place (is_ordinal (sort_of core a.of)) (λ _. entered_whole OutOfRange place of w v)
 use_whole core (Function' f) place at a =
     let w = joined a.weight (nodes 0) in
     let v = applied core f a.of a.value in
-    entry_whole (rule_of f) at (λ of. entered out_of_range place of w v) (table.application f (sort_of core a.of) a.of) (λ of. entered_whole out_of_range place of w v)
+    whole_entered (rule_of f) at (table.application f (sort_of core a.of) a.of) (λ of _. entered_whole OutOfRange place of w v)
 
 bound_whole : (core : Core) (f : Function) (of : TypeId × Place) → IsWhole (checked (bound_means core f of))
-bound_whole core f of = entry_whole not_ordinal of.1 (λ b. fine (made b.0 b.1 (nodes 2))) (bound_of core f of.0) (λ b. whole_fine)
+bound_whole core f of = whole_entered NotOrdinal of.1 (bound_of core f of.0) (λ b _. whole_fine)
 
 -- ---- sets
 
 element_whole : (core : Core) (at : Place) (a : Constant) → IsWhole (checked (element_means core at a))
 element_whole core at a =
-    test_whole not_ordinal at (by_test no_set_element at (fine a) (contains (pos 0, pos 31) (number_of a.value))) (is_ordinal (sort_of core a.of)) (test_whole no_set_element at (fine a) (contains (pos 0, pos 31) (number_of a.value)) whole_fine)
+    whole_tested NotOrdinal at (is_ordinal (sort_of core a.of)) (λ _. whole_tested NoSetElement at (contains (pos 0, pos 31) (number_of a.value)) (λ _. whole_fine))
 
 elements_whole : (core : Core) (at : Place) (a : Option Constant) → Filled Always a → IsWhole (checked (when (element_means core at) a))
-elements_whole core at a h = whole_some (λ a. checked (element_means core at a)) h (element_whole core at)
+elements_whole core at a h = whole_with h (λ a _. element_whole core at a)
 
 single_whole : (core : Core) (at : Place) (a : Option Constant) → Filled Always a → IsWhole (checked (single_means core at a))
 single_whole core at a h = whole_behind (elements_whole core at a h) (λ a _. whole_fine)
 
 from_to_whole : (core : Core) (at : Place) (a b : Constant) → IsWhole (checked (from_to core at a b))
-from_to_whole core at a b = test_whole not_assignable at (fine (all_between core a b)) (assignable core b.of a.of) whole_fine
+from_to_whole core at a b = whole_tested NotAssignable at (assignable core b.of a.of) (λ _. whole_fine)
 
 range_whole : (core : Core) (at at' : Place) (a b : Option Constant) → Filled Always a → Filled Always b → IsWhole (checked (range_means core at a at' b))
 range_whole core at at' a b h k =
-    whole_behind (whole_pair (when (element_means core at) a) (when (element_means core at') b) (elements_whole core at a h) (elements_whole core at' b k)) (λ ab _. from_to_whole core at' ab.0 ab.1)
+    whole_behind (whole_two {R = Always} pair (elements_whole core at a h) (elements_whole core at' b k) (λ a b _ _. tt)) (λ ab _. from_to_whole core at' ab.0 ab.1)
 
 gathered_whole : (core : Core) (at : Place) (a b : Option Constant) → Filled Always a → Filled Always b → IsWhole (checked (gathered_means core at a b))
 gathered_whole core at a b h k =
-    whole_some (λ a. checked (when (united core at a) b)) h (λ a. whole_some (λ b. checked (united core at a b)) k (λ b. test_whole not_assignable at (fine (union core a b)) (are_sets (sort_of core a.of) (sort_of core b.of)) whole_fine))
+    whole_with h (λ a _. whole_with k (λ b _. whole_tested NotAssignable at (are_sets (sort_of core a.of) (sort_of core b.of)) (λ _. whole_fine)))
 
 -- ---- names and calls
 
@@ -174,7 +149,7 @@ name_told : (place : Place) (m : Option Meaning) → is_constant_name m ≡ true
 name_told place None c = whole whole_rule
 name_told place (Some Spoiled) c = spoiled refl
 name_told place (Some (ConstantNamed x)) c = whole whole_fine
-name_told place (Some m) c = absurd (false_is c)
+name_told place (Some m) c = absurd (false≢true c)
 
 not_known : {Z S : Type 0} → (None ≡ Some Spoiled) ⊎ S → Z ⊎ S
 not_known (inl e) = absurd (cc)
@@ -184,14 +159,14 @@ not_known (inr s) = inr s
 qualified_told : {S : Type 0} (names : List Named) (n m : Name) (o : Option Meaning) (test : Option Meaning × Place → Bool) (f : Option Meaning × Place → Judgement Constant) → ((q : Option Meaning × Place) → test q ≡ true → Told ((q.0 ≡ Some Spoiled) ⊎ S) (checked (f q))) → true_of test (behind_name names n m o) ≡ true → Told ((meaning_of names (joined_name n.text m.text) ≡ Some Spoiled) ⊎ S) (checked (when f (behind_name names n m o)))
 qualified_told names n m (Some (UnitNamed id)) test f h c = h (meaning_of names (joined_name n.text m.text), m.position.place) c
 qualified_told names n m None test f h c = told_as (h (None, n.position.place) c) not_known
-qualified_told names n m (Some o) test f h c = absurd (false_is c)
+qualified_told names n m (Some o) test f h c = absurd (false≢true c)
 
 bound_told : {S : Type 0} (core : Core) (f : Function) (of : Option (TypeId × Place)) → is_some of ≡ true → Told S (checked (when (bound_means core f) of))
-bound_told core f None e = absurd (false_is e)
+bound_told core f None e = absurd (false≢true e)
 bound_told core f (Some of) e = whole (bound_whole core f of)
 
 call_told : {S : Type 0} (core : Core) (place : Place) (of : Option (TypeId × Place)) (b : Bool) (g : Applied → Judgement Constant) (u : Option Use) → is_constant_call of b u ≡ true → ((what : Applied) → b ≡ true → Told S (checked (g what))) → Told ((u ≡ Some Silent) ⊎ S) (checked (call_means core place of g u))
-call_told core place of b g None c h = absurd (false_is c)
+call_told core place of b g None c h = absurd (false≢true c)
 call_told core place of b g (Some Unknown) c h = whole whole_rule
 call_told core place of b g (Some Silent) c h = spoiled (inl refl)
 call_told core place of b g (Some (Bound f)) c h = bound_told core f of c
@@ -234,35 +209,35 @@ last_only (inr p) = p
 
 numbered : {S : Type 0} (n : Option (ℕ × Place)) (j : Judgement Constant) → Told S (checked j) → Told S (checked (or_number n j))
 numbered None j h = h
-numbered (Some n) j h = whole (entered_whole number_too_large n.1 table.integer (nodes 2) (within (neg_ℤ (pos n.0))))
+numbered (Some n) j h = whole (entered_whole NumberTooLarge n.1 table.integer (nodes 2) (within (neg_ℤ (pos n.0))))
 
 mutual
   pub has_value : (core : Core) (names : List Named) (e : Expression) → is_constant core names e ≡ true → Told (IsSpoiled names e) (checked (constant core names e))
   has_value core names (chain first rest) c =
-      let k = both_true (is_constant core names first) (are_constant_operands core names rest) c in
+      let k = and_parts (is_constant core names first) (are_constant_operands core names rest) c in
       behind_told core names (start_of first) (constant core names first) (IsSpoiled names first) rest k.1 (has_value core names first k.0)
   has_value core names (prefixed o p e) c =
       numbered (number_behind o e) (through (constant core names e) (prefix_means core p.place o)) (told_through (constant core names e) (prefix_means core p.place o) (has_value core names e c) (λ a. prefix_whole core p.place o a))
-  has_value core names (number n p) c = whole (entered_whole number_too_large p.place table.integer (nodes 1) (within (pos n)))
+  has_value core names (number n p) c = whole (entered_whole NumberTooLarge p.place table.integer (nodes 1) (within (pos n)))
   has_value core names (nil p) c = whole whole_fine
   has_value core names (set p es) c =
       told_changed boxed (checked (members core names (fine no_members) es)) (told_as (gathered_told core names (fine no_members) ⊥ es c (whole whole_fine)) last_only)
   has_value core names (literal text p no_selectors) c = whole whole_fine
-  has_value core names (literal text p (selectors s ss)) c = absurd (false_is c)
+  has_value core names (literal text p (selectors s ss)) c = absurd (false≢true c)
   has_value core names (designated d) c = designator_told core names d c
-  has_value core names (inherited p d) c = absurd (false_is c)
+  has_value core names (inherited p d) c = absurd (false≢true c)
 
   behind_told : (core : Core) (names : List Named) (start : Place) (a : Judgement Constant) (S : Type 0) (rest : Operations) → are_constant_operands core names rest ≡ true → Told S (checked a) → Told (S ⊎ OperandsAreSpoiled names rest) (checked (operations core names start a rest))
   behind_told core names start a S no_operations c h = told_as h inl
   behind_told core names start a S (operation o p e others) c h =
-      let k = both_true (is_constant core names e) (are_constant_operands core names others) (both_true (is_folded o) _ c).1 in
+      let k = and_parts (is_constant core names e) (are_constant_operands core names others) (and_parts (is_folded o) _ c).1 in
       told_as (behind_told core names start (followed a (λ a. followed (constant core names e) (operation_means core start o p.place a))) (S ⊎ IsSpoiled names e) others k.1
       (told_two a (constant core names e) (operation_means core start o p.place) (told_as h inl) (told_as (has_value core names e k.0) inr) (operation_whole core start o p.place))) regrouped
 
   gathered_told : (core : Core) (names : List Named) (a : Judgement Constant) (S : Type 0) (es : Elements) → are_constant_elements core names es ≡ true → Told S (checked a) → Told (S ⊎ ElementsAreSpoiled names es) (checked (members core names a es))
   gathered_told core names a S no_elements c h = told_as h inl
   gathered_told core names a S (elements e es) c h =
-      let k = both_true (is_constant_element core names e) (are_constant_elements core names es) c in
+      let k = and_parts (is_constant_element core names e) (are_constant_elements core names es) c in
       told_as (gathered_told core names (followed a (λ a. followed (element core names e) (gathered_means core (start_of_element e) a))) (S ⊎ ElementIsSpoiled names e) es k.1
       (told_two a (element core names e) (gathered_means core (start_of_element e)) (told_as h inl) (told_as (members_told core names e k.0) inr) (gathered_whole core (start_of_element e)))) regrouped
 
@@ -270,7 +245,7 @@ mutual
   members_told core names (one e) c =
       told_followed (checked (constant core names e)) (λ o. checked (single_means core (start_of e) o)) (has_value core names e c) (λ o k. whole (single_whole core (start_of e) o k))
   members_told core names (range e f) c =
-      let k = both_true (is_constant core names e) (is_constant core names f) c in
+      let k = and_parts (is_constant core names e) (is_constant core names f) c in
       told_two (constant core names e) (constant core names f) (λ a. range_means core (start_of e) a (start_of f)) (told_as (has_value core names e k.0) inl) (told_as (has_value core names f k.1) inr) (range_whole core (start_of e) (start_of f))
 
   designator_told : (core : Core) (names : List Named) (d : Designator) → is_constant_designator core names d ≡ true → Told (DesignatorIsSpoiled names d) (checked (designated_constant core names d))
@@ -283,7 +258,7 @@ mutual
       qualified_told names n m (meaning_of names (lower n.text)) (λ q. is_constant_call (type_named names args) (is_constant_argument core names args) (use_of core q.0)) (λ q. call_means core q.1 (type_named names args) (argument_means core names q.1 args) (use_of core q.0)) (λ q k.
       told_as (call_told core q.1 (type_named names args) (is_constant_argument core names args) (argument_means core names q.1 args) (use_of core q.0) k (argument_told core names q.1 args)) (spoiled_call core q.0)) c
   designator_told core names (designator (bracketed p e) no_selectors) c = told_changed boxed (checked (constant core names e)) (has_value core names e c)
-  designator_told core names d c = absurd (false_is c)
+  designator_told core names d c = absurd (false≢true c)
 
   argument_told : (core : Core) (names : List Named) (place : Place) (args : Arguments) (what : Applied) → is_constant_argument core names args ≡ true → Told (ArgumentIsSpoiled names args) (checked (argument_means core names place args what))
   argument_told core names place (arguments (value e) no_arguments) what c = told_through (constant core names e) (use_means core what place (start_of e)) (has_value core names e c) (λ a. use_whole core what place (start_of e) a)

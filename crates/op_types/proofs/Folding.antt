@@ -23,7 +23,7 @@ use Rattle.op_types.specs.declared.constant.Constant.{Constant}
 
 -- what is there, with no fault
 abbrev pub standing : Option Constant → Judgement Constant
-standing a = known (record { typed = a; faults = none }) (Entry a) Never (agrees_standing (holds_entry a))
+standing a = known (record { typed = a; faults = none }) (Entry a) Never (agrees_standing (holds_entry a)) tt
 
 -- from here the one reports what the other does from there
 abbrev pub Same : Judgement Constant → Judgement Constant → Option Refusal → Option Refusal → Type 0
@@ -149,9 +149,9 @@ pub map_ok : {A E : Type 0} {P Q : A → Type 0} (r : Result A E) → ((a : A) �
 map_ok (Ok a) f h = f a h
 map_ok (Err e) f h = h
 
-nil : {A : Type 0} (xs : List A) → length xs ≡ 0 → xs ≡ []
-nil [] h = refl
-nil (x ∷ xs) h = absurd (omega (arith, h))
+pub nothing : {A : Type 0} (xs : List A) → length xs ≡ 0 → xs ≡ []
+nothing [] h = refl
+nothing (x ∷ xs) h = absurd (omega (arith, h))
 
 pub one_given : (list others : List Argument) (first : Argument) → list ≡ first ∷ others → length others ≡ 0 → arguments_of list ≡ arguments (argument_of first) no_arguments
-one_given list others first e h = ap arguments_of (e ∙ ap (λ os. first ∷ os) (nil others h))
+one_given list others first e h = ap arguments_of (e ∙ ap (λ os. first ∷ os) (nothing others h))

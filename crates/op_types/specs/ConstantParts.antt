@@ -2,7 +2,6 @@
 use Rattle.std.specs.Option.{option_and_then}
 use Rattle.std.specs.Prelude.{ℕ, pos, ◌+◌, ◌%◌, Bool, true, false, List, [], ◌∷◌, ◌++◌, codes, Option, Some, None, is_some, if◌then◌else◌}
 use Rattle.op_base.specs.declared.place.Place.{Place}
-use Rattle.op_base.specs.declared.rule.Rule.{Rule}
 use Rattle.op_core.specs.Sizes.{capped}
 use Rattle.op_core.specs.declared.constant.Const.TheVariants.{Ordinal, Text, Set}
 use Rattle.op_core.specs.declared.constant.Const.{Const}
@@ -10,7 +9,8 @@ use Rattle.op_core.specs.declared.ids.TypeId.{TypeId}
 use Rattle.op_core.specs.declared.operation.Function.TheVariants.{Length, Low, High, Ord, Succ, Pred, Abs, Sqr, Odd, UpCase}
 use Rattle.op_core.specs.declared.operation.Function.{Function}
 use Rattle.op_core.specs.declared.program.Core.{Core}
-use Rattle.op_judgement.specs.Rules.{not_assignable, not_ordinal}
+use Rattle.op_judgement.specs.declared.rules.LanguageRule.{LanguageRule}
+use Rattle.op_judgement.specs.declared.rules.LanguageRule.TheVariants.{NotAssignable, NotOrdinal}
 use Rattle.op_tree.specs.Expression.{Expression, chain, prefixed, number, nil, set, literal, designated, inherited, Element, one, range, Designator, designator, Root, named, string, bracketed, Selectors, no_selectors, selectors, member, Arguments, no_arguments, arguments, value}
 use Rattle.op_tree.specs.declared.operator.Operator.TheVariants.{Is, As_}
 use Rattle.op_tree.specs.declared.operator.Operator.{Operator}
@@ -130,11 +130,11 @@ qualified names n m = behind_name names n m (meaning_of names (lower n.text))
 -- ---- functions and casts
 
 -- the rule that an argument breaks which the function does not take
-abbrev pub rule_of : Function → Rule
-rule_of Ord = not_ordinal
-rule_of Succ = not_ordinal
-rule_of Pred = not_ordinal
-rule_of _ = not_assignable
+abbrev pub rule_of : Function → LanguageRule
+rule_of Ord = NotOrdinal
+rule_of Succ = NotOrdinal
+rule_of Pred = NotOrdinal
+rule_of _ = NotAssignable
 
 abbrev pub is_ordinal : Sort → Bool
 is_ordinal (sort.Ordinal kind) = true

@@ -1,7 +1,7 @@
 -- What constant expressions mean and which rules they break: judgements; and which expressions are constant.
-use Rattle.std.specs.Prelude.{◌≡◌, ℕ, ℤ, pos, neg_ℤ, Bool, true, false, ◌&&◌, List, Option, Some, None, is_some}
+use Rattle.std.specs.Prelude.{◌≡◌, ℕ, ℤ, pos, neg_ℤ, Bool, true, false, ◌&&◌, List, Option, Some, None, is_some, if◌then◌else◌}
 use Rattle.op_base.specs.declared.place.Place.{Place}
-use Rattle.op_base.specs.declared.rule.Rule.{Rule}
+use Rattle.op_core.specs.Faults.{Checked, kept}
 use Rattle.op_core.specs.Sizes.{type_at}
 use Rattle.op_core.specs.declared.constant.Const.TheVariants.{Nil}
 use Rattle.op_core.specs.declared.constant.Const.{Const}
@@ -9,8 +9,9 @@ use Rattle.op_core.specs.declared.first_refusal.FirstRefusal.{FirstRefusal}
 use Rattle.op_core.specs.declared.ids.TypeId.{TypeId}
 use Rattle.op_core.specs.declared.operation.Function.{Function}
 use Rattle.op_core.specs.declared.program.Core.{Core}
-use Rattle.op_judgement.specs.Judgement.{Judgement, Reports, by_entry, by_test, changed, fine, followed, of_two, refused, through, untyped, with_part}
-use Rattle.op_judgement.specs.Rules.{no_cast, no_operator, no_set_element, not_assignable, not_ordinal, number_too_large, out_of_range, unknown_name, wrong_arguments}
+use Rattle.op_judgement.specs.Judgement.{Judgement, Reports, by_entry, by_test, changed, checked, fine, followed, of_two, refused, through, untyped, with_part}
+use Rattle.op_judgement.specs.declared.rules.LanguageRule.{LanguageRule}
+use Rattle.op_judgement.specs.declared.rules.LanguageRule.TheVariants.{NoCast, NoOperator, NoSetElement, NotAssignable, NotOrdinal, NumberTooLarge, OutOfRange, UnknownName, WrongArguments}
 use Rattle.op_tree.specs.Expression.{Expression, chain, prefixed, number, nil, set, literal, designated, inherited, Operations, no_operations, operation, Elements, no_elements, elements, Element, one, range, Designator, designator, named, bracketed, Selectors, no_selectors, selectors, member, call, Arguments, no_arguments, arguments, value}
 use Rattle.op_tree.specs.declared.operator.Operator.TheVariants.{Add}
 use Rattle.op_tree.specs.declared.operator.Operator.{Operator}
@@ -34,12 +35,12 @@ use Rattle.op_types.specs.declared.visible.Meaning.{Meaning}
 -- ---- values
 
 -- a constant, where there is such a value; else the rule is broken at the place
-abbrev pub entered : Rule → Place → TypeId → Weight → Option Const → Judgement Constant
+abbrev pub entered : LanguageRule → Place → TypeId → Weight → Option Const → Judgement Constant
 entered rule place of w v = by_entry rule place (λ v. fine (made v of w)) v
 
 -- a number, behind a minus or alone
 abbrev pub numeral : Place → ℕ → ℤ → Judgement Constant
-numeral place count n = entered number_too_large place table.integer (nodes count) (within n)
+numeral place count n = entered NumberTooLarge place table.integer (nodes count) (within n)
 
 -- with selectors it is none
 abbrev pub literal_constant : List ℕ → Selectors → Judgement Constant
@@ -50,12 +51,12 @@ literal_constant text (selectors s ss) = untyped
 
 abbrev pub prefix_means : Core → Place → PrefixOperator → Constant → Judgement Constant
 prefix_means core place o a =
-    by_entry no_operator place (λ of. entered out_of_range place of (joined a.weight (nodes 0)) (before o of (number_of a.value))) (table.prefixed o (sort_of core a.of))
+    by_entry NoOperator place (λ of. entered OutOfRange place of (joined a.weight (nodes 0)) (before o of (number_of a.value))) (table.prefixed o (sort_of core a.of))
 
 -- an operator at a place, in an expression that begins at another
 abbrev pub operator_means : Core → Place → Operator → Place → Constant → Constant → Judgement Constant
 operator_means core start o place a b =
-    by_entry no_operator place (λ of. entered out_of_range start of (joined a.weight b.weight) (operated o (sort_of core a.of) (sort_of core b.of) a.value b.value))
+    by_entry NoOperator place (λ of. entered OutOfRange start of (joined a.weight b.weight) (operated o (sort_of core a.of) (sort_of core b.of) a.value b.value))
     (table.operation o (sort_of core a.of) (sort_of core b.of) (common_set core a.of b.of))
 
 abbrev pub operation_means : Core → Place → Operator → Place → Option Constant → Option Constant → Judgement Constant
@@ -65,7 +66,7 @@ operation_means core start o place a b = with_part (λ a. with_part (operator_me
 
 -- what is no constant has no meaning here; of a spoiled name its declaration has spoken
 abbrev pub name_means : Place → Option Meaning → Judgement Constant
-name_means place None = refused unknown_name place
+name_means place None = refused UnknownName place
 name_means place (Some (ConstantNamed c)) = fine (made c.value c.of (nodes 1))
 name_means place _ = untyped
 
@@ -74,11 +75,11 @@ name_means place _ = untyped
 -- a function at a place, of an argument at another
 abbrev pub application_means : Core → Place → Function → Place → Constant → Judgement Constant
 application_means core place f at a =
-    by_entry (rule_of f) at (λ of. entered out_of_range place of (joined a.weight (nodes 0)) (applied core f a.of a.value)) (table.application f (sort_of core a.of) a.of)
+    by_entry (rule_of f) at (λ of. entered OutOfRange place of (joined a.weight (nodes 0)) (applied core f a.of a.value)) (table.application f (sort_of core a.of) a.of)
 
 abbrev pub cast_means : Core → Place → TypeId → Constant → Judgement Constant
 cast_means core place of a =
-    by_test no_cast place (entered out_of_range place of (joined a.weight (nodes 0)) (cast (type_at core of) (number_of a.value))) (is_ordinal (sort_of core a.of))
+    by_test NoCast place (entered OutOfRange place of (joined a.weight (nodes 0)) (cast (type_at core of) (number_of a.value))) (is_ordinal (sort_of core a.of))
 
 -- by the places of the name and of the argument
 abbrev pub use_means : Core → Applied → Place → Place → Constant → Judgement Constant
@@ -87,11 +88,11 @@ use_means core (Function' f) place at a = application_means core place f at a
 
 -- Low or High of a type
 abbrev pub bound_means : Core → Function → TypeId × Place → Judgement Constant
-bound_means core f of = by_entry not_ordinal of.1 (λ b. fine (made b.0 b.1 (nodes 2))) (bound_of core f of.0)
+bound_means core f of = by_entry NotOrdinal of.1 (λ b. fine (made b.0 b.1 (nodes 2))) (bound_of core f of.0)
 
 -- a name at a place, with one list of arguments: the type that these name, and what is done with the one value that they are
 abbrev pub call_means : Core → Place → Option (TypeId × Place) → (Applied → Judgement Constant) → Option Use → Judgement Constant
-call_means core place of g (Some Unknown) = refused unknown_name place
+call_means core place of g (Some Unknown) = refused UnknownName place
 call_means core place of g (Some (Bound f)) = with_part (bound_means core f) of
 call_means core place of g (Some (Apply what)) = g what
 call_means core place of g _ = untyped
@@ -100,7 +101,7 @@ call_means core place of g _ = untyped
 
 -- an element that begins at a place: of an ordinal type, from 0 to 31
 abbrev pub element_means : Core → Place → Constant → Judgement Constant
-element_means core at a = by_test not_ordinal at (by_test no_set_element at (fine a) (contains (pos 0, pos 31) (number_of a.value))) (is_ordinal (sort_of core a.of))
+element_means core at a = by_test NotOrdinal at (by_test NoSetElement at (fine a) (contains (pos 0, pos 31) (number_of a.value))) (is_ordinal (sort_of core a.of))
 
 -- the set of one element
 abbrev pub singleton : Core → Constant → Judgement Constant
@@ -118,7 +119,7 @@ all_between core a b =
 
 -- the elements from one to another that begins at a place, where this is of the first one's kind
 abbrev pub from_to : Core → Place → Constant → Constant → Judgement Constant
-from_to core at a b = by_test not_assignable at (fine (all_between core a b)) (assignable core b.of a.of)
+from_to core at a b = by_test NotAssignable at (fine (all_between core a b)) (assignable core b.of a.of)
 
 abbrev pub range_means : Core → Place → Option Constant → Place → Option Constant → Judgement Constant
 range_means core at a at' b =
@@ -129,7 +130,7 @@ union core a b = loose (combined Add (members_of a.value) (members_of b.value)) 
 
 -- elements so far, and those of one that begins at a place, where these are of the same kind
 abbrev pub united : Core → Place → Constant → Constant → Judgement Constant
-united core at a b = by_test not_assignable at (fine (union core a b)) (are_sets (sort_of core a.of) (sort_of core b.of))
+united core at a b = by_test NotAssignable at (fine (union core a b)) (are_sets (sort_of core a.of) (sort_of core b.of))
 
 abbrev pub gathered_means : Core → Place → Option Constant → Option Constant → Judgement Constant
 gathered_means core at a b = with_part (λ a. with_part (united core at a) b) a
@@ -185,7 +186,7 @@ abbrev mutual
   -- a cast or a function at a place takes one argument
   pub argument_means : Core → List Named → Place → Arguments → Applied → Judgement Constant
   argument_means core names place (arguments (value e) no_arguments) what = through (constant core names e) (use_means core what place (start_of e))
-  argument_means core names place _ what = refused wrong_arguments place
+  argument_means core names place _ what = refused WrongArguments place
 
 -- ---- which expressions are constant
 
@@ -250,3 +251,11 @@ abbrev mutual
 abbrev pub Finds : Bool → Judgement Constant → FirstRefusal → FirstRefusal → Option (Option Constant) → Type 0
 Finds is_one j old new None = is_one ≡ false
 Finds is_one j old new (Some typed) = (is_one ≡ true) × Reports j old new typed
+
+-- the same in one equation
+abbrev pub if_constant : Bool → Judgement Constant → Option (Checked Constant)
+if_constant is_one j = if is_one then Some (checked j) else None
+
+abbrev pub Gives : Option (Checked Constant) → FirstRefusal → FirstRefusal → Option (Option Constant) → Type 0
+Gives None old new given = given ≡ None
+Gives (Some c) old new given = (given ≡ Some c.typed) × (new.kept ≡ kept old.kept c.faults)

@@ -1,8 +1,6 @@
 pub mod Answered
 pub mod Assignable
 pub mod ConstantParts
-pub mod ConstantRules
-pub mod Constants
 pub mod Entering
 pub mod Folding
 pub mod Names

@@ -1,6 +1,6 @@
 -- What names stand for.
-use Rattle.std.specs.Prelude.{◌≡◌, ℕ, suc, List, [], ◌∷◌, Option, Some, None, if◌then◌else◌, map, slice_get, take, Vec}
-use Rattle.std.specs.Char.{to_ascii_lowercase}
+pub use Rattle.op_core.specs.FieldNames.{lower}
+use Rattle.std.specs.Prelude.{◌≡◌, ℕ, suc, List, [], ◌∷◌, Option, Some, None, if◌then◌else◌, slice_get, take, Vec}
 use Rattle.std.specs.Option.{option_flatten, option_map, option_or}
 use Rattle.std.specs.Str.{bytes_eq}
 use Rattle.std.specs.declared.alloc.Global.{Global}
@@ -12,10 +12,6 @@ use Rattle.op_types.specs.declared.visible.Meaning.{Meaning}
 pub record Named : Type 0 where
   pub name : List ℕ
   pub meaning : Meaning
-
--- names are the same whatever the case of their letters
-abbrev pub lower : List ℕ → List ℕ
-lower name = map to_ascii_lowercase name
 
 -- a name stands for what was declared last under it
 abbrev pub meaning_of : List Named → List ℕ → Option Meaning

@@ -1,22 +1,21 @@
 //! Constant expressions (Free Pascal Reference Guide, "Ordinary constants").
-ghost use Rattle.std.specs.Prelude.{◌≡◌, Some, IfOk};
+ghost use Rattle.std.specs.Prelude.{◌≡◌, Some, IfErr, IfOk};
 ghost use Rattle.std.specs.Option.{option_copied, option_map};
-ghost use Rattle.op_judgement.specs.Judgement.{fine, with_part};
+ghost use Rattle.op_judgement.specs.Judgement.{RefusalHasText, fine, with_part};
 ghost use Rattle.op_tree.specs.Expression.{argument_of, arguments, call, designator, element_of, expr_of, member, named, no_arguments, no_selectors, prefixed, selector_of, selectors};
 ghost use Rattle.op_tree.specs.Lists.{arguments_of, operations_of};
 ghost use Rattle.op_tree.specs.Statement.{designator_of, elements_of};
 ghost use Rattle.op_types.specs.Answered.{FoldIs, Folds};
 ghost use Rattle.op_types.specs.ConstantParts.{no_members, type_named, use_of};
-ghost use Rattle.op_types.specs.Constants as readings;
-ghost use Rattle.op_types.specs.Folding.{Finds, are_constant_elements, are_constant_operands, argument_means, call_means, constant, designated_constant, element, in_brackets, is_constant, is_constant_argument, is_constant_call, is_constant_designator, is_constant_element, members, operations};
+ghost use Rattle.op_types.specs.Folding.{Finds, Gives, are_constant_elements, are_constant_operands, argument_means, call_means, constant, designated_constant, element, if_constant, in_brackets, is_constant, is_constant_argument, is_constant_call, is_constant_designator, is_constant_element, members, operations};
 
-use crate::part::{
+use crate::evaluation::{
     in_brackets, is_folded, made, no_members, nodes, number_behind, start_of, start_of_element,
 };
 use crate::{Meaning, Setting, Visible};
 use op_base::{NoMemory, Place};
 use op_core::{CheckError, Const, Core, FirstRefusal, Function, TypeId};
-use op_judgement::{refuse, rules};
+use op_judgement::{LanguageRule, refuse};
 use op_tree::{
     Argument, Designator, Element, Expr, Name, Operation, Position, PrefixOperator, Root, Selector,
 };
@@ -71,6 +70,7 @@ pub fn fold(
 ) -> Result<Option<Const>, CheckError>
     ensures folded { FoldIs (is_constant core.now visible.now (expr_of e.now)) (constant core.now visible.now (expr_of e.now)) result }
     ensures law { Folds core.now visible.now (expr_of e.now) result }
+    ensures told { IfErr result RefusalHasText }
 {
     let mut sink = FirstRefusal::new();
     let setting = Setting {
@@ -96,7 +96,7 @@ fn value_of(typed: Option<Constant>) -> Option<Const>
 impl<'a> Setting<'a> {
     /// What a constant expression means; its faults go into the sink.
     pub fn constant(self, sink: &mut FirstRefusal, e: &Expr) -> Folded
-        ensures { IfOk result (readings.Gives (readings.constant self.entry.core.now self.entry.visible.now (expr_of e.now)) sink.old sink.new) }
+        ensures { IfOk result (Gives (if_constant (is_constant self.entry.core.now self.entry.visible.now (expr_of e.now)) (constant self.entry.core.now self.entry.visible.now (expr_of e.now))) sink.old sink.new) }
     {
         let folded = self.expression(sink, e)?;
         Ok(folded)
@@ -318,17 +318,17 @@ impl<'a> Setting<'a> {
     {
         match self.use_of(meaning) {
             None => Ok(None),
-            Some(Use::Unknown) => Ok(Some(refuse(sink, rules::UNKNOWN_NAME, place))),
+            Some(Use::Unknown) => Ok(Some(refuse(sink, LanguageRule::UnknownName, place))),
             Some(Use::Silent) => Ok(Some(None)),
             Some(Use::Bound(function)) => match self.type_named(list)? {
                 None => Ok(None),
                 Some((of, at)) => Ok(Some(self.bound(sink, function, of, at))),
             },
             Some(Use::Apply(what)) => match list.split_first() {
-                None => Ok(Some(refuse(sink, rules::WRONG_ARGUMENTS, place))),
+                None => Ok(Some(refuse(sink, LanguageRule::WrongArguments, place))),
                 Some((first, others)) => match others.split_first() {
                     None => self.argument(sink, what, place, first),
-                    Some(_) => Ok(Some(refuse(sink, rules::WRONG_ARGUMENTS, place))),
+                    Some(_) => Ok(Some(refuse(sink, LanguageRule::WrongArguments, place))),
                 },
             },
         }
@@ -351,7 +351,7 @@ impl<'a> Setting<'a> {
                 Some(None) => Ok(Some(None)),
                 Some(Some(a)) => Ok(Some(self.used(sink, what, place, start_of(e), a)?)),
             },
-            _ => Ok(Some(refuse(sink, rules::WRONG_ARGUMENTS, place))),
+            _ => Ok(Some(refuse(sink, LanguageRule::WrongArguments, place))),
         }
     }
 }

@@ -8,8 +8,8 @@
 mod assign;
 mod constant;
 mod enter;
+mod evaluation;
 mod operator;
-mod part;
 mod set;
 mod setting;
 mod sort;
@@ -19,11 +19,11 @@ mod visible;
 pub use assign::assignable;
 pub use constant::{Applied, Constant, Folded, Part, Use, Weight, fold};
 pub use enter::{enter_type, predefined};
-pub use operator::{application, operation, prefixed};
-pub use part::{
+pub use evaluation::{
     in_brackets, is_folded, joined, made, no_members, nodes, number_behind, only_value, plus,
     start_of, start_of_element,
 };
+pub use operator::{application, operation, prefixed};
 pub use set::{common_set, set_behind, set_over, widest_set};
 pub use setting::Setting;
 pub use sort::{OrdinalKind, Sort, kind_of, sort_of};

@@ -1,14 +1,14 @@
 //! The names that are visible at a place, and what they stand for.
 ghost use Rattle.std.specs.Prelude.{◌≡◌, ◌-◌, [], ◌∷◌, ◌++◌, IfOk, drop, is_some, length, map, take};
-ghost use Rattle.std.specs.Char.{to_ascii_lowercase};
 ghost use Rattle.std.specs.Option.{option_copied};
 ghost use Rattle.op_types.specs.Names.{lower, meaning_of, named};
 
 use crate::Constant;
-use crate::part::copy_of;
+use crate::evaluation::copy_of;
 use indexmap::IndexMap;
 use op_base::NoMemory;
-use op_core::{Function, RoutineId, TypeId, UnitId, VariableId};
+use op_core::{Function, RoutineId, TypeId, UnitId, VariableId, lowered};
+use op_judgement::Feature;
 use std::alloc::Global;
 use std::marker::Model;
 
@@ -40,8 +40,8 @@ pub enum BuiltIn {
     Continue,
     /// A function of one value.
     Function(Function),
-    /// A type that is not in this profile, by the number of the feature.
-    LeftOut(u8),
+    /// A type that is not in this profile, by its feature.
+    LeftOut(Feature),
 }
 
 /// What a name stands for.
@@ -227,13 +227,4 @@ impl Visible {
             None => Ok(false),
         }
     }
-}
-
-/// The name in small letters.
-fn lowered(alloc: Global, name: &[u8]) -> Result<Vec<u8>, NoMemory>
-    ensures { IfOk result (λ v. v.items ≡ lower name.now) }
-{
-    let mut letters = Vec::from_slice(alloc, name)?;
-    letters.as_mut_slice().make_ascii_lowercase();
-    Ok(letters)
 }

@@ -3,4 +3,5 @@ pub mod Loading
 pub mod Names
 pub mod Reaching
 pub mod Searching
+pub mod Told
 pub mod Walking

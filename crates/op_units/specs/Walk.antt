@@ -8,6 +8,7 @@ use Rattle.op_base.specs.declared.files.NamedFile.{NamedFile}
 use Rattle.op_base.specs.declared.place.Place.{Place}
 use Rattle.op_base.specs.declared.rule.Refusal.{Refusal}
 use Rattle.op_core.specs.Faults.{broken}
+use Rattle.op_base.specs.Rule.{HasText}
 use Rattle.op_tree.specs.declared.file.Tree.{Tree}
 use Rattle.op_tree.specs.declared.file.Tree.TheVariants as tree
 use Rattle.op_units.specs.Reading.{Breaks, Reads}
@@ -225,6 +226,12 @@ abbrev pub Stops : Option (List NamedFile) → List ℕ → ℕ → ℕ → Load
 Stops stored main before after (Refused refusal file) = Walks stored main (refused refusal file)
 Stops stored main before after ReadFault = Rose before after
 Stops stored main before after NoMemory = ⊤
+
+-- the rule of a refusal has a text
+abbrev pub RefusalHasText : LoadError → Type 0
+RefusalHasText (Refused refusal file) = HasText refusal.rule
+RefusalHasText ReadFault = ⊤
+RefusalHasText NoMemory = ⊤
 
 -- ---- the code's own
 

@@ -4,7 +4,7 @@ ghost use Rattle.op_scan.specs.Scan.{StandFor};
 ghost use Rattle.op_units.specs.Cycles.{FirstIs, RefusesBy, StopsAt, with_frame};
 ghost use Rattle.op_units.specs.Names.{IsFolder};
 ghost use Rattle.op_units.specs.Reading.{BreaksAs, IsShownAs, Reads, ReadsTokens, SpelledAs, first_of};
-ghost use Rattle.op_units.specs.Walk.{GivesForest, Stops, Visits, nothing_read, walked, walked_of};
+ghost use Rattle.op_units.specs.Walk.{GivesForest, RefusalHasText, Stops, Visits, nothing_read, walked, walked_of};
 
 use crate::frame::Frame;
 use crate::unbuilt::first_unbuilt;
@@ -38,6 +38,8 @@ pub fn load<F: Files>(alloc: Global, files: &mut F, main: &str) -> Result<Forest
     ensures loaded { IfOk result (GivesForest (F.stored files.old) main.now) }
     // Each error has its cause in this call.
     ensures failed { IfErr result (Stops (F.stored files.old) main.now (F.faults files.old) (F.faults files.new)) }
+    // What is refused breaks a rule that has a text.
+    ensures told { IfErr result RefusalHasText }
     ensures counts { F.faults files.old ≤ F.faults files.new }
     ensures unchanged { F.stored files.new ≡ F.stored files.old }
 {

@@ -16,10 +16,16 @@ height Additive = 6
 height Multiplicative = 3
 
 abbrev pub decreases-chain::chain : goal.decreases-chain::chain
-decreases-chain::chain l = 32 * l.left + 10 + height l.level
+decreases-chain::chain l = 32 * l.left + 11 + height l.level
 
-abbrev pub decreases-chain::operand : goal.decreases-chain::operand
-decreases-chain::operand l = 32 * l.left + 8 + height l.level
+abbrev pub decreases-chain::read_chain : goal.decreases-chain::read_chain
+decreases-chain::read_chain l = 32 * l.left + 10 + height l.level
+
+abbrev pub decreases-chain::read_factor : goal.decreases-chain::read_factor
+decreases-chain::read_factor l = 32 * l.left + 10
+
+abbrev pub decreases-chain::read_operand : goal.decreases-chain::read_operand
+decreases-chain::read_operand l = 32 * l.left + 8 + height l.level
 
 abbrev pub decreases-chain::operations : goal.decreases-chain::operations
 decreases-chain::operations l = 32 * l.left + 9 + height l.level
@@ -27,8 +33,17 @@ decreases-chain::operations l = 32 * l.left + 9 + height l.level
 abbrev pub decreases-factor::factor : goal.decreases-factor::factor
 decreases-factor::factor l = 32 * l.left + 9
 
+abbrev pub decreases-factor::literal : goal.decreases-factor::literal
+decreases-factor::literal l = 32 * l.left + 8
+
+abbrev pub decreases-factor::inherited : goal.decreases-factor::inherited
+decreases-factor::inherited l = 32 * l.left + 8
+
+abbrev pub decreases-factor::prefixed : goal.decreases-factor::prefixed
+decreases-factor::prefixed l = 32 * l.left + 8
+
 abbrev pub decreases-designator::designator : goal.decreases-designator::designator
-decreases-designator::designator l = 32 * l.left + 8
+decreases-designator::designator l = 32 * l.left + 7
 
 abbrev pub decreases-designator::root : goal.decreases-designator::root
 decreases-designator::root l = 32 * l.left + 4

@@ -55,6 +55,15 @@ compound::statement_at-returns-in_ok-inner-in-Word-clause-whole t c = ok_weaker 
 pub compound::statement_at-returns-in_ok-inner-in-Word-clause-refused : goal.compound::statement_at-returns-in_ok-inner-in-Word-clause-refused
 compound::statement_at-returns-in_ok-inner-in-Word-clause-refused t c = err_weaker c.behind_word.result c.behind_word.ensures.refused (λ e h. rw (c.in-Some.ensures.cases.0) (word_refuses _ _ _ _ (kind_of_word c.in-Word.word) _ _ _ c.in-Word.ensures (word_begins c.in-Word.word) c.in_ok-inner-in-Word.ensures.inside (rw c.position_of-in-Word.ensures at h)))
 
+pub compound::boxed_statement-returns-in_err-statement-clause-refused : goal.compound::boxed_statement-returns-in_err-statement-clause-refused
+compound::boxed_statement-returns-in_err-statement-clause-refused t c = passed c.from_residual.result c.from_residual.ensures.1 (λ y e. rw e c.in_err-statement.ensures.refused)
+
+pub compound::boxed_statement-returns-in_err-boxed-clause-refused : goal.compound::boxed_statement-returns-in_err-boxed-clause-refused
+compound::boxed_statement-returns-in_err-boxed-clause-refused t c = passed c.from_residual-in_err-boxed.result c.from_residual-in_err-boxed.ensures.1 (λ y e. out_of_memory e)
+
+pub compound::boxed_statement-returns-clause-whole : goal.compound::boxed_statement-returns-clause-whole
+compound::boxed_statement-returns-clause-whole t c = rw c.in_ok-boxed.ensures c.in_ok-statement.ensures.whole
+
 pub compound::behind_word-returns-in-Begin : goal.compound::behind_word-returns-in-Begin
 compound::behind_word-returns-in-Begin t c = record { whole = rw c.in-Begin.is c.block.ensures.whole; refused = rw c.in-Begin.is c.block.ensures.refused; shorter = c.block.ensures.shorter }
 
@@ -109,20 +118,14 @@ compound::if_statement-returns-in_err-rest-clause-refused t c = passed c.from_re
 pub compound::if_statement-returns-in_err-then-clause-refused : goal.compound::if_statement-returns-in_err-then-clause-refused
 compound::if_statement-returns-in_err-then-clause-refused t c = passed c.from_residual-in_err-then.result c.from_residual-in_err-then.ensures.1 (λ y e. rw e (if_refuses c.args.position c.args.left c.args.end _ _ (headed_rest mark.Then IfBody _ c.args.left c.args.end _ _ _ _ _ c.in_ok-condition.ensures.whole c.in_ok-rest.ensures.mark.1 (if_body c.args.left c.args.end _ _ c.in_err-then.ensures.refused))))
 
-pub compound::if_statement-returns-in_err-node-in-None-clause-refused : goal.compound::if_statement-returns-in_err-node-in-None-clause-refused
-compound::if_statement-returns-in_err-node-in-None-clause-refused t c = passed c.from_residual-in_err-node-in-None.result c.from_residual-in_err-node-in-None.ensures.1 (λ y e. out_of_memory e)
-
-pub compound::if_statement-returns-in_ok-node-in-None-clause-whole : goal.compound::if_statement-returns-in_ok-node-in-None-clause-whole
-compound::if_statement-returns-in_ok-node-in-None-clause-whole t c = rw c.in_ok-node-in-None.ensures (if_whole c.args.position _ c.args.left _ _ _ _ _ _ c.in_ok-condition.ensures.whole c.in_ok-rest.ensures.mark.1 c.in_ok-then.ensures.whole c.in-None.ensures.mark)
+pub compound::if_statement-returns-in-None-clause-whole : goal.compound::if_statement-returns-in-None-clause-whole
+compound::if_statement-returns-in-None-clause-whole t c = rw c.if_node.ensures (if_whole c.args.position _ c.args.left _ _ _ _ _ _ c.in_ok-condition.ensures.whole c.in_ok-rest.ensures.mark.1 c.in_ok-then.ensures.whole c.in-None.ensures.mark)
 
 pub compound::if_statement-returns-in_err-otherwise-in-Some-clause-refused : goal.compound::if_statement-returns-in_err-otherwise-in-Some-clause-refused
 compound::if_statement-returns-in_err-otherwise-in-Some-clause-refused t c = passed c.from_residual-in_err-otherwise-in-Some.result c.from_residual-in_err-otherwise-in-Some.ensures.1 (λ y e. rw e (if_refuses c.args.position c.args.left c.args.end _ _ (headed_rest mark.Then IfBody _ c.args.left c.args.end _ _ _ _ _ c.in_ok-condition.ensures.whole c.in_ok-rest.ensures.mark.1 (if_otherwise c.args.left c.args.end _ _ _ _ _ _ c.in_ok-then.ensures.whole c.in-Some.ensures.mark.1 c.in_err-otherwise-in-Some.ensures.refused))))
 
-pub compound::if_statement-returns-in_err-node-in-Some-clause-refused : goal.compound::if_statement-returns-in_err-node-in-Some-clause-refused
-compound::if_statement-returns-in_err-node-in-Some-clause-refused t c = passed c.from_residual-in_err-node-in-Some.result c.from_residual-in_err-node-in-Some.ensures.1 (λ y e. out_of_memory e)
-
-pub compound::if_statement-returns-in_ok-node-in-Some-clause-whole : goal.compound::if_statement-returns-in_ok-node-in-Some-clause-whole
-compound::if_statement-returns-in_ok-node-in-Some-clause-whole t c = rw c.in_ok-node-in-Some.ensures (if_else_whole c.args.position _ _ c.args.left _ _ _ _ _ _ _ _ _ c.in_ok-condition.ensures.whole c.in_ok-rest.ensures.mark.1 c.in_ok-then.ensures.whole c.in-Some.ensures.mark.1 c.in_ok-otherwise-in-Some.ensures.whole)
+pub compound::if_statement-returns-in_ok-otherwise-in-Some-clause-whole : goal.compound::if_statement-returns-in_ok-otherwise-in-Some-clause-whole
+compound::if_statement-returns-in_ok-otherwise-in-Some-clause-whole t c = rw c.if_else_node.ensures (if_else_whole c.args.position _ _ c.args.left _ _ _ _ _ _ _ _ _ c.in_ok-condition.ensures.whole c.in_ok-rest.ensures.mark.1 c.in_ok-then.ensures.whole c.in-Some.ensures.mark.1 c.in_ok-otherwise-in-Some.ensures.whole)
 
 pub repetition::while_loop-returns-in_err-condition-clause-refused : goal.repetition::while_loop-returns-in_err-condition-clause-refused
 repetition::while_loop-returns-in_err-condition-clause-refused t c = passed c.from_residual.result c.from_residual.ensures.1 (λ y e. rw e (while_refuses c.args.position c.args.left c.args.end _ _ (headed_first mark.Do_ SomeStatement c.args.left c.args.end _ _ do_heads c.in_err-condition.ensures.refused)))
@@ -133,11 +136,8 @@ repetition::while_loop-returns-in_err-rest-clause-refused t c = passed c.from_re
 pub repetition::while_loop-returns-in_err-body-clause-refused : goal.repetition::while_loop-returns-in_err-body-clause-refused
 repetition::while_loop-returns-in_err-body-clause-refused t c = passed c.from_residual-in_err-body.result c.from_residual-in_err-body.ensures.1 (λ y e. rw e (while_refuses c.args.position c.args.left c.args.end _ _ (headed_rest mark.Do_ SomeStatement _ c.args.left c.args.end _ _ _ _ _ c.in_ok-condition.ensures.whole c.in_ok-rest.ensures.mark.1 c.in_err-body.ensures.refused)))
 
-pub repetition::while_loop-returns-in_err-node-clause-refused : goal.repetition::while_loop-returns-in_err-node-clause-refused
-repetition::while_loop-returns-in_err-node-clause-refused t c = passed c.from_residual-in_err-node.result c.from_residual-in_err-node.ensures.1 (λ y e. out_of_memory e)
-
 pub repetition::while_loop-returns-clause-whole : goal.repetition::while_loop-returns-clause-whole
-repetition::while_loop-returns-clause-whole t c = rw c.in_ok-node.ensures (while_whole c.args.position _ c.args.left _ _ _ _ _ _ c.in_ok-condition.ensures.whole c.in_ok-rest.ensures.mark.1 c.in_ok-body.ensures.whole)
+repetition::while_loop-returns-clause-whole t c = rw c.while_node.ensures (while_whole c.args.position _ c.args.left _ _ _ _ _ _ c.in_ok-condition.ensures.whole c.in_ok-rest.ensures.mark.1 c.in_ok-body.ensures.whole)
 
 pub repetition::repeat_loop-returns-in_err-body-clause-refused : goal.repetition::repeat_loop-returns-in_err-body-clause-refused
 repetition::repeat_loop-returns-in_err-body-clause-refused t c = passed c.from_residual.result c.from_residual.ensures.1 (λ y e. rw e (repeat_body c.args.position c.args.left c.args.end _ _ c.in_err-body.ensures.refused))
@@ -148,11 +148,8 @@ repetition::repeat_loop-returns-in_err-rest-clause-refused t c = passed c.from_r
 pub repetition::repeat_loop-returns-in_err-condition-clause-refused : goal.repetition::repeat_loop-returns-in_err-condition-clause-refused
 repetition::repeat_loop-returns-in_err-condition-clause-refused t c = passed c.from_residual-in_err-condition.result c.from_residual-in_err-condition.ensures.1 (λ y e. rw e (repeat_condition c.args.position _ c.args.left c.args.end _ _ _ _ _ c.in_ok-body.ensures.whole c.in_ok-rest.ensures.mark.1 c.in_err-condition.ensures.refused))
 
-pub repetition::repeat_loop-returns-in_err-node-clause-refused : goal.repetition::repeat_loop-returns-in_err-node-clause-refused
-repetition::repeat_loop-returns-in_err-node-clause-refused t c = passed c.from_residual-in_err-node.result c.from_residual-in_err-node.ensures.1 (λ y e. out_of_memory e)
-
 pub repetition::repeat_loop-returns-clause-whole : goal.repetition::repeat_loop-returns-clause-whole
-repetition::repeat_loop-returns-clause-whole t c = rw c.in_ok-node.ensures (repeat_whole c.args.position _ c.args.left _ _ _ _ _ _ c.in_ok-body.ensures.whole c.in_ok-rest.ensures.mark.1 c.in_ok-condition.ensures.whole)
+repetition::repeat_loop-returns-clause-whole t c = rw c.repeat_node.ensures (repeat_whole c.args.position _ c.args.left _ _ _ _ _ _ c.in_ok-body.ensures.whole c.in_ok-rest.ensures.mark.1 c.in_ok-condition.ensures.whole)
 
 pub repetition::for_loop-returns-in_err-variable-clause-refused : goal.repetition::for_loop-returns-in_err-variable-clause-refused
 repetition::for_loop-returns-in_err-variable-clause-refused t c = passed c.from_residual.result c.from_residual.ensures.1 (λ y e. rw e (for_variable c.args.position c.args.left c.args.end _ _ (c.in_err-variable.ensures.refused _)))
@@ -172,11 +169,8 @@ repetition::for_loop-returns-in_err-rest-in-Some-clause-refused t c = passed c.f
 pub repetition::for_loop-returns-in_err-body-in-Some-clause-refused : goal.repetition::for_loop-returns-in_err-body-in-Some-clause-refused
 repetition::for_loop-returns-in_err-body-in-Some-clause-refused t c = passed c.from_residual-in_err-body-in-Some.result c.from_residual-in_err-body-in-Some.ensures.1 (λ y e. rw e (for_last c.args.position _ c.args.left c.args.end _ _ _ _ _ _ _ _ _ c.in_ok-variable.ensures.name c.in-Some.ensures.mark.1 c.in_ok-first-in-Some.ensures.whole c.in_ok-direction-in-Some.ensures.whole (headed_rest mark.Do_ SomeStatement _ c.args.left c.args.end _ _ _ _ _ c.in_ok-last-in-Some.ensures.whole c.in_ok-rest-in-Some.ensures.mark.1 c.in_err-body-in-Some.ensures.refused)))
 
-pub repetition::for_loop-returns-in_err-node-in-Some-clause-refused : goal.repetition::for_loop-returns-in_err-node-in-Some-clause-refused
-repetition::for_loop-returns-in_err-node-in-Some-clause-refused t c = passed c.from_residual-in_err-node-in-Some.result c.from_residual-in_err-node-in-Some.ensures.1 (λ y e. out_of_memory e)
-
-pub repetition::for_loop-returns-in_ok-node-in-Some-clause-whole : goal.repetition::for_loop-returns-in_ok-node-in-Some-clause-whole
-repetition::for_loop-returns-in_ok-node-in-Some-clause-whole t c = rw c.in_ok-node-in-Some.ensures (for_to_whole c.args.position _ _ c.args.left _ _ _ _ _ _ _ _ _ _ _ _ _ c.in_ok-variable.ensures.name c.in-Some.ensures.mark.1 c.in_ok-first-in-Some.ensures.whole c.in_ok-direction-in-Some.ensures.whole c.in_ok-last-in-Some.ensures.whole c.in_ok-rest-in-Some.ensures.mark.1 c.in_ok-body-in-Some.ensures.whole)
+pub repetition::for_loop-returns-in_ok-body-in-Some-clause-whole : goal.repetition::for_loop-returns-in_ok-body-in-Some-clause-whole
+repetition::for_loop-returns-in_ok-body-in-Some-clause-whole t c = rw c.for_node.ensures (for_to_whole c.args.position _ _ c.args.left _ _ _ _ _ _ _ _ _ _ _ _ _ c.in_ok-variable.ensures.name c.in-Some.ensures.mark.1 c.in_ok-first-in-Some.ensures.whole c.in_ok-direction-in-Some.ensures.whole c.in_ok-last-in-Some.ensures.whole c.in_ok-rest-in-Some.ensures.mark.1 c.in_ok-body-in-Some.ensures.whole)
 
 pub repetition::for_loop-returns-in_err-after-in-None-clause-refused : goal.repetition::for_loop-returns-in_err-after-in-None-clause-refused
 repetition::for_loop-returns-in_err-after-in-None-clause-refused t c = passed c.from_residual-in_err-after-in-None.result c.from_residual-in_err-after-in-None.ensures.1 (λ y e. rw e (for_in_missing c.args.position c.args.left c.args.end _ _ _ _ c.in_ok-variable.ensures.name c.in-None.ensures.mark (c.in_err-after-in-None.ensures.refused _)))
@@ -190,11 +184,8 @@ repetition::for_loop-returns-in_err-rest-in-None-clause-refused t c = passed c.f
 pub repetition::for_loop-returns-in_err-body-in-None-clause-refused : goal.repetition::for_loop-returns-in_err-body-in-None-clause-refused
 repetition::for_loop-returns-in_err-body-in-None-clause-refused t c = passed c.from_residual-in_err-body-in-None.result c.from_residual-in_err-body-in-None.ensures.1 (λ y e. rw e (for_in_refuses c.args.position _ c.args.left c.args.end _ _ _ _ _ c.in_ok-variable.ensures.name c.in_ok-after-in-None.ensures.mark.1 (headed_rest mark.Do_ SomeStatement _ c.args.left c.args.end _ _ _ _ _ c.in_ok-collection-in-None.ensures.whole c.in_ok-rest-in-None.ensures.mark.1 c.in_err-body-in-None.ensures.refused)))
 
-pub repetition::for_loop-returns-in_err-node-in-None-clause-refused : goal.repetition::for_loop-returns-in_err-node-in-None-clause-refused
-repetition::for_loop-returns-in_err-node-in-None-clause-refused t c = passed c.from_residual-in_err-node-in-None.result c.from_residual-in_err-node-in-None.ensures.1 (λ y e. out_of_memory e)
-
-pub repetition::for_loop-returns-in_ok-node-in-None-clause-whole : goal.repetition::for_loop-returns-in_ok-node-in-None-clause-whole
-repetition::for_loop-returns-in_ok-node-in-None-clause-whole t c = rw c.in_ok-node-in-None.ensures (for_in_whole c.args.position _ _ c.args.left _ _ _ _ _ _ _ _ _ c.in_ok-variable.ensures.name c.in_ok-after-in-None.ensures.mark.1 c.in_ok-collection-in-None.ensures.whole c.in_ok-rest-in-None.ensures.mark.1 c.in_ok-body-in-None.ensures.whole)
+pub repetition::for_loop-returns-in_ok-body-in-None-clause-whole : goal.repetition::for_loop-returns-in_ok-body-in-None-clause-whole
+repetition::for_loop-returns-in_ok-body-in-None-clause-whole t c = rw c.for_in_node.ensures (for_in_whole c.args.position _ _ c.args.left _ _ _ _ _ _ _ _ _ c.in_ok-variable.ensures.name c.in_ok-after-in-None.ensures.mark.1 c.in_ok-collection-in-None.ensures.whole c.in_ok-rest-in-None.ensures.mark.1 c.in_ok-body-in-None.ensures.whole)
 
 pub branch::case_statement-returns-in_err-selector-clause-refused : goal.branch::case_statement-returns-in_err-selector-clause-refused
 branch::case_statement-returns-in_err-selector-clause-refused t c = passed c.from_residual.result c.from_residual.ensures.1 (λ y e. rw e (case_refuses c.args.position c.args.left c.args.end _ _ (headed_first mark.Of CaseBranches c.args.left c.args.end _ _ of_heads c.in_err-selector.ensures.refused)))
@@ -208,11 +199,8 @@ branch::case_statement-returns-in_err-branches-clause-refused t c = passed c.fro
 pub branch::case_statement-returns-in_err-rest-in-None-clause-refused : goal.branch::case_statement-returns-in_err-rest-in-None-clause-refused
 branch::case_statement-returns-in_err-rest-in-None-clause-refused t c = passed c.from_residual-in_err-rest-in-None.result c.from_residual-in_err-rest-in-None.ensures.1 (λ y e. rw e (case_refuses c.args.position c.args.left c.args.end _ _ (headed_rest mark.Of CaseBranches _ c.args.left c.args.end _ _ _ _ _ c.in_ok-selector.ensures.whole c.in_ok-rest.ensures.mark.1 (list_end SomeBranches c.args.left c.args.end _ _ _ _ known_branches c.in_ok-branches.ensures.whole c.in-None.ensures.mark (c.in_err-rest-in-None.ensures.refused _)))))
 
-pub branch::case_statement-returns-in_err-node-in-None-clause-refused : goal.branch::case_statement-returns-in_err-node-in-None-clause-refused
-branch::case_statement-returns-in_err-node-in-None-clause-refused t c = passed c.from_residual-in_err-node-in-None.result c.from_residual-in_err-node-in-None.ensures.1 (λ y e. out_of_memory e)
-
-pub branch::case_statement-returns-in_ok-node-in-None-clause-whole : goal.branch::case_statement-returns-in_ok-node-in-None-clause-whole
-branch::case_statement-returns-in_ok-node-in-None-clause-whole t c = rw c.in_ok-node-in-None.ensures (case_whole c.args.position _ _ c.args.left _ _ _ _ _ _ _ c.in_ok-selector.ensures.whole c.in_ok-rest.ensures.mark.1 c.in_ok-branches.ensures.whole c.in_ok-rest-in-None.ensures.mark.1)
+pub branch::case_statement-returns-in_ok-rest-in-None-clause-whole : goal.branch::case_statement-returns-in_ok-rest-in-None-clause-whole
+branch::case_statement-returns-in_ok-rest-in-None-clause-whole t c = rw c.case_node.ensures (case_whole c.args.position _ _ c.args.left _ _ _ _ _ _ _ c.in_ok-selector.ensures.whole c.in_ok-rest.ensures.mark.1 c.in_ok-branches.ensures.whole c.in_ok-rest-in-None.ensures.mark.1)
 
 pub branch::case_statement-returns-in_err-otherwise-in-Some-clause-refused : goal.branch::case_statement-returns-in_err-otherwise-in-Some-clause-refused
 branch::case_statement-returns-in_err-otherwise-in-Some-clause-refused t c = passed c.from_residual-in_err-otherwise-in-Some.result c.from_residual-in_err-otherwise-in-Some.ensures.1 (λ y e. rw e (case_refuses c.args.position c.args.left c.args.end _ _ (headed_rest mark.Of CaseBranches _ c.args.left c.args.end _ _ _ _ _ c.in_ok-selector.ensures.whole c.in_ok-rest.ensures.mark.1 (list_else SomeBranches _ c.args.left c.args.end _ _ _ _ _ known_branches c.in_ok-branches.ensures.whole c.in-Some.ensures.mark.1 (end_body c.args.left c.args.end _ _ c.in_err-otherwise-in-Some.ensures.refused)))))
@@ -220,11 +208,8 @@ branch::case_statement-returns-in_err-otherwise-in-Some-clause-refused t c = pas
 pub branch::case_statement-returns-in_err-rest-in-Some-clause-refused : goal.branch::case_statement-returns-in_err-rest-in-Some-clause-refused
 branch::case_statement-returns-in_err-rest-in-Some-clause-refused t c = passed c.from_residual-in_err-rest-in-Some.result c.from_residual-in_err-rest-in-Some.ensures.1 (λ y e. rw e (case_refuses c.args.position c.args.left c.args.end _ _ (headed_rest mark.Of CaseBranches _ c.args.left c.args.end _ _ _ _ _ c.in_ok-selector.ensures.whole c.in_ok-rest.ensures.mark.1 (list_else SomeBranches _ c.args.left c.args.end _ _ _ _ _ known_branches c.in_ok-branches.ensures.whole c.in-Some.ensures.mark.1 (end_open c.args.left c.args.end _ _ _ _ c.in_ok-otherwise-in-Some.ensures.whole (c.in_err-rest-in-Some.ensures.refused _))))))
 
-pub branch::case_statement-returns-in_err-node-in-Some-clause-refused : goal.branch::case_statement-returns-in_err-node-in-Some-clause-refused
-branch::case_statement-returns-in_err-node-in-Some-clause-refused t c = passed c.from_residual-in_err-node-in-Some.result c.from_residual-in_err-node-in-Some.ensures.1 (λ y e. out_of_memory e)
-
-pub branch::case_statement-returns-in_ok-node-in-Some-clause-whole : goal.branch::case_statement-returns-in_ok-node-in-Some-clause-whole
-branch::case_statement-returns-in_ok-node-in-Some-clause-whole t c = rw c.in_ok-node-in-Some.ensures (case_else_whole c.args.position _ _ _ c.args.left _ _ _ _ _ _ _ _ _ _ c.in_ok-selector.ensures.whole c.in_ok-rest.ensures.mark.1 c.in_ok-branches.ensures.whole c.in-Some.ensures.mark.1 c.in_ok-otherwise-in-Some.ensures.whole c.in_ok-rest-in-Some.ensures.mark.1)
+pub branch::case_statement-returns-in_ok-rest-in-Some-clause-whole : goal.branch::case_statement-returns-in_ok-rest-in-Some-clause-whole
+branch::case_statement-returns-in_ok-rest-in-Some-clause-whole t c = rw c.case_else_node.ensures (case_else_whole c.args.position _ _ _ c.args.left _ _ _ _ _ _ _ _ _ _ c.in_ok-selector.ensures.whole c.in_ok-rest.ensures.mark.1 c.in_ok-branches.ensures.whole c.in-Some.ensures.mark.1 c.in_ok-otherwise-in-Some.ensures.whole c.in_ok-rest-in-Some.ensures.mark.1)
 
 pub branch::branches-returns-then-ends_list-clause-whole : goal.branch::branches-returns-then-ends_list-clause-whole
 branch::branches-returns-then-ends_list-clause-whole t c = rw c.fitted.ensures (led_ends branches_list c.args.left c.args.end _ _ _ c.loop-alloc.invariant.0 (sym c.ends_list.ensures ∙ c.if-ends_list.true))

@@ -10,6 +10,9 @@ use Rattle.op_parse_code.proofs.+statement.Given as goal
 abbrev pub decreases-compound::statement_at : goal.decreases-compound::statement_at
 decreases-compound::statement_at l = 8 * l.left + 1
 
+abbrev pub decreases-compound::boxed_statement : goal.decreases-compound::boxed_statement
+decreases-compound::boxed_statement l = 8 * l.left + 2
+
 abbrev pub decreases-compound::behind_word : goal.decreases-compound::behind_word
 decreases-compound::behind_word l = 8 * l.left + 5
 

@@ -5,7 +5,7 @@ use Rattle.op_judgement.specs.Judgement.{Reports, checked}
 use Rattle.op_core.specs.Faults.{kept, or_typed}
 use Rattle.op_tree.specs.Expression.{expr_of}
 use Rattle.op_check_expr.proofs.Answering.{by_failure, by_first}
-use Rattle.op_check_expr.proofs.Law.{means_law}
+use Rattle.op_check_expr.proofs.Law.{expr_told, means_law}
 use Rattle.op_check_expr.specs.Phrases as means
 use Rattle.op_check_expr.specs.Phrases.{ExprIs}
 use Rattle.op_check_expr.specs.Scopes.{here_of}
@@ -37,3 +37,11 @@ returns-in-Some-clause-law c =
 pub returns-in-None-clause-law : goal.returns-in-None-clause-law
 returns-in-None-clause-law c =
     means_law (means.value (here_of c.args.scope.now) None (expr_of c.args.e.now)) (Err c.failure.result) (returns-in-None-clause-exact c)
+
+pub returns-in-Some-clause-told : goal.returns-in-Some-clause-told
+returns-in-Some-clause-told c =
+    expr_told (means.value (here_of c.args.scope.now) None (expr_of c.args.e.now)) c.or_typed.result (returns-in-Some-clause-exact c)
+
+pub returns-in-None-clause-told : goal.returns-in-None-clause-told
+returns-in-None-clause-told c =
+    expr_told (means.value (here_of c.args.scope.now) None (expr_of c.args.e.now)) (Err c.failure.result) (returns-in-None-clause-exact c)

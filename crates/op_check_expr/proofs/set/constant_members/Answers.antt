@@ -1,11 +1,11 @@
 use Rattle.std.proofs.Common.{Some, map, sym, subst, refl, arith, length, ◌≡◌}
 use Rattle.op_check_expr.proofs.Following.{Completes, begins, two_steps}
-use Rattle.op_check_expr.proofs.Steps.{nothing}
 use Rattle.op_check_expr.specs.Constructors.{constant_member, constant_members, member_of, place_of}
 use Rattle.op_judgement.specs.Judgement.{Reports}
 use Rattle.op_types.specs.Folding.{gathered_means}
-use Rattle.op_types.specs.Constants.{no_members}
 use Rattle.op_check_expr.proofs.set.constant_members.Goals as goal
+use Rattle.op_types.proofs.Folding.{nothing}
+use Rattle.op_types.specs.ConstantParts.{no_members}
 
 pub loop-member-init : goal.loop-member-init
 loop-member-init c =

@@ -1,8 +1,8 @@
 use Rattle.std.proofs.Common.{Some, map}
 use Rattle.op_check_expr.proofs.Following.{Completes}
 use Rattle.op_check_expr.specs.Constructors.{constant_members, member_of}
-use Rattle.op_types.specs.Constants.{no_members}
 use Rattle.op_check_expr.proofs.set.constant_members.Given as goal
+use Rattle.op_types.specs.ConstantParts.{no_members}
 
 -- the members that are left give the whole
 abbrev pub invariant-loop-member : goal.invariant-loop-member

@@ -1,10 +1,10 @@
 use Rattle.std.proofs.Common.{◌≡◌, ◌++◌, map, sym, subst, ap, ◌∙◌, arith, length}
 use Rattle.op_core.specs.Expression.{element_of, expression, no_steps, set as set_root}
 use Rattle.op_check_expr.proofs.Sets.{all_elements, more_elements}
-use Rattle.op_check_expr.proofs.Steps.{nothing}
 use Rattle.op_check_expr.specs.Constructors.{element_tree, elements_from, member_of}
 use Rattle.op_check_expr.specs.Values.{computed}
 use Rattle.op_check_expr.proofs.set.set_tree.Goals as goal
+use Rattle.op_types.proofs.Folding.{nothing}
 
 pub loop-member-init : goal.loop-member-init
 loop-member-init c =

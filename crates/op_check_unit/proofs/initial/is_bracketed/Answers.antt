@@ -1,10 +1,10 @@
 use Rattle.std.proofs.Common.{ap, sym, ◌∙◌}
-use Rattle.op_check_unit.proofs.Beginning.{nothing}
 use Rattle.op_check_unit.specs.Initials.{is_bracketed}
 use Rattle.op_tree.proofs.Rows.{designated_says}
 use Rattle.op_tree.specs.Expression.{designated, designator, bracketed, expr_of, root_of}
 use Rattle.op_tree.specs.Statement.{selectors_of}
 use Rattle.op_check_unit.proofs.initial.is_bracketed.Goals as goal
+use Rattle.op_types.proofs.Folding.{nothing}
 
 pub returns-in-Bracketed-None : goal.returns-in-Bracketed-None
 returns-in-Bracketed-None c =

@@ -1,6 +1,5 @@
 use Rattle.op_parse_code.proofs.Calls.{call_target, call_value, call_alone, call_assigns, front_begins}
 use Rattle.op_parse_code.proofs.Errors.{passed}
-use Rattle.op_parse_code.specs.Refusal.{out_of_memory}
 use Rattle.op_tree.specs.Ends.{begins_designator}
 use Rattle.op_parse_code.proofs.call.call_or_assignment.Goals as goal
 
@@ -13,8 +12,5 @@ returns-in_default-clause-whole c = rw c.call_statement_node.ensures (call_alone
 pub returns-in_err-value-clause-refused : goal.returns-in_err-value-clause-refused
 returns-in_err-value-clause-refused c = passed c.from_residual-in_err-value.result c.from_residual-in_err-value.ensures.1 (λ y e. rw e (call_value c.args.left c.args.end _ _ _ _ _ _ (front_begins begins_designator _ c.requires) c.in_ok-target.ensures.whole c.in-Some.ensures.stands c.in_err-value.ensures.refused))
 
-pub returns-in_err-node-clause-refused : goal.returns-in_err-node-clause-refused
-returns-in_err-node-clause-refused c = passed c.from_residual-in_err-node.result c.from_residual-in_err-node.ensures.1 (λ y e. out_of_memory e)
-
 pub returns-clause-whole : goal.returns-clause-whole
-returns-clause-whole c = rw c.in_ok-node.ensures (call_assigns c.args.left _ _ _ _ _ _ _ c.in_ok-target.ensures.whole c.in-Some.ensures.stands c.in_ok-value.ensures.whole)
+returns-clause-whole c = rw c.assign_node.ensures (call_assigns c.args.left _ _ _ _ _ _ _ c.in_ok-target.ensures.whole c.in-Some.ensures.stands c.in_ok-value.ensures.whole)

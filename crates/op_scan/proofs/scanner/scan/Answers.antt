@@ -4,6 +4,7 @@ use Rattle.std.proofs.lemmas.List.{length-drop}
 use Rattle.op_scan.specs.Scan.{mark_length}
 use Rattle.op_scan.proofs.Lists.{nil_of_length}
 use Rattle.op_scan.proofs.Scanning.{scan_begins, front_within, front_moves, scan_bounds, scan_passes, scan_gives, scan_breaks, scan_ends, only_answer, passes≢breaks, gives≢breaks}
+use Rattle.op_scan.proofs.Told.{told_scans}
 use Rattle.op_scan.proofs.scanner.scan.Goals as goal
 use Rattle.op_scan.proofs.scanner.scan.Goals.{in-Passes, in-Gives+in_ok-push-in-Gives}
 
@@ -24,6 +25,9 @@ returns-in-Breaks-clause-only c =
     let l = c.loop-rest in
     let some : l.rest.now ≢ [] = λ e. eqb-false (length l.rest.now) 0 (sym c.loop-rest-test.ensures) (ap length e) in
     only_answer c.args.file c.args.bytes.now _ (scan_breaks _ _ _ _ _ _ _ _ l.invariant _ _ _ c.in_ok-length.ensures c.in-Breaks.is some)
+
+pub returns-in-Breaks-clause-told : goal.returns-in-Breaks-clause-told
+returns-in-Breaks-clause-told c = told_scans (returns-in-Breaks-clause-answer c)
 
 pub place_behind-place-requires-clause-lines : goal.place_behind-place-requires-clause-lines
 place_behind-place-requires-clause-lines c =

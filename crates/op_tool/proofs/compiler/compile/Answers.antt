@@ -4,6 +4,7 @@ use Rattle.op_accepted.proofs.Accepted.{accepted_is_fit}
 use Rattle.op_tree.specs.File.{file_of}
 use Rattle.op_tool.proofs.Orders.{few_units}
 use Rattle.op_tool.proofs.Compiling.{err_also, fails_as, made_of, not_compiled_by, ok_also}
+use Rattle.op_tool.proofs.Told.{compile_told}
 use Rattle.op_tool.proofs.compiler.compile.Goals as goal
 
 pub image_of-requires : goal.image_of-requires
@@ -28,3 +29,11 @@ returns-clause-made g c =
 pub returns-clause-failed : goal.returns-clause-failed
 returns-clause-failed g c =
     err_also c.image_of.result (λ error why. fails_as (g.F.Files.stored c.args.files.now) c.args.main.now c.args.settings.now (g.F.Files.faults c.args.files.now) (g.F.Files.faults c.checked.new.files) c.in_ok-core.core error c.in_ok-core.ensures.made why) c.image_of.ensures.failed
+
+pub returns-in_err-core-clause-told : goal.returns-in_err-core-clause-told
+returns-in_err-core-clause-told g c =
+    err_also c.from_residual.result (compile_told (g.F.Files.stored c.args.files.now) c.args.main.now c.args.settings.now (g.F.Files.faults c.args.files.now) (g.F.Files.faults c.checked.new.files)) (returns-in_err-core-clause-failed g c)
+
+pub returns-clause-told : goal.returns-clause-told
+returns-clause-told g c =
+    err_also c.image_of.result (compile_told (g.F.Files.stored c.args.files.now) c.args.main.now c.args.settings.now (g.F.Files.faults c.args.files.now) (g.F.Files.faults c.checked.new.files)) (returns-clause-failed g c)

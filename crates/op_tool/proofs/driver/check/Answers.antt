@@ -3,6 +3,7 @@ use Rattle.op_tool.specs.Owes.{call}
 use Rattle.op_tool.specs.declared.finish.Finish.TheVariants.{Ended}
 use Rattle.op_tool.proofs.Failing.{says_check_error}
 use Rattle.op_tool.proofs.Saying.{says_written, says_written_in_part}
+use Rattle.op_tool.proofs.Told.{check_told}
 use Rattle.op_tool.proofs.driver.check.Goals as goal
 
 pub returns-in-Done-clause-says : goal.returns-in-Done-clause-says
@@ -16,3 +17,6 @@ returns-in-Ok-clause-says g c words left count =
 pub returns-clause-says : goal.returns-clause-says
 returns-clause-says g c words left count =
     says_check_error (call words (g.F.Files.stored c.args.files.now) (g.F.Files.faults c.args.files.now) (g.F.Files.faults c.checked.new.files) count count []) c.args.file.now c.in-Err.error c.report_error.result _ _ _ _ _ _ _ _ _ c.in-Err.ensures.failed refl refl c.report_error.ensures.says
+
+pub report_error-requires : goal.report_error-requires
+report_error-requires g c = check_told (g.F.Files.stored c.args.files.now) c.args.file.now (g.F.Files.faults c.args.files.now) (g.F.Files.faults c.checked.new.files) c.in-Err.error c.in-Err.ensures.failed

@@ -6,6 +6,7 @@ use Rattle.op_tool.specs.Owes.{IsFile}
 use Rattle.op_tool.specs.declared.finish.Finish.TheVariants as finish
 use Rattle.op_tool.proofs.RunningFiles.{run_owes}
 use Rattle.op_tool.proofs.Saying.{says_also, says_bad_image, says_no_memory, says_refused, says_report}
+use Rattle.op_tool.proofs.Told.{missing_told}
 use Rattle.op_tool.proofs.driver.run.Goals as goal
 
 pub returns-in-Ok-Found-clause-says : goal.returns-in-Ok-Found-clause-says
@@ -32,3 +33,6 @@ returns-in-Ok-Failed-clause-says g c words =
 pub returns-in-Err-clause-says : goal.returns-in-Err-clause-says
 returns-in-Err-clause-says g c words =
     says_no_memory _ c.report_no_memory.result _ _ _ _ _ _ _ _ _ (λ done only. only) c.report_no_memory.ensures.says
+
+pub report_refusal-requires : goal.report_refusal-requires
+report_refusal-requires g c = missing_told

@@ -1,8 +1,8 @@
-use Rattle.std.proofs.Common.{◌+◌, false, [], Some, None, drop, refl, sym, ap, subst, ◌∙◌}
+use Rattle.std.proofs.Common.{◌≡◌, ◌+◌, false, [], Some, None, drop, refl, sym, ap, subst, ◌∙◌}
 use Rattle.std.specs.Option.{option_map}
 use Rattle.op_core.specs.Expression as typed
 use Rattle.op_tree.proofs.Rows.{call_says, chain_says, designated_says, index_says, literal_says, set_says}
-use Rattle.op_tree.specs.Expression.{arguments, argument_of, element_of, expr_of, literal, no_arguments, prefixed, root_of, selector_of}
+use Rattle.op_tree.specs.Expression.{arguments, argument_of, call, element_of, expr_of, index, literal, no_arguments, prefixed, root_of, selector_of}
 use Rattle.op_tree.specs.Lists.{arguments_of, expressions_of, operations_of}
 use Rattle.op_tree.specs.Statement.{designator_of, elements_of, selectors_of}
 use Rattle.op_judgement.specs.Judgement.{Reports, followed, with_part}
@@ -11,12 +11,12 @@ use Rattle.op_check_expr.proofs.Following.{Answers, Completes, answers_followed,
 use Rattle.op_check_expr.proofs.Walking.{literal_selected, literal_wanted, still_reports}
 use Rattle.op_check_expr.specs.Calling.{call_of, first_of, given_behind, given_first, given_of, others_of, parameters_for, plan_of}
 use Rattle.op_check_expr.specs.Constructors.{member_of, members_of, set_of}
-use Rattle.op_check_expr.specs.Expressions.{argument, called, designator_of as designator_means, elements_at, given, indexed, member_in, members, operations, position_of, root_of as root_means, select, selected, set_in, settled, sole, text_denoted, value_in, with_member}
-use Rattle.op_check_expr.specs.Naming.{denoted_of}
+use Rattle.op_check_expr.specs.Expressions.{argument, bracket_of, called, designator_of as designator_means, elements_at, given, indexed, member_in, members, operations, position_of, root_of as root_means, select, selected, set_in, settled, sole, text_denoted, value_in, with_member}
+use Rattle.op_check_expr.specs.Naming.{denoted_of, valued}
 use Rattle.op_check_expr.specs.Operating.{operation_of, used}
 use Rattle.op_check_expr.specs.Scopes.{here_of}
-use Rattle.op_check_expr.specs.Values.{value_of}
-use Rattle.op_types.proofs.Folding.{one_given}
+use Rattle.op_check_expr.specs.Values.{in_brackets, value_of}
+use Rattle.op_types.proofs.Folding.{map_ok, one_given}
 use Rattle.op_check_expr.proofs.scope.Checker.+walk.Goals as goal
 
 -- ---- arms
@@ -61,45 +61,79 @@ value_in-returns-in-Literal t c =
     (subst (λ text. Answers r value_of (value_in here None (literal text p ss)) c.args.sink.now c.literal.new.sink) c.as_slice.ensures
     (subst (λ xs. Answers r value_of (value_in here None (literal c.as_slice.result.now p (selectors_of xs))) c.args.sink.now c.literal.new.sink) c.deref-in-Literal.ensures.value c.literal.ensures)))
 
-pub value_in-returns-in_ok-denoted-in-Designator : goal.value_in-returns-in_ok-denoted-in-Designator
-value_in-returns-in_ok-denoted-in-Designator t c =
+pub value_in-returns-in-Designator : goal.value_in-returns-in-Designator
+value_in-returns-in-Designator t c =
     let here = here_of c.args.self.scope in
-    let d = designator_of c.in-Designator.called in
-    let r = c.as_value.result in
-    subst (λ e. Answers r value_of (value_in here c.args.wanted e) c.args.sink.now c.as_value.new.sink) (sym (ap expr_of c.in-Designator.is ∙ designated_says c.in-Designator.called))
-    (answers_followed r value_of (designator_means here d) (with_part (settled here)) c.args.sink.now c.designator.new.sink c.as_value.new.sink (option_map denoted_of c.in_ok-denoted-in-Designator.denoted) c.in_ok-denoted-in-Designator.ensures c.as_value.ensures)
+    subst (λ e. Answers c.designated.result value_of (value_in here c.args.wanted e) c.args.sink.now c.designated.new.sink) (sym (ap expr_of c.in-Designator.is ∙ designated_says c.in-Designator.called)) c.designated.ensures
 
-pub select-returns-in_ok-v-in-Index : goal.select-returns-in_ok-v-in-Index
-select-returns-in_ok-v-in-Index t c =
+pub designated-returns : goal.designated-returns
+designated-returns t c =
+    let here = here_of c.args.self.scope in
+    let called = c.args.called.now in
+    let front = option_map denoted_of c.in_ok-front.front in
+    let denoted = option_map denoted_of c.in_ok-denoted.denoted in
+    let mid = c.root.new.sink in
+    let far = c.selected.new.sink in
+    answers_followed c.as_value.result value_of (designator_means here (designator_of called)) (with_part (settled here)) c.args.sink.now far c.as_value.new.sink denoted
+    (reports_followed (root_means here (root_of called.root)) (λ d. selected here d (selectors_of called.selectors.items)) c.args.sink.now mid far front denoted c.in_ok-front.ensures
+    (subst (λ xs. Reports (selected here front (selectors_of xs)) mid far denoted) c.deref.ensures.value c.in_ok-denoted.ensures))
+    c.as_value.ensures
+
+pub root-returns-in_ok-v-in-Bracketed : goal.root-returns-in_ok-v-in-Bracketed
+root-returns-in_ok-v-in-Bracketed t c =
+    let here = here_of c.args.self.scope in
+    let p = c.in-Bracketed.position in
+    let v = option_map value_of c.in_ok-v-in-Bracketed.v in
+    let new = c.value_in.new.sink in
+    let inside = subst (λ e. Reports (value_in here None (expr_of e)) c.args.sink.now new v) c.deref.ensures c.in_ok-v-in-Bracketed.ensures in
+    subst (λ r. Answers c.bracketed.result denoted_of (root_means here (root_of r)) c.args.sink.now new) (sym c.in-Bracketed.is)
+    (map_ok {P = λ d. option_map denoted_of d ≡ option_map (λ v. valued p (in_brackets v)) v} {Q = λ d. Reports (bracket_of p (value_in here None (expr_of c.in-Bracketed.inside.value))) c.args.sink.now new (option_map denoted_of d)} c.bracketed.result (λ d is. (is ∙ ap (option_map (λ v. valued p (in_brackets v))) inside.0, inside.1)) c.bracketed.ensures)
+
+pub select-returns-in-Index : goal.select-returns-in-Index
+select-returns-in-Index t c =
     let here = here_of c.args.self.scope in
     let d = option_map denoted_of c.args.denoted in
-    let es = expressions_of c.in-Index.indices.items in
     let p = c.in-Index.position in
-    let v = option_map value_of c.in_ok-v-in-Index.v in
-    let a = option_map value_of c.in_ok-a-in-Index.a in
+    let r = c.element_of.result in
+    let new = c.element_of.new.sink in
+    subst (λ x. Answers r denoted_of (select here d x) c.args.sink.now new) (sym (ap selector_of c.in-Index.is ∙ index_says p c.in-Index.indices))
+    (subst (λ xs. Answers r denoted_of (select here d (index p (expressions_of xs))) c.args.sink.now new) c.deref.ensures.value c.element_of.ensures)
+
+pub element_of-returns : goal.element_of-returns
+element_of-returns t c =
+    let here = here_of c.args.self.scope in
+    let d = option_map denoted_of c.args.denoted in
+    let es = expressions_of c.args.indices.now in
+    let p = c.args.position in
+    let v = option_map value_of c.in_ok-v.v in
+    let a = option_map value_of c.in_ok-a.a in
     let mid = c.as_value.new.sink in
     let new = c.elements_at.new.sink in
     let r = option_map denoted_of c.still_at.result in
-    subst (λ x. Reports (select here d x) c.args.sink.now new r) (sym (ap selector_of c.in-Index.is ∙ index_says p c.in-Index.indices))
-    (still_reports d (followed (with_part (settled here) d) (λ a. elements_at here p.place a es)) c.args.sink.now new v c.position_of_denoted-at.result r c.position_of_denoted-at.ensures c.still_at.ensures
-    (reports_followed (with_part (settled here) d) (λ a. elements_at here p.place a es) c.args.sink.now mid new a v c.in_ok-a-in-Index.ensures
-    (subst (λ xs. Reports (elements_at here p.place a (expressions_of xs)) mid new v) c.deref.ensures.value c.in_ok-v-in-Index.ensures)))
+    still_reports d (followed (with_part (settled here) d) (λ a. elements_at here p.place a es)) c.args.sink.now new v c.position_of_denoted-at.result r c.position_of_denoted-at.ensures c.still_at.ensures
+    (reports_followed (with_part (settled here) d) (λ a. elements_at here p.place a es) c.args.sink.now mid new a v c.in_ok-a.ensures c.in_ok-v.ensures)
 
-pub select-returns-in_ok-v-in-Call : goal.select-returns-in_ok-v-in-Call
-select-returns-in_ok-v-in-Call t c =
+pub select-returns-in-Call : goal.select-returns-in-Call
+select-returns-in-Call t c =
     let here = here_of c.args.self.scope in
     let d = option_map denoted_of c.args.denoted in
-    let args = arguments_of c.in-Call.arguments.items in
-    let v = option_map value_of c.in_ok-v-in-Call.v in
-    let plan = c.in_ok-plan-in-Call.plan in
-    let mid = c.plan_of.new.sink in
+    let r = c.call.result in
+    let new = c.call.new.sink in
+    subst (λ x. Answers r denoted_of (select here d x) c.args.sink.now new) (sym (ap selector_of c.in-Call.is ∙ call_says c.in-Call.arguments))
+    (subst (λ xs. Answers r denoted_of (select here d (call (arguments_of xs))) c.args.sink.now new) c.deref-in-Call.ensures.value c.call.ensures)
+
+pub call-returns : goal.call-returns
+call-returns t c =
+    let here = here_of c.args.self.scope in
+    let d = option_map denoted_of c.args.denoted in
+    let args = arguments_of c.args.list.now in
+    let v = option_map value_of c.in_ok-v.v in
+    let plan = c.in_ok-plan.plan in
+    let mid = c.plan_behind.new.sink in
     let new = c.called.new.sink in
-    let r = option_map denoted_of c.still_at-in-Call.result in
-    subst (λ x. Reports (select here d x) c.args.sink.now new r) (sym (ap selector_of c.in-Call.is ∙ call_says c.in-Call.arguments))
-    (still_reports d (followed (plan_of here false d args) (λ plan. called here plan args)) c.args.sink.now new v c.position_of_denoted.result r c.position_of_denoted.ensures c.still_at-in-Call.ensures
-    (reports_followed (plan_of here false d args) (λ plan. called here plan args) c.args.sink.now mid new plan v
-    (subst (λ xs. Reports (plan_of here false d (arguments_of xs)) c.args.sink.now mid plan) c.deref-in-Call.ensures.value c.in_ok-plan-in-Call.ensures)
-    (subst (λ xs. Reports (called here plan (arguments_of xs)) mid new v) c.deref-in-Call-2.ensures.value c.in_ok-v-in-Call.ensures)))
+    let r = option_map denoted_of c.still_at.result in
+    still_reports d (followed (plan_of here false d args) (λ plan. called here plan args)) c.args.sink.now new v c.position_of_denoted-at.result r c.position_of_denoted-at.ensures c.still_at.ensures
+    (reports_followed (plan_of here false d args) (λ plan. called here plan args) c.args.sink.now mid new plan v c.in_ok-plan.ensures c.in_ok-v.ensures)
 
 -- ---- loops
 
@@ -239,7 +273,7 @@ called-returns-in-Routine t c =
 pub called-returns-in-Bound : goal.called-returns-in-Bound
 called-returns-in-Bound t c =
     let here = here_of c.args.self.scope in
-    subst (λ q. Reports (called here q (arguments_of c.args.list.now)) c.args.sink.now c.bound_value.new.sink (option_map value_of c.bound_value.result)) (sym (c.in-Some.is ∙ ap Some c.in-Bound.is)) c.bound_value.ensures
+    subst (λ q. Answers c.bound_value.result value_of (called here q (arguments_of c.args.list.now)) c.args.sink.now c.bound_value.new.sink) (sym (c.in-Some.is ∙ ap Some c.in-Bound.is)) c.bound_value.ensures
 
 -- ---- the one argument
 
@@ -286,16 +320,3 @@ literal-returns-in_ok-denoted-in-Some t c =
     subst (λ x. Answers r value_of x c.args.sink.now c.as_value.new.sink) (literal_selected here text p list (c.in-Some.ensures.variant.0 refl))
     (answers_followed r value_of (selected here (Some (text_denoted p text)) (selectors_of list)) (with_part (settled here)) c.args.sink.now mid c.as_value.new.sink d
     (subst (λ q. Reports (selected here (Some q) (selectors_of list)) c.args.sink.now mid d) c.in_ok-text_denoted-in-Some.ensures c.in_ok-denoted-in-Some.ensures) c.as_value.ensures)
-
--- ---- names
-
-pub designator-returns : goal.designator-returns
-designator-returns t c =
-    let here = here_of c.args.self.scope in
-    let called = c.args.called.now in
-    let r = c.selected.result in
-    let d = option_map denoted_of c.in_ok-denoted.denoted in
-    let mid = c.root.new.sink in
-    let new = c.selected.new.sink in
-    answers_followed r denoted_of (root_means here (root_of called.root)) (λ d. selected here d (selectors_of called.selectors.items)) c.args.sink.now mid new d c.in_ok-denoted.ensures
-    (subst (λ xs. Answers r denoted_of (selected here d (selectors_of xs)) mid new) c.deref.ensures.value c.selected.ensures)

@@ -1,9 +1,10 @@
 use Rattle.std.proofs.Common.{drop}
 use Rattle.op_check_unit.proofs.Going.{Completes}
-use Rattle.op_check_unit.specs.Steps.{each_declaration, here_of}
+use Rattle.op_check_unit.specs.Steps.{here_of}
 use Rattle.op_tree.specs.Declaration.{declarations_of}
 use Rattle.op_check_unit.proofs.declarer.Declarer.locals.Given as goal
-use Rattle.op_check_unit.specs.Readings.{local_declared}
+use Rattle.op_check_unit.specs.Routines.{local_declared}
+use Rattle.op_judgement.specs.Steps.{done, each_declaration}
 
 abbrev pub invariant-loop-declaration : goal.invariant-loop-declaration
-invariant-loop-declaration l = Completes (each_declaration local_declared (declarations_of l.declarations) (here_of l.fn.self)) (each_declaration local_declared (declarations_of (drop l.declaration-index l.declarations)) (here_of l.self)) l.fn.self l.self
+invariant-loop-declaration l = Completes (done (each_declaration local_declared (declarations_of l.declarations) (here_of l.fn.self))) (done (each_declaration local_declared (declarations_of (drop l.declaration-index l.declarations)) (here_of l.self))) l.fn.self l.self

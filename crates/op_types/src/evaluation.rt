@@ -7,8 +7,7 @@ ghost use Rattle.op_tree.specs.Lists.{arguments_of};
 ghost use Rattle.op_tree.specs.Statement.{designator_of, selectors_of};
 ghost use Rattle.op_types.specs.Assignable.{true_of};
 ghost use Rattle.op_types.specs.ConstantParts.{boxed, is_folded, joined, literal_means, loose, made, members_of, no_members, nodes, number_behind, only_value, plus, qualified, rule_of, start_of, start_of_element, type_in, type_named, type_of_name, type_of_value, use_of, use_of_function};
-ghost use Rattle.op_types.specs.Constants as readings;
-ghost use Rattle.op_types.specs.Folding.{Finds, application_means, bound_means, cast_means, element_means, entered, gathered_means, is_constant_name, name_means, numeral, operation_means, prefix_means, range_means, single_means, use_means};
+ghost use Rattle.op_types.specs.Folding.{Finds, Gives, application_means, bound_means, cast_means, element_means, entered, gathered_means, if_constant, is_constant_name, name_means, numeral, operation_means, prefix_means, range_means, single_means, use_means};
 ghost use Rattle.op_types.specs.Names.{lower, meaning_of};
 
 use crate::assign::assignable;
@@ -18,9 +17,9 @@ use crate::set::{between, combined, common_set, set_over};
 use crate::sort::{Sort, kind_of, sort_of};
 use crate::value::{applied, before, bound_of, cast, number_of, operated, within};
 use crate::{BuiltIn, Meaning, Setting};
-use op_base::{NoMemory, Place, Rule, Sequence};
+use op_base::{NoMemory, Place, Sequence};
 use op_core::{Const, FirstRefusal, Function, TypeId};
-use op_judgement::{refuse, rules};
+use op_judgement::{LanguageRule, refuse};
 use op_scan::CompactText;
 use op_tree::{
     Argument, Designator, Element, Expr, Name, Operator, PrefixOperator, Root, Selector,
@@ -155,7 +154,7 @@ pub fn only_value(arguments: &[Argument]) -> Option<&Expr>
 /// A constant, where there is such a value; else the rule is broken at the place.
 fn entered(
     sink: &mut FirstRefusal,
-    rule: (Rule, Place),
+    rule: (LanguageRule, Place),
     of: TypeId,
     weight: Weight,
     value: Option<Const>,
@@ -183,12 +182,12 @@ pub fn copy_of(alloc: Global, value: &Const) -> Result<Const, NoMemory>
 }
 
 /// The rule that an argument breaks which the function does not take.
-fn rule_of(function: Function) -> Rule
+fn rule_of(function: Function) -> LanguageRule
     ensures { result ≡ rule_of function }
 {
     match function {
-        Function::Ord | Function::Succ | Function::Pred => rules::NOT_ORDINAL,
-        _ => rules::NOT_ASSIGNABLE,
+        Function::Ord | Function::Succ | Function::Pred => LanguageRule::NotOrdinal,
+        _ => LanguageRule::NotAssignable,
     }
 }
 
@@ -231,7 +230,7 @@ impl<'a> Setting<'a> {
     {
         entered(
             sink,
-            (rules::NUMBER_TOO_LARGE, place),
+            (LanguageRule::NumberTooLarge, place),
             TypeId::INTEGER,
             nodes(count),
             within(n),
@@ -266,12 +265,12 @@ impl<'a> Setting<'a> {
         ensures { Reports (prefix_means self.entry.core.now place operator a) sink.old sink.new result }
     {
         let Some(of) = prefixed(operator, sort_of(self.core, a.of)) else {
-            return refuse(sink, rules::NO_OPERATOR, place);
+            return refuse(sink, LanguageRule::NoOperator, place);
         };
         let value = before(operator, of, number_of(&a.value));
         entered(
             sink,
-            (rules::OUT_OF_RANGE, place),
+            (LanguageRule::OutOfRange, place),
             of,
             joined(a.weight, nodes(0)),
             value,
@@ -296,12 +295,12 @@ impl<'a> Setting<'a> {
         let sorts = (sort_of(self.core, a.of), sort_of(self.core, b.of));
         let sets = common_set(self.core, a.of, b.of);
         let Some(of) = operation(operator, sorts.0, sorts.1, sets) else {
-            return Ok(refuse(sink, rules::NO_OPERATOR, place));
+            return Ok(refuse(sink, LanguageRule::NoOperator, place));
         };
         let value = operated(self.alloc, operator, sorts, &a.value, &b.value)?;
         Ok(entered(
             sink,
-            (rules::OUT_OF_RANGE, start),
+            (LanguageRule::OutOfRange, start),
             of,
             joined(a.weight, b.weight),
             value,
@@ -324,10 +323,10 @@ impl<'a> Setting<'a> {
                 if 0 <= n && n <= 31 {
                     Some(a)
                 } else {
-                    refuse(sink, rules::NO_SET_ELEMENT, at)
+                    refuse(sink, LanguageRule::NoSetElement, at)
                 }
             }
-            _ => refuse(sink, rules::NOT_ORDINAL, at),
+            _ => refuse(sink, LanguageRule::NotOrdinal, at),
         }
     }
 
@@ -361,7 +360,7 @@ impl<'a> Setting<'a> {
             return Ok(None);
         };
         if !assignable(self.core, b.of, a.of) {
-            return Ok(refuse(sink, rules::NOT_ASSIGNABLE, last.0));
+            return Ok(refuse(sink, LanguageRule::NotAssignable, last.0));
         }
         let of = common_set(
             self.core,
@@ -386,7 +385,7 @@ impl<'a> Setting<'a> {
             return Ok(None);
         };
         if !sort_of(self.core, a.of).is_set_as(sort_of(self.core, b.of)) {
-            return Ok(refuse(sink, rules::NOT_ASSIGNABLE, at));
+            return Ok(refuse(sink, LanguageRule::NotAssignable, at));
         }
         let of = common_set(self.core, a.of, b.of);
         let members = combined(
@@ -401,10 +400,10 @@ impl<'a> Setting<'a> {
     /// What a name stands for, where that is a constant.
     pub fn name(self, sink: &mut FirstRefusal, place: Place, meaning: Option<&Meaning>) -> Folded
         ensures found { IfOk result (Finds (is_constant_name (option_copied meaning.entry)) (name_means place (option_copied meaning.entry)) sink.old sink.new) }
-        ensures reading { IfOk result (readings.Gives (readings.name_means place (option_copied meaning.entry)) sink.old sink.new) }
+        ensures reading { IfOk result (Gives (if_constant (is_constant_name (option_copied meaning.entry)) (name_means place (option_copied meaning.entry))) sink.old sink.new) }
     {
         match meaning {
-            None => Ok(Some(refuse(sink, rules::UNKNOWN_NAME, place))),
+            None => Ok(Some(refuse(sink, LanguageRule::UnknownName, place))),
             Some(Meaning::Spoiled) => Ok(Some(None)),
             Some(Meaning::Constant(constant)) => {
                 let value = copy_of(self.alloc, &constant.value)?;
@@ -520,7 +519,7 @@ impl<'a> Setting<'a> {
         ensures { Reports (bound_means self.entry.core.now function (of, at)) sink.old sink.new result }
     {
         match bound_of(self.core, function, of) {
-            None => refuse(sink, rules::NOT_ORDINAL, at),
+            None => refuse(sink, LanguageRule::NotOrdinal, at),
             Some((value, of)) => Some(made(value, of, nodes(2))),
         }
     }
@@ -556,13 +555,13 @@ impl<'a> Setting<'a> {
                 let value = cast(self.core, of, number_of(&a.value));
                 entered(
                     sink,
-                    (rules::OUT_OF_RANGE, place),
+                    (LanguageRule::OutOfRange, place),
                     of,
                     joined(a.weight, nodes(0)),
                     value,
                 )
             }
-            _ => refuse(sink, rules::NO_CAST, place),
+            _ => refuse(sink, LanguageRule::NoCast, place),
         }
     }
 
@@ -582,7 +581,7 @@ impl<'a> Setting<'a> {
         let value = applied(self.alloc, self.core, function, a.of, &a.value)?;
         Ok(entered(
             sink,
-            (rules::OUT_OF_RANGE, place),
+            (LanguageRule::OutOfRange, place),
             of,
             joined(a.weight, nodes(0)),
             value,

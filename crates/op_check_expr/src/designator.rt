@@ -1,30 +1,27 @@
-//! What parts of an expression mean, once their own parts have a meaning.
+//! What designators mean, once their parts have a meaning.
 ghost use Rattle.std.specs.Prelude.{◌≡◌, IfOk, Some};
-ghost use Rattle.std.specs.Option.{option_copied, option_map};
+ghost use Rattle.std.specs.Option.{option_map};
 ghost use Rattle.op_tree.specs.Expression.{expr_of};
 ghost use Rattle.op_tree.specs.Statement.{designator_of};
-ghost use Rattle.op_judgement.specs.Judgement.{Reports, both_typed, changed, with_part};
-ghost use Rattle.op_check_expr.specs.Calling.{first_of, given_first, given_of, others_of, parameters_for, type_wanted};
-ghost use Rattle.op_check_expr.specs.Constructors.{member_of as member_in_view, members_of};
-ghost use Rattle.op_check_expr.specs.Expressions.{index_types, indexed, member_of, name_denoted, position_of, position_of_denoted, position_of_designator, ranged, settled, still_at_position, text_denoted, with_member};
-ghost use Rattle.op_check_expr.specs.Naming.{denoted_of};
+ghost use Rattle.op_judgement.specs.Judgement.{Reports, changed, with_part};
+ghost use Rattle.op_check_expr.specs.Expressions.{index_types, indexed, member_of, name_denoted, position_of, position_of_denoted, position_of_designator, settled, still_at_position, text_denoted};
+ghost use Rattle.op_check_expr.specs.Naming.{denoted_of, valued};
 ghost use Rattle.op_check_expr.specs.Scopes.{here_of};
-ghost use Rattle.op_check_expr.specs.Values.{constant, value_of};
-ghost use Rattle.op_types.specs.Constants.{text_constant};
-ghost use Rattle.op_types.specs.Folding.{bound_means};
+ghost use Rattle.op_check_expr.specs.Values.{constant, in_brackets, value_of};
+ghost use Rattle.op_types.specs.ConstantParts.{text_constant};
+ghost use Rattle.op_types.specs.Folding.{numeral};
 ghost use Rattle.op_types.specs.Names.{lower};
 
-use crate::call::{Given, Plan};
+use crate::call::given_first;
 use crate::convert::index_at;
 use crate::denoted::{Denoted, Found, Meant, field_of, named};
 use crate::operate::Valued;
 use crate::scope::Checker;
-use crate::set::Member;
 use crate::tree::then;
 use crate::value::{Value, constant_value};
 use op_base::{NoMemory, Place};
-use op_core::{Action, Const, Core, CoreType, FirstRefusal, Function, Parameter, TypeId, type_at};
-use op_judgement::{refuse, rules};
+use op_core::{Action, Const, CoreType, FirstRefusal, TypeId, type_at};
+use op_judgement::{LanguageRule, refuse};
 use op_scan::CompactText;
 use op_tree::{Designator, Expr, Name, Position, Root};
 use op_types::{made, nodes};
@@ -82,6 +79,7 @@ pub fn position_of_denoted(denoted: &Option<Denoted>) -> Option<Position>
 }
 
 /// What is made of it, at the same position.
+#[inline(never)]
 pub fn still_at(position: Option<Position>, value: Option<Value>) -> Option<Denoted>
     ensures { option_map denoted_of result ≡ still_at_position position (option_map value_of value) }
 {
@@ -92,60 +90,22 @@ pub fn still_at(position: Option<Position>, value: Option<Value>) -> Option<Deno
     Some(Denoted { position, what })
 }
 
-pub fn given_first(alloc: Global, plan: Option<Plan>) -> Given
-    ensures { option_map given_of result ≡ given_first plan }
+/// A value in brackets that begin at a position.
+#[inline(never)]
+pub fn bracketed(position: Position, value: Option<Value>) -> Found
+    ensures { IfOk result (λ d. option_map denoted_of d ≡ option_map (λ v. valued position (in_brackets v)) (option_map value_of value)) }
 {
-    match plan {
-        Some(Plan::Routine(_)) => Some(Vec::new(alloc)),
-        _ => None,
+    match value {
+        Some(v) => {
+            let what = Meant::Value(v.in_brackets()?);
+            Ok(Some(Denoted { position, what }))
+        }
+        None => Ok(None),
     }
-}
-
-pub fn type_wanted(parameter: Option<&Parameter>) -> Option<TypeId>
-    ensures { result ≡ type_wanted (option_copied parameter.entry) }
-{
-    match parameter {
-        Some(parameter) => Some(parameter.of),
-        None => None,
-    }
-}
-
-/// The first parameter, and the others.
-pub fn first_of(parameters: &[Parameter]) -> (Option<&Parameter>, &[Parameter])
-    ensures first { option_copied result.0 ≡ first_of parameters.now }
-    ensures others { result.1.now ≡ others_of parameters.now }
-{
-    match parameters.split_first() {
-        Some((first, others)) => (Some(first), others),
-        None => (None, &[]),
-    }
-}
-
-pub fn ranged(at: Place, end: Place, a: Option<Value>, b: Option<Value>) -> Option<Member>
-    ensures { option_map member_in_view result ≡ both_typed (ranged at end) (option_map value_of a) (option_map value_of b) }
-{
-    match (a, b) {
-        (Some(a), Some(b)) => Some(Member::Range(at, a, end, b)),
-        (Some(_), None) => None,
-        (None, Some(_)) => None,
-        (None, None) => None,
-    }
-}
-
-/// The elements of a set so far; None where a rule is broken in one.
-pub type Members = Option<Vec<Member>>;
-
-pub fn with_member(members: Members, more: Option<Member>) -> Result<Members, NoMemory>
-    ensures { IfOk result (λ ms. option_map members_of ms ≡ with_member (option_map members_of members) (option_map member_in_view more)) }
-{
-    let (Some(mut members), Some(more)) = (members, more) else {
-        return Ok(None);
-    };
-    members.push(more)?;
-    Ok(Some(members))
 }
 
 /// A text of which something is selected.
+#[inline(never)]
 pub fn text_denoted(alloc: Global, position: Position, text: &[u8]) -> Result<Denoted, NoMemory>
     ensures { IfOk result (λ d. denoted_of d ≡ text_denoted position text.now) }
 {
@@ -156,6 +116,7 @@ pub fn text_denoted(alloc: Global, position: Position, text: &[u8]) -> Result<De
 
 impl<'a> Checker<'a> {
     /// A text of which nothing is selected.
+    #[inline(never)]
     pub fn text_alone(self, text: &[u8]) -> Valued
         ensures { IfOk result (λ v. option_map value_of v ≡ Some (constant (text_constant text.now))) }
     {
@@ -166,20 +127,16 @@ impl<'a> Checker<'a> {
         }
     }
 
-    /// Low or High of a type that is named at a place.
-    pub fn bound_value(
-        self,
-        sink: &mut FirstRefusal,
-        function: Function,
-        of: TypeId,
-        at: Place,
-    ) -> Option<Value>
-        ensures { Reports (changed constant (bound_means (here_of self.entry.scope).core function (of, at))) sink.old sink.new (option_map value_of result) }
+    /// A number at a place, of so many nodes.
+    #[inline(never)]
+    pub fn number(self, sink: &mut FirstRefusal, at: Place, count: u32, n: i64) -> Valued
+        ensures { IfOk result (λ v. Reports (changed constant (numeral at count n)) sink.old sink.new (option_map value_of v)) }
     {
-        constant_value(self.setting().bound(sink, function, of, at))
+        Ok(constant_value(self.setting().numeral(sink, at, count, n)))
     }
 
     /// What a name stands for, spelled so, which is looked up as `key`.
+    #[inline(never)]
     pub fn name_denoted(
         self,
         sink: &mut FirstRefusal,
@@ -194,6 +151,7 @@ impl<'a> Checker<'a> {
     }
 
     /// What a name stands for as a value: a function alone is called.
+    #[inline(never)]
     pub fn as_value(self, sink: &mut FirstRefusal, denoted: Option<Denoted>) -> Valued
         ensures { IfOk result (λ v. Reports (with_part (settled (here_of self.entry.scope)) (option_map denoted_of denoted)) sink.old sink.new (option_map value_of v)) }
     {
@@ -209,7 +167,7 @@ impl<'a> Checker<'a> {
         let position = denoted.position;
         match denoted.what {
             Meant::Value(v) => Ok(Some(v)),
-            Meant::TypeName(_) => Ok(refuse(sink, rules::WRONG_KIND_OF_NAME, position.place)),
+            Meant::TypeName(_) => Ok(refuse(sink, LanguageRule::WrongKindOfName, position.place)),
             what => {
                 let denoted = Some(Denoted { position, what });
                 let plan = self.plan_of(sink, false, &denoted, &[])?;
@@ -218,16 +176,8 @@ impl<'a> Checker<'a> {
         }
     }
 
-    pub fn parameters_for(self, plan: Option<Plan>) -> &'a [Parameter]
-        ensures { result.now ≡ parameters_for (here_of self.entry.scope) plan }
-    {
-        match plan {
-            Some(Plan::Routine(id)) => self.parameters_of(id),
-            _ => &[],
-        }
-    }
-
     /// A member of a unit or of a value.
+    #[inline(never)]
     pub fn member_of(self, sink: &mut FirstRefusal, name: &Name, denoted: Option<Denoted>) -> Found
         ensures { IfOk result (λ d. Reports (with_part (member_of (here_of self.entry.scope) name.now) (option_map denoted_of denoted)) sink.old sink.new (option_map denoted_of d)) }
     {
@@ -253,6 +203,7 @@ impl<'a> Checker<'a> {
     }
 
     /// An element at an index that begins at a place, behind a bracket at another.
+    #[inline(never)]
     pub fn indexed(
         self,
         sink: &mut FirstRefusal,
@@ -269,7 +220,7 @@ impl<'a> Checker<'a> {
         let core = self.scope.core;
         let indexed = type_at(core, a.type_of());
         let Some(of) = index_types(indexed) else {
-            return Ok(refuse(sink, rules::NOT_INDEXED, bracket));
+            return Ok(refuse(sink, LanguageRule::NotIndexed, bracket));
         };
         let Some(index) = index else {
             return Ok(None);
