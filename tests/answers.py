@@ -66,3 +66,7 @@ def checked(folder, name):
 def taken(folder, name):
     """Free Pascal takes the program."""
     return subprocess.run([FREE_PASCAL, name, "program"], cwd=folder, capture_output=True).returncode == 0
+
+
+if __name__ == "__main__":
+    free_pascal()
