@@ -18,7 +18,7 @@ use Rattle.op_tree.proofs.ExpressionUnique.{Begins, designator_begins, true_fals
 use Rattle.op_tree.proofs.StatementUnique.{both}
 use Rattle.op_tree.specs.Ends.{IsNot, begins_statement, begins_designator, begins_selector, begins_expression, is_assign}
 use Rattle.op_tree.specs.Expression.{Expression, Designator}
-use Rattle.op_tree.specs.ExpressionGrammar.{IsChain, IsDesignator}
+use Rattle.op_tree.specs.ExpressionGrammar.{IsDesignator}
 use Rattle.op_tree.specs.Statement.{Statement, call, assign, raise, reraise, inherited, inherited_call}
 use Rattle.op_tree.specs.StatementGrammar.{is_empty, is_call, is_assignment, is_raise, is_reraise, is_inherited, is_inherited_call}
 use Rattle.op_tree.specs.Terminal.{Terminal, ◌at◌}

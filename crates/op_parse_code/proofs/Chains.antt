@@ -7,7 +7,7 @@ use Rattle.op_parse_code.proofs.Living.{Sample, hands_as, hands_behind, hands_fi
 use Rattle.op_parse_code.proofs.Refusing.{Some_, Seq, HandsOn, refuses_map, refuses_first, refuses_after, refuses_behind}
 use Rattle.op_parse_code.specs.GrammarForm.{GrammarForm, is_slash}
 use Rattle.op_parse_code.specs.Opening.{StandsOperator, NoOperator, NotTighter}
-use Rattle.op_parse_code.specs.Refusal.{Refuses, in_grammar, refused_at}
+use Rattle.op_parse_code.specs.Refusal.{Grown, Refuses, in_grammar, refused_at}
 use Rattle.op_parse_code.specs.Whole.{Chain, Operand, SomeOperations, Factor}
 use Rattle.op_parse_code.specs.declared.error.ParseError.{ParseError}
 use Rattle.op_scan.specs.declared.token.TokenKind.{TokenKind}
@@ -145,17 +145,17 @@ operating_more l d end all rest after m xs x so_far (k, is, h, q) f = record {
   follows = operand_follows l (expr_of x.operand) m f.1;
 }
 
-pub operating_refuses : (l : Level) (d : ℕ) (end : Place) (all rest after : List Terminal) (xs : List Operation) (o : Operator) (p : Position) (e : ParseError) → Operating l d end all xs rest → StandsOperator l o p rest after → Refuses (Operand l) d end after e → Refuses (SomeOperations l) d end all e
-operating_refuses l d end all rest after xs o p e so_far (k, is, h, q) x = so_far.dies e (subst (λ z. Refuses (SomeOperations l) d end z e) (sym is) (operand_refuses l d end k o p after e h q x))
+pub operating_refuses : (l : Level) (d : ℕ) (end : Place) (all rest after : List Terminal) (xs ys zs : List Operation) (e : ParseError) → Operating l d end all xs rest → Grown ys zs (λ x. StandsOperator l x.operator x.position rest after) → Refuses (Operand l) d end after e → Refuses (SomeOperations l) d end all e
+operating_refuses l d end all rest after xs ys zs e so_far (x, more, (k, is, h, q)) y = so_far.dies e (subst (λ z. Refuses (SomeOperations l) d end z e) (sym is) (operand_refuses l d end k x.operator x.position after e h q y))
 
 slash_kind : (k : TokenKind) → operator_of k ≡ Some operator.Slash → k ≡ kind.Slash
 slash_kind kind.Slash h = refl
 slash_kind other h = absurd cc
 
-pub operating_slash : (l : Level) (d : ℕ) (end : Place) (all rest after : List Terminal) (xs : List Operation) (o : Operator) (p : Position) (e : ParseError) → Operating l d end all xs rest → StandsOperator l o p rest after → o ≡ operator.Slash → e ≡ refused_at 13 1 end rest → Refuses (SomeOperations l) d end all e
-operating_slash l d end all rest after xs o p e so_far (k, is, h, q) slash x =
+pub slash_refuses : (l : Level) (d : ℕ) (end : Place) (rest after : List Terminal) (o : Operator) (p : Position) (e : ParseError) → StandsOperator l o p rest after → o ≡ operator.Slash → e ≡ refused_at 13 1 end rest → Refuses (SomeOperations l) d end rest e
+slash_refuses l d end rest after o p e (k, is, h, q) slash x =
     let form : rest ≡ kind.Slash at p ∷ after = is ∙ ap (λ z. z at p ∷ after) (slash_kind k (h ∙ ap Some slash)) in
-    so_far.dies e (in_grammar 1 rest x ([], rest, refl, subst (λ z. GrammarForm 1 z z) (sym form) is_slash))
+    in_grammar 1 rest x ([], rest, refl, subst (λ z. GrammarForm 1 z z) (sym form) is_slash)
 
 -- an operator of a tighter level
 abbrev tighter : Level → TokenKind → Bool

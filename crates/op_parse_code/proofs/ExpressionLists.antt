@@ -15,7 +15,7 @@ use Rattle.op_parse_code.specs.declared.error.ParseError.{ParseError}
 use Rattle.op_parse_code.specs.declared.mark.Mark.{Mark}
 use Rattle.op_parse_code.specs.declared.mark.Mark.TheVariants as mark
 use Rattle.op_scan.specs.declared.token.TokenKind.TheVariants as kind
-use Rattle.op_tree.proofs.ExpressionUnique.{stop, behind}
+use Rattle.op_tree.proofs.ExpressionUnique.{stop}
 use Rattle.op_tree.specs.Ends.{Stops}
 use Rattle.op_tree.specs.Expression.{Expression, Elements, no_elements, elements, Element, one, range, Expressions, no_expressions, expressions, Arguments, no_arguments, arguments, Argument, value, padded, rounded, expr_of, element_of, argument_of}
 use Rattle.op_tree.specs.ExpressionGrammar.{IsChain, are_one_expression, are_expressions, are_one_element, are_elements, IsElement, is_one, is_range, are_one_argument, are_arguments, IsArgument, is_value, is_padded, is_rounded}

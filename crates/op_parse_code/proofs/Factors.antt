@@ -10,7 +10,7 @@ use Rattle.op_parse_code.specs.Whole.{Factor, SomeDesignator, SomeSelectors, Ins
 use Rattle.op_parse_code.specs.declared.error.ParseError.{ParseError}
 use Rattle.op_scan.specs.declared.token.TokenKind.{TokenKind}
 use Rattle.op_scan.specs.declared.token.TokenKind.TheVariants as kind
-use Rattle.op_tree.proofs.ExpressionUnique.{Begins, designator_begins, factor_begins, prefix_is_no_designator, same2, true_false, false_true}
+use Rattle.op_tree.proofs.ExpressionUnique.{Begins, designator_begins, factor_begins, prefix_is_no_designator, true_false, false_true}
 use Rattle.op_tree.proofs.StatementUnique.{both}
 use Rattle.op_tree.specs.Ends.{IsNot, begins_designator, begins_expression}
 use Rattle.op_tree.specs.Expression.{Expression, prefixed, number, nil, set, literal, designated, inherited, Elements, no_elements, Designator, Selectors}

@@ -8,7 +8,7 @@ use Rattle.op_parse_code.specs.Whole.{Chain, Operand, Factor, SomeDesignator, No
 use Rattle.op_parse_code.specs.declared.mark.Mark.TheVariants as mark
 use Rattle.op_scan.specs.declared.token.TokenKind.{TokenKind}
 use Rattle.op_scan.specs.declared.token.TokenKind.TheVariants as kind
-use Rattle.op_tree.proofs.ExpressionUnique.{stop, operand_at, EndsOperandAt, false_true}
+use Rattle.op_tree.proofs.ExpressionUnique.{stop, operand_at, false_true}
 use Rattle.op_tree.specs.Ends.{IsNot, Stops, EndsChain, begins_selector, begins_expression}
 use Rattle.op_tree.specs.Expression.{Expression, one, range, value, padded, rounded, prefixed, number, nil, set, literal, designated, inherited, no_elements, designator, named, string, bracketed, no_selectors}
 use Rattle.op_tree.specs.ExpressionGrammar.{IsExpr, IsRoot, IsSelector, is_chain, is_simple, is_term, is_factor, are_no_operations, is_prefixed, is_number, is_nil, is_empty_set, is_literal, is_designated, is_inherited, is_designator, is_named, is_string, is_bracketed, are_no_selectors}

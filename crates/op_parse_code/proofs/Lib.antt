@@ -10,7 +10,8 @@ pub mod ExpressionKnown
 pub mod ExpressionLists
 pub mod Factors
 pub mod Fitting
-pub mod Handlers
+pub mod Grown
+mod Handlers
 pub mod Lists
 pub mod Living
 pub mod Marks

@@ -107,3 +107,16 @@ pub data MadeOf {T U : Type 0} (P : T → U → Type 0) : Result T ParseError �
   made : {x : T} {y : U} → P x y → MadeOf P (Ok x) (Ok y)
   no_room : {x : T} {e : ParseError} → e ≡ NoMemory → MadeOf P (Ok x) (Err e)
   passed_on : {e told : ParseError} → told ≡ e → MadeOf P (Err e) (Err told)
+
+-- The same, or what was read is refused itself.
+pub data MadeOrRefused {T U : Type 0} (P : T → U → Type 0) (Q : T → ParseError → Type 0) : Result T ParseError → Result U ParseError → Type 0 where
+  as_made : {r : Result T ParseError} {s : Result U ParseError} → MadeOf P r s → MadeOrRefused P Q r s
+  refused_itself : {x : T} {e : ParseError} → Q x e → MadeOrRefused P Q (Ok x) (Err e)
+
+-- a list has one part more, of which this holds
+abbrev pub Grown : {A : Type 0} → List A → List A → (A → Type 0) → Type 0
+Grown {A} xs ys P = (x : A) × (ys ≡ xs ++ (x ∷ [])) × P x
+
+-- a list has more parts, of which together this holds
+abbrev pub Extended : {A : Type 0} → List A → List A → (List A → Type 0) → Type 0
+Extended {A} xs ys P = (zs : List A) × (ys ≡ xs ++ zs) × P zs

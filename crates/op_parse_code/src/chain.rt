@@ -1,7 +1,7 @@
 //! Operands with operators between them, level by level (Free Pascal Reference Guide, "Expressions").
-ghost use Rattle.std.specs.Prelude.{◌≡◌, ◌≤◌, ◌<◌, IfOk, IfErr, IfSome, IsTrue, MatchOption, length};
+ghost use Rattle.std.specs.Prelude.{◌≡◌, ℕ, ◌≤◌, ◌<◌, IfOk, IfErr, IfSome, IsTrue, MatchOption, length};
 ghost use Rattle.op_parse_code.specs.Opening.{NoOperator, NotTighter, StandsOperator};
-ghost use Rattle.op_parse_code.specs.Refusal.{Refuses};
+ghost use Rattle.op_parse_code.specs.Refusal.{Extended, Grown, MadeOf, Refuses};
 ghost use Rattle.op_parse_code.specs.Whole.{Chain, Factor, Operand, SomeOperations};
 ghost use Rattle.op_tree.specs.Expression.{expr_of};
 ghost use Rattle.op_tree.specs.ExpressionGrammar.{chain_of};
@@ -15,7 +15,7 @@ use crate::error::{FLOATING_POINT, left_out};
 use crate::factor::factor;
 use crate::nodes::{append, chain_node};
 use crate::token::position_of;
-use op_base::{NoMemory, Place};
+use op_base::Place;
 use op_scan::{Switches, Token};
 use op_tree::{Expr, Level, Operation, Operator, Position, operator_of};
 use std::alloc::Global;
@@ -41,7 +41,8 @@ pub fn chain<'a>(
 }
 
 /// What stands in the place of an expression before it is read.
-fn unread(end: Place) -> Expr {
+#[inline(never)]
+pub fn unread(end: Place) -> Expr {
     Expr::Nil {
         position: Position {
             place: end,
@@ -53,7 +54,7 @@ fn unread(end: Place) -> Expr {
 /// The same into a place of the caller's, so that the levels within one another keep no expressions on the stack.
 #[cycle(expression)]
 #[inline(never)]
-fn read_chain<'a>(
+pub fn read_chain<'a>(
     alloc: Global,
     level: Level,
     left: u32,
@@ -66,32 +67,42 @@ fn read_chain<'a>(
     ensures shorter { IfOk result (λ rest. length rest.now < length tokens.now) }
 {
     let behind = read_operand(alloc, level, left, end, tree, tokens)?;
-    let (operations, rest) = operations(alloc, level, left, end, behind)?;
-    extend(alloc, end, tree, operations)?;
-    Ok(rest)
+    let mut operations = Vec::new(alloc);
+    extend(
+        read_operations(alloc, level, left, end, &mut operations, behind),
+        alloc,
+        end,
+        tree,
+        operations,
+    )
 }
 
-/// Makes the chain of an operand and the operations behind it; where there is none the operand stays.
+/// Makes the chain of an operand and the operations that were read behind it; where there is none the operand stays.
 #[inline(never)]
-fn extend(
+fn extend<'a>(
+    read: Result<&'a [Token], ParseError>,
     alloc: Global,
     end: Place,
     tree: &mut Expr,
     operations: Vec<Operation>,
-) -> Result<(), NoMemory>
-    ensures { IfOk result (λ _. expr_of tree.new ≡ chain_of (expr_of tree.old) (operations_of operations.items)) }
+) -> Result<&'a [Token], ParseError>
+    ensures { MadeOf (λ behind rest. (expr_of tree.new ≡ chain_of (expr_of tree.old) (operations_of operations.items)) × (rest.now ≡ behind.now)) read.entry result }
 {
-    if operations.is_empty() {
-        return Ok(());
+    match read {
+        Ok(rest) => {
+            if operations.is_empty() {
+                return Ok(rest);
+            }
+            let first = replace(tree, unread(end));
+            let chain = chain_node(alloc, first, operations)?;
+            *tree = chain;
+            Ok(rest)
+        }
+        Err(error) => Err(error),
     }
-    let first = replace(tree, unread(end));
-    let chain = chain_node(alloc, first, operations)?;
-    *tree = chain;
-    Ok(())
 }
 
 /// The operators of a level and operands at the front. Before them stands an operand of the level.
-#[cycle(expression)]
 #[inline(never)]
 pub fn operations<'a>(
     alloc: Global,
@@ -106,22 +117,62 @@ pub fn operations<'a>(
     ensures shorter { IfOk result (λ f. length f.1.now ≤ length tokens.now) }
 {
     let mut operations = Vec::new(alloc);
-    let mut rest = tokens;
-    while let Some((operator, position, after)) = operator_at(level, rest) {
-        if is_slash(operator) {
-            return Err(left_out(FLOATING_POINT, end, rest));
-        }
-        let mut operand = Expr::Nil { position };
-        let behind = read_operand(alloc, level, left, end, &mut operand, after)?;
-        let operation = Operation {
-            operator,
-            position,
-            operand,
-        };
-        append(&mut operations, operation)?;
-        rest = behind;
-    }
+    let rest = read_operations(alloc, level, left, end, &mut operations, tokens)?;
     Ok((operations, rest))
+}
+
+/// The same behind those of a list of the caller's.
+#[cycle(expression)]
+#[inline(never)]
+fn read_operations<'a>(
+    alloc: Global,
+    level: Level,
+    left: u32,
+    end: Place,
+    list: &mut Vec<Operation>,
+    tokens: &'a [Token],
+) -> Result<&'a [Token], ParseError>
+    requires follows { NotTighter level (terminals tokens.now) }
+    ensures whole { IfOk result (λ rest. Extended list.old.items list.new.items (λ xs. SomeOperations level left (operations_of xs) (terminals tokens.now) (terminals rest.now))) }
+    ensures refused { IfErr result (Refuses (SomeOperations level) left end (terminals tokens.now)) }
+    ensures shorter { IfOk result (λ rest. length rest.now ≤ length tokens.now) }
+{
+    let mut rest = tokens;
+    while let Some(after) = begin_operation(level, end, list, rest)? {
+        if let Some(operation) = list.last_mut() {
+            rest = read_operand(alloc, level, left, end, &mut operation.operand, after)?;
+        }
+    }
+    Ok(rest)
+}
+
+/// Puts the operator of a level that stands at the front, if one does, behind the operations of a list. Its operand is still to
+/// be read.
+#[inline(never)]
+fn begin_operation<'a>(
+    level: Level,
+    end: Place,
+    list: &mut Vec<Operation>,
+    tokens: &'a [Token],
+) -> Result<Option<&'a [Token]>, ParseError>
+    ensures stands { IfOk result (λ found. MatchOption found (NoOperator level (terminals tokens.now) × (list.new.items ≡ list.old.items))
+        (λ after. Grown list.old.items list.new.items (λ x. StandsOperator level x.operator x.position (terminals tokens.now) (terminals after.now)))) }
+    ensures refused { IfErr result (λ e. (d : ℕ) → Refuses (SomeOperations level) d end (terminals tokens.now) e) }
+    ensures shorter { IfOk result (λ found. IfSome found (λ after. length after.now < length tokens.now)) }
+{
+    let Some((operator, position, after)) = operator_at(level, tokens) else {
+        return Ok(None);
+    };
+    if is_slash(operator) {
+        return Err(left_out(FLOATING_POINT, end, tokens));
+    }
+    let operation = Operation {
+        operator,
+        position,
+        operand: unread(end),
+    };
+    append(list, operation)?;
+    Ok(Some(after))
 }
 
 /// The operator of a level at the front, its position, and the tokens behind it.
@@ -180,16 +231,24 @@ fn read_factor<'a>(
     ensures refused { IfErr result (Refuses Factor left end (terminals tokens.now)) }
     ensures shorter { IfOk result (λ rest. length rest.now < length tokens.now) }
 {
-    let (factor, rest) = factor(alloc, left, end, tokens)?;
-    put(tree, factor);
-    Ok(rest)
+    put(tree, factor(alloc, left, end, tokens))
 }
 
+/// Puts an expression that was read into a place.
 #[inline(never)]
-fn put(tree: &mut Expr, expression: Expr)
-    ensures { tree.new ≡ expression }
+fn put<'a>(
+    tree: &mut Expr,
+    read: Result<(Expr, &'a [Token]), ParseError>,
+) -> Result<&'a [Token], ParseError>
+    ensures { MadeOf (λ f rest. (tree.new ≡ f.0) × (rest.now ≡ f.1.now)) read.entry result }
 {
-    *tree = expression;
+    match read {
+        Ok((expression, rest)) => {
+            *tree = expression;
+            Ok(rest)
+        }
+        Err(error) => Err(error),
+    }
 }
 
 /// An expression in a box.

@@ -1,22 +1,24 @@
 //! Designators: what can be called or assigned.
-ghost use Rattle.std.specs.Prelude.{◌≡◌, ℕ, ◌≤◌, ◌<◌, IfOk, IfErr, IfSome, MatchOption, length};
-ghost use Rattle.op_parse_code.specs.Refusal.{MadeOf, Refuses};
-ghost use Rattle.op_parse_code.specs.Whole.{InsideCall, Marked, SomeDesignator, SomeName, SomeSelectors};
+ghost use Rattle.std.specs.Prelude.{◌≡◌, ℕ, ◌≤◌, ◌<◌, IfOk, IfErr, IfSome, IsSomeAnd, MatchOption, length};
+ghost use Rattle.op_parse_code.specs.Refusal.{Extended, Grown, MadeOf, MadeOrRefused, Refuses};
+ghost use Rattle.op_parse_code.specs.Whole.{Marked, SomeDesignator, SomeName, SomeSelectors};
 ghost use Rattle.op_parse_code.specs.declared.mark.Mark.TheVariants.{CloseParenthesis};
 ghost use Rattle.op_tree.specs.Ends.{IsNot, begins_selector};
-ghost use Rattle.op_tree.specs.Expression.{bracketed, designator, expr_of, root_of, selector_of};
+ghost use Rattle.op_tree.specs.Expression.{bracketed, call, designator, expr_of, index, member, root_of, selector_of};
 ghost use Rattle.op_tree.specs.ExpressionGrammar.{IsRoot, IsSelector};
-ghost use Rattle.op_tree.specs.Lists.{arguments_of};
+ghost use Rattle.op_tree.specs.Lists.{arguments_of, expressions_of};
+ghost use Rattle.op_tree.specs.NameGrammar.{IsName};
 ghost use Rattle.op_tree.specs.Statement.{designator_of, selectors_of};
 ghost use Rattle.op_tree.specs.Terminal.{terminals};
+ghost use Rattle.op_tree.specs.declared.position.Name.{Name};
 ghost use Rattle.op_tree.specs.declared.position.Position.{Position};
 
 use crate::ParseError;
-use crate::chain::chain;
+use crate::chain::{read_chain, unread};
 use crate::error::syntax;
 use crate::factor::enter;
 use crate::list::{arguments, indices};
-use crate::mark::{Mark, after_mark, behind_mark};
+use crate::mark::{Mark, after_mark};
 use crate::nodes::{append, bracketed_node, call_node, fitted, index_node};
 use crate::opening::{RootOpening, SelectorOpening, root_opening, selector_opening};
 use crate::token::{name, position_of};
@@ -39,20 +41,22 @@ pub fn designator<'a>(
     ensures shorter { IfOk result (λ f. length f.1.now < length tokens.now) }
 {
     let (root, rest) = root(alloc, left, end, tokens)?;
-    let behind = selectors(alloc, left, end, rest);
-    selected(root, behind)
+    let mut behind = Vec::new(alloc);
+    let read = read_selectors(alloc, left, end, &mut behind, rest);
+    selected(root, behind, read)
 }
 
 /// The designator of a root and what was read behind it.
 #[inline(never)]
 fn selected<'a>(
     root: Root,
-    behind: Result<(Vec<Selector>, &'a [Token]), ParseError>,
+    selectors: Vec<Selector>,
+    read: Result<&'a [Token], ParseError>,
 ) -> Result<(Designator, &'a [Token]), ParseError>
-    ensures { MadeOf (λ read f. (designator_of f.0 ≡ designator (root_of root) (selectors_of read.0.items)) × (f.1.now ≡ read.1.now)) behind.entry result }
+    ensures { MadeOf (λ rest f. (designator_of f.0 ≡ designator (root_of root) (selectors_of selectors.items)) × (f.1.now ≡ rest.now)) read.entry result }
 {
-    match behind {
-        Ok((selectors, rest)) => {
+    match read {
+        Ok(rest) => {
             let selectors = fitted(selectors);
             Ok((Designator { root, selectors }, rest))
         }
@@ -82,8 +86,14 @@ fn root<'a>(
         RootOpening::String => Ok((Root::String { position }, rest)),
         RootOpening::Bracket => {
             let inner = enter(left, end, tokens)?;
-            let (inside, rest) = chain(alloc, Level::Relational, inner, end, rest)?;
-            closed_root(alloc, position, inside, end, rest)
+            let mut inside = unread(end);
+            closed_root(
+                read_chain(alloc, Level::Relational, inner, end, &mut inside, rest),
+                alloc,
+                position,
+                inside,
+                end,
+            )
         }
         RootOpening::Nothing => Err(syntax(end, tokens)),
     }
@@ -103,22 +113,28 @@ fn named_root<'a>(
     Ok((Root::Named(name), rest))
 }
 
-/// An expression in brackets, from its closing one.
+/// An expression that was read in brackets, with the closing one.
 #[inline(never)]
 fn closed_root<'a>(
+    read: Result<&'a [Token], ParseError>,
     alloc: Global,
     position: Position,
     inside: Expr,
     end: Place,
-    tokens: &'a [Token],
 ) -> Result<(Root, &'a [Token]), ParseError>
-    ensures whole { IfOk result (λ f. (root_of f.0 ≡ bracketed position (expr_of inside)) × ((p : Position) × Marked CloseParenthesis 0 p (terminals tokens.now) (terminals f.1.now))) }
-    ensures refused { IfErr result (λ e. (d : ℕ) → Refuses (Marked CloseParenthesis) d end (terminals tokens.now) e) }
-    ensures shorter { IfOk result (λ f. length f.1.now < length tokens.now) }
+    ensures { MadeOrRefused
+        (λ behind f. (root_of f.0 ≡ bracketed position (expr_of inside)) × ((p : Position) × Marked CloseParenthesis 0 p (terminals behind.now) (terminals f.1.now)) × (length f.1.now < length behind.now))
+        (λ behind e. (d : ℕ) → Refuses (Marked CloseParenthesis) d end (terminals behind.now) e)
+        read.entry result }
 {
-    let rest = after_mark(Mark::CloseParenthesis, end, tokens)?;
-    let root = bracketed_node(alloc, position, inside)?;
-    Ok((root, rest))
+    match read {
+        Ok(behind) => {
+            let rest = after_mark(Mark::CloseParenthesis, end, behind)?;
+            let root = bracketed_node(alloc, position, inside)?;
+            Ok((root, rest))
+        }
+        Err(error) => Err(error),
+    }
 }
 
 /// All that is selected at the front.
@@ -135,63 +151,123 @@ pub fn selectors<'a>(
     ensures shorter { IfOk result (λ f. length f.1.now ≤ length tokens.now) }
 {
     let mut selectors = Vec::new(alloc);
-    let mut rest = tokens;
-    while let Some((selector, behind)) = selector(alloc, left, end, rest)? {
-        append(&mut selectors, selector)?;
-        rest = behind;
-    }
+    let rest = read_selectors(alloc, left, end, &mut selectors, tokens)?;
     Ok((selectors, rest))
 }
 
-/// One selector, if one begins at the front.
+/// The same behind those of a list of the caller's.
+#[cycle(expression)]
+#[inline(never)]
+fn read_selectors<'a>(
+    alloc: Global,
+    left: u32,
+    end: Place,
+    list: &mut Vec<Selector>,
+    tokens: &'a [Token],
+) -> Result<&'a [Token], ParseError>
+    ensures whole { IfOk result (λ rest. Extended list.old.items list.new.items (λ xs. SomeSelectors left (selectors_of xs) (terminals tokens.now) (terminals rest.now))) }
+    ensures refused { IfErr result (Refuses SomeSelectors left end (terminals tokens.now)) }
+    ensures shorter { IfOk result (λ rest. length rest.now ≤ length tokens.now) }
+{
+    let mut rest = tokens;
+    while let Some(behind) = selector(alloc, left, end, list, rest)? {
+        rest = behind;
+    }
+    Ok(rest)
+}
+
+/// Puts the selector that begins at the front, if one does, behind those of a list.
 #[cycle(expression)]
 fn selector<'a>(
     alloc: Global,
     left: u32,
     end: Place,
+    list: &mut Vec<Selector>,
     tokens: &'a [Token],
-) -> Result<Option<(Selector, &'a [Token])>, ParseError>
-    ensures whole { IfOk result (λ found. MatchOption found (IsNot begins_selector (terminals tokens.now)) (λ f. IsSelector left (selector_of f.0) (terminals tokens.now) (terminals f.1.now))) }
+) -> Result<Option<&'a [Token]>, ParseError>
+    ensures whole { IfOk result (λ found. MatchOption found (IsNot begins_selector (terminals tokens.now) × (list.new.items ≡ list.old.items))
+        (λ rest. Grown list.old.items list.new.items (λ x. IsSelector left (selector_of x) (terminals tokens.now) (terminals rest.now)))) }
     ensures refused { IfErr result (Refuses SomeSelectors left end (terminals tokens.now)) }
-    ensures shorter { IfOk result (λ found. IfSome found (λ f. length f.1.now < length tokens.now)) }
+    ensures shorter { IfOk result (λ found. IfSome found (λ rest. length rest.now < length tokens.now)) }
 {
     let Some((first, rest)) = tokens.split_first() else {
         return Ok(None);
     };
-    let position = position_of(first);
     match selector_opening(&first.kind) {
-        SelectorOpening::Member => {
-            let (name, rest) = name(alloc, end, rest)?;
-            Ok(Some((Selector::Member(name), rest)))
-        }
+        SelectorOpening::Member => member(alloc, end, list, rest),
         SelectorOpening::Index => {
             let inner = enter(left, end, tokens)?;
-            let (indices, rest) = indices(alloc, inner, end, rest)?;
-            Ok(Some((index_node(position, indices), rest)))
+            let mut inside = Vec::new(alloc);
+            indexed(
+                indices(alloc, inner, end, &mut inside, rest),
+                position_of(first),
+                inside,
+                list,
+            )
         }
         SelectorOpening::Call => {
             let inner = enter(left, end, tokens)?;
-            let (arguments, rest) = call_arguments(alloc, inner, end, rest)?;
-            Ok(Some((call_node(arguments), rest)))
+            let mut inside = Vec::new(alloc);
+            called(
+                arguments(alloc, inner, end, &mut inside, rest),
+                inside,
+                list,
+            )
         }
         SelectorOpening::Nothing => Ok(None),
     }
 }
 
-/// The arguments of a call behind its opening bracket, up to the closing one.
-#[cycle(expression)]
-fn call_arguments<'a>(
+/// Puts the member whose name stands at the front behind the selectors of a list.
+#[inline(never)]
+fn member<'a>(
     alloc: Global,
-    left: u32,
     end: Place,
+    list: &mut Vec<Selector>,
     tokens: &'a [Token],
-) -> Result<(Vec<Argument>, &'a [Token]), ParseError>
-    ensures whole { IfOk result (λ f. InsideCall left (arguments_of f.0.items) (terminals tokens.now) (terminals f.1.now)) }
-    ensures refused { IfErr result (Refuses InsideCall left end (terminals tokens.now)) }
-    ensures shorter { IfOk result (λ f. length f.1.now ≤ length tokens.now) }
+) -> Result<Option<&'a [Token]>, ParseError>
+    ensures whole { IfOk result (λ found. IsSomeAnd found (λ rest. Grown list.old.items list.new.items (λ x. (n : Name) × (selector_of x ≡ member n) × IsName n (terminals tokens.now) (terminals rest.now)))) }
+    ensures refused { IfErr result (λ e. (d : ℕ) → Refuses SomeName d end (terminals tokens.now) e) }
+    ensures shorter { IfOk result (λ found. IfSome found (λ rest. length rest.now < length tokens.now)) }
 {
-    match behind_mark(Mark::CloseParenthesis, tokens) {
-        Some(rest) => Ok((Vec::new(alloc), rest)),
-        None => arguments(alloc, left, end, tokens),
+    let (name, rest) = name(alloc, end, tokens)?;
+    append(list, Selector::Member(name))?;
+    Ok(Some(rest))
+}
+
+/// Puts the indices that were read behind the selectors of a list.
+#[inline(never)]
+fn indexed<'a>(
+    behind: Result<&'a [Token], ParseError>,
+    position: Position,
+    indices: Vec<Expr>,
+    list: &mut Vec<Selector>,
+) -> Result<Option<&'a [Token]>, ParseError>
+    ensures { MadeOf (λ read found. IsSomeAnd found (λ rest. Grown list.old.items list.new.items (λ x. selector_of x ≡ index position (expressions_of indices.items)) × (rest.now ≡ read.now))) behind.entry result }
+{
+    match behind {
+        Ok(rest) => {
+            append(list, index_node(position, indices))?;
+            Ok(Some(rest))
+        }
+        Err(error) => Err(error),
+    }
+}
+
+/// Puts a call with the arguments that were read behind the selectors of a list.
+#[inline(never)]
+fn called<'a>(
+    behind: Result<&'a [Token], ParseError>,
+    arguments: Vec<Argument>,
+    list: &mut Vec<Selector>,
+) -> Result<Option<&'a [Token]>, ParseError>
+    ensures { MadeOf (λ read found. IsSomeAnd found (λ rest. Grown list.old.items list.new.items (λ x. selector_of x ≡ call (arguments_of arguments.items)) × (rest.now ≡ read.now))) behind.entry result }
+{
+    match behind {
+        Ok(rest) => {
+            append(list, call_node(arguments))?;
+            Ok(Some(rest))
+        }
+        Err(error) => Err(error),
     }
 }

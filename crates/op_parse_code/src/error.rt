@@ -1,5 +1,5 @@
 //! Why tokens have no part.
-ghost use Rattle.std.specs.Prelude.{◌≡◌, map};
+ghost use Rattle.std.specs.Prelude.{◌≡◌, Err, map};
 ghost use Rattle.op_parse_code.specs.Refusal.{Told, place_at, refused_at};
 ghost use Rattle.op_tree.specs.Terminal.{terminals};
 
@@ -106,4 +106,13 @@ pub fn told(feature: u8, end: Place, form: &[Token], error: ParseError) -> Parse
         }
         ParseError::NoMemory => ParseError::NoMemory,
     }
+}
+
+/// A refusal, in place of what is read so far.
+#[inline(never)]
+pub fn refused<T: Drop, U>(error: ParseError, read: T) -> Result<U, ParseError>
+    ensures { result ≡ Err error }
+{
+    let _read = read;
+    Err(error)
 }

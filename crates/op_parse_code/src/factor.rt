@@ -1,12 +1,12 @@
 //! Factors: what stands between two operators.
 ghost use Rattle.std.specs.Prelude.{◌≡◌, ◌≤◌, ◌<◌, ◌∷◌, Some, suc, IfOk, IfErr, length};
 ghost use Rattle.op_parse_code.specs.Opening.{spelled};
-ghost use Rattle.op_parse_code.specs.Refusal.{Refuses, refused_at};
+ghost use Rattle.op_parse_code.specs.Refusal.{MadeOf, Refuses, refused_at};
 ghost use Rattle.op_parse_code.specs.Whole.{CannotEnter, Factor, InsideSet};
 ghost use Rattle.op_scan.specs.declared.token.TokenKind.TheVariants.{CharacterString, Inherited};
-ghost use Rattle.op_tree.specs.Expression.{expr_of};
+ghost use Rattle.op_tree.specs.Expression.{designated, expr_of};
 ghost use Rattle.op_tree.specs.Operator.{prefix_operator_of};
-ghost use Rattle.op_tree.specs.Statement.{elements_of};
+ghost use Rattle.op_tree.specs.Statement.{designator_of, elements_of};
 ghost use Rattle.op_tree.specs.Terminal.{terminal_of, terminals};
 
 use crate::ParseError;
@@ -20,7 +20,7 @@ use crate::opening::{FactorOpening, factor_opening};
 use crate::token::{position_of, spelled};
 use op_base::Place;
 use op_scan::Token;
-use op_tree::{Element, Expr, PrefixOperator};
+use op_tree::{Designator, Element, Expr, PrefixOperator};
 use std::alloc::Global;
 
 /// A factor.
@@ -51,11 +51,21 @@ pub fn factor<'a>(
         FactorOpening::Literal => literal(alloc, left, end, first, rest),
         FactorOpening::Inherited => inherited(alloc, left, end, first, rest),
         FactorOpening::Prefix(operator) => prefixed(alloc, operator, left, end, first, rest),
-        FactorOpening::Designator => {
-            let (designator, rest) = designator(alloc, left, end, tokens)?;
-            Ok((designator_node(designator), rest))
-        }
+        FactorOpening::Designator => designated(designator(alloc, left, end, tokens)),
         FactorOpening::Nothing => Err(syntax(end, tokens)),
+    }
+}
+
+/// The factor of a designator that was read.
+#[inline(never)]
+fn designated<'a>(
+    read: Result<(Designator, &'a [Token]), ParseError>,
+) -> Result<(Expr, &'a [Token]), ParseError>
+    ensures { MadeOf (λ g f. (expr_of f.0 ≡ designated (designator_of g.0)) × (f.1.now ≡ g.1.now)) read.entry result }
+{
+    match read {
+        Ok((designator, rest)) => Ok((designator_node(designator), rest)),
+        Err(error) => Err(error),
     }
 }
 

@@ -1,12 +1,14 @@
 //! The nodes of expressions, from their parts.
 ghost use Rattle.std.specs.Prelude.{◌≡◌, ◌∷◌, ◌++◌, [], IfOk};
+ghost use Rattle.op_parse_code.specs.Refusal.{MadeOf};
 ghost use Rattle.op_tree.specs.Expression.{argument_of, bracketed, call, designated, element_of, expr_of, index, inherited, literal, padded, prefixed, range, root_of, selector_of, set};
 ghost use Rattle.op_tree.specs.ExpressionGrammar.{chain_of};
 ghost use Rattle.op_tree.specs.Lists.{arguments_of, expressions_of, operations_of};
 ghost use Rattle.op_tree.specs.Statement.{designator_of, elements_of, selectors_of};
 
+use crate::ParseError;
 use op_base::NoMemory;
-use op_scan::CompactText;
+use op_scan::{CompactText, Token};
 use op_tree::{
     Argument, Designator, Element, Expr, Operation, Position, PrefixOperator, Root, Selector,
 };
@@ -28,6 +30,24 @@ pub fn append<T: Drop>(list: &mut Vec<T>, value: T) -> Result<(), NoMemory>
 {
     list.push(value)?;
     Ok(())
+}
+
+/// Puts a value that was read behind those of a list.
+#[inline(never)]
+pub fn appended<'a, T: Drop>(
+    read: Result<&'a [Token], ParseError>,
+    list: &mut Vec<T>,
+    value: T,
+) -> Result<&'a [Token], ParseError>
+    ensures { MadeOf (λ behind rest. (list.new.items ≡ list.old.items ++ (value ∷ [])) × (rest.now ≡ behind.now)) read.entry result }
+{
+    match read {
+        Ok(rest) => {
+            list.push(value)?;
+            Ok(rest)
+        }
+        Err(error) => Err(error),
+    }
 }
 
 /// An operand and the operations that follow it; where none does, the operand itself.

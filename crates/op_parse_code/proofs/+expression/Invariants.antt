@@ -3,6 +3,7 @@ use Rattle.op_parse_code.proofs.Chains.{Operating}
 use Rattle.op_parse_code.proofs.Designators.{Selecting}
 use Rattle.op_parse_code.proofs.ExpressionLists.{add_argument, add_element, add_index}
 use Rattle.op_parse_code.proofs.Lists.{Reading}
+use Rattle.op_parse_code.specs.Refusal.{Extended}
 use Rattle.op_parse_code.specs.Whole.{ArgumentsBefore, ElementsBefore, IndicesBefore}
 use Rattle.op_tree.specs.Terminal.{terminals}
 use Rattle.op_tree.specs.declared.operator.Level.{Level}
@@ -27,8 +28,8 @@ decreases-chain::read_factor l = 32 * l.left + 10
 abbrev pub decreases-chain::read_operand : goal.decreases-chain::read_operand
 decreases-chain::read_operand l = 32 * l.left + 8 + height l.level
 
-abbrev pub decreases-chain::operations : goal.decreases-chain::operations
-decreases-chain::operations l = 32 * l.left + 9 + height l.level
+abbrev pub decreases-chain::read_operations : goal.decreases-chain::read_operations
+decreases-chain::read_operations l = 32 * l.left + 9 + height l.level
 
 abbrev pub decreases-factor::factor : goal.decreases-factor::factor
 decreases-factor::factor l = 32 * l.left + 9
@@ -49,13 +50,13 @@ abbrev pub decreases-designator::root : goal.decreases-designator::root
 decreases-designator::root l = 32 * l.left + 4
 
 abbrev pub decreases-designator::selectors : goal.decreases-designator::selectors
-decreases-designator::selectors l = 32 * l.left + 5
+decreases-designator::selectors l = 32 * l.left + 6
+
+abbrev pub decreases-designator::read_selectors : goal.decreases-designator::read_selectors
+decreases-designator::read_selectors l = 32 * l.left + 5
 
 abbrev pub decreases-designator::selector : goal.decreases-designator::selector
 decreases-designator::selector l = 32 * l.left + 4
-
-abbrev pub decreases-designator::call_arguments : goal.decreases-designator::call_arguments
-decreases-designator::call_arguments l = 32 * l.left + 26
 
 abbrev pub decreases-factor::set_elements : goal.decreases-factor::set_elements
 decreases-factor::set_elements l = 32 * l.left + 26
@@ -66,6 +67,9 @@ decreases-list::arguments l = 32 * l.left + 25
 abbrev pub decreases-list::argument : goal.decreases-list::argument
 decreases-list::argument l = 32 * l.left + 24
 
+abbrev pub decreases-list::with_width : goal.decreases-list::with_width
+decreases-list::with_width l = 32 * l.left + 23
+
 abbrev pub decreases-list::elements : goal.decreases-list::elements
 decreases-list::elements l = 32 * l.left + 25
 
@@ -75,23 +79,23 @@ decreases-list::element l = 32 * l.left + 24
 abbrev pub decreases-list::indices : goal.decreases-list::indices
 decreases-list::indices l = 32 * l.left + 25
 
-abbrev pub invariant-chain::operations-loop-operator : goal.invariant-chain::operations-loop-operator
-invariant-chain::operations-loop-operator l = Operating l.fn.level l.fn.left l.fn.end (terminals l.fn.tokens) l.operations.items (terminals l.rest) × (length l.rest ≤ length l.fn.tokens)
+abbrev pub invariant-chain::read_operations-loop-after : goal.invariant-chain::read_operations-loop-after
+invariant-chain::read_operations-loop-after l = Extended l.fn.list.items l.list.items (λ xs. Operating l.fn.level l.fn.left l.fn.end (terminals l.fn.tokens) xs (terminals l.rest)) × (length l.rest ≤ length l.fn.tokens)
 
-abbrev pub decreases-chain::operations-loop-operator : goal.decreases-chain::operations-loop-operator
-decreases-chain::operations-loop-operator l = length l.rest
+abbrev pub decreases-chain::read_operations-loop-after : goal.decreases-chain::read_operations-loop-after
+decreases-chain::read_operations-loop-after l = length l.rest
 
-abbrev pub invariant-designator::selectors-loop-selectors : goal.invariant-designator::selectors-loop-selectors
-invariant-designator::selectors-loop-selectors l = Selecting l.fn.left l.fn.end (terminals l.fn.tokens) l.selectors.items (terminals l.rest) × (length l.rest ≤ length l.fn.tokens)
+abbrev pub invariant-designator::read_selectors-loop-behind : goal.invariant-designator::read_selectors-loop-behind
+invariant-designator::read_selectors-loop-behind l = Extended l.fn.list.items l.list.items (λ xs. Selecting l.fn.left l.fn.end (terminals l.fn.tokens) xs (terminals l.rest)) × (length l.rest ≤ length l.fn.tokens)
 
-abbrev pub decreases-designator::selectors-loop-selectors : goal.decreases-designator::selectors-loop-selectors
-decreases-designator::selectors-loop-selectors l = length l.rest
+abbrev pub decreases-designator::read_selectors-loop-behind : goal.decreases-designator::read_selectors-loop-behind
+decreases-designator::read_selectors-loop-behind l = length l.rest
 
-abbrev pub invariant-list::arguments-loop-arguments : goal.invariant-list::arguments-loop-arguments
-invariant-list::arguments-loop-arguments l = Reading add_argument ArgumentsBefore l.fn.left l.fn.end (terminals l.fn.tokens) l.arguments.items (terminals l.rest) × (length l.rest ≤ length l.fn.tokens)
+abbrev pub invariant-list::arguments-loop-behind : goal.invariant-list::arguments-loop-behind
+invariant-list::arguments-loop-behind l = Reading add_argument ArgumentsBefore l.fn.left l.fn.end (terminals l.fn.tokens) l.list.items (terminals l.rest) × (length l.rest ≤ length l.fn.tokens)
 
-abbrev pub decreases-list::arguments-loop-arguments : goal.decreases-list::arguments-loop-arguments
-decreases-list::arguments-loop-arguments l = length l.rest
+abbrev pub decreases-list::arguments-loop-behind : goal.decreases-list::arguments-loop-behind
+decreases-list::arguments-loop-behind l = length l.rest
 
 abbrev pub invariant-list::elements-loop-elements : goal.invariant-list::elements-loop-elements
 invariant-list::elements-loop-elements l = Reading add_element (ElementsBefore l.fn.close) l.fn.left l.fn.end (terminals l.fn.tokens) l.elements.items (terminals l.rest) × (length l.rest ≤ length l.fn.tokens)
@@ -99,8 +103,8 @@ invariant-list::elements-loop-elements l = Reading add_element (ElementsBefore l
 abbrev pub decreases-list::elements-loop-elements : goal.decreases-list::elements-loop-elements
 decreases-list::elements-loop-elements l = length l.rest
 
-abbrev pub invariant-list::indices-loop-indices : goal.invariant-list::indices-loop-indices
-invariant-list::indices-loop-indices l = Reading add_index IndicesBefore l.fn.left l.fn.end (terminals l.fn.tokens) l.indices.items (terminals l.rest) × (length l.rest ≤ length l.fn.tokens)
+abbrev pub invariant-list::indices-loop-behind : goal.invariant-list::indices-loop-behind
+invariant-list::indices-loop-behind l = Reading add_index IndicesBefore l.fn.left l.fn.end (terminals l.fn.tokens) l.list.items (terminals l.rest) × (length l.rest ≤ length l.fn.tokens)
 
-abbrev pub decreases-list::indices-loop-indices : goal.decreases-list::indices-loop-indices
-decreases-list::indices-loop-indices l = length l.rest
+abbrev pub decreases-list::indices-loop-behind : goal.decreases-list::indices-loop-behind
+decreases-list::indices-loop-behind l = length l.rest

@@ -1,4 +1,4 @@
-use Rattle.std.proofs.Common.{[], refl, sym, ◌∙◌, arith}
+use Rattle.std.proofs.Common.{refl, sym, ◌∙◌, arith}
 use Rattle.op_parse_code.proofs.Branches.{fits_branches, of_heads, branches_list, led_ends, led_lead, led_body, led_stops, led_more, led_last, case_whole, case_else_whole, CaseBranches, case_refuses, list_first, list_end, list_else}
 use Rattle.op_parse_code.proofs.Calls.{designator_statement}
 use Rattle.op_parse_code.proofs.Errors.{passed, ok_weaker, err_weaker}
@@ -13,7 +13,6 @@ use Rattle.op_parse_code.specs.WholeStatement.{SomeBranches, SomeHandlers, SomeS
 use Rattle.op_parse_code.specs.declared.mark.Mark.TheVariants as mark
 use Rattle.op_scan.specs.declared.token.TokenKind.TheVariants as kind
 use Rattle.op_tree.specs.Ends.{begins_statement}
-use Rattle.op_tree.specs.Terminal.{terminals}
 use Rattle.op_parse_code.proofs.+statement.Goals as goal
 
 pub compound::statement_at-returns-in_default-clause-whole : goal.compound::statement_at-returns-in_default-clause-whole

@@ -1,0 +1,9 @@
+use Rattle.op_parse_code.proofs.Errors.{passed}
+use Rattle.op_parse_code.proofs.Grown.{extended_none}
+use Rattle.op_parse_code.proofs.chain.operations.Goals as goal
+
+pub returns-in_err-rest-clause-refused : goal.returns-in_err-rest-clause-refused
+returns-in_err-rest-clause-refused c = passed c.from_residual.result c.from_residual.ensures.1 (λ y e. rw e c.in_err-rest.ensures.refused)
+
+pub returns-clause-whole : goal.returns-clause-whole
+returns-clause-whole c = extended_none c.new-operations.ensures.items c.in_ok-rest.ensures.whole
