@@ -1,5 +1,5 @@
 -- Refusals of the items and the fields of a first value.
-use Rattle.std.proofs.Common.{◌≡◌, ℕ, suc, List, [], ◌∷◌, ◌++◌, Some, None, refl, sym, ap, ◌∙◌, subst}
+use Rattle.std.proofs.Common.{◌≡◌, ℕ, suc, List, [], ◌∷◌, ◌++◌, Some, None, Result, Ok, Err, IfOk, IfErr, refl, sym, ap, ◌∙◌, subst, append_assoc}
 use Rattle.op_base.specs.declared.place.Place.{Place}
 use Rattle.op_parse_code.proofs.Cuts.{IsCut, cut_none, cut_one, cut_join}
 use Rattle.op_parse_code.proofs.ExpressionKnown.{known_mark}
@@ -9,11 +9,12 @@ use Rattle.op_parse_code.proofs.Refusing.{Some_, Seq, Known, no_mark_same}
 use Rattle.op_parse_decl.proofs.Untold.{refuses_map, refuses_first, refuses_after, refuses_behind}
 use Rattle.op_parse_code.proofs.StatementFronts.{front_name}
 use Rattle.op_parse_code.proofs.StatementKnown.{known_name}
-use Rattle.op_parse_code.specs.Refusal.{Phrase, SameHead, Refuses}
+use Rattle.op_parse_code.specs.Refusal.{Phrase, SameHead, Refuses, MadeOf, made, no_room, passed_on}
 use Rattle.op_parse_decl.proofs.Combining.{refuses_part}
 use Rattle.op_parse_decl.specs.Refusal.{DecidesInPart, Untold, RefusesPart, RefusesHere}
 use Rattle.op_parse_code.specs.Whole.{Marked, NoMark, SomeName}
 use Rattle.op_parse_code.specs.declared.error.ParseError.{ParseError}
+use Rattle.op_parse_code.specs.declared.error.ParseError.TheVariants.{NoMemory}
 use Rattle.op_parse_code.specs.declared.mark.Mark.TheVariants as mark
 use Rattle.op_parse_decl.specs.Deepening.{deeper_initials}
 use Rattle.op_parse_decl.specs.InitialKnown.{known_initial, front_initial, front_initials}
@@ -34,6 +35,21 @@ use Rattle.op_tree.specs.declared.initializer.FieldInitializer.{FieldInitializer
 use Rattle.op_tree.specs.declared.initializer.Initializer.{Initializer}
 use Rattle.op_tree.specs.declared.position.Name.{Name}
 use Rattle.op_tree.specs.declared.position.Position.{Position}
+
+-- ---- what was read for a list
+
+pub was_made : {T U : Type 0} {P Q : T → Type 0} {R : T → U → Type 0} (r : Result T ParseError) (y : U) → MadeOf R r (Ok y) → IfOk r P → IfOk r Q → (x : T) × P x × Q x × R x y
+was_made r y (made {x = x} m) p q = (x, p, q, m)
+
+pub not_made : {T U : Type 0} {R : T → U → Type 0} {Q : Type 0} (P : ParseError → Type 0) (r : Result T ParseError) (e : ParseError) → MadeOf R r (Err e) → IfErr r P → (e ≡ NoMemory → Q) → (P e → Q) → Q
+not_made P r e (no_room is) p f g = f is
+not_made P r e (passed_on is) p f g = g (subst P (sym is) p)
+
+pub one_more : {X : Type 0} (old before after read : List X) (x : X) → after ≡ before ++ (x ∷ []) → before ≡ old ++ read → after ≡ old ++ (read ++ (x ∷ []))
+one_more old before after read x h g = h ∙ ap (λ z. z ++ (x ∷ [])) g ∙ append_assoc old read (x ∷ [])
+
+pub initial_before : {d : ℕ} {i : Initial} {ks r s : List Terminal} → s ≡ r → SomeInitial d i ks r → SomeInitial d i ks s
+initial_before {d = d} {i = i} {ks = ks} is f = subst (λ z. SomeInitial d i ks z) (sym is) f
 
 -- ---- items
 

@@ -9,12 +9,14 @@ ghost use Rattle.op_tree.specs.Initial.{field_initials, initial_of, initials, li
 ghost use Rattle.op_tree.specs.Lists.{denoters_of, field_initials_of, field_lists_of, initials_of};
 ghost use Rattle.op_tree.specs.Statement.{selectors_of};
 
-use op_base::NoMemory;
+use op_base::{NoMemory, Place};
+use op_scan::Switches;
 use op_tree::{
     Designator, Expr, FieldInitializer, Fields, Initializer, Name, Names, Position, QualifiedName,
     Root, Selector, TypeDenoter,
 };
 use std::alloc::Global;
+use std::mem::replace;
 
 pub fn subrange_node(alloc: Global, first: Expr, last: Expr) -> Result<TypeDenoter, NoMemory>
     ensures { IfOk result (λ t. denoter_of t ≡ subrange (expr_of first) (expr_of last)) }
@@ -89,11 +91,22 @@ pub fn record_value_node(
     Ok(Initializer::Record { position, fields })
 }
 
-/// The name that a first value is, if it is no more.
-pub fn name_alone(value: Initializer) -> Option<Name>
-    ensures { result ≡ name_alone (initial_of value) }
+/// What stands in the place of a first value before it is read.
+pub fn unread(end: Place) -> Initializer {
+    Initializer::Value(Expr::Nil {
+        position: Position {
+            place: end,
+            switches: Switches::OFF,
+        },
+    })
+}
+
+/// The name that a first value is, if it is no more, out of its place.
+#[inline(never)]
+pub fn name_alone(end: Place, tree: &mut Initializer) -> Option<Name>
+    ensures { result ≡ name_alone (initial_of tree.old) }
 {
-    let Initializer::Value(expression) = value else {
+    let Initializer::Value(expression) = replace(tree, unread(end)) else {
         return None;
     };
     let Expr::Designator(designator) = expression else {

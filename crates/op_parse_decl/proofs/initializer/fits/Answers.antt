@@ -11,4 +11,4 @@ pub returns-in_err-value-in-Value-clause-refused : goal.returns-in_err-value-in-
 returns-in_err-value-in-Value-clause-refused c = passed c.from_residual-in_err-value-in-Value.result c.from_residual-in_err-value-in-Value.ensures.1 (λ y e. (_, ap initial_of c.in-Value.is, rw e (value_inside_refuses c.args.setting.left _ c.args.setting.end _ _ c.in_ok-left-in-Value.ensures.inside c.in_err-value-in-Value.ensures.refused)))
 
 pub returns-in_ok-value-in-Value-clause-fits : goal.returns-in_ok-value-in-Value-clause-fits
-returns-in_ok-value-in-Value-clause-fits c = fits_item c.args.setting.left _ _ _ _ _ (ap initial_of c.in-Value.is) (value_inside_whole c.args.setting.left _ _ _ _ c.in_ok-left-in-Value.ensures.inside c.in_ok-value-in-Value.ensures.whole)
+returns-in_ok-value-in-Value-clause-fits c = fits_item c.args.setting.left _ _ _ _ _ (ap initial_of c.in-Value.is) (value_inside_whole c.args.setting.left _ _ _ _ c.in_ok-left-in-Value.ensures.inside c.in_ok-value-in-Value.ensures.whole.2)

@@ -12,10 +12,10 @@ pub returns-then-is_empty : goal.returns-then-is_empty
 returns-then-is_empty c =
     let d = c.in-Designator.designator in
     let says = ap initial_of c.in-Value.is ∙ ap value (ap expr_of c.in-Designator.is ∙ designated_says d ∙ ap (λ r. designated (designator (root_of r) (selectors_of d.selectors.items))) c.in-Named.is) in
-    sym (ap name_alone says ∙ alone _ d.selectors.items (grind (arith, nat_tests)))
+    rw (sym c.replace.ensures.value) (sym (ap name_alone says ∙ alone _ d.selectors.items (grind (arith, nat_tests))))
 
 pub returns : goal.returns
 returns c =
     let d = c.in-Designator.designator in
     let says = ap initial_of c.in-Value.is ∙ ap value (ap expr_of c.in-Designator.is ∙ designated_says d ∙ ap (λ r. designated (designator (root_of r) (selectors_of d.selectors.items))) c.in-Named.is) in
-    sym (ap name_alone says ∙ not_alone _ d.selectors.items (grind (arith, nat_tests)))
+    rw (sym c.replace.ensures.value) (sym (ap name_alone says ∙ not_alone _ d.selectors.items (grind (arith, nat_tests))))
