@@ -1,9 +1,9 @@
 -- What statements say, by what was added for them.
-use Rattle.std.proofs.Common.{◌≡◌, ℕ, ◌+◌, ◌<◌, ◌≤◌, Bool, true, List, [], length, get_or, slice_get, Option, Some, None, Result, IfOk, refl, ap, sym, subst, ◌∙◌}
+use Rattle.std.proofs.Common.{◌≡◌, ℕ, ◌+◌, List, [], slice_get, Some, None, Result, IfOk, refl, ap, sym, ◌∙◌}
 use Rattle.op_base.specs.declared.memory_error.NoMemory.{NoMemory}
 use Rattle.op_core.specs.Expression.{Expression}
 use Rattle.op_core.specs.Sizes.{type_at}
-use Rattle.op_core.specs.Statement.{Statement, Statements, Branches, Handlers, empty, block, case_of, repeat_until, for_to, for_in, try_finally, try_on, try_on_else, stmts_of}
+use Rattle.op_core.specs.Statement.{Statement, Statements, Branches, Handlers, empty, case_of, for_to, for_in, try_finally, try_on, try_on_else, stmts_of}
 use Rattle.op_core.specs.Typing.{type_of}
 use Rattle.op_core.specs.declared.ids.TypeId.{TypeId}
 use Rattle.op_core.specs.declared.ids.VariableId.{VariableId}
@@ -12,17 +12,14 @@ use Rattle.op_core.specs.declared.program.Core.{Core}
 use Rattle.op_core.specs.declared.routine.Body.{Body}
 use Rattle.op_core.specs.declared.routine.Routine.{Routine}
 use Rattle.op_items.proofs.Behind.{adds_by, behind_none, ok_as, ok_both}
-use Rattle.op_items.specs.Adding.{Adds, cases_in, clauses_in, env_view, turns_in, view_in}
+use Rattle.op_items.specs.Adding.{Adds, env_view, view_in}
 use Rattle.op_items.specs.Collections.{bounded}
-use Rattle.op_items.specs.declared.item.Case.{Case}
-use Rattle.op_items.specs.declared.item.Clause.{Clause}
 use Rattle.op_items.specs.declared.item.Item.{Item}
-use Rattle.op_items.specs.declared.item.Turns.{Turns as RustTurns}
 use Rattle.op_items.specs.declared.setting.Setting.{Setting}
 use Rattle.op_meaning.specs.Actions.{compare}
-use Rattle.op_meaning.specs.Expressions.{Env, Here, past, past_whole, make}
+use Rattle.op_meaning.specs.Expressions.{Env, Here, past, make}
 use Rattle.op_meaning.specs.Frames.{program_of}
-use Rattle.op_meaning.specs.Items.{Items, none, ◌&◌, only, act, choose, select, body_first, turns, protect, attempt, Clauses, no_clauses, for_others}
+use Rattle.op_meaning.specs.Items.{Items, none, ◌&◌, only, act, choose, select, protect, attempt, no_clauses, for_others}
 use Rattle.op_meaning.specs.Statements.{cases_of, clauses_of, for_items, has_turn, in_collection, in_turn, work_of, work_of_all}
 use Rattle.op_tree.specs.declared.operator.Operator.{Operator}
 use Rattle.op_tree.specs.declared.statement.Direction.{Direction}
@@ -32,59 +29,42 @@ use Rattle.op_tree.specs.declared.statement.Direction.{Direction}
 pub empty_work : (setting : Setting) (old : List Item) (here : Here) (stmt : Statement) → stmt ≡ empty → Adds setting old old (work_of (env_view setting) here stmt)
 empty_work setting old here stmt i = adds_by setting old old (ap (work_of (env_view setting) here) (sym i)) (sym (behind_none (view_in setting old)))
 
-pub block_work : {A : Type 0} (setting : Setting) (old new : List Item) (r : Result A NoMemory) (here : Here) (stmt : Statement) (ss : Statements) → stmt ≡ block ss → IfOk r (λ _. Adds setting old new (work_of_all (env_view setting) here ss)) → IfOk r (λ _. Adds setting old new (work_of (env_view setting) here stmt))
-block_work setting old new r here stmt ss i a = ok_as setting old new r (ap (work_of (env_view setting) here) (sym i)) a
+pub same_work : {A : Type 0} (setting : Setting) (old new : List Item) (r : Result A NoMemory) (here : Here) (stmt same : Statement) → stmt ≡ same → IfOk r (λ _. Adds setting old new (work_of (env_view setting) here same)) → IfOk r (λ _. Adds setting old new (work_of (env_view setting) here stmt))
+same_work setting old new r here stmt same i a = ok_as setting old new r (ap (work_of (env_view setting) here) (sym i)) a
 
-pub case_work : {A : Type 0} (setting : Setting) (old new : List Item) (r : Result A NoMemory) (here : Here) (stmt : Statement) (e : Expression) (bs : Branches) (ss : Statements) (cs : List Case) (otherwise : List Item) → stmt ≡ case_of e bs ss → cases_in setting cs ≡ cases_of (env_view setting) here bs → view_in setting otherwise ≡ work_of_all (env_view setting) here ss → IfOk r (λ _. Adds setting old new ((make (env_view setting) here e).items & only (select here.temp (cases_in setting cs) (view_in setting otherwise)))) → IfOk r (λ _. Adds setting old new (work_of (env_view setting) here stmt))
-case_work setting old new r here stmt e bs ss cs otherwise i c o a =
+pub case_work : {A : Type 0} (setting : Setting) (old new : List Item) (r : Result A NoMemory) (here : Here) (stmt : Statement) (e : Expression) (bs : Branches) (ss : Statements) (otherwise : List Item) → stmt ≡ case_of e bs ss → view_in setting otherwise ≡ work_of_all (env_view setting) here ss → IfOk r (λ _. Adds setting old new ((make (env_view setting) here e).items & only (select here.temp (cases_of (env_view setting) here bs) (view_in setting otherwise)))) → IfOk r (λ _. Adds setting old new (work_of (env_view setting) here stmt))
+case_work setting old new r here stmt e bs ss otherwise i o a =
     let env = env_view setting in
     ok_as setting old new r
-    (ap (λ x. (make env here e).items & only (select here.temp x (view_in setting otherwise))) c
-    ∙ ap (λ x. (make env here e).items & only (select here.temp (cases_of env here bs) x)) o
+    (ap (λ x. (make env here e).items & only (select here.temp (cases_of env here bs) x)) o
     ∙ ap (work_of env here) (sym i)) a
 
-pub repeat_work : {A : Type 0} (setting : Setting) (old new : List Item) (r : Result A NoMemory) (here : Here) (stmt : Statement) (ss : Statements) (e : Expression) (body : List Item) (l : RustTurns) → stmt ≡ repeat_until ss e → turns_in setting l ≡ turns (make (env_view setting) here e).items here.temp true none (view_in setting body) → view_in setting body ≡ work_of_all (env_view setting) here ss → IfOk r (λ _. Adds setting old new (only (body_first (turns_in setting l)))) → IfOk r (λ _. Adds setting old new (work_of (env_view setting) here stmt))
-repeat_work setting old new r here stmt ss e body l i t b a =
+pub finally_work : {A : Type 0} (setting : Setting) (old new : List Item) (r : Result A NoMemory) (here inner : Here) (stmt : Statement) (ss ts : Statements) (body : List Item) → stmt ≡ try_finally ss ts → inner ≡ past 2 here → view_in setting body ≡ work_of_all (env_view setting) inner ss → IfOk r (λ _. Adds setting old new (only (protect here.temp here.keep (view_in setting body) (work_of_all (env_view setting) (past 2 here) ts)))) → IfOk r (λ _. Adds setting old new (work_of (env_view setting) here stmt))
+finally_work setting old new r here inner stmt ss ts body i n b a =
     let env = env_view setting in
     ok_as setting old new r
-    (ap (λ x. only (body_first x)) t
-    ∙ ap (λ x. only (body_first (turns (make env here e).items here.temp true none x))) b
+    (ap (λ x. only (protect here.temp here.keep x (work_of_all env (past 2 here) ts))) (b ∙ ap (λ h. work_of_all env h ss) n)
     ∙ ap (work_of env here) (sym i)) a
 
-pub finally_work : {A : Type 0} (setting : Setting) (old new : List Item) (r : Result A NoMemory) (here inner : Here) (stmt : Statement) (ss ts : Statements) (body finalization : List Item) (t keep : ℕ) → stmt ≡ try_finally ss ts → inner ≡ past 2 here → t ≡ here.temp → keep ≡ here.keep → view_in setting body ≡ work_of_all (env_view setting) inner ss → view_in setting finalization ≡ work_of_all (env_view setting) inner ts → IfOk r (λ _. Adds setting old new (only (protect t keep (view_in setting body) (view_in setting finalization)))) → IfOk r (λ _. Adds setting old new (work_of (env_view setting) here stmt))
-finally_work setting old new r here inner stmt ss ts body finalization t keep i n u k b f a =
+pub on_work : {A : Type 0} (setting : Setting) (old new : List Item) (r : Result A NoMemory) (here : Here) (stmt : Statement) (ss : Statements) (hs : Handlers) (body : List Item) → stmt ≡ try_on ss hs → view_in setting body ≡ work_of_all (env_view setting) here ss → IfOk r (λ _. Adds setting old new (only (attempt here.keep (view_in setting body) (clauses_of (env_view setting) here hs no_clauses)))) → IfOk r (λ _. Adds setting old new (work_of (env_view setting) here stmt))
+on_work setting old new r here stmt ss hs body i b a =
     let env = env_view setting in
     ok_as setting old new r
-    (ap (λ x. only (protect x keep (view_in setting body) (view_in setting finalization))) u
-    ∙ ap (λ x. only (protect here.temp x (view_in setting body) (view_in setting finalization))) k
-    ∙ ap (λ x. only (protect here.temp here.keep x (view_in setting finalization))) b
-    ∙ ap (λ x. only (protect here.temp here.keep (work_of_all env inner ss) x)) f
-    ∙ ap (λ x. only (protect here.temp here.keep (work_of_all env x ss) (work_of_all env x ts))) n
+    (ap (λ x. only (attempt here.keep x (clauses_of env here hs no_clauses))) b
     ∙ ap (work_of env here) (sym i)) a
 
-pub on_work : {A : Type 0} (setting : Setting) (old new : List Item) (r : Result A NoMemory) (here : Here) (stmt : Statement) (ss : Statements) (hs : Handlers) (body : List Item) (cs : List Clause) (keep : ℕ) → stmt ≡ try_on ss hs → keep ≡ here.keep → view_in setting body ≡ work_of_all (env_view setting) here ss → ((last : Clauses) → clauses_in setting cs last ≡ clauses_of (env_view setting) here hs last) → IfOk r (λ _. Adds setting old new (only (attempt keep (view_in setting body) (clauses_in setting cs no_clauses)))) → IfOk r (λ _. Adds setting old new (work_of (env_view setting) here stmt))
-on_work setting old new r here stmt ss hs body cs keep i k b c a =
+pub else_work : {A : Type 0} (setting : Setting) (old new : List Item) (r : Result A NoMemory) (here : Here) (stmt : Statement) (ss : Statements) (hs : Handlers) (ts : Statements) (body others : List Item) → stmt ≡ try_on_else ss hs ts → view_in setting body ≡ work_of_all (env_view setting) here ss → view_in setting others ≡ work_of_all (env_view setting) here ts → IfOk r (λ _. Adds setting old new (only (attempt here.keep (view_in setting body) (clauses_of (env_view setting) here hs (for_others (view_in setting others)))))) → IfOk r (λ _. Adds setting old new (work_of (env_view setting) here stmt))
+else_work setting old new r here stmt ss hs ts body others i b o a =
     let env = env_view setting in
     ok_as setting old new r
-    (ap (λ x. only (attempt x (view_in setting body) (clauses_in setting cs no_clauses))) k
-    ∙ ap (λ x. only (attempt here.keep x (clauses_in setting cs no_clauses))) b
-    ∙ ap (λ x. only (attempt here.keep (work_of_all env here ss) x)) (c no_clauses)
-    ∙ ap (work_of env here) (sym i)) a
-
-pub else_work : {A : Type 0} (setting : Setting) (old new : List Item) (r : Result A NoMemory) (here : Here) (stmt : Statement) (ss : Statements) (hs : Handlers) (ts : Statements) (body : List Item) (cs : List Clause) (others : List Item) (keep : ℕ) → stmt ≡ try_on_else ss hs ts → keep ≡ here.keep → view_in setting body ≡ work_of_all (env_view setting) here ss → ((last : Clauses) → clauses_in setting cs last ≡ clauses_of (env_view setting) here hs last) → view_in setting others ≡ work_of_all (env_view setting) here ts → IfOk r (λ _. Adds setting old new (only (attempt keep (view_in setting body) (clauses_in setting cs (for_others (view_in setting others)))))) → IfOk r (λ _. Adds setting old new (work_of (env_view setting) here stmt))
-else_work setting old new r here stmt ss hs ts body cs others keep i k b c o a =
-    let env = env_view setting in
-    ok_as setting old new r
-    (ap (λ x. only (attempt x (view_in setting body) (clauses_in setting cs (for_others (view_in setting others))))) k
-    ∙ ap (λ x. only (attempt here.keep x (clauses_in setting cs (for_others (view_in setting others))))) b
-    ∙ ap (λ x. only (attempt here.keep (work_of_all env here ss) (clauses_in setting cs (for_others x)))) o
-    ∙ ap (λ x. only (attempt here.keep (work_of_all env here ss) x)) (c (for_others (work_of_all env here ts)))
+    (ap (λ x. only (attempt here.keep x (clauses_of env here hs (for_others (view_in setting others))))) b
+    ∙ ap (λ x. only (attempt here.keep (work_of_all env here ss) (clauses_of env here hs (for_others x)))) o
     ∙ ap (work_of env here) (sym i)) a
 
 -- ---- loops that count
 
-pub for_work : {A : Type 0} (setting : Setting) (old mid more new : List Item) (r : Result A NoMemory) (here at inner : Here) (stmt : Statement) (v : VariableId) (e : Expression) (d : Direction) (f : Expression) (s : Statement) (body : List Item) → stmt ≡ for_to v e d f s → at ≡ past 1 here → inner ≡ past 3 here → view_in setting body ≡ work_of (env_view setting) inner s → Adds setting old mid (make (env_view setting) here e).items → Adds setting mid more (make (env_view setting) at f).items → IfOk r (λ _. Adds setting more new (for_items (env_view setting) here v d (view_in setting body))) → IfOk r (λ _. Adds setting old new (work_of (env_view setting) here stmt))
-for_work setting old mid more new r here at inner stmt v e d f s body i n m b x y z =
+pub for_work : {A : Type 0} (setting : Setting) (old mid more new : List Item) (r : Result A NoMemory) (here at inner : Here) (v : VariableId) (e : Expression) (d : Direction) (f : Expression) (s : Statement) (body : List Item) → at ≡ past 1 here → inner ≡ past 3 here → view_in setting body ≡ work_of (env_view setting) inner s → Adds setting old mid (make (env_view setting) here e).items → Adds setting mid more (make (env_view setting) at f).items → IfOk r (λ _. Adds setting more new (for_items (env_view setting) here v d (view_in setting body))) → IfOk r (λ _. Adds setting old new (work_of (env_view setting) here (for_to v e d f s)))
+for_work setting old mid more new r here at inner v e d f s body n m b x y z =
     let env = env_view setting in
     let first = (make env here e).items in
     let last = (make env at f).items in
@@ -92,12 +72,11 @@ for_work setting old mid more new r here at inner stmt v e d f s body i n m b x 
     ok_as setting old new r
     (ap (λ h. first & (make env h f).items & rest) n
     ∙ ap (λ y. first & (make env (past 1 here) f).items & for_items env here v d y) b
-    ∙ ap (λ h. first & (make env (past 1 here) f).items & for_items env here v d (work_of env h s)) m
-    ∙ ap (work_of env here) (sym i))
+    ∙ ap (λ h. first & (make env (past 1 here) f).items & for_items env here v d (work_of env h s)) m)
     (ok_both setting old mid new r first (last & rest) x (ok_both setting mid more new r last rest y z))
 
-pub in_work : {A : Type 0} (setting : Setting) (old mid new : List Item) (r : Result A NoMemory) (here inner : Here) (stmt : Statement) (v : VariableId) (into : Conversion) (e : Expression) (s : Statement) (of : TypeId) (body : List Item) → stmt ≡ for_in v into e s → of ≡ type_of e → inner ≡ in_turn here → view_in setting body ≡ work_of (env_view setting) inner s → Adds setting old mid (make (env_view setting) here e).items → IfOk r (λ _. Adds setting mid new (in_collection (env_view setting) here of (type_at setting.core.now of) v into (view_in setting body))) → IfOk r (λ _. Adds setting old new (work_of (env_view setting) here stmt))
-in_work setting old mid new r here inner stmt v into e s of body i t n b x y =
+pub in_work : {A : Type 0} (setting : Setting) (old mid new : List Item) (r : Result A NoMemory) (here inner : Here) (v : VariableId) (into : Conversion) (e : Expression) (s : Statement) (of : TypeId) (body : List Item) → of ≡ type_of e → inner ≡ in_turn here → view_in setting body ≡ work_of (env_view setting) inner s → Adds setting old mid (make (env_view setting) here e).items → IfOk r (λ _. Adds setting mid new (in_collection (env_view setting) here of (type_at setting.core.now of) v into (view_in setting body))) → IfOk r (λ _. Adds setting old new (work_of (env_view setting) here (for_in v into e s)))
+in_work setting old mid new r here inner v into e s of body t n b x y =
     let env = env_view setting in
     let core = setting.core.now in
     let first = (make env here e).items in
@@ -105,8 +84,7 @@ in_work setting old mid new r here inner stmt v into e s of body i t n b x y =
     ok_as setting old new r
     (ap (λ z. first & in_collection env here z (type_at core z) v into (view_in setting body)) t
     ∙ ap (λ z. first & in_collection env here (type_of e) (type_at core (type_of e)) v into z) b
-    ∙ ap (λ h. first & in_collection env here (type_of e) (type_at core (type_of e)) v into (work_of env h s)) n
-    ∙ ap (work_of env here) (sym i))
+    ∙ ap (λ h. first & in_collection env here (type_of e) (type_at core (type_of e)) v into (work_of env h s)) n)
     (ok_both setting old mid new r first rest x y)
 
 pub counted_turns : {A : Type 0} (setting : Setting) (old mid new : List Item) (r : Result A NoMemory) (here : Here) (v : VariableId) (d : Direction) (body : Items) (o : Operator) (t u : ℕ) (first otherwise : List Item) → o ≡ has_turn d → t ≡ here.temp → u ≡ t + 2 → view_in setting first ≡ bounded (env_view setting) t v d body → otherwise ≡ [] → Adds setting old mid (only (act (compare o (t + 2) t (t + 1)))) → IfOk r (λ _. Adds setting mid new (only (choose u (view_in setting first) (view_in setting otherwise)))) → IfOk r (λ _. Adds setting old new (for_items (env_view setting) here v d body))

@@ -93,6 +93,7 @@ impl Setting<'_> {
     }
 
     /// A loop, from its test on.
+    #[inline(never)]
     pub fn repeat(self, items: &mut Vec<Item>, turns: Turns) -> Result<(), NoMemory>
         ensures { IfOk result (λ _. Adds self.entry items.old.items items.new.items (only (loop (turns_in self.entry turns)))) }
     {
@@ -100,6 +101,7 @@ impl Setting<'_> {
     }
 
     /// A loop, from its body on.
+    #[inline(never)]
     pub fn body_first(self, items: &mut Vec<Item>, turns: Turns) -> Result<(), NoMemory>
         ensures { IfOk result (λ _. Adds self.entry items.old.items items.new.items (only (body_first (turns_in self.entry turns)))) }
     {
@@ -107,6 +109,7 @@ impl Setting<'_> {
     }
 
     /// A part with a finally part.
+    #[inline(never)]
     pub fn protect(
         self,
         items: &mut Vec<Item>,
@@ -127,6 +130,7 @@ impl Setting<'_> {
     }
 
     /// A part with handlers.
+    #[inline(never)]
     pub fn attempt(
         self,
         items: &mut Vec<Item>,
@@ -145,6 +149,7 @@ impl Setting<'_> {
     }
 
     /// A part with handlers, and one for all other exceptions.
+    #[inline(never)]
     pub fn attempt_all(
         self,
         items: &mut Vec<Item>,

@@ -81,6 +81,7 @@ impl Setting<'_> {
     }
 
     /// The right side is evaluated first, then the indices of the place.
+    #[inline(never)]
     pub fn assign(
         self,
         items: &mut Vec<Item>,

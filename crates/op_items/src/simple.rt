@@ -6,9 +6,9 @@ ghost use Rattle.op_core.specs.Expression.{expr_of};
 ghost use Rattle.op_core.specs.Statement.{built_in_of, exit_with};
 ghost use Rattle.op_items.specs.Adding.{Adds, cases_in, env_view, turns_in, view_in};
 ghost use Rattle.op_items.specs.Setting.{here_view};
-ghost use Rattle.op_items.specs.View.{variable_view};
+ghost use Rattle.op_items.specs.View.{variable_view, way_view};
 ghost use Rattle.op_meaning.specs.Expressions.{find, make};
-ghost use Rattle.op_meaning.specs.Items.{choose, free, halt, none, only, select, throw, turns, ◌&◌};
+ghost use Rattle.op_meaning.specs.Items.{choose, free, halt, leave, none, only, rethrow, select, throw, turns, ◌&◌};
 ghost use Rattle.op_meaning.specs.Statements.{clause_variable, done_built_in, work_of};
 
 use crate::expression::{find, make};
@@ -22,6 +22,7 @@ use op_tree::Operator;
 
 impl Setting<'_> {
     /// One of two parts, by a condition.
+    #[inline(never)]
     pub fn branch(
         self,
         items: &mut Vec<Item>,
@@ -37,6 +38,7 @@ impl Setting<'_> {
     }
 
     /// The branch that has a value.
+    #[inline(never)]
     pub fn switch(
         self,
         items: &mut Vec<Item>,
@@ -52,6 +54,7 @@ impl Setting<'_> {
     }
 
     /// The turns of a loop that ends where a condition has this value.
+    #[inline(never)]
     pub fn turns_until(
         self,
         here: Here,
@@ -72,6 +75,7 @@ impl Setting<'_> {
         })
     }
 
+    #[inline(never)]
     pub fn raise(
         self,
         items: &mut Vec<Item>,
@@ -85,7 +89,16 @@ impl Setting<'_> {
         self.item(items, Item::Throw { instance })
     }
 
+    /// The handler's instance is raised again.
+    #[inline(never)]
+    pub fn reraise(self, items: &mut Vec<Item>) -> Result<(), NoMemory>
+        ensures { IfOk result (λ _. Adds self.entry items.old.items items.new.items (only rethrow)) }
+    {
+        self.item(items, Item::Rethrow)
+    }
+
     /// A call, whose result is dropped.
+    #[inline(never)]
     pub fn call(self, items: &mut Vec<Item>, here: Here, call: &CoreExpr) -> Result<(), NoMemory>
         ensures { IfOk result (λ _. Adds self.entry items.old.items items.new.items (find (env_view self.entry) (here_view here) (expr_of call.now)).items) }
     {
@@ -93,7 +106,16 @@ impl Setting<'_> {
         Ok(())
     }
 
+    /// The routine, the loop or its turn is left.
+    #[inline(never)]
+    pub fn leave(self, items: &mut Vec<Item>, way: Way) -> Result<(), NoMemory>
+        ensures { IfOk result (λ _. Adds self.entry items.old.items items.new.items (only (leave (way_view way)))) }
+    {
+        self.item(items, Item::Leave(way))
+    }
+
     /// The routine is left with a result.
+    #[inline(never)]
     pub fn exit_with(
         self,
         items: &mut Vec<Item>,
@@ -106,6 +128,7 @@ impl Setting<'_> {
         self.item(items, Item::Leave(Way::Exit))
     }
 
+    #[inline(never)]
     pub fn halt(self, items: &mut Vec<Item>, here: Here, status: &CoreExpr) -> Result<(), NoMemory>
         ensures { IfOk result (λ _. Adds self.entry items.old.items items.new.items ((make (env_view self.entry) (here_view here) (expr_of status.now)).items & only (halt (here_view here).temp))) }
     {
@@ -136,6 +159,7 @@ impl Setting<'_> {
     }
 
     /// A call of a built-in procedure.
+    #[inline(never)]
     pub fn built_in(
         self,
         items: &mut Vec<Item>,

@@ -1,11 +1,13 @@
 //! Statements ("Statements" and "Exceptions" of the Free Pascal Reference Guide; reference of the unit System, "Exit", "Break",
 //! "Continue" and "Halt").
 ghost use Rattle.std.specs.Prelude.{◌≡◌, IfOk};
+ghost use Rattle.op_core.specs.Expression.{expr_of};
 ghost use Rattle.op_core.specs.Nodes.{branches_of, handlers_of};
-ghost use Rattle.op_core.specs.Statement.{stmt_of, stmts_of};
+ghost use Rattle.op_core.specs.Statement.{for_in, for_to, if_then, repeat_until, stmt_of, stmts_of, while_do};
 ghost use Rattle.op_items.specs.Adding.{Adds, cases_in, clauses_in, env_view, view_in};
 ghost use Rattle.op_items.specs.Setting.{here_view};
-ghost use Rattle.op_meaning.specs.Items.{Clauses};
+ghost use Rattle.op_meaning.specs.Expressions.{make, past};
+ghost use Rattle.op_meaning.specs.Items.{Clauses, attempt, choose, for_others, no_clauses, only, protect, select, ◌&◌};
 ghost use Rattle.op_meaning.specs.Statements.{cases_of, clauses_of, work_of, work_of_all};
 
 use crate::expression::make;
@@ -13,7 +15,8 @@ use crate::item::{Case, Clause, Item, Way};
 use crate::setting::{Here, Setting};
 use crate::shape::type_of;
 use op_base::{NoMemory, Sequence};
-use op_core::{CoreBranch, CoreHandler, CoreStmt};
+use op_core::{Conversion, CoreBranch, CoreExpr, CoreHandler, CoreStmt, VariableId};
+use op_tree::Direction;
 
 /// The statements of a list, in order.
 #[cycle(statement)]
@@ -51,6 +54,7 @@ fn alone(setting: Setting, here: Here, stmt: &CoreStmt) -> Result<Vec<Item>, NoM
     Ok(items)
 }
 
+/// What has statements within is made by a function of its own, so that a statement within others takes little of the stack.
 #[cycle(statement)]
 fn work_of(
     setting: Setting,
@@ -63,71 +67,47 @@ fn work_of(
     match stmt {
         CoreStmt::Empty => Ok(()),
         CoreStmt::Block(body) => work_of_all(setting, here, body, items),
-        CoreStmt::If { condition, then } => {
-            let first = alone(setting, here, then)?;
-            let otherwise = Vec::new(setting.alloc);
-            setting.branch(items, here, condition, first, otherwise)
-        }
+        CoreStmt::If { condition, then } => if_then(setting, here, then, condition, items),
         CoreStmt::IfElse {
             condition,
             then,
             otherwise,
         } => {
             let first = alone(setting, here, then)?;
-            let otherwise = alone(setting, here, otherwise)?;
-            setting.branch(items, here, condition, first, otherwise)
+            if_else(setting, here, otherwise, condition, first, items)
         }
         CoreStmt::Case {
             selector,
             branches,
             otherwise,
         } => {
-            let cases = cases_of(setting, here, branches)?;
             let otherwise = list(setting, here, otherwise)?;
-            setting.switch(items, here, selector, cases, otherwise)
+            case_of(setting, here, branches, selector, otherwise, items)
         }
-        CoreStmt::While { condition, body } => {
-            let body = alone(setting, here, body)?;
-            let turns = setting.turns_until(here, condition, false, body)?;
-            setting.repeat(items, turns)
-        }
-        CoreStmt::Repeat { body, condition } => {
-            let body = list(setting, here, body)?;
-            let turns = setting.turns_until(here, condition, true, body)?;
-            setting.body_first(items, turns)
-        }
+        CoreStmt::While { condition, body } => while_do(setting, here, body, condition, items),
+        CoreStmt::Repeat { body, condition } => repeat_until(setting, here, body, condition, items),
         CoreStmt::For {
             variable,
             first,
             direction,
             last,
             body,
-        } => {
-            let body = alone(setting, here.past(3)?, body)?;
-            make(setting, here, first, items)?;
-            make(setting, here.past(1)?, last, items)?;
-            setting.count_turns(items, here, *variable, *direction, body)
-        }
+        } => for_to(
+            setting, here, body, *variable, first, *direction, last, items,
+        ),
         CoreStmt::ForIn {
             variable,
             store,
             collection,
             body,
-        } => {
-            let body = alone(setting, here.past_whole()?.past(4)?, body)?;
-            make(setting, here, collection, items)?;
-            setting.in_collection(items, here, type_of(collection), *variable, *store, body)
-        }
+        } => for_in(setting, here, body, *variable, *store, collection, items),
         CoreStmt::TryFinally { body, finalization } => {
-            let inner = here.past(2)?;
-            let body = list(setting, inner, body)?;
-            let finalization = list(setting, inner, finalization)?;
-            setting.protect(items, here.first(), here.keep(), body, finalization)
+            let body = list(setting, here.past(2)?, body)?;
+            try_finally(setting, here, finalization, body, items)
         }
         CoreStmt::TryOn { body, handlers } => {
             let body = list(setting, here, body)?;
-            let clauses = clauses_of(setting, here, handlers)?;
-            setting.attempt(items, here.keep(), body, clauses)
+            try_on(setting, here, handlers, body, items)
         }
         CoreStmt::TryOnElse {
             body,
@@ -135,21 +115,194 @@ fn work_of(
             otherwise,
         } => {
             let body = list(setting, here, body)?;
-            let clauses = clauses_of(setting, here, handlers)?;
             let others = list(setting, here, otherwise)?;
-            setting.attempt_all(items, here.keep(), body, clauses, others)
+            try_on_else(setting, here, handlers, body, others, items)
         }
         CoreStmt::Raise(exception) => setting.raise(items, here, exception),
-        CoreStmt::Reraise => setting.item(items, Item::Rethrow),
+        CoreStmt::Reraise => setting.reraise(items),
         CoreStmt::Call(call) => setting.call(items, here, call),
         CoreStmt::Assign { target, value } => setting.assign(items, here, target, value),
-        CoreStmt::Exit => setting.item(items, Item::Leave(Way::Exit)),
+        CoreStmt::Exit => setting.leave(items, Way::Exit),
         CoreStmt::ExitWith(value) => setting.exit_with(items, here, value),
-        CoreStmt::Break => setting.item(items, Item::Leave(Way::Break)),
-        CoreStmt::Continue => setting.item(items, Item::Leave(Way::Continue)),
+        CoreStmt::Break => setting.leave(items, Way::Break),
+        CoreStmt::Continue => setting.leave(items, Way::Continue),
         CoreStmt::Halt(status) => setting.halt(items, here, status),
         CoreStmt::Do(action) => setting.built_in(items, here, action),
     }
+}
+
+/// An if without an else part.
+#[cycle(statement)]
+#[inline(never)]
+fn if_then(
+    setting: Setting,
+    here: Here,
+    then: &CoreStmt,
+    condition: &CoreExpr,
+    items: &mut Vec<Item>,
+) -> Result<(), NoMemory>
+    ensures { IfOk result (λ _. Adds setting.entry items.old.items items.new.items (work_of (env_view setting.entry) (here_view here) (if_then (expr_of condition.now) (stmt_of then.now)))) }
+{
+    let first = alone(setting, here, then)?;
+    let otherwise = Vec::new(setting.alloc);
+    setting.branch(items, here, condition, first, otherwise)
+}
+
+/// Behind the first part of an if: the other one.
+#[cycle(statement)]
+#[inline(never)]
+fn if_else(
+    setting: Setting,
+    here: Here,
+    otherwise: &CoreStmt,
+    condition: &CoreExpr,
+    first: Vec<Item>,
+    items: &mut Vec<Item>,
+) -> Result<(), NoMemory>
+    ensures { IfOk result (λ _. Adds setting.entry items.old.items items.new.items ((make (env_view setting.entry) (here_view here) (expr_of condition.now)).items & only (choose (here_view here).temp (view_in setting.entry first.items) (work_of (env_view setting.entry) (here_view here) (stmt_of otherwise.now))))) }
+{
+    let otherwise = alone(setting, here, otherwise)?;
+    setting.branch(items, here, condition, first, otherwise)
+}
+
+/// The branches of a case, whose else part is done.
+#[cycle(statement)]
+#[inline(never)]
+fn case_of(
+    setting: Setting,
+    here: Here,
+    branches: &[CoreBranch],
+    selector: &CoreExpr,
+    otherwise: Vec<Item>,
+    items: &mut Vec<Item>,
+) -> Result<(), NoMemory>
+    ensures { IfOk result (λ _. Adds setting.entry items.old.items items.new.items ((make (env_view setting.entry) (here_view here) (expr_of selector.now)).items & only (select (here_view here).temp (cases_of (env_view setting.entry) (here_view here) (branches_of branches.now)) (view_in setting.entry otherwise.items)))) }
+{
+    let cases = cases_of(setting, here, branches)?;
+    setting.switch(items, here, selector, cases, otherwise)
+}
+
+/// A loop that is tested before each turn.
+#[cycle(statement)]
+#[inline(never)]
+fn while_do(
+    setting: Setting,
+    here: Here,
+    body: &CoreStmt,
+    condition: &CoreExpr,
+    items: &mut Vec<Item>,
+) -> Result<(), NoMemory>
+    ensures { IfOk result (λ _. Adds setting.entry items.old.items items.new.items (work_of (env_view setting.entry) (here_view here) (while_do (expr_of condition.now) (stmt_of body.now)))) }
+{
+    let body = alone(setting, here, body)?;
+    let turns = setting.turns_until(here, condition, false, body)?;
+    setting.repeat(items, turns)
+}
+
+/// A loop that is tested behind each turn.
+#[cycle(statement)]
+#[inline(never)]
+fn repeat_until(
+    setting: Setting,
+    here: Here,
+    body: &[CoreStmt],
+    condition: &CoreExpr,
+    items: &mut Vec<Item>,
+) -> Result<(), NoMemory>
+    ensures { IfOk result (λ _. Adds setting.entry items.old.items items.new.items (work_of (env_view setting.entry) (here_view here) (repeat_until (stmts_of body.now) (expr_of condition.now)))) }
+{
+    let body = list(setting, here, body)?;
+    let turns = setting.turns_until(here, condition, true, body)?;
+    setting.body_first(items, turns)
+}
+
+/// A loop that counts.
+#[cycle(statement)]
+#[inline(never)]
+fn for_to(
+    setting: Setting,
+    here: Here,
+    body: &CoreStmt,
+    variable: VariableId,
+    first: &CoreExpr,
+    direction: Direction,
+    last: &CoreExpr,
+    items: &mut Vec<Item>,
+) -> Result<(), NoMemory>
+    ensures { IfOk result (λ _. Adds setting.entry items.old.items items.new.items (work_of (env_view setting.entry) (here_view here) (for_to variable (expr_of first.now) direction (expr_of last.now) (stmt_of body.now)))) }
+{
+    let body = alone(setting, here.past(3)?, body)?;
+    make(setting, here, first, items)?;
+    make(setting, here.past(1)?, last, items)?;
+    setting.count_turns(items, here, variable, direction, body)
+}
+
+/// A loop over what is in a collection.
+#[cycle(statement)]
+#[inline(never)]
+fn for_in(
+    setting: Setting,
+    here: Here,
+    body: &CoreStmt,
+    variable: VariableId,
+    store: Conversion,
+    collection: &CoreExpr,
+    items: &mut Vec<Item>,
+) -> Result<(), NoMemory>
+    ensures { IfOk result (λ _. Adds setting.entry items.old.items items.new.items (work_of (env_view setting.entry) (here_view here) (for_in variable store (expr_of collection.now) (stmt_of body.now)))) }
+{
+    let body = alone(setting, here.past_whole()?.past(4)?, body)?;
+    make(setting, here, collection, items)?;
+    setting.in_collection(items, here, type_of(collection), variable, store, body)
+}
+
+/// Behind a part: its finally part.
+#[cycle(statement)]
+#[inline(never)]
+fn try_finally(
+    setting: Setting,
+    here: Here,
+    finalization: &[CoreStmt],
+    body: Vec<Item>,
+    items: &mut Vec<Item>,
+) -> Result<(), NoMemory>
+    ensures { IfOk result (λ _. Adds setting.entry items.old.items items.new.items (only (protect (here_view here).temp (here_view here).keep (view_in setting.entry body.items) (work_of_all (env_view setting.entry) (past 2 (here_view here)) (stmts_of finalization.now))))) }
+{
+    let finalization = list(setting, here.past(2)?, finalization)?;
+    setting.protect(items, here.first(), here.keep(), body, finalization)
+}
+
+/// Behind a part: its handlers.
+#[cycle(statement)]
+#[inline(never)]
+fn try_on(
+    setting: Setting,
+    here: Here,
+    handlers: &[CoreHandler],
+    body: Vec<Item>,
+    items: &mut Vec<Item>,
+) -> Result<(), NoMemory>
+    ensures { IfOk result (λ _. Adds setting.entry items.old.items items.new.items (only (attempt (here_view here).keep (view_in setting.entry body.items) (clauses_of (env_view setting.entry) (here_view here) (handlers_of handlers.now) no_clauses)))) }
+{
+    let clauses = clauses_of(setting, here, handlers)?;
+    setting.attempt(items, here.keep(), body, clauses)
+}
+
+/// The handlers of a part, where that and what takes all other exceptions are done.
+#[cycle(statement)]
+#[inline(never)]
+fn try_on_else(
+    setting: Setting,
+    here: Here,
+    handlers: &[CoreHandler],
+    body: Vec<Item>,
+    others: Vec<Item>,
+    items: &mut Vec<Item>,
+) -> Result<(), NoMemory>
+    ensures { IfOk result (λ _. Adds setting.entry items.old.items items.new.items (only (attempt (here_view here).keep (view_in setting.entry body.items) (clauses_of (env_view setting.entry) (here_view here) (handlers_of handlers.now) (for_others (view_in setting.entry others.items)))))) }
+{
+    let clauses = clauses_of(setting, here, handlers)?;
+    setting.attempt_all(items, here.keep(), body, clauses, others)
 }
 
 #[cycle(statement)]

@@ -148,6 +148,7 @@ impl Setting<'_> {
     }
 
     /// Behind both bounds: where there is a turn, they are checked.
+    #[inline(never)]
     pub fn count_turns(
         self,
         items: &mut Vec<Item>,
@@ -276,6 +277,7 @@ impl Setting<'_> {
     }
 
     /// Behind a collection of the type.
+    #[inline(never)]
     pub fn in_collection(
         self,
         items: &mut Vec<Item>,

@@ -2,10 +2,9 @@ use Rattle.std.proofs.Common.{ap, refl, sym, ◌∙◌}
 use Rattle.op_core.proofs.Nodes.{list_nodes}
 use Rattle.op_core.specs.Expression.{expr_of}
 use Rattle.op_core.specs.Nodes.{branches_of, handlers_of}
-use Rattle.op_core.specs.Statement.{block, case_of, for_in, for_to, repeat_until, stmt_of, stmts_of, try_finally, try_on, try_on_else}
-use Rattle.op_core.specs.Typing.{type_of}
+use Rattle.op_core.specs.Statement.{block, case_of, repeat_until, stmt_of, stmts_of, try_finally, try_on, try_on_else}
 use Rattle.op_items.proofs.Branches.{cases_begin, cases_end, cases_go_on, clauses_begin, clauses_end, clauses_go_on, work_ends, work_goes_on}
-use Rattle.op_items.proofs.Works.{block_work, case_work, else_work, empty_work, finally_work, for_work, in_work, on_work, repeat_work}
+use Rattle.op_items.proofs.Works.{case_work, else_work, empty_work, finally_work, for_work, in_work, on_work, same_work}
 use Rattle.op_items.specs.Setting.{here_view}
 use Rattle.op_meaning.specs.Expressions.{past}
 use Rattle.op_items.proofs.statement.+statement.Goals as goal
@@ -37,75 +36,67 @@ work_of-returns-in-Empty t c = empty_work c.args.setting c.args.items.now.items 
 
 pub work_of-returns-in-Block : goal.work_of-returns-in-Block
 work_of-returns-in-Block t c =
-    block_work c.args.setting c.args.items.now.items c.work_of_all.new.items.items c.work_of_all.result (here_view c.args.here) (stmt_of c.args.stmt.now) (stmts_of c.deref.result.now)
+    same_work c.args.setting c.args.items.now.items c.work_of_all.new.items.items c.work_of_all.result (here_view c.args.here) (stmt_of c.args.stmt.now) (block (stmts_of c.deref.result.now))
     (ap stmt_of c.in-Block.is ∙ list_nodes.block_says c.in-Block.body ∙ ap (λ xs. block (stmts_of xs)) (sym c.deref.ensures.value)) c.work_of_all.ensures
 
 pub work_of-returns-in_ok-otherwise-in-Case : goal.work_of-returns-in_ok-otherwise-in-Case
 work_of-returns-in_ok-otherwise-in-Case t c =
-    case_work c.args.setting c.args.items.now.items c.switch.new.items.items c.switch.result (here_view c.args.here) (stmt_of c.args.stmt.now) (expr_of c.deref-in-Case-3.result.now) (branches_of c.deref-in-Case.result.now) (stmts_of c.deref-in-Case-2.result.now) c.in_ok-cases-in-Case.cases.items c.in_ok-otherwise-in-Case.otherwise.items
+    case_work c.args.setting c.args.items.now.items c.case_of.new.items.items c.case_of.result (here_view c.args.here) (stmt_of c.args.stmt.now) (expr_of c.deref-in-Case-3.result.now) (branches_of c.deref-in-Case-2.result.now) (stmts_of c.deref-in-Case.result.now) c.in_ok-otherwise-in-Case.otherwise.items
     (ap stmt_of c.in-Case.is
     ∙ list_nodes.case_says c.in-Case.selector c.in-Case.branches c.in-Case.otherwise
     ∙ ap (λ x. case_of (expr_of x) (branches_of c.in-Case.branches.items) (stmts_of c.in-Case.otherwise.items)) (sym c.deref-in-Case-3.ensures)
-    ∙ ap (λ x. case_of (expr_of c.deref-in-Case-3.result.now) (branches_of x) (stmts_of c.in-Case.otherwise.items)) (sym c.deref-in-Case.ensures.value)
-    ∙ ap (λ x. case_of (expr_of c.deref-in-Case-3.result.now) (branches_of c.deref-in-Case.result.now) (stmts_of x)) (sym c.deref-in-Case-2.ensures.value))
-    c.in_ok-cases-in-Case.ensures c.in_ok-otherwise-in-Case.ensures c.switch.ensures
+    ∙ ap (λ x. case_of (expr_of c.deref-in-Case-3.result.now) (branches_of x) (stmts_of c.in-Case.otherwise.items)) (sym c.deref-in-Case-2.ensures.value)
+    ∙ ap (λ x. case_of (expr_of c.deref-in-Case-3.result.now) (branches_of c.deref-in-Case-2.result.now) (stmts_of x)) (sym c.deref-in-Case.ensures.value))
+    c.in_ok-otherwise-in-Case.ensures c.case_of.ensures
 
-pub work_of-returns-in_ok-turns-in-Repeat : goal.work_of-returns-in_ok-turns-in-Repeat
-work_of-returns-in_ok-turns-in-Repeat t c =
-    repeat_work c.args.setting c.args.items.now.items c.body_first.new.items.items c.body_first.result (here_view c.args.here) (stmt_of c.args.stmt.now) (stmts_of c.deref-in-Repeat.result.now) (expr_of c.deref-in-Repeat-2.result.now) c.in_ok-body-in-Repeat.body.items c.in_ok-turns-in-Repeat.turns
+pub work_of-returns-in-Repeat : goal.work_of-returns-in-Repeat
+work_of-returns-in-Repeat t c =
+    same_work c.args.setting c.args.items.now.items c.repeat_until.new.items.items c.repeat_until.result (here_view c.args.here) (stmt_of c.args.stmt.now) (repeat_until (stmts_of c.deref-in-Repeat.result.now) (expr_of c.deref-in-Repeat-2.result.now))
     (ap stmt_of c.in-Repeat.is
     ∙ list_nodes.repeat_says c.in-Repeat.body c.in-Repeat.condition
     ∙ ap (λ x. repeat_until (stmts_of x) (expr_of c.in-Repeat.condition.value)) (sym c.deref-in-Repeat.ensures.value)
     ∙ ap (λ x. repeat_until (stmts_of c.deref-in-Repeat.result.now) (expr_of x)) (sym c.deref-in-Repeat-2.ensures))
-    c.in_ok-turns-in-Repeat.ensures c.in_ok-body-in-Repeat.ensures c.body_first.ensures
+    c.repeat_until.ensures
 
-pub work_of-returns-in_ok-make-in-For-2 : goal.work_of-returns-in_ok-make-in-For-2
-work_of-returns-in_ok-make-in-For-2 t c =
-    for_work c.args.setting c.args.items.now.items c.make.new.items.items c.make-in-For.new.items.items c.count_turns.new.items.items c.count_turns.result (here_view c.args.here) (here_view c.in_ok-past-in-For-2.field-0) (here_view c.in_ok-past-in-For.field-0) (stmt_of c.args.stmt.now)
-    c.in-For.variable (expr_of c.deref-in-For-2.result.now) c.in-For.direction (expr_of c.deref-in-For-3.result.now) (stmt_of c.deref-in-For.result.now) c.in_ok-body-in-For.body.items
-    (ap stmt_of c.in-For.is
-    ∙ ap (λ x. for_to c.in-For.variable (expr_of x) c.in-For.direction (expr_of c.in-For.last.value) (stmt_of c.in-For.body.value)) (sym c.deref-in-For-2.ensures)
-    ∙ ap (λ x. for_to c.in-For.variable (expr_of c.deref-in-For-2.result.now) c.in-For.direction (expr_of x) (stmt_of c.in-For.body.value)) (sym c.deref-in-For-3.ensures)
-    ∙ ap (λ x. for_to c.in-For.variable (expr_of c.deref-in-For-2.result.now) c.in-For.direction (expr_of c.deref-in-For-3.result.now) (stmt_of x)) (sym c.deref-in-For.ensures))
-    c.in_ok-past-in-For-2.ensures c.in_ok-past-in-For.ensures c.in_ok-body-in-For.ensures c.in_ok-make-in-For.ensures c.in_ok-make-in-For-2.ensures c.count_turns.ensures
+pub for_to-returns : goal.for_to-returns
+for_to-returns t c =
+    for_work c.args.setting c.args.items.now.items c.make.new.items.items c.make-2.new.items.items c.count_turns.new.items.items c.count_turns.result (here_view c.args.here) (here_view c.in_ok-past-2.field-0) (here_view c.in_ok-past.field-0)
+    c.args.variable (expr_of c.args.first.now) c.args.direction (expr_of c.args.last.now) (stmt_of c.args.body.now) c.in_ok-body.body.items
+    c.in_ok-past-2.ensures c.in_ok-past.ensures c.in_ok-body.ensures c.in_ok-make.ensures c.in_ok-make-2.ensures c.count_turns.ensures
 
-pub work_of-returns-in_ok-make-in-ForIn : goal.work_of-returns-in_ok-make-in-ForIn
-work_of-returns-in_ok-make-in-ForIn t c =
-    in_work c.args.setting c.args.items.now.items c.make-in-ForIn.new.items.items c.in_collection.new.items.items c.in_collection.result (here_view c.args.here) (here_view c.in_ok-past-in-ForIn.field-0) (stmt_of c.args.stmt.now)
-    c.in-ForIn.variable c.in-ForIn.store (expr_of c.deref-in-ForIn-2.result.now) (stmt_of c.deref-in-ForIn.result.now) c.type_of.result c.in_ok-body-in-ForIn.body.items
-    (ap stmt_of c.in-ForIn.is
-    ∙ ap (λ x. for_in c.in-ForIn.variable c.in-ForIn.store (expr_of x) (stmt_of c.in-ForIn.body.value)) (sym c.deref-in-ForIn-2.ensures)
-    ∙ ap (λ x. for_in c.in-ForIn.variable c.in-ForIn.store (expr_of c.deref-in-ForIn-2.result.now) (stmt_of x)) (sym c.deref-in-ForIn.ensures))
-    (c.type_of.ensures ∙ ap (λ x. type_of (expr_of x)) (c.deref-in-ForIn-3.ensures ∙ sym c.deref-in-ForIn-2.ensures))
-    (c.in_ok-past-in-ForIn.ensures ∙ ap (past 4) c.in_ok-past_whole-in-ForIn.ensures) c.in_ok-body-in-ForIn.ensures c.in_ok-make-in-ForIn.ensures c.in_collection.ensures
+pub for_in-returns : goal.for_in-returns
+for_in-returns t c =
+    in_work c.args.setting c.args.items.now.items c.make.new.items.items c.in_collection.new.items.items c.in_collection.result (here_view c.args.here) (here_view c.in_ok-past.field-0)
+    c.args.variable c.args.store (expr_of c.args.collection.now) (stmt_of c.args.body.now) c.type_of.result c.in_ok-body.body.items
+    c.type_of.ensures (c.in_ok-past.ensures ∙ ap (past 4) c.in_ok-past_whole.ensures) c.in_ok-body.ensures c.in_ok-make.ensures c.in_collection.ensures
 
-pub work_of-returns-in_ok-finalization-in-TryFinally : goal.work_of-returns-in_ok-finalization-in-TryFinally
-work_of-returns-in_ok-finalization-in-TryFinally t c =
-    finally_work c.args.setting c.args.items.now.items c.protect.new.items.items c.protect.result (here_view c.args.here) (here_view c.in_ok-inner-in-TryFinally.inner) (stmt_of c.args.stmt.now) (stmts_of c.deref-in-TryFinally.result.now) (stmts_of c.deref-in-TryFinally-2.result.now) c.in_ok-body-in-TryFinally.body.items c.in_ok-finalization-in-TryFinally.finalization.items c.first.result.0 c.keep.result
+pub work_of-returns-in_ok-body-in-TryFinally : goal.work_of-returns-in_ok-body-in-TryFinally
+work_of-returns-in_ok-body-in-TryFinally t c =
+    finally_work c.args.setting c.args.items.now.items c.try_finally.new.items.items c.try_finally.result (here_view c.args.here) (here_view c.in_ok-past-in-TryFinally.field-0) (stmt_of c.args.stmt.now) (stmts_of c.deref-in-TryFinally.result.now) (stmts_of c.deref-in-TryFinally-2.result.now) c.in_ok-body-in-TryFinally.body.items
     (ap stmt_of c.in-TryFinally.is
     ∙ list_nodes.finally_says c.in-TryFinally.body c.in-TryFinally.finalization
     ∙ ap (λ x. try_finally (stmts_of x) (stmts_of c.in-TryFinally.finalization.items)) (sym c.deref-in-TryFinally.ensures.value)
     ∙ ap (λ x. try_finally (stmts_of c.deref-in-TryFinally.result.now) (stmts_of x)) (sym c.deref-in-TryFinally-2.ensures.value))
-    c.in_ok-inner-in-TryFinally.ensures c.first.ensures c.keep.ensures c.in_ok-body-in-TryFinally.ensures c.in_ok-finalization-in-TryFinally.ensures c.protect.ensures
+    c.in_ok-past-in-TryFinally.ensures c.in_ok-body-in-TryFinally.ensures c.try_finally.ensures
 
-pub work_of-returns-in_ok-clauses-in-TryOn : goal.work_of-returns-in_ok-clauses-in-TryOn
-work_of-returns-in_ok-clauses-in-TryOn t c =
-    on_work c.args.setting c.args.items.now.items c.attempt.new.items.items c.attempt.result (here_view c.args.here) (stmt_of c.args.stmt.now) (stmts_of c.deref-in-TryOn.result.now) (handlers_of c.deref-in-TryOn-2.result.now) c.in_ok-body-in-TryOn.body.items c.in_ok-clauses-in-TryOn.clauses.items c.keep-in-TryOn.result
+pub work_of-returns-in_ok-body-in-TryOn : goal.work_of-returns-in_ok-body-in-TryOn
+work_of-returns-in_ok-body-in-TryOn t c =
+    on_work c.args.setting c.args.items.now.items c.try_on.new.items.items c.try_on.result (here_view c.args.here) (stmt_of c.args.stmt.now) (stmts_of c.deref-in-TryOn.result.now) (handlers_of c.deref-in-TryOn-2.result.now) c.in_ok-body-in-TryOn.body.items
     (ap stmt_of c.in-TryOn.is
     ∙ list_nodes.on_says c.in-TryOn.body c.in-TryOn.handlers
     ∙ ap (λ x. try_on (stmts_of x) (handlers_of c.in-TryOn.handlers.items)) (sym c.deref-in-TryOn.ensures.value)
     ∙ ap (λ x. try_on (stmts_of c.deref-in-TryOn.result.now) (handlers_of x)) (sym c.deref-in-TryOn-2.ensures.value))
-    c.keep-in-TryOn.ensures c.in_ok-body-in-TryOn.ensures c.in_ok-clauses-in-TryOn.ensures c.attempt.ensures
+    c.in_ok-body-in-TryOn.ensures c.try_on.ensures
 
 pub work_of-returns-in_ok-others-in-TryOnElse : goal.work_of-returns-in_ok-others-in-TryOnElse
 work_of-returns-in_ok-others-in-TryOnElse t c =
-    else_work c.args.setting c.args.items.now.items c.attempt_all.new.items.items c.attempt_all.result (here_view c.args.here) (stmt_of c.args.stmt.now) (stmts_of c.deref-in-TryOnElse.result.now) (handlers_of c.deref-in-TryOnElse-2.result.now) (stmts_of c.deref-in-TryOnElse-3.result.now) c.in_ok-body-in-TryOnElse.body.items c.in_ok-clauses-in-TryOnElse.clauses.items c.in_ok-others-in-TryOnElse.others.items c.keep-in-TryOnElse.result
+    else_work c.args.setting c.args.items.now.items c.try_on_else.new.items.items c.try_on_else.result (here_view c.args.here) (stmt_of c.args.stmt.now) (stmts_of c.deref-in-TryOnElse.result.now) (handlers_of c.deref-in-TryOnElse-3.result.now) (stmts_of c.deref-in-TryOnElse-2.result.now) c.in_ok-body-in-TryOnElse.body.items c.in_ok-others-in-TryOnElse.others.items
     (ap stmt_of c.in-TryOnElse.is
     ∙ list_nodes.else_says c.in-TryOnElse.body c.in-TryOnElse.handlers c.in-TryOnElse.otherwise
     ∙ ap (λ x. try_on_else (stmts_of x) (handlers_of c.in-TryOnElse.handlers.items) (stmts_of c.in-TryOnElse.otherwise.items)) (sym c.deref-in-TryOnElse.ensures.value)
-    ∙ ap (λ x. try_on_else (stmts_of c.deref-in-TryOnElse.result.now) (handlers_of x) (stmts_of c.in-TryOnElse.otherwise.items)) (sym c.deref-in-TryOnElse-2.ensures.value)
-    ∙ ap (λ x. try_on_else (stmts_of c.deref-in-TryOnElse.result.now) (handlers_of c.deref-in-TryOnElse-2.result.now) (stmts_of x)) (sym c.deref-in-TryOnElse-3.ensures.value))
-    c.keep-in-TryOnElse.ensures c.in_ok-body-in-TryOnElse.ensures c.in_ok-clauses-in-TryOnElse.ensures c.in_ok-others-in-TryOnElse.ensures c.attempt_all.ensures
+    ∙ ap (λ x. try_on_else (stmts_of c.deref-in-TryOnElse.result.now) (handlers_of x) (stmts_of c.in-TryOnElse.otherwise.items)) (sym c.deref-in-TryOnElse-3.ensures.value)
+    ∙ ap (λ x. try_on_else (stmts_of c.deref-in-TryOnElse.result.now) (handlers_of c.deref-in-TryOnElse-3.result.now) (stmts_of x)) (sym c.deref-in-TryOnElse-2.ensures.value))
+    c.in_ok-body-in-TryOnElse.ensures c.in_ok-others-in-TryOnElse.ensures c.try_on_else.ensures
 
 pub work_of_all-loop-each-preserved : goal.work_of_all-loop-each-preserved
 work_of_all-loop-each-preserved t c = work_goes_on c.args.setting c.loop-each.items.items c.work_of.new.items.items (here_view c.args.here) c.args.list.now c.loop-each.each-index c.each-item.result _ c.loop-each-test.true c.each-item.is c.in_ok-work_of.ensures c.loop-each.invariant
