@@ -1,23 +1,24 @@
 -- What is made of the parts of an item is what the definition of code says of the item.
 use Rattle.std.proofs.Common.{◌≡◌, ℕ, suc, ◌+◌, ◌<◌, Bool, List, [], ◌∷◌, ◌++◌, length, map, sym, ap, ◌∙◌, arith, append_assoc, pos, None, ◌≤◌, Result, Ok, Err, IfOk, reverse}
-use Rattle.std.proofs.lemmas.List.{append-nil, map-append, map-set, length-map, length-append, length-set, length_push, reverse-append}
+use Rattle.std.proofs.lemmas.List.{append-nil, map-append, map-set, length-map, length-append, length-set, length_push, reverse-append, take-set, take_all, take_more}
 use Rattle.std.proofs.Math.Nat.{add-zero}
 use Rattle.std.proofs.Math.Seq.{set-append_seam}
-use Rattle.std.specs.Prelude.{slice_set}
+use Rattle.std.specs.Prelude.{◌-◌, Vec, slice_set, slice_index_or, take}
+use Rattle.std.specs.declared.alloc.Global.{Global}
 use Rattle.op_core.specs.declared.program.Core.{Core}
 use Rattle.op_core.specs.declared.statement.Label.{Label}
-use Rattle.op_items.proofs.Nodes.{items_behind}
-use Rattle.op_items.specs.View.{item_view, items_view, cases_view}
+use Rattle.op_items.proofs.Nodes.{item_nodes, items_behind}
+use Rattle.op_items.specs.View.{item_view, items_view, cases_view, turns_view}
 use Rattle.op_items.specs.declared.item.Case.{Case}
 use Rattle.op_items.specs.declared.item.Item.{Item}
-use Rattle.op_items.specs.declared.item.Item.TheVariants.{Leave}
+use Rattle.op_items.specs.declared.item.Item.TheVariants.{Also, BodyFirst, Choose, Leave, Loop, Protect, Select}
 use Rattle.op_items.specs.declared.item.Turns.{Turns}
 use Rattle.op_items.specs.declared.item.Way.{Way}
 use Rattle.op_lower.specs.Exits.{exits_of, reason_of}
 use Rattle.op_lower.specs.Made.{Adds, Makes, MakesArms, Completes, CompletesArms, IsBody, items_made, item_made, branch_made, arms_made, loop_made, finally_made}
 use Rattle.op_lower.specs.Seen.{seen, seen_blocks}
 use Rattle.op_lower.specs.declared.exits.Exits.{Exits}
-use Rattle.op_meaning.specs.Items.{Items, none, then_do, Cases, ◌&◌, only, Item as MeantItem, also, choose, select, protect}
+use Rattle.op_meaning.specs.Items.{Items, none, then_do, Cases, ◌&◌, only, Item as MeantItem, also, choose, select, loop, body_first, protect}
 use Rattle.op_mir.specs.Code.{Instr, jump, unless, switch, dispatch, Made, Exits as MeantExits, code, code_item, code_cases, Arm as MeantArm, loop_exits, finally_exits, continued, branch_unless, branch_if}
 use Rattle.op_mir.specs.View.{view_arm, view_block, view_instruction}
 use Rattle.op_mir.specs.declared.action.Action.TheVariants.{Constant}
@@ -74,17 +75,17 @@ branch_adds exits items on old b1 b2 b3 now k e makes h f = λ core r.
     seen_filled core r b2 b3 k now V [] a.blocks (m.1 ∙ append_assoc V ([] ∷ []) a.blocks) (h ∙ sym (length-map old (view_block core r))) f
     ∙ ap (λ x. V ++ x ∷ a.blocks) m.0
 
-pub also_makes : (exits : Exits) (truth : Bool) (t : TemporaryId) (items : List Item) (behind : List Instruction) (on : BlockId) (old b1 b2 : List Block) (now : List Instruction) (i : Instruction) (front : List Instruction) (k : ℕ) → front ≡ i ∷ now → k ≡ length old → ((core : Core) (r : ℕ) → jump on.0 ∷ [] ≡ continued (length old) (seen core r behind)) → b1 ≡ old ++ block_of behind ∷ [] → Makes (items_made exits items b1 (Jump on ∷ [])) b1 b2 now → ((core : Core) (r : ℕ) → view_instruction core r i ≡ branch_unless truth t.0 k) → Makes (item_made exits (λ core r. also truth t.0 (items_view core r items)) old behind) old b2 front
-also_makes exits truth t items behind on old b1 b2 now i front k put h joined e makes is = λ core r.
+pub also_makes : (exits : Exits) (truth : Bool) (t : TemporaryId) (items : List Item) (behind : List Instruction) (on : BlockId) (old b1 b2 : List Block) (now front : List Instruction) (k : ℕ) → ((core : Core) (r : ℕ) → seen core r front ≡ branch_unless truth t.0 k ∷ seen core r now) → k ≡ length old → ((core : Core) (r : ℕ) → jump on.0 ∷ [] ≡ continued (length old) (seen core r behind)) → b1 ≡ old ++ block_of behind ∷ [] → Makes (items_made exits items b1 (Jump on ∷ [])) b1 b2 now → Makes (item_made exits (λ core r. also truth t.0 (items_view core r items)) old behind) old b2 front
+also_makes exits truth t items behind on old b1 b2 now front k put h joined e makes = λ core r.
     let V = seen_blocks core r old in
     let B = seen core r behind in
     let made : ℕ → List Instr → Made = code (exits_of exits) (items_view core r items) in
     let n : length b1 ≡ length old + 1 = ap length e ∙ length_push old (block_of behind) in
     let a = made (length old + 1) (continued (length old) B) in
     let m = as_made (made (length b1) (jump on.0 ∷ [])) a (seen core r now) (seen_blocks core r b2) (seen_blocks core r b1) (V ++ B ∷ []) (both made n (joined core r)) (seen_put core r old b1 behind e) (makes core r) in
-    (ap (seen core r) put ∙ both ◌∷◌ (is core r ∙ ap (branch_unless truth t.0) h) m.0, m.1 ∙ append_assoc V (B ∷ []) a.blocks)
+    (put core r ∙ both ◌∷◌ (ap (branch_unless truth t.0) h) m.0, m.1 ∙ append_assoc V (B ∷ []) a.blocks)
 
-pub choose_makes : (exits : Exits) (t : TemporaryId) (first otherwise : List Item) (behind : List Instruction) (on other : BlockId) (old b1 b2 b3 : List Block) (now front : List Instruction) → front ≡ Unless t other ∷ now → ((core : Core) (r : ℕ) → jump on.0 ∷ [] ≡ continued (length old) (seen core r behind)) → b1 ≡ old ++ block_of behind ∷ [] → other.0 ≡ length b1 → Adds (branch_made exits otherwise b1 on) b1 b2 → Makes (items_made exits first b2 (Jump on ∷ [])) b2 b3 now → Makes (item_made exits (λ core r. choose t.0 (items_view core r first) (items_view core r otherwise)) old behind) old b3 front
+pub choose_makes : (exits : Exits) (t : TemporaryId) (first otherwise : List Item) (behind : List Instruction) (on other : BlockId) (old b1 b2 b3 : List Block) (now front : List Instruction) → ((core : Core) (r : ℕ) → seen core r front ≡ unless t.0 other.0 ∷ seen core r now) → ((core : Core) (r : ℕ) → jump on.0 ∷ [] ≡ continued (length old) (seen core r behind)) → b1 ≡ old ++ block_of behind ∷ [] → other.0 ≡ length b1 → Adds (branch_made exits otherwise b1 on) b1 b2 → Makes (items_made exits first b2 (Jump on ∷ [])) b2 b3 now → Makes (item_made exits (λ core r. choose t.0 (items_view core r first) (items_view core r otherwise)) old behind) old b3 front
 choose_makes exits t first otherwise behind on other old b1 b2 b3 now front put joined e h adds makes = λ core r.
     let V = seen_blocks core r old in
     let B = seen core r behind in
@@ -102,7 +103,7 @@ choose_makes exits t first otherwise behind on other old b1 b2 b3 now front put 
     let n2 : length b2 ≡ k + 2 + length b.blocks = omega (arith, counted) in
     let a = first_code (k + 2 + length b.blocks) C in
     let m = as_made (first_code (length b2) (jump on.0 ∷ [])) a (seen core r now) (seen_blocks core r b3) (seen_blocks core r b2) (V ++ B ∷ b.now ∷ b.blocks) (both first_code n2 (joined core r)) v2 (makes core r) in
-    (ap (seen core r) put ∙ both ◌∷◌ (ap (unless t.0) (h ∙ n1)) m.0, m.1 ∙ append_assoc V (B ∷ b.now ∷ b.blocks) a.blocks)
+    (put core r ∙ both ◌∷◌ (ap (unless t.0) (h ∙ n1)) m.0, m.1 ∙ append_assoc V (B ∷ b.now ∷ b.blocks) a.blocks)
 
 pub select_makes : (exits : Exits) (t : TemporaryId) (cs : List Case) (otherwise : List Item) (behind : List Instruction) (on : BlockId) (old b1 b2 b3 : List Block) (now front : List Instruction) (arms : List Arm) → front ≡ Switch t arms ∷ now → ((core : Core) (r : ℕ) → jump on.0 ∷ [] ≡ continued (length old) (seen core r behind)) → b1 ≡ old ++ block_of behind ∷ [] → Makes (items_made exits otherwise b1 (Jump on ∷ [])) b1 b2 now → MakesArms (arms_made exits cs b2 on) b2 b3 arms → Makes (item_made exits (λ core r. select t.0 (cases_view core r cs) (items_view core r otherwise)) old behind) old b3 front
 select_makes exits t cs otherwise behind on old b1 b2 b3 now front arms put joined e makes made_arms = λ core r.
@@ -159,8 +160,8 @@ body_stands core r exits within body behind made_behind head at_body on old b1 b
       comes = h.1 ∙ both continued z (ap (λ x. x.now) same);
     }
 
-pub loop_adds : (exits within : Exits) (l : Turns) (behind : List Instruction) (made_behind head at_body on : BlockId) (old b1 b2 b3 b4 b5 : List Block) (i : Instruction) (test front now : List Instruction) → front ≡ i ∷ test → exits_of within ≡ loop_exits (exits_of exits) made_behind.0 → made_behind.0 ≡ length old → head.0 ≡ length old + 1 → at_body.0 ≡ length old + 2 → b1 ≡ old ++ block_of behind ∷ block_of [] ∷ block_of [] ∷ [] → IsBody (items_made within l.body.items b1 (Jump head ∷ [])) at_body b1 b2 on → Makes (items_made within l.between.items b2 (Jump on ∷ [])) b2 b3 test → ((core : Core) (r : ℕ) → view_instruction core r i ≡ branch_if l.ends l.temporary.0 made_behind.0) → Makes (items_made exits l.head.items b3 front) b3 b4 now → b5 ≡ slice_set b4 head.0 (block_of now) → Adds (loop_made exits l old behind) old b5
-loop_adds exits within l behind made_behind head at_body on old b1 b2 b3 b4 b5 i test front now put w hk hh hb e is_body makes_between ends makes_head f = λ core r.
+pub loop_adds : (exits within : Exits) (l : Turns) (behind : List Instruction) (made_behind head at_body on : BlockId) (old b1 b2 b3 b4 b5 : List Block) (test front now : List Instruction) → ((core : Core) (r : ℕ) → seen core r front ≡ branch_if l.ends l.temporary.0 made_behind.0 ∷ seen core r test) → exits_of within ≡ loop_exits (exits_of exits) made_behind.0 → made_behind.0 ≡ length old → head.0 ≡ length old + 1 → at_body.0 ≡ length old + 2 → b1 ≡ old ++ block_of behind ∷ block_of [] ∷ block_of [] ∷ [] → IsBody (items_made within l.body.items b1 (Jump head ∷ [])) at_body b1 b2 on → Makes (items_made within l.between.items b2 (Jump on ∷ [])) b2 b3 test → Makes (items_made exits l.head.items b3 front) b3 b4 now → b5 ≡ slice_set b4 head.0 (block_of now) → Adds (loop_made exits l old behind) old b5
+loop_adds exits within l behind made_behind head at_body on old b1 b2 b3 b4 b5 test front now put w hk hh hb e is_body makes_between makes_head f = λ core r.
     let V = seen_blocks core r old in
     let B = seen core r behind in
     let k = length old in
@@ -178,7 +179,7 @@ loop_adds exits within l behind made_behind head at_body on old b1 b2 b3 b4 b5 i
     let head_code : ℕ → List Instr → Made = code (exits_of exits) (items_view core r l.head.items) in
     let T : Instr = branch_if l.ends l.temporary.0 k in
     let a = head_code (k + 3 + length c.blocks + length b.blocks) (T ∷ b.now) in
-    let tested : seen core r front ≡ T ∷ b.now = ap (seen core r) put ∙ both ◌∷◌ (ends core r ∙ ap (branch_if l.ends l.temporary.0) hk) m2.0 in
+    let tested : seen core r front ≡ T ∷ b.now = put core r ∙ both ◌∷◌ (ap (branch_if l.ends l.temporary.0) hk) m2.0 in
     let m3 = as_made (head_code (length b3) (seen core r front)) a (seen core r now) (seen_blocks core r b4) (seen_blocks core r b3) (V ++ B ∷ [] ∷ c.now ∷ (c.blocks ++ b.blocks)) (both head_code n3 tested) v3 (makes_head core r) in
     let rest : Blocks = c.now ∷ (c.blocks ++ b.blocks) ++ a.blocks in
     let v4 : seen_blocks core r b4 ≡ (V ++ B ∷ []) ++ [] ∷ rest = m3.1 ∙ append_assoc V (B ∷ [] ∷ c.now ∷ (c.blocks ++ b.blocks)) a.blocks ∙ sym (append_assoc V (B ∷ []) ([] ∷ rest)) in
@@ -351,21 +352,58 @@ body_is made block on old b1 b2 now makes comes f = λ core r.
 
 -- ---- which item it is
 
-pub item_is : {E : Type 0} (exits : Exits) (f g : Core → ℕ → MeantItem) (old new : List Block) (behind : List Instruction) (result : Result (List Instruction) E) → ((core : Core) (r : ℕ) → f core r ≡ g core r) → IfOk result (Makes (item_made exits g old behind) old new) → IfOk result (Makes (item_made exits f old behind) old new)
-item_is exits f g old new behind (Ok now) e h = λ core r.
+item_is : {R E : Type 0} (exits : Exits) (f g : Core → ℕ → MeantItem) (old new : List Block) (behind now : List Instruction) (result : Result R E) → ((core : Core) (r : ℕ) → f core r ≡ g core r) → IfOk result (λ _. Makes (item_made exits g old behind) old new now) → IfOk result (λ _. Makes (item_made exits f old behind) old new now)
+item_is exits f g old new behind now (Ok done) e h = λ core r.
     let same = ap (λ i. code_item (exits_of exits) i (length old) (seen core r behind)) (e core r) in
     ((h core r).0 ∙ sym (ap (λ x. x.now) same), (h core r).1 ∙ sym (ap (λ x. seen_blocks core r old ++ x.blocks) same))
-item_is exits f g old new behind (Err error) e h = h
+item_is exits f g old new behind now (Err error) e h = h
 
-pub at_keep : {E : Type 0} (P : ℕ → List Instruction → Type 0) (keep : ℕ) (result : Result (List Instruction) E) → IfOk result (λ now. (k : ℕ) → P k now) → IfOk result (P keep)
-at_keep P keep (Ok now) h = h keep
+-- what is made for the item
+abbrev pub MadeFor : {R E : Type 0} → Exits → (Core → ℕ → MeantItem) → List Block → List Block → List Instruction → List Instruction → Result R E → Type 0
+MadeFor exits item old new behind now result = IfOk result (λ _. Makes (item_made exits item old behind) old new now)
+
+-- where the parts of the item are what the item is matched with
+pub also_is : {R E : Type 0} (exits : Exits) (item : Item) (truth found_truth : Bool) (t found_t : TemporaryId) (items found : Vec Item Global) (old new : List Block) (behind now : List Instruction) (result : Result R E) → item ≡ Also truth t items → found_truth ≡ truth → found_t ≡ t → found ≡ items → MadeFor exits (λ core r. also found_truth found_t.0 (items_view core r found.items)) old new behind now result → MadeFor exits (λ core r. item_view core r item) old new behind now result
+also_is exits item truth found_truth t found_t items found old new behind now result e p q s h =
+    item_is exits (λ core r. item_view core r item) (λ core r. also found_truth found_t.0 (items_view core r found.items)) old new behind now result
+    (λ core r. ap (item_view core r) e ∙ (item_nodes core r).also_says truth t items ∙ three (λ x y z. also x y.0 (items_view core r z.items)) (sym p) (sym q) (sym s)) h
+
+pub choose_is : {R E : Type 0} (exits : Exits) (item : Item) (t found_t : TemporaryId) (first found otherwise found_otherwise : Vec Item Global) (old new : List Block) (behind now : List Instruction) (result : Result R E) → item ≡ Choose t first otherwise → found_t ≡ t → found ≡ first → found_otherwise ≡ otherwise → MadeFor exits (λ core r. choose found_t.0 (items_view core r found.items) (items_view core r found_otherwise.items)) old new behind now result → MadeFor exits (λ core r. item_view core r item) old new behind now result
+choose_is exits item t found_t first found otherwise found_otherwise old new behind now result e p q s h =
+    item_is exits (λ core r. item_view core r item) (λ core r. choose found_t.0 (items_view core r found.items) (items_view core r found_otherwise.items)) old new behind now result
+    (λ core r. ap (item_view core r) e ∙ (item_nodes core r).choose_says t first otherwise ∙ three (λ x y z. choose x.0 (items_view core r y.items) (items_view core r z.items)) (sym p) (sym q) (sym s)) h
+
+pub select_is : {R E : Type 0} (exits : Exits) (item : Item) (t found_t : TemporaryId) (cs found : Vec Case Global) (otherwise found_otherwise : Vec Item Global) (old new : List Block) (behind now : List Instruction) (result : Result R E) → item ≡ Select t cs otherwise → found_t ≡ t → found ≡ cs → found_otherwise ≡ otherwise → MadeFor exits (λ core r. select found_t.0 (cases_view core r found.items) (items_view core r found_otherwise.items)) old new behind now result → MadeFor exits (λ core r. item_view core r item) old new behind now result
+select_is exits item t found_t cs found otherwise found_otherwise old new behind now result e p q s h =
+    item_is exits (λ core r. item_view core r item) (λ core r. select found_t.0 (cases_view core r found.items) (items_view core r found_otherwise.items)) old new behind now result
+    (λ core r. ap (item_view core r) e ∙ (item_nodes core r).select_says t cs otherwise ∙ three (λ x y z. select x.0 (cases_view core r y.items) (items_view core r z.items)) (sym p) (sym q) (sym s)) h
+
+pub loop_is : {R E : Type 0} (exits : Exits) (item : Item) (l found : Turns) (old new : List Block) (behind now : List Instruction) (result : Result R E) → item ≡ Loop l → found ≡ l → MadeFor exits (λ core r. loop (turns_view core r found)) old new behind now result → MadeFor exits (λ core r. item_view core r item) old new behind now result
+loop_is exits item l found old new behind now result e p h =
+    item_is exits (λ core r. item_view core r item) (λ core r. loop (turns_view core r found)) old new behind now result
+    (λ core r. ap (item_view core r) e ∙ (item_nodes core r).loop_says l ∙ ap (λ x. loop (turns_view core r x)) (sym p)) h
+
+pub body_first_is : {R E : Type 0} (exits : Exits) (item : Item) (l found : Turns) (old new : List Block) (behind now : List Instruction) (result : Result R E) → item ≡ BodyFirst l → found ≡ l → MadeFor exits (λ core r. body_first (turns_view core r found)) old new behind now result → MadeFor exits (λ core r. item_view core r item) old new behind now result
+body_first_is exits item l found old new behind now result e p h =
+    item_is exits (λ core r. item_view core r item) (λ core r. body_first (turns_view core r found)) old new behind now result
+    (λ core r. ap (item_view core r) e ∙ (item_nodes core r).body_first_says l ∙ ap (λ x. body_first (turns_view core r x)) (sym p)) h
+
+at_keep : {R E : Type 0} (P : ℕ → Type 0) (keep : ℕ) (result : Result R E) → IfOk result (λ _. (k : ℕ) → P k) → IfOk result (λ _. P keep)
+at_keep P keep (Ok done) h = h keep
 at_keep P keep (Err error) h = h
 
-pub leave_makes : {E : Type 0} (exits : Exits) (item : Item) (way : Way) (old : List Block) (behind : List Instruction) (result : Result (List Instruction) E) → item ≡ Leave way → IfOk result (λ code. (core : Core) (r : ℕ) → seen core r code ≡ exits_of exits (reason_of way)) → IfOk result (Makes (item_made exits (λ core r. item_view core r item) old behind) old old)
-leave_makes exits item way old behind (Ok code) e h = λ core r.
+pub protect_is : {R E : Type 0} (exits : Exits) (item : Item) (t found_t : TemporaryId) (keep : ℕ) (items found finalization found_finalization : Vec Item Global) (old new : List Block) (behind now : List Instruction) (result : Result R E) → item ≡ Protect t keep items finalization → found_t ≡ t → found ≡ items → found_finalization ≡ finalization → IfOk result (λ _. (k : ℕ) → Makes (item_made exits (λ core r. protect found_t.0 k (items_view core r found.items) (items_view core r found_finalization.items)) old behind) old new now) → MadeFor exits (λ core r. item_view core r item) old new behind now result
+protect_is exits item t found_t keep items found finalization found_finalization old new behind now result e p q s h =
+    let meant : ℕ → Core → ℕ → MeantItem = λ k core r. protect found_t.0 k (items_view core r found.items) (items_view core r found_finalization.items) in
+    item_is exits (λ core r. item_view core r item) (meant keep) old new behind now result
+    (λ core r. ap (item_view core r) e ∙ (item_nodes core r).protect_says t keep items finalization ∙ three (λ x y z. protect x.0 keep (items_view core r y.items) (items_view core r z.items)) (sym p) (sym q) (sym s))
+    (at_keep (λ k. Makes (item_made exits (meant k) old behind) old new now) keep result h)
+
+pub leave_makes : {R E : Type 0} (exits : Exits) (item : Item) (way found : Way) (old : List Block) (behind now : List Instruction) (result : Result R E) → item ≡ Leave way → found ≡ way → IfOk result (λ _. (core : Core) (r : ℕ) → seen core r now ≡ exits_of exits (reason_of found)) → MadeFor exits (λ core r. item_view core r item) old old behind now result
+leave_makes exits item way found old behind now (Ok done) e p h = λ core r.
     let same = ap (λ i. code_item (exits_of exits) (item_view core r i) (length old) (seen core r behind)) e in
-    (h core r ∙ sym (ap (λ x. x.now) same), sym (append-nil (seen_blocks core r old)) ∙ sym (ap (λ x. seen_blocks core r old ++ x.blocks) same))
-leave_makes exits item way old behind (Err error) e h = h
+    (h core r ∙ ap (λ w. exits_of exits (reason_of w)) p ∙ sym (ap (λ x. x.now) same), sym (append-nil (seen_blocks core r old)) ∙ sym (ap (λ x. seen_blocks core r old ++ x.blocks) same))
+leave_makes exits item way found old behind now (Err error) e p h = h
 
 -- ---- what is in range
 
@@ -389,3 +427,13 @@ body_grows made block on old new is =
     let counted : length new ≡ length (V ++ m.blocks) =
     sym (length-map new (view_block no_tables 0)) ∙ ap length (is no_tables 0).0 ∙ length-set (V ++ m.blocks) block.0 m.now in
     omega (arith, counted, length-append V m.blocks, length-map old (view_block no_tables 0))
+
+-- ---- the last one of a list, in its place
+
+-- it stands behind what is left where it is taken away, whatever is put in its place before
+pub last_stands : {A : Type 0} (items changed rest : List A) (i j : A) (k : ℕ) → length items ≡ suc k → i ≡ slice_index_or items k i → changed ≡ slice_set items k j → rest ≡ take (length changed - 1) changed → items ≡ rest ++ i ∷ []
+last_stands items changed rest i j k counted is put left =
+    let n : length changed - 1 ≡ k = omega (arith, ap length put ∙ length-set items k j, counted) in
+    let kept : rest ≡ take k items = left ∙ both take n put ∙ take-set items k j in
+    let whole : take (k + 1) items ≡ items = take_all (k + 1) items (omega (arith, counted)) in
+    sym whole ∙ take_more items k i (omega (arith, counted)) ∙ both (λ v x. v ++ x ∷ []) (sym kept) (sym is)

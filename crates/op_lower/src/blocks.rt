@@ -70,6 +70,7 @@ impl Blocks {
     }
 
     /// Puts a block behind the others whose code is not known yet.
+    #[inline(never)]
     pub fn reserve(&mut self) -> Result<BlockId, NoMemory>
         ensures number { IfOk result (λ block. block.0 ≡ length self.old) }
         ensures blocks { IfOk result (λ _. self.new ≡ self.old ++ record { code = [] } ∷ []) }
@@ -78,37 +79,40 @@ impl Blocks {
         self.put(Instructions::none(alloc))
     }
 
-    /// Makes a block of the code behind a construct.
-    pub fn join(&mut self, behind: Instructions) -> Result<Joint, NoMemory>
+    /// Makes a block of the code behind a construct, which is taken.
+    #[inline(never)]
+    pub fn join(&mut self, behind: &mut Instructions) -> Result<Joint, NoMemory>
         ensures number { IfOk result (λ end. end.block.0 ≡ length self.old) }
-        ensures on { IfOk result (λ end. (core : Core) (r : ℕ) → jump end.on.0 ∷ [] ≡ continued (length self.old) (seen core r behind)) }
-        ensures blocks { IfOk result (λ _. self.new ≡ self.old ++ record { code = behind } ∷ []) }
+        ensures on { IfOk result (λ end. (core : Core) (r : ℕ) → jump end.on.0 ∷ [] ≡ continued (length self.old) (seen core r behind.old)) }
+        ensures blocks { IfOk result (λ _. self.new ≡ self.old ++ record { code = behind.old } ∷ []) }
     {
         let block = self.next()?;
         let on = behind.reached_by(block);
-        self.put(behind)?;
+        self.put(behind.take())?;
         Ok(Joint { block, on })
     }
 
-    /// Makes a block of the code behind a loop, and reserves those of its head and its body.
-    pub fn begin_loop(&mut self, behind: Instructions) -> Result<LoopBlocks, NoMemory>
+    /// Makes a block of the code behind a loop, which is taken, and reserves those of its head and its body.
+    #[inline(never)]
+    pub fn begin_loop(&mut self, behind: &mut Instructions) -> Result<LoopBlocks, NoMemory>
         ensures behind { IfOk result (λ made. made.behind.0 ≡ length self.old) }
         ensures head { IfOk result (λ made. made.head.0 ≡ length self.old + 1) }
         ensures body { IfOk result (λ made. made.body.0 ≡ length self.old + 2) }
-        ensures blocks { IfOk result (λ _. self.new ≡ self.old ++ record { code = behind } ∷ record { code = [] } ∷ record { code = [] } ∷ []) }
+        ensures blocks { IfOk result (λ _. self.new ≡ self.old ++ record { code = behind.old } ∷ record { code = [] } ∷ record { code = [] } ∷ []) }
     {
-        let behind = self.put(behind)?;
+        let behind = self.put(behind.take())?;
         let head = self.reserve()?;
         let body = self.reserve()?;
         Ok(LoopBlocks { behind, head, body })
     }
 
-    /// Gives a block its code.
-    pub fn fill(&mut self, block: BlockId, code: Instructions)
+    /// Gives a block its code, which is taken.
+    #[inline(never)]
+    pub fn fill(&mut self, block: BlockId, code: &mut Instructions)
         requires { block.0 < length self.old }
-        ensures { self.new ≡ slice_set self.old block.0 (record { code = code }) }
+        ensures { self.new ≡ slice_set self.old block.0 (record { code = code.old }) }
     {
-        self.blocks[block.0 as usize] = code.into_block();
+        self.blocks[block.0 as usize] = code.take().into_block();
     }
 
     pub fn into_sequence(self) -> Sequence<Block>

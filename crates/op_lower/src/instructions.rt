@@ -8,6 +8,7 @@ use op_base::{NoMemory, Sequence};
 use op_mir::{Block, BlockId, Instruction};
 use std::alloc::Global;
 use std::marker::Model;
+use std::mem::replace;
 
 /// Instructions in front of which more are put.
 #[derive(Drop)]
@@ -44,11 +45,37 @@ impl Instructions {
     }
 
     /// Puts an instruction in front.
+    #[inline(never)]
     pub fn put(&mut self, first: Instruction) -> Result<(), NoMemory>
         ensures { IfOk result (λ _. self.new ≡ first ∷ self.old) }
     {
         self.reversed.push(first)?;
         Ok(())
+    }
+
+    /// Puts a jump alone in place of them.
+    #[inline(never)]
+    pub fn lead_to(&mut self, block: BlockId) -> Result<(), NoMemory>
+        ensures { IfOk result (λ _. self.new ≡ Instruction.Jump block ∷ []) }
+    {
+        self.clear();
+        self.put(Instruction::Jump { block })
+    }
+
+    /// Drops them.
+    #[inline(never)]
+    pub fn clear(&mut self)
+        ensures { self.new ≡ [] }
+    {
+        self.reversed.clear();
+    }
+
+    /// Takes them out.
+    pub fn take(&mut self) -> Instructions
+        ensures { result ≡ self.old }
+    {
+        let alloc = *self.reversed.allocator();
+        replace(self, Instructions::none(alloc))
     }
 
     /// The block of them, in memory of its own size where there is room for that.

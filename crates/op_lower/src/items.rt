@@ -1,12 +1,12 @@
 //! From items to instructions and blocks.
-ghost use Rattle.std.specs.Prelude.{◌≡◌, ◌<◌, ℕ, ◌+◌, ◌∷◌, [], IfOk, None, length, pos};
+ghost use Rattle.std.specs.Prelude.{◌≡◌, ◌<◌, ℕ, ◌+◌, ◌-◌, ◌∷◌, [], IfOk, None, length, pos, take};
 ghost use Rattle.op_core.specs.declared.program.Core.{Core};
 ghost use Rattle.op_items.specs.View.{item_view, items_view, turns_view, cases_view};
 ghost use Rattle.op_meaning.specs.Items.{also as and_also, choose as choice, select as selection, loop, body_first, protect as protected};
 ghost use Rattle.op_mir.specs.Code.{branch_if as meant_if, branch_unless as meant_unless};
-ghost use Rattle.op_mir.specs.View.{view_instruction};
-ghost use Rattle.op_lower.specs.Exits.{exits_of};
+ghost use Rattle.op_lower.specs.Exits.{exits_of, reason_of};
 ghost use Rattle.op_lower.specs.Made.{Adds, Makes, MakesArms, IsBody, items_made, item_made, branch_made, arms_made, loop_made, finally_made};
+ghost use Rattle.op_lower.specs.Seen.{seen};
 
 use crate::blocks::{Blocks, LoopBlocks};
 use crate::exits::Exits;
@@ -16,24 +16,34 @@ use op_core::RoutineId;
 use op_items::{Case, Item, Turns, Way};
 use op_mir::{Action, Arm, BlockId, Call, Given, Instruction, Receiver, TemporaryId};
 use std::alloc::Global;
+use std::mem::replace;
 
-/// The code that does the items and goes on at what stands behind them. Its blocks are put behind those that there are.
+/// Puts the code that does the items in front of what stands behind them. Its blocks are put behind those that there are. Of the items is
+/// taken what the code needs, so that an item within others takes little of the stack.
 #[cycle(items)]
+#[inline(never)]
 pub fn code(
     alloc: Global,
     blocks: &mut Blocks,
     exits: &Exits,
-    items: Vec<Item>,
-    behind: Instructions,
-) -> Result<Instructions, NoMemory>
-    ensures { IfOk result (Makes (items_made exits.now items.items blocks.old behind) blocks.old blocks.new) }
+    items: &mut Vec<Item>,
+    now: &mut Instructions,
+) -> Result<(), NoMemory>
+    ensures { IfOk result (λ _. Makes (items_made exits.now items.old.items blocks.old now.old) blocks.old blocks.new now.new) }
 {
-    let mut items = items;
-    let mut now = behind;
-    while let Some(item) = items.pop() {
-        now = code_item(alloc, blocks, exits, item, now)?;
+    while let Some(item) = items.last_mut() {
+        code_item(alloc, blocks, exits, item, now)?;
+        drop_last(items);
     }
-    Ok(now)
+    Ok(())
+}
+
+/// Drops an item that is done.
+#[inline(never)]
+fn drop_last(items: &mut Vec<Item>)
+    ensures { items.new.items ≡ take (length items.old.items - 1) items.old.items }
+{
+    items.truncate(items.len().saturating_sub(1));
 }
 
 #[cycle(items)]
@@ -41,305 +51,330 @@ fn code_item(
     alloc: Global,
     blocks: &mut Blocks,
     exits: &Exits,
-    item: Item,
-    behind: Instructions,
-) -> Result<Instructions, NoMemory>
-    ensures { IfOk result (Makes (item_made exits.now (λ core r. item_view core r item) blocks.old behind) blocks.old blocks.new) }
+    item: &mut Item,
+    now: &mut Instructions,
+) -> Result<(), NoMemory>
+    ensures { IfOk result (λ _. Makes (item_made exits.now (λ core r. item_view core r item.old) blocks.old now.old) blocks.old blocks.new now.new) }
 {
     match item {
-        Item::Act(action) => act(action, behind),
+        Item::Act(action) => act(action, now),
         Item::Also {
             truth,
             temporary,
             items,
-        } => also(alloc, blocks, exits, truth, temporary, items, behind),
+        } => also(alloc, blocks, exits, *truth, *temporary, items, now),
         Item::Choose {
             temporary,
             first,
             otherwise,
-        } => choose(alloc, blocks, exits, temporary, first, otherwise, behind),
+        } => choose(alloc, blocks, exits, *temporary, first, otherwise, now),
         Item::Select {
             temporary,
             cases,
             otherwise,
-        } => select(alloc, blocks, exits, temporary, cases, otherwise, behind),
-        Item::Loop(turns) => from_head(alloc, blocks, exits, turns, behind),
-        Item::BodyFirst(turns) => from_body(alloc, blocks, exits, turns, behind),
+        } => select(alloc, blocks, exits, *temporary, cases, otherwise, now),
+        Item::Loop(turns) => from_head(alloc, blocks, exits, turns, now),
+        Item::BodyFirst(turns) => from_body(alloc, blocks, exits, turns, now),
         Item::Protect {
             temporary,
             keep: _,
             items,
             finalization,
-        } => protect(alloc, blocks, exits, temporary, items, finalization, behind),
-        Item::Leave(way) => exits.leave(alloc, way),
+        } => protect(alloc, blocks, exits, *temporary, items, finalization, now),
+        Item::Leave(way) => leave(alloc, exits, *way, now),
         Item::Enter {
             routine,
             given,
             receiver,
-        } => enter(routine, given, receiver, behind),
-        Item::Halt { status } => halt(status, behind),
-        Item::Attempt { .. } => Ok(Instructions::none(alloc)),
-        Item::AttemptAll { .. } => Ok(Instructions::none(alloc)),
-        Item::Throw { .. } => Ok(Instructions::none(alloc)),
-        Item::Rethrow => Ok(Instructions::none(alloc)),
-        Item::Construct { .. } => Ok(Instructions::none(alloc)),
-        Item::Free { .. } => Ok(Instructions::none(alloc)),
+        } => enter(alloc, *routine, given, receiver, now),
+        Item::Halt { status } => halt(*status, now),
+        Item::Attempt { .. } => Ok(now.clear()),
+        Item::AttemptAll { .. } => Ok(now.clear()),
+        Item::Throw { .. } => Ok(now.clear()),
+        Item::Rethrow => Ok(now.clear()),
+        Item::Construct { .. } => Ok(now.clear()),
+        Item::Free { .. } => Ok(now.clear()),
     }
 }
 
 // ---- items of one instruction
 
-fn act(action: Action, behind: Instructions) -> Result<Instructions, NoMemory>
-    ensures { IfOk result (λ code. code ≡ Instruction.Act action None ∷ behind) }
+#[inline(never)]
+fn act(action: &mut Action, now: &mut Instructions) -> Result<(), NoMemory>
+    ensures { IfOk result (λ _. now.new ≡ Instruction.Act action.old None ∷ now.old) }
 {
-    let mut now = behind;
+    let nothing = Action::Constant {
+        to: TemporaryId(0),
+        value: 0,
+    };
     now.put(Instruction::Act {
-        action,
+        action: replace(action, nothing),
         landing: None,
-    })?;
-    Ok(now)
+    })
 }
 
+#[inline(never)]
 fn enter(
+    alloc: Global,
     routine: RoutineId,
-    given: Sequence<Given>,
-    receiver: Receiver,
-    behind: Instructions,
-) -> Result<Instructions, NoMemory>
-    ensures { IfOk result (λ code. code ≡ Instruction.Call routine (record { given = given; receiver = receiver; landing = None }) ∷ behind) }
+    given: &mut Sequence<Given>,
+    receiver: &mut Receiver,
+    now: &mut Instructions,
+) -> Result<(), NoMemory>
+    ensures { IfOk result (λ _. now.new ≡ Instruction.Call routine (record { given = given.old; receiver = receiver.old; landing = None }) ∷ now.old) }
 {
-    let mut now = behind;
     let call = Call {
-        given,
-        receiver,
+        given: replace(given, Sequence::from(Vec::new(alloc))),
+        receiver: replace(receiver, Receiver::Nowhere),
         landing: None,
     };
-    now.put(Instruction::Call { routine, call })?;
-    Ok(now)
+    now.put(Instruction::Call { routine, call })
 }
 
-fn halt(status: TemporaryId, behind: Instructions) -> Result<Instructions, NoMemory>
-    ensures { IfOk result (λ code. code ≡ Instruction.Stop status ∷ behind) }
+#[inline(never)]
+fn halt(status: TemporaryId, now: &mut Instructions) -> Result<(), NoMemory>
+    ensures { IfOk result (λ _. now.new ≡ Instruction.Stop status ∷ now.old) }
 {
-    let mut now = behind;
-    now.put(Instruction::Stop { status })?;
-    Ok(now)
+    now.put(Instruction::Stop { status })
+}
+
+/// Puts the code that leaves in place of what stands behind it.
+#[inline(never)]
+fn leave(alloc: Global, exits: &Exits, way: Way, now: &mut Instructions) -> Result<(), NoMemory>
+    ensures { IfOk result (λ _. (core : Core) (r : ℕ) → seen core r now.new ≡ exits_of exits.now (reason_of way)) }
+{
+    *now = exits.leave(alloc, way)?;
+    Ok(())
 }
 
 // ---- branches
 
-/// A new block with the code of the items, from which the code goes on at another block.
+/// A new block with the code of the items, from which the code goes on at another block. What stands in `now` is dropped.
 #[cycle(items)]
+#[inline(never)]
 fn branch(
     alloc: Global,
     blocks: &mut Blocks,
     exits: &Exits,
-    items: Vec<Item>,
+    items: &mut Vec<Item>,
     on: BlockId,
+    now: &mut Instructions,
 ) -> Result<BlockId, NoMemory>
     ensures number { IfOk result (λ block. block.0 ≡ length blocks.old) }
-    ensures blocks { IfOk result (λ _. Adds (branch_made exits.now items.items blocks.old on) blocks.old blocks.new) }
+    ensures blocks { IfOk result (λ _. Adds (branch_made exits.now items.old.items blocks.old on) blocks.old blocks.new) }
 {
     let block = blocks.reserve()?;
-    let now = code_to(alloc, blocks, exits, items, on)?;
+    code_to(alloc, blocks, exits, items, on, now)?;
     blocks.fill(block, now);
     Ok(block)
 }
 
-/// The code that does the items and goes on at another block.
+/// Puts there the code that does the items and goes on at another block.
 #[cycle(items)]
 fn code_to(
     alloc: Global,
     blocks: &mut Blocks,
     exits: &Exits,
-    items: Vec<Item>,
+    items: &mut Vec<Item>,
     on: BlockId,
-) -> Result<Instructions, NoMemory>
-    ensures { IfOk result (Makes (items_made exits.now items.items blocks.old (Instruction.Jump on ∷ [])) blocks.old blocks.new) }
+    now: &mut Instructions,
+) -> Result<(), NoMemory>
+    ensures { IfOk result (λ _. Makes (items_made exits.now items.old.items blocks.old (Instruction.Jump on ∷ [])) blocks.old blocks.new now.new) }
 {
-    let behind = Instructions::jump(alloc, on)?;
-    code(alloc, blocks, exits, items, behind)
+    now.lead_to(on)?;
+    code(alloc, blocks, exits, items, now)
 }
 
 #[cycle(items)]
+#[inline(never)]
 fn also(
     alloc: Global,
     blocks: &mut Blocks,
     exits: &Exits,
     truth: bool,
     temporary: TemporaryId,
-    items: Vec<Item>,
-    behind: Instructions,
-) -> Result<Instructions, NoMemory>
-    ensures { IfOk result (Makes (item_made exits.now (λ core r. and_also truth temporary.0 (items_view core r items.items)) blocks.old behind) blocks.old blocks.new) }
+    items: &mut Vec<Item>,
+    now: &mut Instructions,
+) -> Result<(), NoMemory>
+    ensures { IfOk result (λ _. Makes (item_made exits.now (λ core r. and_also truth temporary.0 (items_view core r items.old.items)) blocks.old now.old) blocks.old blocks.new now.new) }
 {
-    let end = blocks.join(behind)?;
-    let mut now = code_to(alloc, blocks, exits, items, end.on)?;
-    now.put(branch_unless(truth, temporary, end.block))?;
-    Ok(now)
+    let end = blocks.join(now)?;
+    code_to(alloc, blocks, exits, items, end.on, now)?;
+    branch_unless(truth, temporary, end.block, now)?;
+    Ok(())
 }
 
 #[cycle(items)]
+#[inline(never)]
 fn choose(
     alloc: Global,
     blocks: &mut Blocks,
     exits: &Exits,
     temporary: TemporaryId,
-    first: Vec<Item>,
-    otherwise: Vec<Item>,
-    behind: Instructions,
-) -> Result<Instructions, NoMemory>
-    ensures { IfOk result (Makes (item_made exits.now (λ core r. choice temporary.0 (items_view core r first.items) (items_view core r otherwise.items)) blocks.old behind) blocks.old blocks.new) }
+    first: &mut Vec<Item>,
+    otherwise: &mut Vec<Item>,
+    now: &mut Instructions,
+) -> Result<(), NoMemory>
+    ensures { IfOk result (λ _. Makes (item_made exits.now (λ core r. choice temporary.0 (items_view core r first.old.items) (items_view core r otherwise.old.items)) blocks.old now.old) blocks.old blocks.new now.new) }
 {
-    let end = blocks.join(behind)?;
-    let other = branch(alloc, blocks, exits, otherwise, end.on)?;
-    let mut now = code_to(alloc, blocks, exits, first, end.on)?;
-    now.put(Instruction::Unless {
-        temporary,
-        block: other,
-    })?;
-    Ok(now)
+    let end = blocks.join(now)?;
+    let other = branch(alloc, blocks, exits, otherwise, end.on, now)?;
+    code_to(alloc, blocks, exits, first, end.on, now)?;
+    branch_unless(true, temporary, other, now)?;
+    Ok(())
 }
 
 #[cycle(items)]
+#[inline(never)]
 fn select(
     alloc: Global,
     blocks: &mut Blocks,
     exits: &Exits,
     temporary: TemporaryId,
-    cases: Vec<Case>,
-    otherwise: Vec<Item>,
-    behind: Instructions,
-) -> Result<Instructions, NoMemory>
-    ensures { IfOk result (Makes (item_made exits.now (λ core r. selection temporary.0 (cases_view core r cases.items) (items_view core r otherwise.items)) blocks.old behind) blocks.old blocks.new) }
+    cases: &mut Vec<Case>,
+    otherwise: &mut Vec<Item>,
+    now: &mut Instructions,
+) -> Result<(), NoMemory>
+    ensures { IfOk result (λ _. Makes (item_made exits.now (λ core r. selection temporary.0 (cases_view core r cases.old.items) (items_view core r otherwise.old.items)) blocks.old now.old) blocks.old blocks.new now.new) }
 {
-    let end = blocks.join(behind)?;
-    let mut now = code_to(alloc, blocks, exits, otherwise, end.on)?;
+    let end = blocks.join(now)?;
+    code_to(alloc, blocks, exits, otherwise, end.on, now)?;
     let arms = arms(alloc, blocks, exits, cases, end.on)?;
     now.put(Instruction::Switch { temporary, arms })?;
-    Ok(now)
+    Ok(())
 }
 
 /// The branches of a selection, from which the code goes on at another block.
 #[cycle(items)]
+#[inline(never)]
 fn arms(
     alloc: Global,
     blocks: &mut Blocks,
     exits: &Exits,
-    cases: Vec<Case>,
+    cases: &mut Vec<Case>,
     on: BlockId,
 ) -> Result<Sequence<Arm>, NoMemory>
-    ensures { IfOk result (MakesArms (arms_made exits.now cases.items blocks.old on) blocks.old blocks.new) }
+    ensures { IfOk result (MakesArms (arms_made exits.now cases.old.items blocks.old on) blocks.old blocks.new) }
 {
-    let mut cases = cases;
+    let mut now = Instructions::none(alloc);
     let mut reversed = Vec::new(alloc);
     while let Some(case) = cases.pop() {
-        let Case { labels, items } = case;
-        let block = branch(alloc, blocks, exits, items, on)?;
+        let Case { labels, mut items } = case;
+        let block = branch(alloc, blocks, exits, &mut items, on, &mut now)?;
         reversed.push(Arm { labels, block })?;
     }
     reversed.reverse();
     Ok(Sequence::from(reversed))
 }
 
-/// Behind the first operand: to the block where the second one is not evaluated.
-fn branch_unless(truth: bool, temporary: TemporaryId, block: BlockId) -> Instruction
-    ensures { (core : Core) (r : ℕ) → view_instruction core r result ≡ meant_unless truth temporary.0 block.0 }
+/// Puts in front: to the block where the second operand is not evaluated.
+#[inline(never)]
+fn branch_unless(
+    truth: bool,
+    temporary: TemporaryId,
+    block: BlockId,
+    now: &mut Instructions,
+) -> Result<(), NoMemory>
+    ensures { IfOk result (λ _. (core : Core) (r : ℕ) → seen core r now.new ≡ meant_unless truth temporary.0 block.0 ∷ seen core r now.old) }
 {
     if truth {
-        Instruction::Unless { temporary, block }
+        now.put(Instruction::Unless { temporary, block })
     } else {
-        Instruction::When { temporary, block }
+        now.put(Instruction::When { temporary, block })
     }
 }
 
-/// Behind the head of a loop: to the block where it is over.
-fn branch_if(truth: bool, temporary: TemporaryId, block: BlockId) -> Instruction
-    ensures { (core : Core) (r : ℕ) → view_instruction core r result ≡ meant_if truth temporary.0 block.0 }
+/// Puts behind the head of a loop: to the block where it is over.
+#[inline(never)]
+fn branch_if(
+    truth: bool,
+    temporary: TemporaryId,
+    block: BlockId,
+    now: &mut Instructions,
+) -> Result<(), NoMemory>
+    ensures { IfOk result (λ _. (core : Core) (r : ℕ) → seen core r now.new ≡ meant_if truth temporary.0 block.0 ∷ seen core r now.old) }
 {
     if truth {
-        Instruction::When { temporary, block }
+        now.put(Instruction::When { temporary, block })
     } else {
-        Instruction::Unless { temporary, block }
+        now.put(Instruction::Unless { temporary, block })
     }
 }
 
 // ---- loops
 
 #[cycle(items)]
+#[inline(never)]
 fn from_head(
     alloc: Global,
     blocks: &mut Blocks,
     exits: &Exits,
-    turns: Turns,
-    behind: Instructions,
-) -> Result<Instructions, NoMemory>
-    ensures { IfOk result (Makes (item_made exits.now (λ core r. loop (turns_view core r turns)) blocks.old behind) blocks.old blocks.new) }
+    turns: &mut Turns,
+    now: &mut Instructions,
+) -> Result<(), NoMemory>
+    ensures { IfOk result (λ _. Makes (item_made exits.now (λ core r. loop (turns_view core r turns.old)) blocks.old now.old) blocks.old blocks.new now.new) }
 {
-    let made = loop_blocks(alloc, blocks, exits, turns, behind)?;
-    Instructions::jump(alloc, made.head)
+    let made = loop_blocks(alloc, blocks, exits, turns, now)?;
+    now.lead_to(made.head)
 }
 
 #[cycle(items)]
+#[inline(never)]
 fn from_body(
     alloc: Global,
     blocks: &mut Blocks,
     exits: &Exits,
-    turns: Turns,
-    behind: Instructions,
-) -> Result<Instructions, NoMemory>
-    ensures { IfOk result (Makes (item_made exits.now (λ core r. body_first (turns_view core r turns)) blocks.old behind) blocks.old blocks.new) }
+    turns: &mut Turns,
+    now: &mut Instructions,
+) -> Result<(), NoMemory>
+    ensures { IfOk result (λ _. Makes (item_made exits.now (λ core r. body_first (turns_view core r turns.old)) blocks.old now.old) blocks.old blocks.new now.new) }
 {
-    let made = loop_blocks(alloc, blocks, exits, turns, behind)?;
-    Instructions::jump(alloc, made.body)
+    let made = loop_blocks(alloc, blocks, exits, turns, now)?;
+    now.lead_to(made.body)
 }
 
 /// The blocks of a loop: what is behind it, its head and its body, and those of its parts.
 #[cycle(items)]
+#[inline(never)]
 fn loop_blocks(
     alloc: Global,
     blocks: &mut Blocks,
     exits: &Exits,
-    turns: Turns,
-    behind: Instructions,
+    turns: &mut Turns,
+    now: &mut Instructions,
 ) -> Result<LoopBlocks, NoMemory>
     ensures head { IfOk result (λ made. made.head.0 ≡ length blocks.old + 1) }
     ensures body { IfOk result (λ made. made.body.0 ≡ length blocks.old + 2) }
-    ensures blocks { IfOk result (λ _. Adds (loop_made exits.now turns blocks.old behind) blocks.old blocks.new) }
+    ensures blocks { IfOk result (λ _. Adds (loop_made exits.now turns.old blocks.old now.old) blocks.old blocks.new) }
 {
-    let Turns {
-        head,
-        temporary,
-        ends,
-        between,
-        body,
-    } = turns;
-    let made = blocks.begin_loop(behind)?;
+    let made = blocks.begin_loop(now)?;
     let within = Exits::Loop {
         around: &*exits,
         behind: made.behind,
     };
-    let on = body_block(alloc, blocks, &within, body, made)?;
-    let mut test = code_to(alloc, blocks, &within, between, on)?;
-    test.put(branch_if(ends, temporary, made.behind))?;
-    let now = code(alloc, blocks, exits, head, test)?;
+    let on = body_block(alloc, blocks, &within, &mut turns.body, made, now)?;
+    code_to(alloc, blocks, &within, &mut turns.between, on, now)?;
+    branch_if(turns.ends, turns.temporary, made.behind, now)?;
+    code(alloc, blocks, exits, &mut turns.head, now)?;
     blocks.fill(made.head, now);
     Ok(made)
 }
 
 /// The body of a loop, and the block to which one jumps in order to come to it.
 #[cycle(items)]
+#[inline(never)]
 fn body_block(
     alloc: Global,
     blocks: &mut Blocks,
     exits: &Exits,
-    body: Vec<Item>,
+    body: &mut Vec<Item>,
     made: LoopBlocks,
+    now: &mut Instructions,
 ) -> Result<BlockId, NoMemory>
     requires { made.body.0 < length blocks.old }
-    ensures { IfOk result (IsBody (items_made exits.now body.items blocks.old (Instruction.Jump made.head ∷ [])) made.body blocks.old blocks.new) }
+    ensures { IfOk result (IsBody (items_made exits.now body.old.items blocks.old (Instruction.Jump made.head ∷ [])) made.body blocks.old blocks.new) }
 {
-    let now = code_to(alloc, blocks, exits, body, made.head)?;
+    code_to(alloc, blocks, exits, body, made.head, now)?;
     let on = now.reached_by(made.body);
     blocks.fill(made.body, now);
     Ok(on)
@@ -348,47 +383,48 @@ fn body_block(
 // ---- finally parts
 
 #[cycle(items)]
+#[inline(never)]
 fn protect(
     alloc: Global,
     blocks: &mut Blocks,
     exits: &Exits,
     temporary: TemporaryId,
-    items: Vec<Item>,
-    finalization: Vec<Item>,
-    behind: Instructions,
-) -> Result<Instructions, NoMemory>
-    ensures { IfOk result (λ now. (keep : ℕ) → Makes (item_made exits.now (λ core r. protected temporary.0 keep (items_view core r items.items) (items_view core r finalization.items)) blocks.old behind) blocks.old blocks.new now) }
+    items: &mut Vec<Item>,
+    finalization: &mut Vec<Item>,
+    now: &mut Instructions,
+) -> Result<(), NoMemory>
+    ensures { IfOk result (λ _. (keep : ℕ) → Makes (item_made exits.now (λ core r. protected temporary.0 keep (items_view core r items.old.items) (items_view core r finalization.old.items)) blocks.old now.old) blocks.old blocks.new now.new) }
 {
-    let block = finally_block(alloc, blocks, exits, temporary, finalization, behind)?;
+    let block = finally_block(alloc, blocks, exits, temporary, finalization, now)?;
     let within = Exits::Finally {
         reason: temporary,
         finalization: block,
     };
-    let mut now = code_to(alloc, blocks, &within, items, block)?;
+    code_to(alloc, blocks, &within, items, block, now)?;
     now.put(begin_without_reason(temporary))?;
-    Ok(now)
+    Ok(())
 }
 
 /// The block of a finally part, and the three behind it that leave what stands round the construct.
 #[cycle(items)]
+#[inline(never)]
 fn finally_block(
     alloc: Global,
     blocks: &mut Blocks,
     exits: &Exits,
     reason: TemporaryId,
-    items: Vec<Item>,
-    behind: Instructions,
+    items: &mut Vec<Item>,
+    now: &mut Instructions,
 ) -> Result<BlockId, NoMemory>
     ensures number { IfOk result (λ block. block.0 ≡ length blocks.old) }
-    ensures blocks { IfOk result (λ _. Adds (finally_made exits.now reason items.items blocks.old behind) blocks.old blocks.new) }
+    ensures blocks { IfOk result (λ _. Adds (finally_made exits.now reason items.old.items blocks.old now.old) blocks.old blocks.new) }
 {
     let block = ways_out(alloc, blocks, exits)?;
-    let mut on = behind;
-    on.put(Instruction::Dispatch {
+    now.put(Instruction::Dispatch {
         temporary: reason,
         block,
     })?;
-    let now = code(alloc, blocks, exits, items, on)?;
+    code(alloc, blocks, exits, items, now)?;
     blocks.fill(block, now);
     Ok(block)
 }

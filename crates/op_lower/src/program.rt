@@ -67,9 +67,10 @@ fn blocks_of(alloc: Global, items: Vec<Item>) -> Result<Sequence<Block>, NoMemor
     ensures { IfOk result (λ blocks. (core : Core) (r : ℕ) → seen_blocks core r blocks ≡ blocks_of (items_view core r items.items)) }
 {
     let mut blocks = begin(alloc)?;
-    let behind = Instructions::jump(alloc, BlockId(1))?;
-    let now = items::code(alloc, &mut blocks, &Exits::Routine, items, behind)?;
-    blocks.fill(BlockId(0), now);
+    let mut items = items;
+    let mut now = Instructions::jump(alloc, BlockId(1))?;
+    items::code(alloc, &mut blocks, &Exits::Routine, &mut items, &mut now)?;
+    blocks.fill(BlockId(0), &mut now);
     Ok(blocks.into_sequence())
 }
 
