@@ -206,6 +206,10 @@ abbrev pub range_in : Here → Element → Judgement Member
 range_in s (one e) = untyped
 range_in s (range e f) = member_in s (range e f)
 
+-- an expression whose value nothing takes
+abbrev pub unused : Here → Expression → Judgement GivenArgument
+unused s e = followed (value_in s None e) (λ a. untyped)
+
 -- an argument with a width, for which there is no parameter
 abbrev pub formatted : Here → Argument → Judgement GivenArgument
 formatted s (value e) = untyped

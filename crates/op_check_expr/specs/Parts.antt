@@ -1,5 +1,5 @@
 -- The words in which parts of expressions are judged, besides those of every judgement.
-use Rattle.std.specs.Prelude.{Bool, true, false, Option, Some, None}
+use Rattle.std.specs.Prelude.{Bool, true, false, Option, Some, None, Result, Ok, Err}
 use Rattle.op_base.specs.declared.place.Place.{Place}
 use Rattle.op_core.proofs.Agreeing.{agrees_standing, holds_entry}
 use Rattle.op_core.specs.Faults.{none}
@@ -16,6 +16,15 @@ standing a = known (record { typed = a; faults = none }) (Entry a) Never (agrees
 abbrev pub whether : {A : Type 0} → Bool → Judgement A → Judgement A → Judgement A
 whether true j k = j
 whether false j k = k
+
+-- the answer is there, and of it that is true
+abbrev pub OfOk : {A E : Type 0} → Result A E → (A → Type 0) → Type 0
+OfOk (Ok a) P = P a
+OfOk (Err e) P = ⊥
+
+-- what stands behind an answer: where it is there, so is that
+abbrev pub Behind : {A E : Type 0} → Result A E → Type 0 → Type 0
+Behind r P = OfOk r (λ _. P)
 
 -- unless it shows a feature that is left out
 abbrev pub by_feature : {A : Type 0} → Place → Option Feature → Judgement A → Judgement A

@@ -3,7 +3,7 @@ ghost use Rattle.std.specs.Prelude.{◌≡◌, IfOk};
 ghost use Rattle.std.specs.Option.{option_map};
 ghost use Rattle.op_core.specs.Expression.{expr_of};
 ghost use Rattle.op_core.specs.Sizes.{type_at};
-ghost use Rattle.op_judgement.specs.Judgement.{Reports, changed};
+ghost use Rattle.op_judgement.specs.Judgement.{Reports, changed, with_part};
 ghost use Rattle.op_check_expr.specs.Operating.{application_of, argument_type, becomes_string, cast_by, cast_conversion, cast_of, computed_use, function_type, index_type, is_evaluated, keeps_low_bits, rule_of, used};
 ghost use Rattle.op_check_expr.specs.Scopes.{here_of};
 ghost use Rattle.op_check_expr.specs.Values.{constant, value_of};
@@ -11,7 +11,7 @@ ghost use Rattle.op_types.specs.Folding.{bound_means};
 ghost use Rattle.op_types.specs.Sorts.{sort_of};
 
 use crate::convert::{as_type, is_integer, is_wider};
-use crate::operate::Valued;
+use crate::operate::{Done, Valued};
 use crate::scope::Checker;
 use crate::tree::{then, type_of};
 use crate::value::{Value, constant_value};
@@ -24,9 +24,26 @@ use op_judgement::{Feature, LanguageRule, refuse};
 use op_tree::Position;
 use op_types::{Applied, Setting, Sort, application, sort_of};
 
-/// A cast or a function at a position, of an argument at a place.
+/// Puts in the place of an argument, which begins at a place, what a cast or a function at a position makes of it.
 #[inline(never)]
 pub fn used(
+    setting: Setting,
+    sink: &mut FirstRefusal,
+    position: Position,
+    what: Applied,
+    at: Place,
+    a: &mut Option<Value>,
+) -> Done
+    ensures { IfOk result (λ _. Reports (with_part (used setting.entry.core.now position what at) (option_map value_of a.old)) sink.old sink.new (option_map value_of a.new)) }
+{
+    *a = match a.take() {
+        Some(a) => used_value(setting, sink, position, what, at, a)?,
+        None => None,
+    };
+    Ok(())
+}
+
+fn used_value(
     setting: Setting,
     sink: &mut FirstRefusal,
     position: Position,
@@ -51,18 +68,19 @@ pub fn used(
 }
 
 impl<'a> Checker<'a> {
-    /// Low or High of a type that is named at a place.
+    /// Puts there Low or High of a type that is named at a place.
     #[inline(never)]
     pub fn bound_value(
-        self,
+        &self,
         sink: &mut FirstRefusal,
         function: Function,
         of: TypeId,
         at: Place,
-    ) -> Valued
-        ensures { IfOk result (λ v. Reports (changed constant (bound_means (here_of self.entry.scope).core function (of, at))) sink.old sink.new (option_map value_of v)) }
+        out: &mut Option<Value>,
+    )
+        ensures { Reports (changed constant (bound_means (here_of self.now.scope).core function (of, at))) sink.old sink.new (option_map value_of out.new) }
     {
-        Ok(constant_value(self.setting().bound(sink, function, of, at)))
+        *out = constant_value(self.setting().bound(sink, function, of, at));
     }
 }
 

@@ -9,12 +9,14 @@ ghost use Rattle.op_tree.specs.Lists as source_lists;
 ghost use Rattle.op_judgement.specs.Judgement.{Reports, with_part};
 ghost use Rattle.op_check_expr.specs.Calling.{are_given, built_in_plan, call_of, call_tree, first_of, function_plan, given_behind, given_first, given_of, is_plain, others_of, parameters_for, parameters_of, passed, passed_value, plan_of, routine_plan, sole_plan, type_wanted};
 ghost use Rattle.op_check_expr.specs.Naming.{denoted_of};
+ghost use Rattle.op_check_expr.specs.Parts.{Behind};
 ghost use Rattle.op_check_expr.specs.Scopes.{here_of};
 ghost use Rattle.op_check_expr.specs.Values.{value_of};
 ghost use Rattle.op_types.specs.ConstantParts.{only_value};
 
 use crate::convert::stored;
 use crate::denoted::{Denoted, Meant};
+use crate::operate::Done;
 use crate::place::variable_value;
 use crate::scope::Checker;
 use crate::tree::make_room;
@@ -43,13 +45,13 @@ impl<'a> Checker<'a> {
     /// What is done with arguments behind what stands in front of them. `alone` is whether the call is a statement.
     #[inline(never)]
     pub fn plan_of(
-        self,
+        &self,
         sink: &mut FirstRefusal,
         alone: bool,
         denoted: &Option<Denoted>,
         list: &[Argument],
     ) -> Result<Option<Plan>, NoMemory>
-        ensures { IfOk result (Reports (plan_of (here_of self.entry.scope) alone (option_map denoted_of denoted.now) (source_lists.arguments_of list.now)) sink.old sink.new) }
+        ensures { IfOk result (Reports (plan_of (here_of self.now.scope) alone (option_map denoted_of denoted.now) (source_lists.arguments_of list.now)) sink.old sink.new) }
     {
         let Some(denoted) = denoted else {
             return Ok(None);
@@ -64,28 +66,15 @@ impl<'a> Checker<'a> {
         }
     }
 
-    /// The same of what is needed for nothing else.
-    #[inline(never)]
-    pub fn plan_behind(
-        self,
-        sink: &mut FirstRefusal,
-        denoted: Option<Denoted>,
-        list: &[Argument],
-    ) -> Result<Option<Plan>, NoMemory>
-        ensures { IfOk result (Reports (plan_of (here_of self.entry.scope) false (option_map denoted_of denoted) (source_lists.arguments_of list.now)) sink.old sink.new) }
-    {
-        self.plan_of(sink, false, &denoted, list)
-    }
-
     fn routine_plan(
-        self,
+        &self,
         sink: &mut FirstRefusal,
         alone: bool,
         position: Position,
         id: RoutineId,
         list: &[Argument],
     ) -> Option<Plan>
-        ensures { Reports (with_part (routine_plan (here_of self.entry.scope) alone position id (source_lists.arguments_of list.now)) (slice_get (here_of self.entry.scope).core.routines id.0)) sink.old sink.new result }
+        ensures { Reports (with_part (routine_plan (here_of self.now.scope) alone position id (source_lists.arguments_of list.now)) (slice_get (here_of self.now.scope).core.routines id.0)) sink.old sink.new result }
     {
         let core = self.scope.core;
         let Some(routine) = core.routines.as_slice().get(id.0 as usize) else {
@@ -102,13 +91,13 @@ impl<'a> Checker<'a> {
     }
 
     fn built_in_plan(
-        self,
+        &self,
         sink: &mut FirstRefusal,
         position: Position,
         b: BuiltIn,
         list: &[Argument],
     ) -> Result<Option<Plan>, NoMemory>
-        ensures { IfOk result (Reports (built_in_plan (here_of self.entry.scope) position b (source_lists.arguments_of list.now)) sink.old sink.new) }
+        ensures { IfOk result (Reports (built_in_plan (here_of self.now.scope) position b (source_lists.arguments_of list.now)) sink.old sink.new) }
     {
         match b {
             BuiltIn::Chr => Ok(sole_plan(sink, position, Applied::Cast(TypeId::CHAR), list)),
@@ -118,13 +107,13 @@ impl<'a> Checker<'a> {
     }
 
     fn function_plan(
-        self,
+        &self,
         sink: &mut FirstRefusal,
         position: Position,
         function: Function,
         list: &[Argument],
     ) -> Result<Option<Plan>, NoMemory>
-        ensures { IfOk result (Reports (function_plan (here_of self.entry.scope) position function (source_lists.arguments_of list.now)) sink.old sink.new) }
+        ensures { IfOk result (Reports (function_plan (here_of self.now.scope) position function (source_lists.arguments_of list.now)) sink.old sink.new) }
     {
         match function {
             Function::Low | Function::High => match self.setting().type_named(list)? {
@@ -135,8 +124,8 @@ impl<'a> Checker<'a> {
         }
     }
 
-    pub fn parameters_of(self, id: RoutineId) -> &'a [Parameter]
-        ensures { result.now ≡ parameters_of (here_of self.entry.scope) id }
+    pub fn parameters_of(&self, id: RoutineId) -> &'a [Parameter]
+        ensures { result.now ≡ parameters_of (here_of self.now.scope) id }
     {
         let core = self.scope.core;
         match core.routines.as_slice().get(id.0 as usize) {
@@ -145,8 +134,8 @@ impl<'a> Checker<'a> {
         }
     }
 
-    pub fn parameters_for(self, plan: Option<Plan>) -> &'a [Parameter]
-        ensures { result.now ≡ parameters_for (here_of self.entry.scope) plan }
+    pub fn parameters_for(&self, plan: Option<Plan>) -> &'a [Parameter]
+        ensures { result.now ≡ parameters_for (here_of self.now.scope) plan }
     {
         match plan {
             Some(Plan::Routine(id)) => self.parameters_of(id),
@@ -154,31 +143,36 @@ impl<'a> Checker<'a> {
         }
     }
 
-    /// A value for a parameter, its expression at a position; None of a parameter where there is none.
+    /// Puts there a value for a parameter, its expression at a position; None of a parameter where there is none.
     #[inline(never)]
     pub fn passed(
-        self,
+        &self,
         sink: &mut FirstRefusal,
         parameter: Option<&Parameter>,
         at: Position,
+        done: Done,
         value: Option<Value>,
-    ) -> Result<Option<CoreArgument>, NoMemory>
-        ensures { IfOk result (λ a. Reports (with_part (passed (here_of self.entry.scope) (option_copied parameter.entry) at) (option_map value_of value)) sink.old sink.new (option_map argument_of a)) }
+        out: &mut Option<CoreArgument>,
+    ) -> Done
+        ensures { IfOk result (λ _. Behind done (Reports (with_part (passed (here_of self.now.scope) (option_copied parameter.entry) at) (option_map value_of value)) sink.old sink.new (option_map argument_of out.new))) }
     {
-        match (parameter, value) {
-            (Some(parameter), Some(value)) => self.passed_value(sink, parameter, at, value),
-            _ => Ok(None),
-        }
+        done?;
+        let (Some(parameter), Some(value)) = (parameter, value) else {
+            *out = None;
+            return Ok(());
+        };
+        *out = self.passed_value(sink, parameter, at, value)?;
+        Ok(())
     }
 
     fn passed_value(
-        self,
+        &self,
         sink: &mut FirstRefusal,
         parameter: &Parameter,
         at: Position,
         value: Value,
     ) -> Result<Option<CoreArgument>, NoMemory>
-        ensures { IfOk result (λ a. Reports (passed_value (here_of self.entry.scope) at (value_of value) parameter.now) sink.old sink.new (option_map argument_of a)) }
+        ensures { IfOk result (λ a. Reports (passed_value (here_of self.now.scope) at (value_of value) parameter.now) sink.old sink.new (option_map argument_of a)) }
     {
         let to = parameter.of;
         if takes_place(parameter.mode) {
@@ -196,8 +190,8 @@ impl<'a> Checker<'a> {
     }
 
     /// A call of a routine that is no method.
-    fn call_tree(self, id: RoutineId, given: Vec<CoreArgument>) -> Option<Value>
-        ensures { option_map value_of result ≡ option_map (call_tree id (given_of given)) (slice_get (here_of self.entry.scope).core.routines id.0) }
+    fn call_tree(&self, id: RoutineId, given: Vec<CoreArgument>) -> Option<Value>
+        ensures { option_map value_of result ≡ option_map (call_tree id (given_of given)) (slice_get (here_of self.now.scope).core.routines id.0) }
     {
         let routine = self.scope.core.routines.as_slice().get(id.0 as usize)?;
         let of = match routine.result {
@@ -207,10 +201,25 @@ impl<'a> Checker<'a> {
         Some(Value::Computed(call_expression(self.alloc, id, given, of)))
     }
 
-    /// What a routine gives with these arguments.
+    /// Puts there what a routine gives with these arguments.
     #[inline(never)]
-    pub fn call_of(self, plan: Option<Plan>, given: Given) -> Option<Value>
-        ensures { option_map value_of result ≡ call_of (here_of self.entry.scope) plan (option_map given_of given) }
+    pub fn call_of(
+        &self,
+        plan: Option<Plan>,
+        done: Done,
+        given: Given,
+        out: &mut Option<Value>,
+    ) -> Done
+        ensures { IfOk result (λ _. Behind done (option_map value_of out.new ≡ call_of (here_of self.now.scope) plan (option_map given_of given))) }
+    {
+        done?;
+        *out = self.call_value(plan, given);
+        Ok(())
+    }
+
+    /// What a routine gives with these arguments.
+    pub fn call_value(&self, plan: Option<Plan>, given: Given) -> Option<Value>
+        ensures { option_map value_of result ≡ call_of (here_of self.now.scope) plan (option_map given_of given) }
     {
         match plan {
             Some(Plan::Routine(id)) => self.call_tree(id, given?),
@@ -299,15 +308,20 @@ pub fn first_of(parameters: &[Parameter]) -> (Option<&Parameter>, &[Parameter])
     }
 }
 
-/// What is given so far, and one argument more.
+/// Puts one argument more behind what is given so far.
 #[inline(never)]
-pub fn given_behind(given: Given, more: Option<CoreArgument>) -> Result<Given, NoMemory>
-    ensures { IfOk result (λ g. option_map given_of g ≡ given_behind (option_map given_of given) (option_map argument_of more)) }
+pub fn add_given(given: &mut Given, done: Done, more: Option<CoreArgument>) -> Done
+    ensures { IfOk result (λ _. Behind done (option_map given_of given.new ≡ given_behind (option_map given_of given.old) (option_map argument_of more))) }
 {
-    let (Some(mut given), Some(more)) = (given, more) else {
-        return Ok(None);
+    done?;
+    let Some(mut list) = given.take() else {
+        return Ok(());
     };
-    make_room(&mut given)?;
-    given.push(more)?;
-    Ok(Some(given))
+    let Some(more) = more else {
+        return Ok(());
+    };
+    make_room(&mut list)?;
+    list.push(more)?;
+    *given = Some(list);
+    Ok(())
 }

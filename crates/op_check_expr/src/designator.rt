@@ -6,6 +6,7 @@ ghost use Rattle.op_tree.specs.Statement.{designator_of};
 ghost use Rattle.op_judgement.specs.Judgement.{Reports, changed, with_part};
 ghost use Rattle.op_check_expr.specs.Expressions.{index_types, indexed, member_of, name_denoted, position_of, position_of_denoted, position_of_designator, settled, still_at_position, text_denoted};
 ghost use Rattle.op_check_expr.specs.Naming.{denoted_of, valued};
+ghost use Rattle.op_check_expr.specs.Parts.{Behind};
 ghost use Rattle.op_check_expr.specs.Scopes.{here_of};
 ghost use Rattle.op_check_expr.specs.Values.{constant, in_brackets, value_of};
 ghost use Rattle.op_types.specs.ConstantParts.{text_constant};
@@ -14,8 +15,8 @@ ghost use Rattle.op_types.specs.Names.{lower};
 
 use crate::call::given_first;
 use crate::convert::index_at;
-use crate::denoted::{Denoted, Found, Meant, field_of, named};
-use crate::operate::Valued;
+use crate::denoted::{Denoted, Meant, field_of, named};
+use crate::operate::{Done, Valued};
 use crate::scope::Checker;
 use crate::tree::then;
 use crate::value::{Value, constant_value};
@@ -78,91 +79,131 @@ pub fn position_of_denoted(denoted: &Option<Denoted>) -> Option<Position>
     }
 }
 
-/// What is made of it, at the same position.
+/// Puts there what is made of it, at the same position.
 #[inline(never)]
-pub fn still_at(position: Option<Position>, value: Option<Value>) -> Option<Denoted>
-    ensures { option_map denoted_of result ≡ still_at_position position (option_map value_of value) }
+pub fn still_at(
+    position: Option<Position>,
+    done: Done,
+    value: Option<Value>,
+    out: &mut Option<Denoted>,
+) -> Done
+    ensures { IfOk result (λ _. Behind done (option_map denoted_of out.new ≡ still_at_position position (option_map value_of value))) }
 {
-    let (Some(position), Some(value)) = (position, value) else {
-        return None;
+    done?;
+    *out = match (position, value) {
+        (Some(position), Some(value)) => {
+            let what = Meant::Value(value);
+            Some(Denoted { position, what })
+        }
+        _ => None,
     };
-    let what = Meant::Value(value);
-    Some(Denoted { position, what })
+    Ok(())
 }
 
-/// A value in brackets that begin at a position.
+/// Puts there a value in brackets that begin at a position.
 #[inline(never)]
-pub fn bracketed(position: Position, value: Option<Value>) -> Found
-    ensures { IfOk result (λ d. option_map denoted_of d ≡ option_map (λ v. valued position (in_brackets v)) (option_map value_of value)) }
+pub fn bracketed(
+    position: Position,
+    done: Done,
+    value: Option<Value>,
+    out: &mut Option<Denoted>,
+) -> Done
+    ensures { IfOk result (λ _. Behind done (option_map denoted_of out.new ≡ option_map (λ v. valued position (in_brackets v)) (option_map value_of value))) }
 {
-    match value {
+    done?;
+    *out = match value {
         Some(v) => {
             let what = Meant::Value(v.in_brackets()?);
-            Ok(Some(Denoted { position, what }))
+            Some(Denoted { position, what })
         }
-        None => Ok(None),
-    }
+        None => None,
+    };
+    Ok(())
 }
 
-/// A text of which something is selected.
+/// Puts there a text of which something is selected.
 #[inline(never)]
-pub fn text_denoted(alloc: Global, position: Position, text: &[u8]) -> Result<Denoted, NoMemory>
-    ensures { IfOk result (λ d. denoted_of d ≡ text_denoted position text.now) }
+pub fn text_denoted(
+    alloc: Global,
+    position: Position,
+    text: &[u8],
+    out: &mut Option<Denoted>,
+) -> Done
+    ensures { IfOk result (λ _. option_map denoted_of out.new ≡ Some (text_denoted position text.now)) }
 {
     let value = Const::Text(CompactText::copy_of(alloc, text)?);
     let what = Meant::Value(Value::Constant(made(value, TypeId::STRING, nodes(1))));
-    Ok(Denoted { position, what })
+    *out = Some(Denoted { position, what });
+    Ok(())
 }
 
 impl<'a> Checker<'a> {
-    /// A text of which nothing is selected.
+    /// Puts there a text of which nothing is selected.
     #[inline(never)]
-    pub fn text_alone(self, text: &[u8]) -> Valued
-        ensures { IfOk result (λ v. option_map value_of v ≡ Some (constant (text_constant text.now))) }
+    pub fn text_alone(&self, text: &[u8], out: &mut Option<Value>) -> Done
+        ensures { IfOk result (λ _. option_map value_of out.new ≡ Some (constant (text_constant text.now))) }
     {
-        match self.setting().literal(text, &[])? {
-            Some(Some(c)) => Ok(Some(Value::Constant(c))),
-            Some(None) => Ok(None),
-            None => Ok(None),
-        }
+        *out = match self.setting().literal(text, &[])? {
+            Some(Some(c)) => Some(Value::Constant(c)),
+            Some(None) => None,
+            None => None,
+        };
+        Ok(())
     }
 
-    /// A number at a place, of so many nodes.
+    /// Puts there a number at a place, of so many nodes.
     #[inline(never)]
-    pub fn number(self, sink: &mut FirstRefusal, at: Place, count: u32, n: i64) -> Valued
-        ensures { IfOk result (λ v. Reports (changed constant (numeral at count n)) sink.old sink.new (option_map value_of v)) }
+    pub fn number(
+        &self,
+        sink: &mut FirstRefusal,
+        at: Place,
+        count: u32,
+        n: i64,
+        out: &mut Option<Value>,
+    )
+        ensures { Reports (changed constant (numeral at count n)) sink.old sink.new (option_map value_of out.new) }
     {
-        Ok(constant_value(self.setting().numeral(sink, at, count, n)))
+        *out = constant_value(self.setting().numeral(sink, at, count, n));
     }
 
-    /// What a name stands for, spelled so, which is looked up as `key`.
+    /// Puts there what a name stands for, spelled so, which is looked up as `key`.
     #[inline(never)]
     pub fn name_denoted(
-        self,
+        &self,
         sink: &mut FirstRefusal,
         key: &[u8],
         text: &[u8],
         position: Position,
-    ) -> Found
-        ensures { IfOk result (λ d. Reports (name_denoted (here_of self.entry.scope) (lower key.now) text.now position) sink.old sink.new (option_map denoted_of d)) }
+        out: &mut Option<Denoted>,
+    ) -> Done
+        ensures { IfOk result (λ _. Reports (name_denoted (here_of self.now.scope) (lower key.now) text.now position) sink.old sink.new (option_map denoted_of out.new)) }
     {
         let meaning = self.scope.visible.look_up(key)?;
-        named(self.setting(), sink, text, position, meaning)
+        *out = named(self.setting(), sink, text, position, meaning)?;
+        Ok(())
     }
 
-    /// What a name stands for as a value: a function alone is called.
+    /// Puts there what a name stands for as a value: a function alone is called.
     #[inline(never)]
-    pub fn as_value(self, sink: &mut FirstRefusal, denoted: Option<Denoted>) -> Valued
-        ensures { IfOk result (λ v. Reports (with_part (settled (here_of self.entry.scope)) (option_map denoted_of denoted)) sink.old sink.new (option_map value_of v)) }
+    pub fn as_value(
+        &self,
+        sink: &mut FirstRefusal,
+        done: Done,
+        denoted: Option<Denoted>,
+        out: &mut Option<Value>,
+    ) -> Done
+        ensures { IfOk result (λ _. Behind done (Reports (with_part (settled (here_of self.now.scope)) (option_map denoted_of denoted)) sink.old sink.new (option_map value_of out.new))) }
     {
-        match denoted {
-            Some(denoted) => self.settled(sink, denoted),
-            None => Ok(None),
-        }
+        done?;
+        *out = match denoted {
+            Some(denoted) => self.settled(sink, denoted)?,
+            None => None,
+        };
+        Ok(())
     }
 
-    fn settled(self, sink: &mut FirstRefusal, denoted: Denoted) -> Valued
-        ensures { IfOk result (λ v. Reports (settled (here_of self.entry.scope) (denoted_of denoted)) sink.old sink.new (option_map value_of v)) }
+    pub fn settled(&self, sink: &mut FirstRefusal, denoted: Denoted) -> Valued
+        ensures { IfOk result (λ v. Reports (settled (here_of self.now.scope) (denoted_of denoted)) sink.old sink.new (option_map value_of v)) }
     {
         let position = denoted.position;
         match denoted.what {
@@ -171,48 +212,70 @@ impl<'a> Checker<'a> {
             what => {
                 let denoted = Some(Denoted { position, what });
                 let plan = self.plan_of(sink, false, &denoted, &[])?;
-                Ok(self.call_of(plan, given_first(self.alloc, plan)))
+                Ok(self.call_value(plan, given_first(self.alloc, plan)))
             }
         }
     }
 
-    /// A member of a unit or of a value.
+    /// Puts a member of a unit or of a value in its place.
     #[inline(never)]
-    pub fn member_of(self, sink: &mut FirstRefusal, name: &Name, denoted: Option<Denoted>) -> Found
-        ensures { IfOk result (λ d. Reports (with_part (member_of (here_of self.entry.scope) name.now) (option_map denoted_of denoted)) sink.old sink.new (option_map denoted_of d)) }
+    pub fn member_of(
+        &self,
+        sink: &mut FirstRefusal,
+        name: &Name,
+        denoted: &mut Option<Denoted>,
+    ) -> Done
+        ensures { IfOk result (λ _. Reports (with_part (member_of (here_of self.now.scope) name.now) (option_map denoted_of denoted.old)) sink.old sink.new (option_map denoted_of denoted.new)) }
     {
-        let Some(denoted) = denoted else {
-            return Ok(None);
+        let Some(front) = denoted.take() else {
+            return Ok(());
         };
-        match denoted.what {
+        match front.what {
             Meant::Unit(unit) => {
                 let mut key = unit.into_vec();
                 key.push(b'.')?;
                 key.extend_from_slice(name.text.as_slice())?;
                 let text = name.text.as_slice();
-                self.name_denoted(sink, key.as_slice(), text, name.position)
+                self.name_denoted(sink, key.as_slice(), text, name.position, denoted)
             }
             what => {
-                let position = denoted.position;
-                match self.settled(sink, Denoted { position, what })? {
-                    Some(v) => field_of(self.alloc, self.scope.core, sink, name, v),
-                    None => Ok(None),
-                }
+                let position = front.position;
+                *denoted = match self.settled(sink, Denoted { position, what })? {
+                    Some(v) => field_of(self.alloc, self.scope.core, sink, name, v)?,
+                    None => None,
+                };
+                Ok(())
             }
         }
     }
 
-    /// An element at an index that begins at a place, behind a bracket at another.
+    /// Puts an element in its place, at an index that begins at a place, behind a bracket at another.
     #[inline(never)]
     pub fn indexed(
-        self,
+        &self,
+        sink: &mut FirstRefusal,
+        bracket: Place,
+        at: Place,
+        a: &mut Option<Value>,
+        done: Done,
+        index: Option<Value>,
+    ) -> Done
+        ensures { IfOk result (λ _. Behind done (Reports (indexed (here_of self.now.scope).core bracket at (option_map value_of a.old) (option_map value_of index)) sink.old sink.new (option_map value_of a.new))) }
+    {
+        done?;
+        *a = self.element_at(sink, bracket, at, a.take(), index)?;
+        Ok(())
+    }
+
+    fn element_at(
+        &self,
         sink: &mut FirstRefusal,
         bracket: Place,
         at: Place,
         a: Option<Value>,
         index: Option<Value>,
     ) -> Valued
-        ensures { IfOk result (λ v. Reports (indexed (here_of self.entry.scope).core bracket at (option_map value_of a) (option_map value_of index)) sink.old sink.new (option_map value_of v)) }
+        ensures { IfOk result (λ v. Reports (indexed (here_of self.now.scope).core bracket at (option_map value_of a) (option_map value_of index)) sink.old sink.new (option_map value_of v)) }
     {
         let Some(a) = a else {
             return Ok(None);

@@ -63,18 +63,20 @@ fn failure(sink: FirstRefusal) -> CheckError
 impl<'a> Checker<'a> {
     /// What an expression means. `wanted` is the type that its use fixes: a set constructor takes its type from that.
     #[tactic(auto, unfolding(crate::specs::Phrases::value))]
-    pub fn value(self, sink: &mut FirstRefusal, wanted: Option<TypeId>, e: &Expr) -> Valued
-        ensures { IfOk result (λ v. Reports (means.value (here_of self.entry.scope) wanted (expr_of e.now)) sink.old sink.new (option_map value_of v)) }
+    pub fn value(&self, sink: &mut FirstRefusal, wanted: Option<TypeId>, e: &Expr) -> Valued
+        ensures { IfOk result (λ v. Reports (means.value (here_of self.now.scope) wanted (expr_of e.now)) sink.old sink.new (option_map value_of v)) }
     {
-        self.value_in(sink, wanted, e)
+        let mut value = None;
+        self.value_in(sink, wanted, e, &mut value)?;
+        Ok(value)
     }
 
     /// A value that is stored in what has a type; `checked` is whether ranges are. Rule 20 stands at its first token.
-    #[tactic(auto, unfolding(crate::specs::Phrases::given))]
-    pub fn given(self, sink: &mut FirstRefusal, to: TypeId, checked: bool, e: &Expr) -> Typed
-        ensures { IfOk result (λ v. Reports (means.given (here_of self.entry.scope) to checked (expr_of e.now)) sink.old sink.new (option_map typed.expr_of v)) }
+    #[tactic(auto, unfolding(crate::specs::Phrases::given, crate::specs::Phrases::value))]
+    pub fn given(&self, sink: &mut FirstRefusal, to: TypeId, checked: bool, e: &Expr) -> Typed
+        ensures { IfOk result (λ v. Reports (means.given (here_of self.now.scope) to checked (expr_of e.now)) sink.old sink.new (option_map typed.expr_of v)) }
     {
-        match self.value_in(sink, Some(to), e)? {
+        match self.value(sink, Some(to), e)? {
             Some(value) => {
                 let at = position_of(e).place;
                 stored(self.alloc, self.scope.core, sink, at, checked, to, value)
@@ -85,11 +87,11 @@ impl<'a> Checker<'a> {
 
     /// An argument that must be a variable, of the very type where one is given, that may be written: rules 27, 28, 29, 37 at its
     /// first token.
-    #[tactic(auto, unfolding(crate::specs::Phrases::variable))]
-    pub fn variable(self, sink: &mut FirstRefusal, of: Option<TypeId>, e: &Expr) -> Typed
-        ensures { IfOk result (λ v. Reports (means.variable (here_of self.entry.scope) of (expr_of e.now)) sink.old sink.new (option_map typed.expr_of v)) }
+    #[tactic(auto, unfolding(crate::specs::Phrases::variable, crate::specs::Phrases::value))]
+    pub fn variable(&self, sink: &mut FirstRefusal, of: Option<TypeId>, e: &Expr) -> Typed
+        ensures { IfOk result (λ v. Reports (means.variable (here_of self.now.scope) of (expr_of e.now)) sink.old sink.new (option_map typed.expr_of v)) }
     {
-        match self.value_in(sink, None, e)? {
+        match self.value(sink, None, e)? {
             Some(value) => {
                 let at = position_of(e).place;
                 Ok(variable_value(self.scope, sink, at, of, value))
@@ -100,19 +102,19 @@ impl<'a> Checker<'a> {
 
     /// Whether a variable may be written here: its role, and the loops round the place.
     #[tactic(auto, unfolding(crate::specs::Phrases::is_writable_variable))]
-    pub fn is_writable_variable(self, id: VariableId) -> bool
-        ensures { result ≡ means.is_writable_variable (here_of self.entry.scope) id }
+    pub fn is_writable_variable(&self, id: VariableId) -> bool
+        ensures { result ≡ means.is_writable_variable (here_of self.now.scope) id }
     {
         is_writable_variable(self.scope, id)
     }
 
     /// One element for a set of a base: rules 20 and 34 at its first token.
-    #[tactic(auto, unfolding(crate::specs::Phrases::element))]
-    pub fn element(self, sink: &mut FirstRefusal, base: TypeId, e: &Expr) -> Typed
-        ensures { IfOk result (λ v. Reports (means.element (here_of self.entry.scope) base (expr_of e.now)) sink.old sink.new (option_map typed.expr_of v)) }
+    #[tactic(auto, unfolding(crate::specs::Phrases::element, crate::specs::Phrases::value))]
+    pub fn element(&self, sink: &mut FirstRefusal, base: TypeId, e: &Expr) -> Typed
+        ensures { IfOk result (λ v. Reports (means.element (here_of self.now.scope) base (expr_of e.now)) sink.old sink.new (option_map typed.expr_of v)) }
     {
         let at = position_of(e).place;
-        let Some(value) = self.value_in(sink, None, e)? else {
+        let Some(value) = self.value(sink, None, e)? else {
             return Ok(None);
         };
         let core = self.scope.core;
@@ -127,13 +129,14 @@ impl<'a> Checker<'a> {
 
     /// What is assigned to: rule 29 at its first token. A function's own name is its result, of which a part may be selected.
     #[tactic(auto, unfolding(crate::specs::Phrases::target))]
-    pub fn target(self, sink: &mut FirstRefusal, called: &Designator) -> Typed
-        ensures { IfOk result (λ v. Reports (means.target (here_of self.entry.scope) (designator_of called.now)) sink.old sink.new (option_map typed.expr_of v)) }
+    pub fn target(&self, sink: &mut FirstRefusal, called: &Designator) -> Typed
+        ensures { IfOk result (λ v. Reports (means.target (here_of self.now.scope) (designator_of called.now)) sink.old sink.new (option_map typed.expr_of v)) }
     {
         let at = position_of_designator(called).place;
         match self.result_first(called)? {
             Some(result) => {
-                let denoted = self.selected(sink, Some(result), &called.selectors)?;
+                let mut denoted = Some(result);
+                self.selected(sink, &called.selectors, &mut denoted)?;
                 self.target_denoted(sink, at, denoted)
             }
             None => self.target_of_others(sink, called),
@@ -141,32 +144,35 @@ impl<'a> Checker<'a> {
     }
 
     /// What is assigned to, where that is no result: no routine's name alone.
-    fn target_of_others(self, sink: &mut FirstRefusal, called: &Designator) -> Typed
-        ensures { IfOk result (λ v. Reports (means.target_by (here_of self.entry.scope) (designator_of called.now) (means.routine_alone (here_of self.entry.scope) (designator_of called.now))) sink.old sink.new (option_map typed.expr_of v)) }
+    fn target_of_others(&self, sink: &mut FirstRefusal, called: &Designator) -> Typed
+        ensures { IfOk result (λ v. Reports (means.target_by (here_of self.now.scope) (designator_of called.now) (means.routine_alone (here_of self.now.scope) (designator_of called.now))) sink.old sink.new (option_map typed.expr_of v)) }
     {
         let at = position_of_designator(called).place;
         match self.routine_alone(called)? {
             Some(_) => Ok(refuse(sink, LanguageRule::NotWritable, at)),
             None => {
-                let denoted = self.designator(sink, called)?;
+                let mut denoted = None;
+                self.designator(sink, called, &mut denoted)?;
                 self.target_denoted(sink, at, denoted)
             }
         }
     }
 
     /// What is assigned to, in a statement that begins at a place.
-    fn target_denoted(self, sink: &mut FirstRefusal, at: Place, denoted: Option<Denoted>) -> Typed
-        ensures { IfOk result (λ v. Reports (means.target_means (here_of self.entry.scope) at (with_part (settled (here_of self.entry.scope)) (option_map denoted_of denoted))) sink.old sink.new (option_map typed.expr_of v)) }
+    fn target_denoted(&self, sink: &mut FirstRefusal, at: Place, denoted: Option<Denoted>) -> Typed
+        ensures { IfOk result (λ v. Reports (means.target_means (here_of self.now.scope) at (with_part (settled (here_of self.now.scope)) (option_map denoted_of denoted))) sink.old sink.new (option_map typed.expr_of v)) }
     {
-        match self.as_value(sink, denoted)? {
+        let mut value = None;
+        self.as_value(sink, Ok(()), denoted, &mut value)?;
+        match value {
             Some(value) => Ok(target_value(self.scope, sink, at, value)),
             None => Ok(None),
         }
     }
 
     /// The result that a place begins with, by the name of the function whose body this is.
-    fn result_first(self, called: &Designator) -> Found
-        ensures { IfOk result (λ r. option_map denoted_of r ≡ means.result_first (here_of self.entry.scope) (designator_of called.now)) }
+    fn result_first(&self, called: &Designator) -> Found
+        ensures { IfOk result (λ r. option_map denoted_of r ≡ means.result_first (here_of self.now.scope) (designator_of called.now)) }
     {
         match (&called.root, called.selectors.split_first()) {
             (Root::Named(_), Some((Selector::Call { .. }, _))) => Ok(None),
@@ -175,8 +181,8 @@ impl<'a> Checker<'a> {
         }
     }
 
-    fn result_named(self, name: &Name) -> Found
-        ensures { IfOk result (λ r. option_map denoted_of r ≡ means.result_named (here_of self.entry.scope) name.now) }
+    fn result_named(&self, name: &Name) -> Found
+        ensures { IfOk result (λ r. option_map denoted_of r ≡ means.result_named (here_of self.now.scope) name.now) }
     {
         match self.scope.visible.look_up(name.text.as_slice())? {
             Some(Meaning::Routine(id)) => Ok(self.result_denoted(name.position, *id)),
@@ -184,8 +190,8 @@ impl<'a> Checker<'a> {
         }
     }
 
-    fn result_denoted(self, position: Position, id: RoutineId) -> Option<Denoted>
-        ensures { option_map denoted_of result ≡ option_map (means.result_denoted position) (means.own_result (here_of self.entry.scope) id) }
+    fn result_denoted(&self, position: Position, id: RoutineId) -> Option<Denoted>
+        ensures { option_map denoted_of result ≡ option_map (means.result_denoted position) (means.own_result (here_of self.now.scope) id) }
     {
         let (id, of) = self.own_result(id)?;
         Some(Denoted {
@@ -195,8 +201,8 @@ impl<'a> Checker<'a> {
     }
 
     /// The routine whose name stands alone.
-    fn routine_alone(self, called: &Designator) -> Result<Option<RoutineId>, NoMemory>
-        ensures { IfOk result (λ r. r ≡ means.routine_alone (here_of self.entry.scope) (designator_of called.now)) }
+    fn routine_alone(&self, called: &Designator) -> Result<Option<RoutineId>, NoMemory>
+        ensures { IfOk result (λ r. r ≡ means.routine_alone (here_of self.now.scope) (designator_of called.now)) }
     {
         match (&called.root, called.selectors.split_first()) {
             (Root::Named(name), None) => {
@@ -210,8 +216,8 @@ impl<'a> Checker<'a> {
     }
 
     /// The result of the routine whose body this is, by that routine's name.
-    fn own_result(self, id: RoutineId) -> Option<(VariableId, TypeId)>
-        ensures { result ≡ means.own_result (here_of self.entry.scope) id }
+    fn own_result(&self, id: RoutineId) -> Option<(VariableId, TypeId)>
+        ensures { result ≡ means.own_result (here_of self.now.scope) id }
     {
         if !is_own(self.scope.routine, id) {
             return None;
@@ -225,34 +231,36 @@ impl<'a> Checker<'a> {
 
     /// A call as a statement. Rule 35 stands at its first token where it is no call.
     #[tactic(auto, unfolding(crate::specs::Phrases::call_alone))]
-    pub fn alone(self, sink: &mut FirstRefusal, called: &Designator) -> Typed
-        ensures { IfOk result (λ v. Reports (means.call_alone (here_of self.entry.scope) (designator_of called.now)) sink.old sink.new (option_map typed.expr_of v)) }
+    pub fn alone(&self, sink: &mut FirstRefusal, called: &Designator) -> Typed
+        ensures { IfOk result (λ v. Reports (means.call_alone (here_of self.now.scope) (designator_of called.now)) sink.old sink.new (option_map typed.expr_of v)) }
     {
         let start = position_of_designator(called).place;
-        let denoted = self.root(sink, &called.root)?;
+        let mut denoted = None;
+        self.root(sink, &called.root, &mut denoted)?;
         match last_call(&called.selectors) {
             Some((front, arguments)) => {
-                let denoted = self.selected(sink, denoted, front)?;
+                self.selected(sink, front, &mut denoted)?;
                 let plan = self.plan_of(sink, true, &denoted, arguments)?;
                 self.alone_called(sink, start, plan, arguments)
             }
             None => {
-                let denoted = self.selected(sink, denoted, &called.selectors)?;
+                self.selected(sink, &called.selectors, &mut denoted)?;
                 self.alone_denoted(sink, start, denoted)
             }
         }
     }
 
     fn alone_called(
-        self,
+        &self,
         sink: &mut FirstRefusal,
         start: Place,
         plan: Option<Plan>,
         list: &[Argument],
     ) -> Typed
-        ensures { IfOk result (λ v. Reports (means.alone_called (here_of self.entry.scope) start plan (arguments_of list.now)) sink.old sink.new (option_map typed.expr_of v)) }
+        ensures { IfOk result (λ v. Reports (means.alone_called (here_of self.now.scope) start plan (arguments_of list.now)) sink.old sink.new (option_map typed.expr_of v)) }
     {
-        let value = self.called(sink, plan, list)?;
+        let mut value = None;
+        self.called(sink, plan, list, &mut value)?;
         match plan {
             Some(Plan::Bound(..) | Plan::Sole(..)) => Ok(refuse(
                 sink,
@@ -264,8 +272,13 @@ impl<'a> Checker<'a> {
     }
 
     /// What stands alone, with no arguments.
-    fn alone_denoted(self, sink: &mut FirstRefusal, start: Place, denoted: Option<Denoted>) -> Typed
-        ensures { IfOk result (λ v. Reports (with_part (means.alone_denoted (here_of self.entry.scope) start) (option_map denoted_of denoted)) sink.old sink.new (option_map typed.expr_of v)) }
+    fn alone_denoted(
+        &self,
+        sink: &mut FirstRefusal,
+        start: Place,
+        denoted: Option<Denoted>,
+    ) -> Typed
+        ensures { IfOk result (λ v. Reports (with_part (means.alone_denoted (here_of self.now.scope) start) (option_map denoted_of denoted)) sink.old sink.new (option_map typed.expr_of v)) }
     {
         let Some(denoted) = denoted else {
             return Ok(None);
@@ -277,7 +290,7 @@ impl<'a> Checker<'a> {
             what => {
                 let denoted = Some(Denoted { position, what });
                 let plan = self.plan_of(sink, true, &denoted, &[])?;
-                let value = self.call_of(plan, given_first(self.alloc, plan));
+                let value = self.call_value(plan, given_first(self.alloc, plan));
                 Ok(into_tree(self.alloc, value))
             }
         }

@@ -2,8 +2,9 @@
 ghost use Rattle.std.specs.Prelude.{◌≡◌, IfOk};
 ghost use Rattle.std.specs.Option.{option_map};
 ghost use Rattle.op_core.specs.Expression.{expr_of};
-ghost use Rattle.op_judgement.specs.Judgement.{Reports};
+ghost use Rattle.op_judgement.specs.Judgement.{Reports, with_part};
 ghost use Rattle.op_check_expr.specs.Operating.{computed_operation, feature_of_operands, left_type, makes_strings, operand_by, operated, operation_of, operation_tree, prefix_of, right_type, type_of_kind};
+ghost use Rattle.op_check_expr.specs.Parts.{Behind};
 ghost use Rattle.op_check_expr.specs.Values.{value_of};
 
 use crate::convert::as_type;
@@ -21,7 +22,10 @@ use std::alloc::Global;
 /// What an expression gives; None where a rule is broken in it.
 pub type Valued = Result<Option<Value>, NoMemory>;
 
-/// An operator at a position between two parts, in an expression that begins at `start`.
+/// That something was put in its place.
+pub type Done = Result<(), NoMemory>;
+
+/// Puts in the place of the first part what an operator at a position makes of both, in an expression that begins at `start`.
 #[inline(never)]
 pub fn operation_of(
     setting: Setting,
@@ -29,15 +33,18 @@ pub fn operation_of(
     start: Place,
     operator: Operator,
     position: Position,
-    a: Option<Value>,
+    a: &mut Option<Value>,
+    done: Done,
     b: Option<Value>,
-) -> Valued
-    ensures { IfOk result (λ v. Reports (operation_of setting.entry.core.now start operator position (option_map value_of a) (option_map value_of b)) sink.old sink.new (option_map value_of v)) }
+) -> Done
+    ensures { IfOk result (λ _. Behind done (Reports (operation_of setting.entry.core.now start operator position (option_map value_of a.old) (option_map value_of b)) sink.old sink.new (option_map value_of a.new))) }
 {
-    let (Some(a), Some(b)) = (a, b) else {
-        return Ok(None);
+    done?;
+    let (Some(left), Some(right)) = (a.take(), b) else {
+        return Ok(());
     };
-    operated(setting, sink, start, operator, position, a, b)
+    *a = operated(setting, sink, start, operator, position, left, right)?;
+    Ok(())
 }
 
 fn operated(
@@ -176,9 +183,25 @@ fn makes_strings(operator: Operator, a: Sort, b: Sort) -> bool
             || matches!(b, Sort::String))
 }
 
-/// A sign or `not` at a position before a value.
+/// Puts in the place of a part what a sign or `not` at a position makes of it.
 #[inline(never)]
 pub fn prefix_of(
+    setting: Setting,
+    sink: &mut FirstRefusal,
+    operator: PrefixOperator,
+    position: Position,
+    a: &mut Option<Value>,
+) -> Done
+    ensures { IfOk result (λ _. Reports (with_part (prefix_of setting.entry.core.now operator position) (option_map value_of a.old)) sink.old sink.new (option_map value_of a.new)) }
+{
+    *a = match a.take() {
+        Some(a) => prefix_value(setting, sink, operator, position, a)?,
+        None => None,
+    };
+    Ok(())
+}
+
+fn prefix_value(
     setting: Setting,
     sink: &mut FirstRefusal,
     operator: PrefixOperator,

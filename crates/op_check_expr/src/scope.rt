@@ -35,9 +35,9 @@ pub struct Checker<'a> {
 }
 
 impl<'a> Checker<'a> {
-    pub fn setting(self) -> Setting<'a>
-        ensures core { result.core.now ≡ self.entry.scope.core.now }
-        ensures visible { result.visible.now ≡ self.entry.scope.visible.now }
+    pub fn setting(&self) -> Setting<'a>
+        ensures core { result.core.now ≡ self.now.scope.core.now }
+        ensures visible { result.visible.now ≡ self.now.scope.visible.now }
     {
         Setting {
             alloc: self.alloc,

@@ -6,15 +6,16 @@ ghost use Rattle.op_core.specs.Expression.{element_of, expr_of, expression, no_s
 ghost use Rattle.op_core.specs.Nodes.{elements_of};
 ghost use Rattle.op_core.specs.Sizes.{type_at};
 ghost use Rattle.op_core.specs.Typing as typing;
-ghost use Rattle.op_judgement.specs.Judgement.{Reports, both_typed};
-ghost use Rattle.op_check_expr.specs.Constructors.{are_constants, both_in_set, computed_set, constant_member, constant_members, constant_of, element_tree, is_constant, is_small, member_in_set, member_of, members_of, or_own, place_of, set_by, set_of, set_tree, type_of_set, value_in_set, wanted_or};
+ghost use Rattle.op_judgement.specs.Judgement.{Reports, both_typed, with_part};
+ghost use Rattle.op_check_expr.specs.Constructors.{are_constants, both_in_set, computed_set, constant_member, constant_members, constant_of, element_tree, is_constant, is_small, member_in_set, member_of, members_of, one, or_own, place_of, set_by, set_of, set_tree, type_of_set, value_in_set, wanted_or};
 ghost use Rattle.op_check_expr.specs.Expressions.{ranged, with_member};
+ghost use Rattle.op_check_expr.specs.Parts.{Behind};
 ghost use Rattle.op_check_expr.specs.Values.{value_of};
 ghost use Rattle.op_types.specs.ConstantParts.{no_members};
 ghost use Rattle.op_types.specs.Operators as table;
 
 use crate::convert::{as_type, base_of};
-use crate::operate::Valued;
+use crate::operate::{Done, Valued};
 use crate::value::{Value, constant_value};
 use op_base::{NoMemory, Place};
 use op_core::{Const, Core, CoreElement, CoreExpr, FirstRefusal, Root, TypeId};
@@ -31,35 +32,81 @@ pub enum Member {
     Range(Place, Value, Place, Value),
 }
 
+/// Puts there the element that is a value at a place.
 #[inline(never)]
-pub fn ranged(at: Place, end: Place, a: Option<Value>, b: Option<Value>) -> Option<Member>
-    ensures { option_map member_of result ≡ both_typed (ranged at end) (option_map value_of a) (option_map value_of b) }
+pub fn alone(at: Place, done: Done, value: Option<Value>, out: &mut Option<Member>) -> Done
+    ensures { IfOk result (λ _. Behind done (option_map member_of out.new ≡ option_map (one at) (option_map value_of value))) }
 {
-    match (a, b) {
-        (Some(a), Some(b)) => Some(Member::Range(at, a, end, b)),
-        (Some(_), None) => None,
-        (None, Some(_)) => None,
-        (None, None) => None,
-    }
+    done?;
+    *out = match value {
+        Some(v) => Some(Member::One(at, v)),
+        None => None,
+    };
+    Ok(())
+}
+
+/// Puts there the elements from one value to another.
+#[inline(never)]
+pub fn ranged(
+    places: (Place, Place),
+    done: (Done, Done),
+    a: Option<Value>,
+    b: Option<Value>,
+    out: &mut Option<Member>,
+) -> Done
+    ensures { IfOk result (λ _. Behind done.0 (Behind done.1 (option_map member_of out.new ≡ both_typed (ranged places.0 places.1) (option_map value_of a) (option_map value_of b)))) }
+{
+    done.0?;
+    done.1?;
+    let (Some(a), Some(b)) = (a, b) else {
+        *out = None;
+        return Ok(());
+    };
+    *out = Some(Member::Range(places.0, a, places.1, b));
+    Ok(())
 }
 
 /// The elements of a set so far; None where a rule is broken in one.
 pub type Members = Option<Vec<Member>>;
 
+/// Puts an element behind those so far.
 #[inline(never)]
-pub fn with_member(members: Members, more: Option<Member>) -> Result<Members, NoMemory>
-    ensures { IfOk result (λ ms. option_map members_of ms ≡ with_member (option_map members_of members) (option_map member_of more)) }
+pub fn add_member(members: &mut Members, done: Done, more: Option<Member>) -> Done
+    ensures { IfOk result (λ _. Behind done (option_map members_of members.new ≡ with_member (option_map members_of members.old) (option_map member_of more))) }
 {
-    let (Some(mut members), Some(more)) = (members, more) else {
-        return Ok(None);
+    done?;
+    let Some(mut list) = members.take() else {
+        return Ok(());
     };
-    members.push(more)?;
-    Ok(Some(members))
+    let Some(more) = more else {
+        return Ok(());
+    };
+    list.push(more)?;
+    *members = Some(list);
+    Ok(())
 }
 
-/// A set constructor; a constant where all its elements are. Its use may want a type.
+/// Puts there a set constructor; a constant where all its elements are. Its use may want a type.
 #[inline(never)]
 pub fn set_of(
+    setting: Setting,
+    sink: &mut FirstRefusal,
+    wanted: Option<TypeId>,
+    done: Done,
+    members: Members,
+    out: &mut Option<Value>,
+) -> Done
+    ensures { IfOk result (λ _. Behind done (Reports (with_part (set_of setting.entry.core.now wanted) (option_map members_of members)) sink.old sink.new (option_map value_of out.new))) }
+{
+    done?;
+    *out = match members {
+        Some(members) => set_value(setting, sink, wanted, members)?,
+        None => None,
+    };
+    Ok(())
+}
+
+fn set_value(
     setting: Setting,
     sink: &mut FirstRefusal,
     wanted: Option<TypeId>,

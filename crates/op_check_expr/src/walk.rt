@@ -2,28 +2,33 @@
 //!
 //! One walk answers both constants and what is computed: a part is a constant where all its parts are. Every part is checked,
 //! whatever the others break.
+//!
+//! A part within others is to take little of the stack. So what a part means is put in a place of the caller, `out` or that of the part in
+//! front, and not answered; and a function that has such a place hands it on with the answer, since to drop it takes of the stack too.
 ghost use Rattle.std.specs.Prelude.{◌≡◌, None, IfOk};
 ghost use Rattle.std.specs.Option.{option_copied, option_map};
 ghost use Rattle.op_core.specs.Expression as tree;
 ghost use Rattle.op_tree.specs.Expression.{argument_of, arguments, call, designated, element_of, expr_of, index, literal, no_arguments, prefixed, root_of, selector_of};
 ghost use Rattle.op_tree.specs.Lists.{arguments_of, expressions_of, operations_of};
 ghost use Rattle.op_tree.specs.Statement.{designator_of, elements_of, selectors_of};
-ghost use Rattle.op_judgement.specs.Judgement.{Reports};
-ghost use Rattle.op_check_expr.specs.Constructors.{member_of};
-ghost use Rattle.op_check_expr.specs.Expressions.{argument, called, designator_of as designator_means, elements_at, formatted, given_to, member_in, operations, range_in, root_of as root_means, select, selected, set_in, sole, value_in};
+ghost use Rattle.op_judgement.specs.Judgement.{Reports, followed, refused, with_part};
+ghost use Rattle.op_judgement.specs.declared.rules.LanguageRule.TheVariants.{NotInProfile};
+ghost use Rattle.op_check_expr.specs.Calling.{given_of};
+ghost use Rattle.op_check_expr.specs.Constructors.{member_of, members_of};
+ghost use Rattle.op_check_expr.specs.Expressions.{argument, called, designator_of as designator_means, elements_at, formatted, given as given_means, given_to, member_in, members as members_mean, operations, range_in, root_of as root_means, select, selected, set_in, settled, sole, text_denoted as text_means, unused, value_in};
 ghost use Rattle.op_check_expr.specs.Naming.{denoted_of};
 ghost use Rattle.op_check_expr.specs.Scopes.{here_of};
 ghost use Rattle.op_check_expr.specs.Values.{value_of};
 
 use crate::apply::used;
-use crate::call::{Plan, first_of, given_behind, given_first, type_wanted};
-use crate::denoted::{Denoted, Found};
+use crate::call::{Given, Plan, add_given, first_of, given_first, type_wanted};
+use crate::denoted::Denoted;
 use crate::designator::{bracketed, position_of, position_of_denoted, still_at, text_denoted};
-use crate::operate::{Valued, operation_of, prefix_of};
+use crate::operate::{Done, operation_of, prefix_of};
 use crate::scope::Checker;
-use crate::set::{Member, ranged, set_of, with_member};
+use crate::set::{Member, Members, add_member, alone, ranged, set_of};
 use crate::value::Value;
-use op_base::{NoMemory, Place};
+use op_base::Place;
 use op_core::{CoreArgument, FirstRefusal, Parameter, TypeId};
 use op_judgement::{Feature, LanguageRule, refuse};
 use op_tree::{
@@ -32,233 +37,290 @@ use op_tree::{
 use op_types::{Applied, number_behind};
 
 impl<'a> Checker<'a> {
-    /// What an expression means. `wanted` is the type that its use fixes: a set constructor takes its type from that.
+    /// Puts there what an expression means. `wanted` is the type that its use fixes: a set constructor takes its type from that.
     #[cycle(walk)]
-    pub fn value_in(self, sink: &mut FirstRefusal, wanted: Option<TypeId>, e: &Expr) -> Valued
-        ensures { IfOk result (λ v. Reports (value_in (here_of self.entry.scope) wanted (expr_of e.now)) sink.old sink.new (option_map value_of v)) }
+    pub fn value_in(
+        &self,
+        sink: &mut FirstRefusal,
+        wanted: Option<TypeId>,
+        e: &Expr,
+        out: &mut Option<Value>,
+    ) -> Done
+        ensures { IfOk result (λ _. Reports (value_in (here_of self.now.scope) wanted (expr_of e.now)) sink.old sink.new (option_map value_of out.new)) }
     {
         match e {
             Expr::Chain { first, rest } => {
-                let a = self.value_in(sink, None, first)?;
-                self.operations(sink, position_of(first).place, a, rest)
+                self.value_in(sink, None, first, out)?;
+                self.operations(sink, position_of(first).place, rest, out)
             }
             Expr::Prefix {
                 operator,
                 position,
                 operand,
-            } => { self.prefixed(sink, *operator, *position, operand) }
+            } => { self.prefixed(sink, *operator, *position, operand, out) }
             Expr::Number { value, position } => {
-                self.number(sink, position.place, 1, *value as i64)
+                self.number(sink, position.place, 1, *value as i64, out);
+                Ok(())
             }
-            Expr::Nil { position } => Ok(refuse(
-                sink,
-                LanguageRule::NotInProfile(Feature::DynamicArrays),
-                position.place,
-            )),
-            Expr::Set { elements, .. } => self.set(sink, wanted, elements),
+            Expr::Nil { position } => {
+                left_out(sink, Feature::DynamicArrays, position.place, out);
+                Ok(())
+            }
+            Expr::Set { elements, .. } => self.set(sink, wanted, elements, out),
             Expr::Literal {
                 text,
                 position,
                 selectors,
-            } => { self.literal(sink, text.as_slice(), *position, selectors) }
-            Expr::Designator(called) => self.designated(sink, called),
-            Expr::Inherited { position, .. } => Ok(refuse(
-                sink,
-                LanguageRule::NotInProfile(Feature::Classes),
-                position.place,
-            )),
+            } => { self.literal(sink, text.as_slice(), *position, selectors, out) }
+            Expr::Designator(called) => self.designated(sink, called, out),
+            Expr::Inherited { position, .. } => {
+                left_out(sink, Feature::Classes, position.place, out);
+                Ok(())
+            }
         }
     }
 
     /// A designator as a value.
     #[cycle(walk)]
     #[inline(never)]
-    fn designated(self, sink: &mut FirstRefusal, called: &Designator) -> Valued
-        ensures { IfOk result (λ v. Reports (value_in (here_of self.entry.scope) None (designated (designator_of called.now))) sink.old sink.new (option_map value_of v)) }
+    fn designated(
+        &self,
+        sink: &mut FirstRefusal,
+        called: &Designator,
+        out: &mut Option<Value>,
+    ) -> Done
+        ensures { IfOk result (λ _. Reports (value_in (here_of self.now.scope) None (designated (designator_of called.now))) sink.old sink.new (option_map value_of out.new)) }
     {
-        let front = self.root(sink, &called.root)?;
-        let denoted = self.selected(sink, front, &called.selectors)?;
-        self.as_value(sink, denoted)
+        let mut denoted = None;
+        let done = self.designator(sink, called, &mut denoted);
+        self.as_value(sink, done, denoted, out)
     }
 
     /// A literal, and what is selected of it.
     #[cycle(walk)]
     #[inline(never)]
     fn literal(
-        self,
+        &self,
         sink: &mut FirstRefusal,
         text: &[u8],
         position: Position,
         selectors: &[Selector],
-    ) -> Valued
-        ensures { IfOk result (λ v. Reports (value_in (here_of self.entry.scope) None (literal text.now position (selectors_of selectors.now))) sink.old sink.new (option_map value_of v)) }
+        out: &mut Option<Value>,
+    ) -> Done
+        ensures { IfOk result (λ _. Reports (value_in (here_of self.now.scope) None (literal text.now position (selectors_of selectors.now))) sink.old sink.new (option_map value_of out.new)) }
     {
         match selectors.split_first() {
-            None => self.text_alone(text),
+            None => self.text_alone(text, out),
             Some(_) => {
-                let denoted = Some(text_denoted(self.alloc, position, text)?);
-                let denoted = self.selected(sink, denoted, selectors)?;
-                self.as_value(sink, denoted)
+                let mut denoted = None;
+                let done = self.text_selected(sink, text, position, selectors, &mut denoted);
+                self.as_value(sink, done, denoted, out)
             }
         }
     }
 
-    /// Operators and operands behind a first operand, in an expression that begins at `start`.
+    /// Puts there what is selected of a text.
+    #[cycle(walk)]
+    fn text_selected(
+        &self,
+        sink: &mut FirstRefusal,
+        text: &[u8],
+        position: Position,
+        selectors: &[Selector],
+        out: &mut Option<Denoted>,
+    ) -> Done
+        ensures { IfOk result (λ _. Reports (selected (here_of self.now.scope) (Some (text_means position text.now)) (selectors_of selectors.now)) sink.old sink.new (option_map denoted_of out.new)) }
+    {
+        text_denoted(self.alloc, position, text, out)?;
+        self.selected(sink, selectors, out)
+    }
+
+    /// Puts in the place of a first operand what operators and operands behind it make of it, in an expression that begins at `start`.
     #[cycle(walk)]
     #[inline(never)]
     fn operations(
-        self,
+        &self,
         sink: &mut FirstRefusal,
         start: Place,
-        first: Option<Value>,
         rest: &[Operation],
-    ) -> Valued
-        ensures { IfOk result (λ v. Reports (operations (here_of self.entry.scope) start (option_map value_of first) (operations_of rest.now)) sink.old sink.new (option_map value_of v)) }
+        a: &mut Option<Value>,
+    ) -> Done
+        ensures { IfOk result (λ _. Reports (operations (here_of self.now.scope) start (option_map value_of a.old) (operations_of rest.now)) sink.old sink.new (option_map value_of a.new)) }
     {
-        let mut a = first;
         for operation in rest {
-            let b = self.value_in(sink, None, &operation.operand)?;
+            let mut b = None;
+            let done = self.value_in(sink, None, &operation.operand, &mut b);
             let (operator, position) = (operation.operator, operation.position);
-            a = operation_of(self.setting(), sink, start, operator, position, a, b)?;
+            operation_of(self.setting(), sink, start, operator, position, a, done, b)?;
         }
-        Ok(a)
+        Ok(())
     }
 
     /// A sign or `not` before an operand.
     #[cycle(walk)]
     #[inline(never)]
     fn prefixed(
-        self,
+        &self,
         sink: &mut FirstRefusal,
         operator: PrefixOperator,
         position: Position,
         operand: &Expr,
-    ) -> Valued
-        ensures { IfOk result (λ v. Reports (value_in (here_of self.entry.scope) None (prefixed operator position (expr_of operand.now))) sink.old sink.new (option_map value_of v)) }
+        out: &mut Option<Value>,
+    ) -> Done
+        ensures { IfOk result (λ _. Reports (value_in (here_of self.now.scope) None (prefixed operator position (expr_of operand.now))) sink.old sink.new (option_map value_of out.new)) }
     {
         if let Some((n, at)) = number_behind(operator, operand) {
-            return self.number(sink, at, 2, -(n as i64));
+            self.number(sink, at, 2, -(n as i64), out);
+            return Ok(());
         }
-        match self.value_in(sink, None, operand)? {
-            Some(a) => prefix_of(self.setting(), sink, operator, position, a),
-            None => Ok(None),
-        }
+        self.value_in(sink, None, operand, out)?;
+        prefix_of(self.setting(), sink, operator, position, out)
     }
 
     #[cycle(walk)]
     #[inline(never)]
-    fn set(self, sink: &mut FirstRefusal, wanted: Option<TypeId>, elements: &[Element]) -> Valued
-        ensures { IfOk result (λ v. Reports (set_in (here_of self.entry.scope) wanted (elements_of elements.now)) sink.old sink.new (option_map value_of v)) }
+    fn set(
+        &self,
+        sink: &mut FirstRefusal,
+        wanted: Option<TypeId>,
+        elements: &[Element],
+        out: &mut Option<Value>,
+    ) -> Done
+        ensures { IfOk result (λ _. Reports (set_in (here_of self.now.scope) wanted (elements_of elements.now)) sink.old sink.new (option_map value_of out.new)) }
     {
         let mut members = Some(Vec::new(self.alloc));
+        let done = self.members_in(sink, elements, &mut members);
+        set_of(self.setting(), sink, wanted, done, members, out)
+    }
+
+    /// Puts elements behind those so far.
+    #[cycle(walk)]
+    #[inline(never)]
+    fn members_in(
+        &self,
+        sink: &mut FirstRefusal,
+        elements: &[Element],
+        members: &mut Members,
+    ) -> Done
+        ensures { IfOk result (λ _. Reports (members_mean (here_of self.now.scope) (option_map members_of members.old) (elements_of elements.now)) sink.old sink.new (option_map members_of members.new)) }
+    {
         for element in elements {
-            let member = self.member_in(sink, element)?;
-            members = with_member(members, member)?;
+            let mut member = None;
+            let done = self.member_in(sink, element, &mut member);
+            add_member(members, done, member)?;
         }
-        match members {
-            Some(members) => set_of(self.setting(), sink, wanted, members),
-            None => Ok(None),
-        }
+        Ok(())
     }
 
     #[cycle(walk)]
     #[inline(never)]
     fn member_in(
-        self,
+        &self,
         sink: &mut FirstRefusal,
         element: &Element,
-    ) -> Result<Option<Member>, NoMemory>
-        ensures { IfOk result (λ m. Reports (member_in (here_of self.entry.scope) (element_of element.now)) sink.old sink.new (option_map member_of m)) }
+        out: &mut Option<Member>,
+    ) -> Done
+        ensures { IfOk result (λ _. Reports (member_in (here_of self.now.scope) (element_of element.now)) sink.old sink.new (option_map member_of out.new)) }
     {
         match element {
-            Element::One(e) => match self.value_in(sink, None, e)? {
-                Some(v) => Ok(Some(Member::One(position_of(e).place, v))),
-                None => Ok(None),
-            },
-            Element::Range(_, _) => self.range_in(sink, element),
+            Element::One(e) => {
+                let mut v = None;
+                let done = self.value_in(sink, None, e, &mut v);
+                alone(position_of(e).place, done, v, out)
+            }
+            Element::Range(_, _) => self.range_in(sink, element, out),
         }
     }
 
     /// The elements from one to another; none of one alone.
     #[cycle(walk)]
     #[inline(never)]
-    fn range_in(
-        self,
-        sink: &mut FirstRefusal,
-        element: &Element,
-    ) -> Result<Option<Member>, NoMemory>
-        ensures { IfOk result (λ m. Reports (range_in (here_of self.entry.scope) (element_of element.now)) sink.old sink.new (option_map member_of m)) }
+    fn range_in(&self, sink: &mut FirstRefusal, element: &Element, out: &mut Option<Member>) -> Done
+        ensures { IfOk result (λ _. Reports (range_in (here_of self.now.scope) (element_of element.now)) sink.old sink.new (option_map member_of out.new)) }
     {
         match element {
-            Element::One(_) => Ok(None),
+            Element::One(_) => {
+                clear(out);
+                Ok(())
+            }
             Element::Range(e, f) => {
-                let a = self.value_in(sink, None, e)?;
-                let b = self.value_in(sink, None, f)?;
-                Ok(ranged(position_of(e).place, position_of(f).place, a, b))
+                let (mut a, mut b) = (None, None);
+                let first = self.value_in(sink, None, e, &mut a);
+                let last = self.value_in(sink, None, f, &mut b);
+                let places = (position_of(e).place, position_of(f).place);
+                ranged(places, (first, last), a, b, out)
             }
         }
     }
 
-    pub fn designator(self, sink: &mut FirstRefusal, called: &Designator) -> Found
-        ensures { IfOk result (λ d. Reports (designator_means (here_of self.entry.scope) (designator_of called.now)) sink.old sink.new (option_map denoted_of d)) }
+    /// Puts there what a designator stands for.
+    #[cycle(walk)]
+    pub fn designator(
+        &self,
+        sink: &mut FirstRefusal,
+        called: &Designator,
+        out: &mut Option<Denoted>,
+    ) -> Done
+        ensures { IfOk result (λ _. Reports (designator_means (here_of self.now.scope) (designator_of called.now)) sink.old sink.new (option_map denoted_of out.new)) }
     {
-        let denoted = self.root(sink, &called.root)?;
-        self.selected(sink, denoted, &called.selectors)
+        self.root(sink, &called.root, out)?;
+        self.selected(sink, &called.selectors, out)
     }
 
     #[cycle(walk)]
-    pub fn root(self, sink: &mut FirstRefusal, root: &Root) -> Found
-        ensures { IfOk result (λ d. Reports (root_means (here_of self.entry.scope) (root_of root.now)) sink.old sink.new (option_map denoted_of d)) }
+    #[inline(never)]
+    pub fn root(&self, sink: &mut FirstRefusal, root: &Root, out: &mut Option<Denoted>) -> Done
+        ensures { IfOk result (λ _. Reports (root_means (here_of self.now.scope) (root_of root.now)) sink.old sink.new (option_map denoted_of out.new)) }
     {
         match root {
             Root::Named(name) => {
                 let text = name.text.as_slice();
-                self.name_denoted(sink, text, text, name.position)
+                self.name_denoted(sink, text, text, name.position, out)
             }
-            Root::String { position } => Ok(refuse(
-                sink,
-                LanguageRule::NotInProfile(Feature::Strings),
-                position.place,
-            )),
+            Root::String { position } => {
+                left_out(sink, Feature::Strings, position.place, out);
+                Ok(())
+            }
             Root::Bracketed { position, inside } => {
-                let v = self.value_in(sink, None, inside)?;
-                bracketed(*position, v)
+                let mut v = None;
+                let done = self.value_in(sink, None, inside, &mut v);
+                bracketed(*position, done, v, out)
             }
         }
     }
 
-    /// What is selected, from the left.
+    /// Puts in the place of what stands in front what is selected of it, from the left.
     #[cycle(walk)]
+    #[inline(never)]
     pub fn selected(
-        self,
+        &self,
         sink: &mut FirstRefusal,
-        denoted: Option<Denoted>,
         selectors: &[Selector],
-    ) -> Found
-        ensures { IfOk result (λ d. Reports (selected (here_of self.entry.scope) (option_map denoted_of denoted) (selectors_of selectors.now)) sink.old sink.new (option_map denoted_of d)) }
+        denoted: &mut Option<Denoted>,
+    ) -> Done
+        ensures { IfOk result (λ _. Reports (selected (here_of self.now.scope) (option_map denoted_of denoted.old) (selectors_of selectors.now)) sink.old sink.new (option_map denoted_of denoted.new)) }
     {
-        let mut denoted = denoted;
         for selector in selectors {
-            denoted = self.select(sink, denoted, selector)?;
+            self.select(sink, selector, denoted)?;
         }
-        Ok(denoted)
+        Ok(())
     }
 
     #[cycle(walk)]
-    pub fn select(
-        self,
+    fn select(
+        &self,
         sink: &mut FirstRefusal,
-        denoted: Option<Denoted>,
         selector: &Selector,
-    ) -> Found
-        ensures { IfOk result (λ d. Reports (select (here_of self.entry.scope) (option_map denoted_of denoted) (selector_of selector.now)) sink.old sink.new (option_map denoted_of d)) }
+        denoted: &mut Option<Denoted>,
+    ) -> Done
+        ensures { IfOk result (λ _. Reports (select (here_of self.now.scope) (option_map denoted_of denoted.old) (selector_of selector.now)) sink.old sink.new (option_map denoted_of denoted.new)) }
     {
         match selector {
             Selector::Member(name) => self.member_of(sink, name, denoted),
             Selector::Index { position, indices } => {
-                self.element_of(sink, *position, denoted, indices)
+                self.element_of(sink, *position, indices, denoted)
             }
-            Selector::Call { arguments } => self.call(sink, denoted, arguments),
+            Selector::Call { arguments } => self.call(sink, arguments, denoted),
         }
     }
 
@@ -266,131 +328,201 @@ impl<'a> Checker<'a> {
     #[cycle(walk)]
     #[inline(never)]
     fn element_of(
-        self,
+        &self,
         sink: &mut FirstRefusal,
         position: Position,
-        denoted: Option<Denoted>,
         indices: &[Expr],
-    ) -> Found
-        ensures { IfOk result (λ d. Reports (select (here_of self.entry.scope) (option_map denoted_of denoted) (index position (expressions_of indices.now))) sink.old sink.new (option_map denoted_of d)) }
+        denoted: &mut Option<Denoted>,
+    ) -> Done
+        ensures { IfOk result (λ _. Reports (select (here_of self.now.scope) (option_map denoted_of denoted.old) (index position (expressions_of indices.now))) sink.old sink.new (option_map denoted_of denoted.new)) }
     {
-        let at = position_of_denoted(&denoted);
-        let a = self.as_value(sink, denoted)?;
-        let v = self.elements_at(sink, position.place, a, indices)?;
-        Ok(still_at(at, v))
+        let at = position_of_denoted(denoted);
+        let mut a = None;
+        let done = self.elements_behind(sink, position.place, indices, denoted, &mut a);
+        still_at(at, done, a, denoted)
+    }
+
+    /// Puts there an element of what stands in front, index by index, behind a bracket at a place.
+    #[cycle(walk)]
+    fn elements_behind(
+        &self,
+        sink: &mut FirstRefusal,
+        bracket: Place,
+        indices: &[Expr],
+        denoted: &mut Option<Denoted>,
+        out: &mut Option<Value>,
+    ) -> Done
+        ensures { IfOk result (λ _. Reports (followed (with_part (settled (here_of self.now.scope)) (option_map denoted_of denoted.old)) (λ a. elements_at (here_of self.now.scope) bracket a (expressions_of indices.now))) sink.old sink.new (option_map value_of out.new)) }
+    {
+        self.as_value(sink, Ok(()), denoted.take(), out)?;
+        self.elements_at(sink, bracket, indices, out)
     }
 
     /// A call of what stands in front.
     #[cycle(walk)]
     #[inline(never)]
-    fn call(self, sink: &mut FirstRefusal, denoted: Option<Denoted>, list: &[Argument]) -> Found
-        ensures { IfOk result (λ d. Reports (select (here_of self.entry.scope) (option_map denoted_of denoted) (call (arguments_of list.now))) sink.old sink.new (option_map denoted_of d)) }
+    fn call(
+        &self,
+        sink: &mut FirstRefusal,
+        list: &[Argument],
+        denoted: &mut Option<Denoted>,
+    ) -> Done
+        ensures { IfOk result (λ _. Reports (select (here_of self.now.scope) (option_map denoted_of denoted.old) (call (arguments_of list.now))) sink.old sink.new (option_map denoted_of denoted.new)) }
     {
-        let at = position_of_denoted(&denoted);
-        let plan = self.plan_behind(sink, denoted, list)?;
-        let v = self.called(sink, plan, list)?;
-        Ok(still_at(at, v))
+        let at = position_of_denoted(denoted);
+        let plan = self.plan_of(sink, false, denoted, list)?;
+        let mut value = None;
+        let done = self.called(sink, plan, list, &mut value);
+        still_at(at, done, value, denoted)
     }
 
-    /// An element, index by index, behind a bracket at a place.
+    /// Puts in the place of a value its element, index by index, behind a bracket at a place.
     #[cycle(walk)]
+    #[inline(never)]
     fn elements_at(
-        self,
+        &self,
         sink: &mut FirstRefusal,
         bracket: Place,
-        first: Option<Value>,
         indices: &[Expr],
-    ) -> Valued
-        ensures { IfOk result (λ v. Reports (elements_at (here_of self.entry.scope) bracket (option_map value_of first) (expressions_of indices.now)) sink.old sink.new (option_map value_of v)) }
+        a: &mut Option<Value>,
+    ) -> Done
+        ensures { IfOk result (λ _. Reports (elements_at (here_of self.now.scope) bracket (option_map value_of a.old) (expressions_of indices.now)) sink.old sink.new (option_map value_of a.new)) }
     {
-        let mut a = first;
         for e in indices {
-            let v = self.value_in(sink, None, e)?;
-            a = self.indexed(sink, bracket, position_of(e).place, a, v)?;
+            let mut v = None;
+            let done = self.value_in(sink, None, e, &mut v);
+            self.indexed(sink, bracket, position_of(e).place, a, done, v)?;
         }
-        Ok(a)
+        Ok(())
     }
 
     #[cycle(walk)]
-    pub fn called(self, sink: &mut FirstRefusal, plan: Option<Plan>, list: &[Argument]) -> Valued
-        ensures { IfOk result (λ v. Reports (called (here_of self.entry.scope) plan (arguments_of list.now)) sink.old sink.new (option_map value_of v)) }
+    #[inline(never)]
+    pub fn called(
+        &self,
+        sink: &mut FirstRefusal,
+        plan: Option<Plan>,
+        list: &[Argument],
+        out: &mut Option<Value>,
+    ) -> Done
+        ensures { IfOk result (λ _. Reports (called (here_of self.now.scope) plan (arguments_of list.now)) sink.old sink.new (option_map value_of out.new)) }
     {
         let Some(what) = plan else {
-            return self.given_to(sink, None, list);
+            return self.given_to(sink, None, list, out);
         };
         match what {
-            Plan::Bound(function, of, at) => self.bound_value(sink, function, of, at),
+            Plan::Bound(function, of, at) => {
+                self.bound_value(sink, function, of, at, out);
+                Ok(())
+            }
             Plan::Sole(applied, position) => match list.split_first() {
-                None => Ok(None),
+                None => {
+                    clear(out);
+                    Ok(())
+                }
                 Some((first, others)) => match others.split_first() {
-                    None => self.sole(sink, applied, position, first),
-                    Some(_) => Ok(None),
+                    None => self.sole(sink, applied, position, first, out),
+                    Some(_) => {
+                        clear(out);
+                        Ok(())
+                    }
                 },
             },
-            Plan::Routine(id) => self.given_to(sink, Some(Plan::Routine(id)), list),
+            Plan::Routine(id) => self.given_to(sink, Some(Plan::Routine(id)), list, out),
         }
     }
 
     /// Arguments for the parameters of a routine; for none where nothing is called.
     #[cycle(walk)]
-    fn given_to(self, sink: &mut FirstRefusal, plan: Option<Plan>, list: &[Argument]) -> Valued
-        ensures { IfOk result (λ v. Reports (given_to (here_of self.entry.scope) plan (arguments_of list.now)) sink.old sink.new (option_map value_of v)) }
+    #[inline(never)]
+    fn given_to(
+        &self,
+        sink: &mut FirstRefusal,
+        plan: Option<Plan>,
+        list: &[Argument],
+        out: &mut Option<Value>,
+    ) -> Done
+        ensures { IfOk result (λ _. Reports (given_to (here_of self.now.scope) plan (arguments_of list.now)) sink.old sink.new (option_map value_of out.new)) }
     {
         let mut given = given_first(self.alloc, plan);
-        let mut rest = self.parameters_for(plan);
+        let done = self.given_in(sink, self.parameters_for(plan), list, &mut given);
+        self.call_of(plan, done, given, out)
+    }
+
+    /// Puts arguments for these parameters behind those so far.
+    #[cycle(walk)]
+    #[inline(never)]
+    fn given_in(
+        &self,
+        sink: &mut FirstRefusal,
+        parameters: &[Parameter],
+        list: &[Argument],
+        given: &mut Given,
+    ) -> Done
+        ensures { IfOk result (λ _. Reports (given_means (here_of self.now.scope) parameters.now (option_map given_of given.old) (arguments_of list.now)) sink.old sink.new (option_map given_of given.new)) }
+    {
+        let mut rest = parameters;
         for argument in list {
             let (parameter, others) = first_of(rest);
-            let more = self.argument(sink, parameter, argument)?;
-            given = given_behind(given, more)?;
+            let mut more = None;
+            let done = self.argument(sink, parameter, argument, &mut more);
+            add_given(given, done, more)?;
             rest = others;
         }
-        Ok(self.call_of(plan, given))
+        Ok(())
     }
 
     /// A cast or a function at a position, of the one argument.
     #[cycle(walk)]
     #[inline(never)]
     fn sole(
-        self,
+        &self,
         sink: &mut FirstRefusal,
         what: Applied,
         position: Position,
         first: &Argument,
-    ) -> Valued
-        ensures { IfOk result (λ v. Reports (sole (here_of self.entry.scope) what position (arguments (argument_of first.now) no_arguments)) sink.old sink.new (option_map value_of v)) }
+        out: &mut Option<Value>,
+    ) -> Done
+        ensures { IfOk result (λ _. Reports (sole (here_of self.now.scope) what position (arguments (argument_of first.now) no_arguments)) sink.old sink.new (option_map value_of out.new)) }
     {
         match first {
-            Argument::Value(e) => match self.value_in(sink, None, e)? {
-                Some(v) => used(
+            Argument::Value(e) => {
+                self.value_in(sink, None, e, out)?;
+                used(
                     self.setting(),
                     sink,
                     position,
                     what,
                     position_of(e).place,
-                    v,
-                ),
-                None => Ok(None),
-            },
-            _ => Ok(None),
+                    out,
+                )
+            }
+            _ => {
+                clear(out);
+                Ok(())
+            }
         }
     }
 
     #[cycle(walk)]
+    #[inline(never)]
     fn argument(
-        self,
+        &self,
         sink: &mut FirstRefusal,
         parameter: Option<&Parameter>,
         part: &Argument,
-    ) -> Result<Option<CoreArgument>, NoMemory>
-        ensures { IfOk result (λ a. Reports (argument (here_of self.entry.scope) (option_copied parameter.entry) (argument_of part.now)) sink.old sink.new (option_map tree.argument_of a)) }
+        out: &mut Option<CoreArgument>,
+    ) -> Done
+        ensures { IfOk result (λ _. Reports (argument (here_of self.now.scope) (option_copied parameter.entry) (argument_of part.now)) sink.old sink.new (option_map tree.argument_of out.new)) }
     {
         match part {
             Argument::Value(e) => {
-                let v = self.value_in(sink, type_wanted(parameter), e)?;
-                self.passed(sink, parameter, position_of(e), v)
+                let mut v = None;
+                let done = self.value_in(sink, type_wanted(parameter), e, &mut v);
+                self.passed(sink, parameter, position_of(e), done, v, out)
             }
-            Argument::Padded(_, _) => self.formatted(sink, part),
-            Argument::Rounded(_, _, _) => self.formatted(sink, part),
+            Argument::Padded(_, _) => self.formatted(sink, part, out),
+            Argument::Rounded(_, _, _) => self.formatted(sink, part, out),
         }
     }
 
@@ -398,24 +530,60 @@ impl<'a> Checker<'a> {
     #[cycle(walk)]
     #[inline(never)]
     fn formatted(
-        self,
+        &self,
         sink: &mut FirstRefusal,
         part: &Argument,
-    ) -> Result<Option<CoreArgument>, NoMemory>
-        ensures { IfOk result (λ a. Reports (formatted (here_of self.entry.scope) (argument_of part.now)) sink.old sink.new (option_map tree.argument_of a)) }
+        out: &mut Option<CoreArgument>,
+    ) -> Done
+        ensures { IfOk result (λ _. Reports (formatted (here_of self.now.scope) (argument_of part.now)) sink.old sink.new (option_map tree.argument_of out.new)) }
     {
         match part {
             Argument::Value(_) => {}
             Argument::Padded(e, width) => {
-                self.value_in(sink, None, e)?;
-                self.value_in(sink, None, width)?;
+                self.unused(sink, e)?;
+                self.unused(sink, width)?;
             }
             Argument::Rounded(e, width, digits) => {
-                self.value_in(sink, None, e)?;
-                self.value_in(sink, None, width)?;
-                self.value_in(sink, None, digits)?;
+                self.unused(sink, e)?;
+                self.unused(sink, width)?;
+                self.unused(sink, digits)?;
             }
         }
-        Ok(None)
+        clear(out);
+        Ok(())
     }
+
+    /// An expression whose value nothing takes.
+    #[cycle(walk)]
+    #[inline(never)]
+    fn unused(&self, sink: &mut FirstRefusal, e: &Expr) -> Done
+        ensures { IfOk result (λ _. Reports (unused (here_of self.now.scope) (expr_of e.now)) sink.old sink.new None) }
+    {
+        let mut v = None;
+        let done = self.value_in(sink, None, e, &mut v);
+        leave(v);
+        done
+    }
+}
+
+/// Leaves a value to itself.
+#[inline(never)]
+fn leave(value: Option<Value>) {
+    let _ = value;
+}
+
+/// Leaves nothing there.
+#[inline(never)]
+fn clear<T: Drop>(out: &mut Option<T>)
+    ensures { out.new ≡ None }
+{
+    *out = None;
+}
+
+/// A part that is left out.
+#[inline(never)]
+fn left_out<T: Drop>(sink: &mut FirstRefusal, feature: Feature, place: Place, out: &mut Option<T>)
+    ensures { Reports (refused (NotInProfile feature) place) sink.old sink.new out.new }
+{
+    *out = refuse(sink, LanguageRule::NotInProfile(feature), place);
 }

@@ -5,6 +5,7 @@ use Rattle.std.specs.Prelude.{Vec}
 use Rattle.std.specs.declared.alloc.Global.{Global}
 use Rattle.op_base.specs.declared.memory_error.NoMemory.{NoMemory}
 use Rattle.op_base.specs.declared.place.Place.{Place}
+use Rattle.op_check_expr.specs.Parts.{OfOk}
 use Rattle.op_check_stmt.specs.Labels.{once, repeated}
 use Rattle.op_check_stmt.specs.declared.case.Spot.{Spot}
 use Rattle.op_check_stmt.specs.Parts.{items_of, three_typed, with_last}
@@ -50,24 +51,11 @@ then a f old mid new x t h k =
     let l : Reports (f a.typed) mid new t = subst (λ x. Reports (f x) mid new t) h.0 k in
     (l.0, l.1 ∙ ap (λ s. kept s (f a.typed).faults) h.1)
 
--- ---- where what is made wants memory
-
--- a part stays what it is
-pub kept_ok : {A X E : Type 0} (v : X → A) (a : Checked A) (old new : FirstRefusal) (x : Option A) (r : Result (Option X) E) → Reports a old new x → IfOk r (λ t. option_map v t ≡ x) → IfOk r (λ t. Reports a old new (option_map v t))
-kept_ok v a old new x (Ok t) h e = (e ∙ h.0, h.1)
-kept_ok v a old new x (Err n) h e = e
-
-pub two_ok : {A B C X E : Type 0} (v : X → C) (f : A → B → C) (a : Checked A) (b : Checked B) (old mid new : FirstRefusal) (x : Option A) (y : Option B) (r : Result (Option X) E) → Reports a old mid x → Reports b mid new y → IfOk r (λ t. option_map v t ≡ both_typed f x y) → IfOk r (λ t. Reports (of_two f a b) old new (option_map v t))
-two_ok v f a b old mid new x y (Ok t) h k e = two f a b old mid new x y (option_map v t) h k e
-two_ok v f a b old mid new x y (Err n) h k e = e
-
-pub three_ok : {A B C D X E : Type 0} (v : X → D) (f : A → B → C → D) (a : Checked A) (b : Checked B) (c : Checked C) (old mid far new : FirstRefusal) (x : Option A) (y : Option B) (z : Option C) (r : Result (Option X) E) → Reports a old mid x → Reports b mid far y → Reports c far new z → IfOk r (λ t. option_map v t ≡ three_typed f x y z) → IfOk r (λ t. Reports (of_two (λ (p : A × B) c. f p.0 p.1 c) (paired a b) c) old new (option_map v t))
-three_ok v f a b c old mid far new x y z (Ok t) h k l e = three f a b c old mid far new x y z (option_map v t) h k l e
-three_ok v f a b c old mid far new x y z (Err n) h k l e = e
-
-pub then_ok : {A B X E : Type 0} (a : Checked A) (f : Option A → Checked B) (old mid new : FirstRefusal) (x : Option A) (v : X → B) (r : Result (Option X) E) → Reports a old mid x → IfOk r (λ t. Reports (f x) mid new (option_map v t)) → IfOk r (λ t. Reports (followed a f) old new (option_map v t))
-then_ok a f old mid new x v (Ok t) h k = then a f old mid new x (option_map v t) h k
-then_ok a f old mid new x v (Err n) h k = k
+-- what is made of the value of an answer
+pub behind_answer : {A V E R : Type 0} {P Q : A → Type 0} (answer : Result A E) (r : Result V E) → IfOk answer P → IfOk r (λ _. OfOk answer Q) → ((a : A) → P a → Q a → R) → IfOk r (λ _. R)
+behind_answer (Ok a) (Ok v) h g k = k a h g
+behind_answer (Err e) (Ok v) h g k = absurd g
+behind_answer answer (Err e) h g k = g
 
 -- ---- lists
 
@@ -133,6 +121,5 @@ once_viewed : {A B : Type 0} (v : A → B) (a t : Option A) (place : Option Plac
 once_viewed v a t None old new h = (ap (option_map v) h.0, h.1)
 once_viewed v a t (Some place) old new h = (ap (option_map v) h.0, h.1)
 
-pub distinct_viewed : {A B E : Type 0} (v : A → B) (a : Option A) (ss : List Spot) (c : Checked B) (old mid new : FirstRefusal) (r : Result (Option A) E) → Reports c old mid (option_map v a) → IfOk r (λ t. Reports (once a (repeated ss)) mid new t) → IfOk r (λ t. Reports (followed c (λ b. once b (repeated ss))) old new (option_map v t))
-distinct_viewed v a ss c old mid new (Ok t) h k = then c (λ b. once b (repeated ss)) old mid new (option_map v a) (option_map v t) h (once_viewed v a t (repeated ss) mid new k)
-distinct_viewed v a ss c old mid new (Err n) h k = k
+pub distinct_viewed : {A B : Type 0} (v : A → B) (a t : Option A) (ss : List Spot) (c : Checked B) (old mid new : FirstRefusal) → Reports c old mid (option_map v a) → Reports (once a (repeated ss)) mid new t → Reports (followed c (λ b. once b (repeated ss))) old new (option_map v t)
+distinct_viewed v a t ss c old mid new h k = then c (λ b. once b (repeated ss)) old mid new (option_map v a) (option_map v t) h (once_viewed v a t (repeated ss) mid new k)

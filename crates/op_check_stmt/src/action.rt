@@ -54,7 +54,7 @@ fn items(
     let mut typed = Some(Vec::new(here.alloc));
     for argument in arguments {
         let part = item(here, sink, argument)?;
-        collect(&mut typed, part)?;
+        collect(&mut typed, Ok(()), part)?;
     }
     Ok(fitted(typed))
 }

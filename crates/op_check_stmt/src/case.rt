@@ -15,7 +15,7 @@ use crate::repeated::repeated;
 use crate::unplaced::place_of_body;
 use crate::variable::host_of;
 use op_base::{NoMemory, Place};
-use op_check_expr::{Checker, Value, as_type};
+use op_check_expr::{Checker, Done, Value, as_type};
 use op_core::{Const, Core, CoreExpr, FirstRefusal, Label, TypeId};
 use op_judgement::{Feature, LanguageRule, refuse};
 use op_tree::{Element, Expr};
@@ -38,17 +38,19 @@ pub struct Spot {
 
 /// What selects a branch, as a value of its type's host: rule 23 where it is not ordinal. Cases of strings are left out.
 #[inline(never)]
-pub fn selector(
-    here: Checker,
+pub fn check_selector(
+    here: &Checker,
     sink: &mut FirstRefusal,
     e: &Expr,
-) -> Result<Option<CoreExpr>, NoMemory>
-    ensures { IfOk result (λ s. Reports (selector (here_of here.entry.scope) (expr_of e.now)) sink.old sink.new (option_map typed_of s)) }
+    out: &mut Option<CoreExpr>,
+) -> Done
+    ensures { IfOk result (λ _. Reports (selector (here_of here.now.scope) (expr_of e.now)) sink.old sink.new (option_map typed_of out.new)) }
 {
-    match here.value(sink, None, e)? {
-        None => Ok(None),
-        Some(value) => selected(here.alloc, here.scope.core, sink, start_of(e), value),
-    }
+    *out = match here.value(sink, None, e)? {
+        None => None,
+        Some(value) => selected(here.alloc, here.scope.core, sink, start_of(e), value)?,
+    };
+    Ok(())
 }
 
 fn selected(
@@ -106,7 +108,7 @@ fn labels(
     for element in elements {
         let spot = label(here, sink, of, element)?;
         note(others, spot)?;
-        collect(&mut typed, label_of(spot))?;
+        collect(&mut typed, Ok(()), label_of(spot))?;
     }
     Ok(typed)
 }

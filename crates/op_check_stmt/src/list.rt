@@ -1,15 +1,26 @@
 //! Typed parts that are put together.
-ghost use Rattle.std.specs.Prelude.{◌≡◌, IfOk};
+ghost use Rattle.std.specs.Prelude.{◌≡◌, IfOk, Some, []};
 ghost use Rattle.std.specs.Option.{option_map};
+ghost use Rattle.op_check_expr.specs.Parts.{Behind};
 ghost use Rattle.op_check_stmt.specs.Parts.{items_of, with_last};
 
-use op_base::NoMemory;
+use op_check_expr::Done;
+use std::alloc::Global;
 
-/// Puts a part behind those of a list. A list with a part that is not typed is none.
+/// Puts an empty list there.
 #[inline(never)]
-pub fn collect<T: Drop>(list: &mut Option<Vec<T>>, part: Option<T>) -> Result<(), NoMemory>
-    ensures { IfOk result (λ _. items_of list.new ≡ with_last (items_of list.old) part) }
+pub fn begin<T: Drop>(alloc: Global, list: &mut Option<Vec<T>>)
+    ensures { items_of list.new ≡ Some [] }
 {
+    *list = Some(Vec::new(alloc));
+}
+
+/// Puts a part, with the answer that it stands behind, behind those of a list. A list with a part that is not typed is none.
+#[inline(never)]
+pub fn collect<T: Drop>(list: &mut Option<Vec<T>>, done: Done, part: Option<T>) -> Done
+    ensures { IfOk result (λ _. Behind done (items_of list.new ≡ with_last (items_of list.old) part)) }
+{
+    done?;
     match (list.take(), part) {
         (Some(parts), Some(part)) => {
             let mut parts = parts;
@@ -19,6 +30,14 @@ pub fn collect<T: Drop>(list: &mut Option<Vec<T>>, part: Option<T>) -> Result<()
         }
         _ => Ok(()),
     }
+}
+
+/// Puts a list into a block of its own size, where there is room for one.
+#[inline(never)]
+pub fn fit<T: Drop>(list: &mut Option<Vec<T>>)
+    ensures { items_of list.new ≡ items_of list.old }
+{
+    *list = fitted(list.take());
 }
 
 /// The list in a block of its own size, where there is room for one.

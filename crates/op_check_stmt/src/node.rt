@@ -1,29 +1,43 @@
 //! Typed statements, made of parts that may have no type.
 ghost use Rattle.std.specs.Prelude.{◌≡◌, IfOk, Some};
 ghost use Rattle.std.specs.Option.{option_map};
+ghost use Rattle.op_check_expr.specs.Parts.{Behind, OfOk};
 ghost use Rattle.op_check_stmt.specs.Parts.{bounds_of, boxed_of, branch_of, front_of, head_of, items_of, statements_in, three_typed};
 ghost use Rattle.op_check_stmt.specs.Statement.{case_statement, for_statement};
 ghost use Rattle.op_core.specs.Expression.{Expression, expr_of};
 ghost use Rattle.op_core.specs.Nodes.{branches_of};
-ghost use Rattle.op_core.specs.Statement.{Statement, assign, block, case_of, for_to, if_else, if_then, repeat_until, stmt_of, stmts_of, try_finally, while_do};
+ghost use Rattle.op_core.specs.Statement.{Statement, assign, block, case_of, empty, for_to, if_else, if_then, repeat_until, stmt_of, stmts_of, try_finally, while_do};
 ghost use Rattle.op_judgement.specs.Judgement.{both_typed};
 
 use crate::variable::Counter;
 use op_base::{NoMemory, Sequence};
+use op_check_expr::Done;
 use op_core::{CoreBranch, CoreExpr, CoreStmt, Label, VariableId};
 use op_tree::Direction;
 use std::alloc::Global;
 
+// A node is put in a place of the caller; its parts come with the answers that they stand behind.
+
 /// A typed statement; None where a rule is broken in it.
 pub type Typed = Result<Option<CoreStmt>, NoMemory>;
 
-pub fn block(statements: Option<Vec<CoreStmt>>) -> Option<CoreStmt>
-    ensures { option_map stmt_of result ≡ option_map block (statements_in statements) }
+#[inline(never)]
+pub fn empty(out: &mut Option<CoreStmt>)
+    ensures { option_map stmt_of out.new ≡ Some empty }
 {
-    match statements {
+    *out = Some(CoreStmt::Empty);
+}
+
+#[inline(never)]
+pub fn block(done: Done, statements: Option<Vec<CoreStmt>>, out: &mut Option<CoreStmt>) -> Done
+    ensures { IfOk result (λ _. Behind done (option_map stmt_of out.new ≡ option_map block (statements_in statements))) }
+{
+    done?;
+    *out = match statements {
         None => None,
         Some(statements) => Some(block_of(statements)),
-    }
+    };
+    Ok(())
 }
 
 /// Both parts, where both are typed.
@@ -37,11 +51,31 @@ pub fn pair<A: Drop, B: Drop>(a: Option<A>, b: Option<B>) -> Option<(A, B)>
     Some((a, b))
 }
 
+/// What stands in front of an `else`.
+#[inline(never)]
+pub fn front(
+    done: Done,
+    condition: Option<CoreExpr>,
+    then: Result<Option<Box<CoreStmt>>, NoMemory>,
+    out: &mut Option<(CoreExpr, Box<CoreStmt>)>,
+) -> Done
+    ensures { IfOk result (λ _. Behind done (OfOk then (λ then. out.new ≡ both_typed (λ a b. (a, b)) condition then))) }
+{
+    done?;
+    *out = pair(condition, then?);
+    Ok(())
+}
+
 /// A part in memory of its own.
 #[inline(never)]
-pub fn boxed(alloc: Global, statement: Option<CoreStmt>) -> Result<Option<Box<CoreStmt>>, NoMemory>
-    ensures { IfOk result (λ s. option_map boxed_of s ≡ option_map stmt_of statement) }
+pub fn boxed(
+    alloc: Global,
+    done: Done,
+    statement: Option<CoreStmt>,
+) -> Result<Option<Box<CoreStmt>>, NoMemory>
+    ensures { IfOk result (λ s. Behind done (option_map boxed_of s ≡ option_map stmt_of statement)) }
 {
+    done?;
     match statement {
         None => Ok(None),
         Some(statement) => Ok(Some(Box::new(alloc, statement)?)),
@@ -49,44 +83,79 @@ pub fn boxed(alloc: Global, statement: Option<CoreStmt>) -> Result<Option<Box<Co
 }
 
 #[inline(never)]
-pub fn if_then(condition: Option<CoreExpr>, then: Option<Box<CoreStmt>>) -> Option<CoreStmt>
-    ensures { option_map stmt_of result ≡ both_typed if_then (option_map expr_of condition) (option_map boxed_of then) }
+pub fn if_then(
+    done: Done,
+    condition: Option<CoreExpr>,
+    then: Result<Option<Box<CoreStmt>>, NoMemory>,
+    out: &mut Option<CoreStmt>,
+) -> Done
+    ensures { IfOk result (λ _. Behind done (OfOk then (λ then. option_map stmt_of out.new ≡ both_typed if_then (option_map expr_of condition) (option_map boxed_of then)))) }
 {
-    let (Some(condition), Some(then)) = (condition, then) else {
-        return None;
+    done?;
+    let (Some(condition), Some(then)) = (condition, then?) else {
+        *out = None;
+        return Ok(());
     };
-    Some(CoreStmt::If { condition, then })
+    *out = Some(CoreStmt::If { condition, then });
+    Ok(())
 }
 
 #[inline(never)]
 pub fn if_else(
+    done: Done,
     front: Option<(CoreExpr, Box<CoreStmt>)>,
-    otherwise: Option<Box<CoreStmt>>,
-) -> Option<CoreStmt>
-    ensures { option_map stmt_of result ≡ both_typed (λ (f : Expression × Statement) s. if_else f.0 f.1 s) (option_map front_of front) (option_map boxed_of otherwise) }
+    otherwise: Result<Option<Box<CoreStmt>>, NoMemory>,
+    out: &mut Option<CoreStmt>,
+) -> Done
+    ensures { IfOk result (λ _. Behind done (OfOk otherwise (λ otherwise. option_map stmt_of out.new ≡ both_typed (λ (f : Expression × Statement) s. if_else f.0 f.1 s) (option_map front_of front) (option_map boxed_of otherwise)))) }
 {
-    let (Some((condition, then)), Some(otherwise)) = (front, otherwise) else {
-        return None;
+    done?;
+    let (Some((condition, then)), Some(otherwise)) = (front, otherwise?) else {
+        *out = None;
+        return Ok(());
     };
-    Some(CoreStmt::IfElse {
+    *out = Some(CoreStmt::IfElse {
         condition,
         then,
         otherwise,
-    })
+    });
+    Ok(())
 }
 
 #[inline(never)]
-pub fn while_do(condition: Option<CoreExpr>, body: Option<Box<CoreStmt>>) -> Option<CoreStmt>
-    ensures { option_map stmt_of result ≡ both_typed while_do (option_map expr_of condition) (option_map boxed_of body) }
+pub fn while_do(
+    done: Done,
+    condition: Option<CoreExpr>,
+    body: Result<Option<Box<CoreStmt>>, NoMemory>,
+    out: &mut Option<CoreStmt>,
+) -> Done
+    ensures { IfOk result (λ _. Behind done (OfOk body (λ body. option_map stmt_of out.new ≡ both_typed while_do (option_map expr_of condition) (option_map boxed_of body)))) }
 {
-    let (Some(condition), Some(body)) = (condition, body) else {
-        return None;
+    done?;
+    let (Some(condition), Some(body)) = (condition, body?) else {
+        *out = None;
+        return Ok(());
     };
-    Some(CoreStmt::While { condition, body })
+    *out = Some(CoreStmt::While { condition, body });
+    Ok(())
 }
 
 #[inline(never)]
 pub fn for_to(
+    alloc: Global,
+    direction: Direction,
+    counter: Option<Counter>,
+    bounds: Result<Option<(CoreExpr, CoreExpr)>, NoMemory>,
+    body: Result<Option<Box<CoreStmt>>, NoMemory>,
+    out: &mut Option<CoreStmt>,
+) -> Done
+    ensures { IfOk result (λ _. OfOk bounds (λ bounds. OfOk body (λ body. option_map stmt_of out.new ≡ three_typed (for_statement direction) counter (option_map bounds_of bounds) (option_map boxed_of body)))) }
+{
+    *out = for_from(alloc, direction, counter, bounds?, body?)?;
+    Ok(())
+}
+
+fn for_from(
     alloc: Global,
     direction: Direction,
     counter: Option<Counter>,
@@ -125,47 +194,78 @@ fn for_with_first(
 #[inline(never)]
 pub fn repeat_until(
     alloc: Global,
+    done: (Done, Done),
     body: Option<Vec<CoreStmt>>,
     condition: Option<CoreExpr>,
-) -> Typed
-    ensures { IfOk result (λ s. option_map stmt_of s ≡ both_typed repeat_until (statements_in body) (option_map expr_of condition)) }
+    out: &mut Option<CoreStmt>,
+) -> Done
+    ensures { IfOk result (λ _. Behind done.0 (Behind done.1 (option_map stmt_of out.new ≡ both_typed repeat_until (statements_in body) (option_map expr_of condition)))) }
 {
+    done.0?;
+    done.1?;
     let (Some(body), Some(condition)) = (body, condition) else {
-        return Ok(None);
+        *out = None;
+        return Ok(());
     };
-    Ok(Some(repeat_of(body, Box::new(alloc, condition)?)))
+    *out = Some(repeat_of(body, Box::new(alloc, condition)?));
+    Ok(())
 }
 
 #[inline(never)]
 pub fn try_finally(
+    done: (Done, Done),
     body: Option<Vec<CoreStmt>>,
     finalization: Option<Vec<CoreStmt>>,
-) -> Option<CoreStmt>
-    ensures { option_map stmt_of result ≡ both_typed try_finally (statements_in body) (statements_in finalization) }
+    out: &mut Option<CoreStmt>,
+) -> Done
+    ensures { IfOk result (λ _. Behind done.0 (Behind done.1 (option_map stmt_of out.new ≡ both_typed try_finally (statements_in body) (statements_in finalization)))) }
 {
+    done.0?;
+    done.1?;
     let (Some(body), Some(finalization)) = (body, finalization) else {
-        return None;
+        *out = None;
+        return Ok(());
     };
-    Some(finally_of(body, finalization))
+    *out = Some(finally_of(body, finalization));
+    Ok(())
 }
 
 #[inline(never)]
 pub fn case_of(
     alloc: Global,
+    done: (Done, Done),
     head: Option<(CoreExpr, Vec<CoreBranch>)>,
     otherwise: Option<Vec<CoreStmt>>,
-) -> Typed
-    ensures { IfOk result (λ s. option_map stmt_of s ≡ both_typed case_statement (option_map head_of head) (statements_in otherwise)) }
+    out: &mut Option<CoreStmt>,
+) -> Done
+    ensures { IfOk result (λ _. Behind done.0 (Behind done.1 (option_map stmt_of out.new ≡ both_typed case_statement (option_map head_of head) (statements_in otherwise)))) }
 {
+    done.0?;
+    done.1?;
     let (Some((selector, branches)), Some(otherwise)) = (head, otherwise) else {
-        return Ok(None);
+        *out = None;
+        return Ok(());
     };
     let selector = Box::new(alloc, selector)?;
-    Ok(Some(case_with(selector, branches, otherwise)))
+    *out = Some(case_with(selector, branches, otherwise));
+    Ok(())
 }
 
 #[inline(never)]
-pub fn branch(labels: Option<Vec<Label>>, body: Option<CoreStmt>) -> Option<CoreBranch>
+pub fn branch(
+    labels: Result<Option<Vec<Label>>, NoMemory>,
+    done: Done,
+    body: Option<CoreStmt>,
+    out: &mut Option<CoreBranch>,
+) -> Done
+    ensures { IfOk result (λ _. OfOk labels (λ labels. Behind done (option_map branch_of out.new ≡ both_typed (λ l s. (l, s)) (items_of labels) (option_map stmt_of body)))) }
+{
+    done?;
+    *out = branch_from(labels?, body);
+    Ok(())
+}
+
+fn branch_from(labels: Option<Vec<Label>>, body: Option<CoreStmt>) -> Option<CoreBranch>
     ensures { option_map branch_of result ≡ both_typed (λ l s. (l, s)) (items_of labels) (option_map stmt_of body) }
 {
     branch_with(pair(labels, body))

@@ -15,7 +15,7 @@ use crate::action::{change, count, unwritten, write};
 use crate::given::{Given, values};
 use crate::leaving::{Jump, in_finally, leaving};
 use op_base::NoMemory;
-use op_check_expr::{Checker, position_of};
+use op_check_expr::{Checker, Done, position_of};
 use op_core::{Core, CoreStmt, FirstRefusal, RoutineId, TypeId};
 use op_judgement::{LanguageRule, refuse};
 use op_tree::{Argument, Designator, Direction, Name, Root, Selector};
@@ -30,19 +30,21 @@ pub struct Called<'t> {
     pub given: &'t [Argument],
 }
 
-/// A call as a statement.
+/// Puts there a call as a statement.
 #[inline(never)]
 pub fn call(
-    here: Checker,
+    here: &Checker,
     sink: &mut FirstRefusal,
     d: &Designator,
-) -> Result<Option<CoreStmt>, NoMemory>
-    ensures { IfOk result (λ t. Reports (call_means (here_of here.entry.scope) (designator_of d.now)) sink.old sink.new (option_map stmt_of t)) }
+    out: &mut Option<CoreStmt>,
+) -> Done
+    ensures { IfOk result (λ _. Reports (call_means (here_of here.now.scope) (designator_of d.now)) sink.old sink.new (option_map stmt_of out.new)) }
 {
-    match built_in(here.alloc, here.scope.visible, d)? {
-        None => plain_call(here, sink, d),
-        Some(c) => procedure(here, sink, d, c),
-    }
+    *out = match built_in(here.alloc, here.scope.visible, d)? {
+        None => plain_call(*here, sink, d)?,
+        Some(c) => procedure(*here, sink, d, c)?,
+    };
+    Ok(())
 }
 
 /// A call that is no built-in procedure's.

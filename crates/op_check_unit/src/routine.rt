@@ -355,7 +355,9 @@ impl Declarer {
             alloc: self.alloc,
             scope,
         };
-        match statements(checker, &mut self.sink, list)? {
+        let mut typed = None;
+        statements(&checker, &mut self.sink, list, &mut typed)?;
+        match typed {
             None => Ok(()),
             Some(typed) => self.keep_body(id, typed),
         }

@@ -12,10 +12,10 @@ use Rattle.op_check_stmt.proofs.walk.+statements.Given as goal
 -- what is left gives the whole
 abbrev pub invariant-statements-loop-s : goal.invariant-statements-loop-s
 invariant-statements-loop-s l =
-    Completes typed_statement typed_statements (items_of l.typed) (checked (statements (here_of l.here.scope) (stmts_of l.list))) (checked (statements (here_of l.here.scope) (stmts_of (drop l.s-index l.list)))) l.fn.sink l.sink
+    Completes typed_statement typed_statements (items_of l.out) (checked (statements (here_of l.here.scope) (stmts_of l.list))) (checked (statements (here_of l.here.scope) (stmts_of (drop l.s-index l.list)))) l.fn.sink l.sink
 
 abbrev pub invariant-branches-loop-branch : goal.invariant-branches-loop-branch
 invariant-branches-loop-branch l = record {
-  typed : Completes branch_of with_branch (items_of l.typed) (checked (branches (here_of l.here.scope) l.of (branches_of l.list))) (checked (branches (here_of l.here.scope) l.of (branches_of (drop l.branch-index l.list)))) l.fn.sink l.sink;
+  typed : Completes branch_of with_branch (items_of l.out) (checked (branches (here_of l.here.scope) l.of (branches_of l.list))) (checked (branches (here_of l.here.scope) l.of (branches_of (drop l.branch-index l.list)))) l.fn.sink l.sink;
   noted : l.spots.items ++ all_spots (here_of l.here.scope) l.of (branches_of (drop l.branch-index l.list)) ≡ l.fn.spots.items ++ all_spots (here_of l.here.scope) l.of (branches_of l.list);
 }

@@ -21,7 +21,7 @@ by_first x typed r (Some q) h e f = subst (StmtIs x) (sym e) h
 pub returns-in-Some : goal.returns-in-Some
 returns-in-Some c =
     let x = statement (here_of c.args.scope.now) (stmt_of c.args.s.now) in
-    let h = subst (λ q. Reports x c.new-sink.result c.statement.new.sink (option_map typed_statement q)) c.in-Some.is c.in_ok-typed.ensures in
+    let h = subst (λ q. Reports x c.new-sink.result c.statement.new.sink (option_map typed_statement q)) c.in-Some.is c.in_ok-statement.ensures in
     let k : c.statement.new.sink.kept ≡ kept None (checked x).faults = h.1 ∙ ap (λ k. kept k (checked x).faults) c.new-sink.ensures in
     let is = by_first x c.in-Some.typed c.or_typed.result (kept None (checked x).faults) (first_is (checked x).faults) (c.or_typed.ensures ∙ ap (λ k. or_typed k c.in-Some.typed) k) (sym h.0) in
     record { exact = is; law = stmt_law x c.or_typed.result is; told = stmt_told x c.or_typed.result is }
@@ -29,7 +29,7 @@ returns-in-Some c =
 pub returns-in-Some-kept : goal.returns-in-Some-kept
 returns-in-Some-kept c =
     let x = statement (here_of c.args.scope.now) (stmt_of c.args.s.now) in
-    let h = c.in_ok-typed.ensures in
+    let h = c.in_ok-statement.ensures in
     let k : c.statement.new.sink.kept ≡ kept None (checked x).faults = h.1 ∙ ap (λ k. kept k (checked x).faults) c.new-sink.ensures in
     let is = subst (FirstIs (checked x).faults) (sym k ∙ c.in-Some-kept.is) (first_is (checked x).faults) in
     record { exact = is; law = stmt_law x (Err (Refused c.in-Some-kept.refusal)) is; told = stmt_told x (Err (Refused c.in-Some-kept.refusal)) is }

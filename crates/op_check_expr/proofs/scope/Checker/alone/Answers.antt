@@ -16,13 +16,13 @@ use Rattle.op_check_expr.proofs.scope.Checker.alone.Goals as goal
 pub returns-in_ok-plan-in-Some : goal.returns-in_ok-plan-in-Some
 unfolding call_alone
 returns-in_ok-plan-in-Some c =
-    let here = here_of c.args.self.scope in
+    let here = here_of c.args.self.now.scope in
     let called = c.args.called.now in
     let ss = selectors_of called.selectors.items in
     let front = selectors_of c.in-Some.front.now in
     let args = arguments_of c.in-Some.arguments.now in
-    let d = option_map denoted_of c.in_ok-denoted.denoted in
-    let b = option_map denoted_of c.in_ok-denoted-in-Some.denoted in
+    let d = option_map denoted_of c.root.new.out in
+    let b = option_map denoted_of c.selected.new.denoted in
     let plan = c.in_ok-plan-in-Some.plan in
     let start = (position_of_designator (designator_of called)).place in
     let r = c.alone_called.result in
@@ -31,28 +31,28 @@ returns-in_ok-plan-in-Some c =
     let last = c.plan_of.new.sink in
     let new = c.alone_called.new.sink in
     let e : Some (front, args) ≡ last_call ss = c.in-Some.ensures ∙ ap (λ xs. last_call (selectors_of xs)) c.deref.ensures.value in
-    answers_followed r expr_of (root_means here (root_of called.root)) (λ d. alone_behind here start d ss (last_call ss)) c.args.sink.now mid new d c.in_ok-denoted.ensures
+    answers_followed r expr_of (root_means here (root_of called.root)) (λ d. alone_behind here start d ss (last_call ss)) c.args.sink.now mid new d c.in_ok-root.ensures
     (subst (λ l. Answers r expr_of (alone_behind here start d ss l) mid new) e
-    (answers_followed r expr_of (selected here d front) (λ c. followed (plan_of here true c args) (λ plan. alone_called here start plan args)) mid far new b c.in_ok-denoted-in-Some.ensures
+    (answers_followed r expr_of (selected here d front) (λ c. followed (plan_of here true c args) (λ plan. alone_called here start plan args)) mid far new b c.in_ok-selected-in-Some.ensures
     (answers_followed r expr_of (plan_of here true b args) (λ plan. alone_called here start plan args) far last new plan c.in_ok-plan-in-Some.ensures
     (subst (λ p. Answers r expr_of (alone_called here p.place plan args) last new) c.position_of_designator.ensures c.alone_called.ensures))))
 
-pub returns-in_ok-denoted-in-None : goal.returns-in_ok-denoted-in-None
+pub returns-in_ok-selected-in-None : goal.returns-in_ok-selected-in-None
 unfolding call_alone
-returns-in_ok-denoted-in-None c =
-    let here = here_of c.args.self.scope in
+returns-in_ok-selected-in-None c =
+    let here = here_of c.args.self.now.scope in
     let called = c.args.called.now in
     let ss = selectors_of called.selectors.items in
-    let d = option_map denoted_of c.in_ok-denoted.denoted in
-    let b = option_map denoted_of c.in_ok-denoted-in-None.denoted in
+    let d = option_map denoted_of c.root.new.out in
+    let b = option_map denoted_of c.selected-in-None.new.denoted in
     let start = (position_of_designator (designator_of called)).place in
     let r = c.alone_denoted.result in
     let mid = c.root.new.sink in
     let far = c.selected-in-None.new.sink in
     let new = c.alone_denoted.new.sink in
     let e : None ≡ last_call ss = c.in-None.ensures ∙ ap (λ xs. last_call (selectors_of xs)) c.deref.ensures.value in
-    answers_followed r expr_of (root_means here (root_of called.root)) (λ d. alone_behind here start d ss (last_call ss)) c.args.sink.now mid new d c.in_ok-denoted.ensures
+    answers_followed r expr_of (root_means here (root_of called.root)) (λ d. alone_behind here start d ss (last_call ss)) c.args.sink.now mid new d c.in_ok-root.ensures
     (subst (λ l. Answers r expr_of (alone_behind here start d ss l) mid new) e
     (answers_followed r expr_of (selected here d ss) (with_part (alone_denoted here start)) mid far new b
-    (subst (λ xs. Reports (selected here d (selectors_of xs)) mid far b) c.deref-in-None.ensures.value c.in_ok-denoted-in-None.ensures)
+    (subst (λ xs. Reports (selected here d (selectors_of xs)) mid far b) c.deref-in-None.ensures.value c.in_ok-selected-in-None.ensures)
     (subst (λ p. Answers r expr_of (with_part (alone_denoted here p.place) b) far new) c.position_of_designator.ensures c.alone_denoted.ensures)))

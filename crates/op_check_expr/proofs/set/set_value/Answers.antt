@@ -5,7 +5,7 @@ use Rattle.op_check_expr.proofs.Sets.{all_mapped}
 use Rattle.op_check_expr.specs.Constructors.{are_constants, member_of, set_by}
 use Rattle.op_check_expr.specs.Values.{value_of}
 use Rattle.op_judgement.specs.Judgement.{Reports}
-use Rattle.op_check_expr.proofs.set.set_of.Goals as goal
+use Rattle.op_check_expr.proofs.set.set_value.Goals as goal
 
 pub returns : goal.returns
 returns c =

@@ -6,7 +6,7 @@ use Rattle.op_check_stmt.proofs.Parts.{through}
 use Rattle.op_core.specs.Statement.{stmt_of}
 use Rattle.op_core.specs.declared.statement.CoreStmt.{CoreStmt}
 use Rattle.op_core.specs.declared.statement.Label.{Label}
-use Rattle.op_check_stmt.proofs.node.branch.Goals as goal
+use Rattle.op_check_stmt.proofs.node.branch_from.Goals as goal
 
 pub returns : goal.returns
 returns c =
