@@ -10,7 +10,7 @@ ghost use Rattle.op_check_expr.specs.Values.{constant, value_of};
 ghost use Rattle.op_types.specs.Folding.{bound_means};
 ghost use Rattle.op_types.specs.Sorts.{sort_of};
 
-use crate::convert::{as_type, is_integer, is_wider};
+use crate::convert::{as_type, is_wider};
 use crate::operate::{Done, Valued};
 use crate::scope::Checker;
 use crate::tree::{then, type_of};

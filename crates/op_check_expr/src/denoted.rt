@@ -9,7 +9,7 @@ ghost use Rattle.op_check_expr.specs.Parts.{by_feature};
 
 use crate::tree::then;
 use crate::value::Value;
-use op_base::{NoMemory, Place, Text};
+use op_base::{NoMemory, Text};
 use op_core::{
     Action, Core, CoreExpr, CoreType, Field, FieldId, FirstRefusal, Function, Root, RoutineId, Run,
     TypeId, VariableId, type_at,

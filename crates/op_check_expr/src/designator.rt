@@ -20,7 +20,7 @@ use crate::operate::{Done, Valued};
 use crate::scope::Checker;
 use crate::tree::then;
 use crate::value::{Value, constant_value};
-use op_base::{NoMemory, Place};
+use op_base::Place;
 use op_core::{Action, Const, CoreType, FirstRefusal, TypeId, type_at};
 use op_judgement::{LanguageRule, refuse};
 use op_scan::CompactText;

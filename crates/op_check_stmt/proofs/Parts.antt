@@ -3,7 +3,6 @@ use Rattle.std.proofs.Common.{◌≡◌, List, [], ◌∷◌, ◌++◌, append_a
 use Rattle.std.specs.Option.{option_map}
 use Rattle.std.specs.Prelude.{Vec}
 use Rattle.std.specs.declared.alloc.Global.{Global}
-use Rattle.op_base.specs.declared.memory_error.NoMemory.{NoMemory}
 use Rattle.op_base.specs.declared.place.Place.{Place}
 use Rattle.op_check_expr.specs.Parts.{OfOk}
 use Rattle.op_check_stmt.specs.Labels.{once, repeated}

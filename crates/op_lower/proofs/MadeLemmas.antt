@@ -27,7 +27,7 @@ use Rattle.op_mir.specs.declared.ids.BlockId.{BlockId}
 use Rattle.op_mir.specs.declared.ids.TemporaryId.{TemporaryId}
 use Rattle.op_mir.specs.declared.instruction.Arm.{Arm}
 use Rattle.op_mir.specs.declared.instruction.Instruction.{Instruction}
-use Rattle.op_mir.specs.declared.instruction.Instruction.TheVariants.{Act, Jump, Unless, Switch, Dispatch}
+use Rattle.op_mir.specs.declared.instruction.Instruction.TheVariants.{Act, Jump, Switch, Dispatch}
 
 abbrev pub Blocks : Type 0
 Blocks = List (List Instr)

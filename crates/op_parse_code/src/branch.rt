@@ -70,8 +70,10 @@ fn branches<'a>(
         if ends_list(rest) {
             return Ok((fitted(branches), rest));
         }
-        let (labels, after) = elements(alloc, Mark::Colon, left, end, rest)?;
+        let mut labels = Vec::new(alloc);
+        let after = elements(alloc, Mark::Colon, left, end, &mut labels, rest)?;
         let (body, behind) = statement_at(alloc, left, end, after)?;
+        let labels = fitted(labels);
         branches.push(Branch { labels, body })?;
         match behind_mark(Mark::Semicolon, behind) {
             Some(after) => rest = after,

@@ -22,7 +22,6 @@ use std::alloc::Global;
 use std::mem::replace;
 
 /// An operand, and the operators of a level and operands behind it.
-#[cycle(expression)]
 #[inline(never)]
 pub fn chain<'a>(
     alloc: Global,

@@ -4,7 +4,7 @@ ghost use Rattle.op_parse_code.specs.Opening.{spelled};
 ghost use Rattle.op_parse_code.specs.Refusal.{MadeOf, Refuses, refused_at};
 ghost use Rattle.op_parse_code.specs.Whole.{CannotEnter, Factor, InsideSet};
 ghost use Rattle.op_scan.specs.declared.token.TokenKind.TheVariants.{CharacterString, Inherited};
-ghost use Rattle.op_tree.specs.Expression.{designated, expr_of};
+ghost use Rattle.op_tree.specs.Expression.{Elements, designated, expr_of, set};
 ghost use Rattle.op_tree.specs.Operator.{prefix_operator_of};
 ghost use Rattle.op_tree.specs.Statement.{designator_of, elements_of};
 ghost use Rattle.op_tree.specs.Terminal.{terminal_of, terminals};
@@ -20,7 +20,7 @@ use crate::opening::{FactorOpening, factor_opening};
 use crate::token::{position_of, spelled};
 use op_base::Place;
 use op_scan::Token;
-use op_tree::{Designator, Element, Expr, PrefixOperator};
+use op_tree::{Designator, Element, Expr, Position, PrefixOperator};
 use std::alloc::Global;
 
 /// A factor.
@@ -45,14 +45,28 @@ pub fn factor<'a>(
         FactorOpening::Nil => Ok((Expr::Nil { position }, rest)),
         FactorOpening::Set => {
             let inner = enter(left, end, tokens)?;
-            let (elements, rest) = set_elements(alloc, inner, end, rest)?;
-            Ok((set_node(position, elements), rest))
+            set_elements(alloc, position, inner, end, rest)
         }
         FactorOpening::Literal => literal(alloc, left, end, first, rest),
         FactorOpening::Inherited => inherited(alloc, left, end, first, rest),
         FactorOpening::Prefix(operator) => prefixed(alloc, operator, left, end, first, rest),
         FactorOpening::Designator => designated(designator(alloc, left, end, tokens)),
         FactorOpening::Nothing => Err(syntax(end, tokens)),
+    }
+}
+
+/// The set of the elements that were read.
+#[inline(never)]
+fn set_factor<'a>(
+    read: Result<&'a [Token], ParseError>,
+    position: Position,
+    elements: Vec<Element>,
+) -> Result<(Expr, &'a [Token]), ParseError>
+    ensures { MadeOf (λ rest f. (expr_of f.0 ≡ set position (elements_of elements.items)) × (f.1.now ≡ rest.now)) read.entry result }
+{
+    match read {
+        Ok(rest) => Ok((set_node(position, elements), rest)),
+        Err(error) => Err(error),
     }
 }
 
@@ -134,22 +148,30 @@ fn prefixed<'a>(
     Ok((factor, rest))
 }
 
-/// The elements of a set behind its opening bracket, up to the closing one.
+/// The set whose opening bracket stands at a position, from the elements behind it, up to the closing one.
 #[cycle(expression)]
 #[inline(never)]
 fn set_elements<'a>(
     alloc: Global,
+    position: Position,
     left: u32,
     end: Place,
     tokens: &'a [Token],
-) -> Result<(Vec<Element>, &'a [Token]), ParseError>
-    ensures whole { IfOk result (λ f. InsideSet left (elements_of f.0.items) (terminals tokens.now) (terminals f.1.now)) }
+) -> Result<(Expr, &'a [Token]), ParseError>
+    ensures whole { IfOk result (λ f. (es : Elements) × (expr_of f.0 ≡ set position es) × InsideSet left es (terminals tokens.now) (terminals f.1.now)) }
     ensures refused { IfErr result (Refuses InsideSet left end (terminals tokens.now)) }
     ensures shorter { IfOk result (λ f. length f.1.now ≤ length tokens.now) }
 {
     match behind_mark(Mark::CloseBracket, tokens) {
-        Some(rest) => Ok((Vec::new(alloc), rest)),
-        None => elements(alloc, Mark::CloseBracket, left, end, tokens),
+        Some(rest) => Ok((set_node(position, Vec::new(alloc)), rest)),
+        None => {
+            let mut list = Vec::new(alloc);
+            set_factor(
+                elements(alloc, Mark::CloseBracket, left, end, &mut list, tokens),
+                position,
+                list,
+            )
+        }
     }
 }
 

@@ -1,9 +1,9 @@
 //! Lists with commas between their parts, each up to the token behind it.
 ghost use Rattle.std.specs.Prelude.{◌≡◌, ◌≤◌, List, [], IfOk, IfErr, length};
-ghost use Rattle.op_parse_code.specs.Refusal.{Grown, MadeOrRefused, Refuses, refused_at};
+ghost use Rattle.op_parse_code.specs.Refusal.{Grown, MadeOf, MadeOrRefused, Refuses, refused_at};
 ghost use Rattle.op_parse_code.specs.Whole.{Chain, ClosesElements, ElementsBefore, IndicesBefore, InsideCall, Marked, NoMark, SomeArgument, SomeElement};
 ghost use Rattle.op_parse_code.specs.declared.mark.Mark.TheVariants.{Colon};
-ghost use Rattle.op_tree.specs.Expression.{argument_of, element_of, expr_of, padded, value};
+ghost use Rattle.op_tree.specs.Expression.{argument_of, element_of, expr_of, one, padded, range, value};
 ghost use Rattle.op_tree.specs.Lists.{arguments_of, expressions_of};
 ghost use Rattle.op_tree.specs.Statement.{elements_of};
 ghost use Rattle.op_tree.specs.Terminal.{Terminal, terminals};
@@ -11,64 +11,135 @@ ghost use Rattle.op_tree.specs.declared.operator.Level.TheVariants.{Relational};
 ghost use Rattle.op_tree.specs.declared.position.Position.{Position};
 
 use crate::ParseError;
-use crate::chain::{chain, read_chain, unread};
+use crate::chain::{read_chain, unread};
 use crate::error::{FRACTION_WIDTH, left_out, refused};
 use crate::mark::{Mark, after_mark, behind_mark};
-use crate::nodes::{append, appended, fitted, padded_node, range_node};
+use crate::nodes::{append, appended, padded_node, range_node};
 use op_base::{NoMemory, Place};
 use op_scan::Token;
 use op_tree::{Argument, Element, Expr, Level};
 use std::alloc::Global;
+use std::mem::replace;
 
-/// Elements, up to a mark, and what stands behind it.
+/// Elements, up to a mark, into a list of the caller's; what stands behind the mark.
 #[cycle(expression)]
+#[inline(never)]
 pub fn elements<'a>(
     alloc: Global,
     close: Mark,
     left: u32,
     end: Place,
+    list: &mut Vec<Element>,
     tokens: &'a [Token],
-) -> Result<(Vec<Element>, &'a [Token]), ParseError>
+) -> Result<&'a [Token], ParseError>
     requires { ClosesElements close }
-    ensures whole { IfOk result (λ f. ElementsBefore close left (elements_of f.0.items) (terminals tokens.now) (terminals f.1.now)) }
+    ensures whole { IfOk result (λ rest. ElementsBefore close left (elements_of list.new.items) (terminals tokens.now) (terminals rest.now)) }
     ensures refused { IfErr result (Refuses (ElementsBefore close) left end (terminals tokens.now)) }
-    ensures shorter { IfOk result (λ f. length f.1.now ≤ length tokens.now) }
+    ensures shorter { IfOk result (λ rest. length rest.now ≤ length tokens.now) }
 {
-    let mut elements = Vec::new(alloc);
+    emptied(list);
     let mut rest = tokens;
     loop {
-        let (element, behind) = element(alloc, left, end, rest)?;
-        append(&mut elements, element)?;
+        let behind = element(alloc, left, end, list, rest)?;
         match behind_mark(Mark::Comma, behind) {
             Some(after) => rest = after,
-            None => {
-                let rest = after_mark(close, end, behind)?;
-                return Ok((fitted(elements), rest));
-            }
+            None => return after_mark(close, end, behind),
         }
     }
 }
 
-/// An expression, or two with `..` between them.
+/// Puts an expression, or two with `..` between them, behind the elements of a list.
 #[cycle(expression)]
 fn element<'a>(
     alloc: Global,
     left: u32,
     end: Place,
+    list: &mut Vec<Element>,
     tokens: &'a [Token],
-) -> Result<(Element, &'a [Token]), ParseError>
-    ensures whole { IfOk result (λ f. SomeElement left (element_of f.0) (terminals tokens.now) (terminals f.1.now)) }
+) -> Result<&'a [Token], ParseError>
+    ensures whole { IfOk result (λ rest. Grown list.old.items list.new.items (λ x. SomeElement left (element_of x) (terminals tokens.now) (terminals rest.now))) }
     ensures refused { IfErr result (Refuses SomeElement left end (terminals tokens.now)) }
-    ensures shorter { IfOk result (λ f. length f.1.now ≤ length tokens.now) }
+    ensures shorter { IfOk result (λ rest. length rest.now ≤ length tokens.now) }
 {
-    let (first, rest) = chain(alloc, Level::Relational, left, end, tokens)?;
-    match behind_mark(Mark::DotDot, rest) {
-        None => Ok((Element::One(first), rest)),
-        Some(rest) => {
-            let (last, rest) = chain(alloc, Level::Relational, left, end, rest)?;
-            let range = range_node(alloc, first, last)?;
-            Ok((range, rest))
+    let mut first = unread(end);
+    with_last(
+        read_chain(alloc, Level::Relational, left, end, &mut first, tokens),
+        alloc,
+        left,
+        end,
+        &mut first,
+        list,
+    )
+}
+
+/// Puts an expression that was read, with the last one behind `..` if there is one, behind the elements of a list.
+#[cycle(expression)]
+#[inline(never)]
+fn with_last<'a>(
+    read: Result<&'a [Token], ParseError>,
+    alloc: Global,
+    left: u32,
+    end: Place,
+    first: &mut Expr,
+    list: &mut Vec<Element>,
+) -> Result<&'a [Token], ParseError>
+    ensures { MadeOrRefused
+        (λ behind rest. Grown list.old.items list.new.items (λ x. (ks : List Terminal) → Chain Relational left (expr_of first.old) ks (terminals behind.now) → SomeElement left (element_of x) ks (terminals rest.now)) × (length rest.now ≤ length behind.now))
+        (λ behind e. (ks : List Terminal) → Chain Relational left (expr_of first.old) ks (terminals behind.now) → Refuses SomeElement left end ks e)
+        read.entry result }
+{
+    match read {
+        Ok(rest) => match behind_mark(Mark::DotDot, rest) {
+            None => {
+                single(end, first, list)?;
+                Ok(rest)
+            }
+            Some(after) => {
+                let mut last = unread(end);
+                ranged(
+                    read_chain(alloc, Level::Relational, left, end, &mut last, after),
+                    alloc,
+                    end,
+                    first,
+                    last,
+                    list,
+                )
+            }
+        },
+        Err(error) => Err(error),
+    }
+}
+
+/// Puts an expression behind the elements of a list.
+#[inline(never)]
+fn single(end: Place, first: &mut Expr, list: &mut Vec<Element>) -> Result<(), NoMemory>
+    ensures { IfOk result (λ _. Grown list.old.items list.new.items (λ x. element_of x ≡ one (expr_of first.old))) }
+{
+    let taken = replace(first, unread(end));
+    append(list, Element::One(taken))?;
+    Ok(())
+}
+
+/// Puts an expression and the last one that was read behind it behind the elements of a list.
+#[inline(never)]
+fn ranged<'a>(
+    read: Result<&'a [Token], ParseError>,
+    alloc: Global,
+    end: Place,
+    first: &mut Expr,
+    last: Expr,
+    list: &mut Vec<Element>,
+) -> Result<&'a [Token], ParseError>
+    ensures { MadeOf (λ behind rest. Grown list.old.items list.new.items (λ x. element_of x ≡ range (expr_of first.old) (expr_of last)) × (rest.now ≡ behind.now)) read.entry result }
+{
+    match read {
+        Ok(rest) => {
+            let taken = replace(first, unread(end));
+            let range = range_node(alloc, taken, last)?;
+            append(list, range)?;
+            Ok(rest)
         }
+        Err(error) => Err(error),
     }
 }
 
@@ -130,6 +201,7 @@ pub fn arguments<'a>(
     }
 }
 
+/// Empties a list.
 #[inline(never)]
 fn emptied<T: Drop>(list: &mut Vec<T>)
     ensures { list.new.items ≡ [] }

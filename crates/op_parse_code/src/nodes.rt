@@ -81,6 +81,7 @@ pub fn prefix_node(
 pub fn set_node(position: Position, elements: Vec<Element>) -> Expr
     ensures { expr_of result ≡ set position (elements_of elements.items) }
 {
+    let elements = fitted(elements);
     Expr::Set { position, elements }
 }
 

@@ -2,7 +2,7 @@ use Rattle.std.proofs.Common.{refl, arith}
 use Rattle.op_parse_code.proofs.Chains.{chain_operand, chain_operations, chain_whole, relational_operand, additive_operand, multiplicative_operand, relational_refuses, additive_refuses, multiplicative_refuses, operating_more, operating_refuses, operating_ends}
 use Rattle.op_parse_code.proofs.Designators.{designator_whole, designator_root, designator_selectors, root_none, root_misses_name, root_string, bracket_too_deep, bracket_expression, bracket_open, root_bracket, selecting_more, selecting_ends, member_refuses, selector_member, index_too_deep, call_too_deep, index_refuses, selector_index, call_refuses, selector_call}
 use Rattle.op_parse_code.proofs.Errors.{passed, ok_weaker, err_weaker, made_ok, made_err, made_as, both_ok, judged_ok, judged_err, made_none, judged_on}
-use Rattle.op_parse_code.proofs.ExpressionLists.{element_first, element_last, argument_value, argument_width, argument_padded, argument_digits, set_inside, set_empty, call_inside, call_empty, arguments_list, elements_list, indices_list}
+use Rattle.op_parse_code.proofs.ExpressionLists.{element_first, element_last, element_range, argument_value, argument_width, argument_padded, argument_digits, set_inside, set_empty, call_inside, call_empty, arguments_list, elements_list, indices_list}
 use Rattle.op_parse_code.proofs.Grown.{chosen, grown_as, grown_written, extended_more, extended_ends, extended_none}
 use Rattle.op_parse_code.proofs.Lists.{listed_item, listed_close, listed_more, listed_ends}
 use Rattle.op_parse_code.proofs.Factors.{factor_none, factor_number, factor_nil, set_too_deep, set_refuses, factor_set, literal_refuses, factor_literal, inherited_refuses, factor_inherited, prefix_refuses, prefix_too_deep, factor_prefix, designated_refuses, factor_designated}
@@ -16,12 +16,6 @@ use Rattle.op_tree.specs.Terminal.{terminals}
 use Rattle.op_parse_code.proofs.+expression.Goals as goal
 
 -- ---- chains
-
-pub chain::chain-returns-in_err-rest-clause-refused : goal.chain::chain-returns-in_err-rest-clause-refused
-chain::chain-returns-in_err-rest-clause-refused t c = passed c.from_residual.result c.from_residual.ensures.1 (λ y e. rw e c.in_err-rest.ensures.refused)
-
-pub chain::chain-returns-clause-whole : goal.chain::chain-returns-clause-whole
-chain::chain-returns-clause-whole t c = c.in_ok-rest.ensures.whole
 
 pub chain::read_chain-returns-in_err-behind-clause-refused : goal.chain::read_chain-returns-in_err-behind-clause-refused
 chain::read_chain-returns-in_err-behind-clause-refused t c = passed c.from_residual.result c.from_residual.ensures.1 (λ y e. rw e (chain_operand c.args.level c.args.left c.args.end _ _ c.in_err-behind.ensures.refused))
@@ -147,8 +141,8 @@ factor::factor-returns-in_default-clause-refused t c = factor_none c.args.left c
 pub factor::factor-returns-in_err-inner-in-Set-clause-refused : goal.factor::factor-returns-in_err-inner-in-Set-clause-refused
 factor::factor-returns-in_err-inner-in-Set-clause-refused t c = passed c.from_residual.result c.from_residual.ensures.1 (λ y e. rw (e, c.in-Some.ensures.cases.0) (set_too_deep c.args.left c.args.end _ _ _ _ c.in-Set.ensures c.in_err-inner-in-Set.ensures.refused.0 (rw c.in-Some.ensures.cases.0 at c.in_err-inner-in-Set.ensures.refused.1)))
 
-pub factor::factor-returns-in_err-elements-in-Set-clause-refused : goal.factor::factor-returns-in_err-elements-in-Set-clause-refused
-factor::factor-returns-in_err-elements-in-Set-clause-refused t c = passed c.from_residual-in_err-elements-in-Set.result c.from_residual-in_err-elements-in-Set.ensures.1 (λ y e. rw (e, c.in-Some.ensures.cases.0) (set_refuses c.args.left _ c.args.end _ _ _ _ c.in-Set.ensures c.in_ok-inner-in-Set.ensures.inside c.in_err-elements-in-Set.ensures.refused))
+pub factor::factor-returns-in_ok-inner-in-Set-clause-refused : goal.factor::factor-returns-in_ok-inner-in-Set-clause-refused
+factor::factor-returns-in_ok-inner-in-Set-clause-refused t c = err_weaker c.set_elements.result c.set_elements.ensures.refused (λ e h. rw c.in-Some.ensures.cases.0 (set_refuses c.args.left _ c.args.end _ _ _ _ c.in-Set.ensures c.in_ok-inner-in-Set.ensures.inside h))
 
 pub factor::factor-returns-in-Designator-clause-refused : goal.factor::factor-returns-in-Designator-clause-refused
 factor::factor-returns-in-Designator-clause-refused t c = made_err c.designator.result c.designated.result c.designated.ensures c.designator.ensures.refused (λ e h. out_of_memory h) (λ e h. designated_refuses c.args.left c.args.end _ _ (rw c.in-Some.ensures.cases.0 c.in-Designator.ensures) h)
@@ -159,8 +153,11 @@ factor::factor-returns-in-Number-clause-whole t c = rw (c.position_of-position.e
 pub factor::factor-returns-in-Nil-clause-whole : goal.factor::factor-returns-in-Nil-clause-whole
 factor::factor-returns-in-Nil-clause-whole t c = rw (c.position_of-position.ensures, c.in-Some.ensures.cases.0) (factor_nil c.args.left _ _ _ c.in-Nil.ensures)
 
-pub factor::factor-returns-in_ok-elements-in-Set-clause-whole : goal.factor::factor-returns-in_ok-elements-in-Set-clause-whole
-factor::factor-returns-in_ok-elements-in-Set-clause-whole t c = rw (c.set_node.ensures, c.position_of-position.ensures, c.in-Some.ensures.cases.0) (factor_set c.args.left _ _ _ _ _ _ c.in-Set.ensures c.in_ok-inner-in-Set.ensures.inside c.in_ok-elements-in-Set.ensures.whole)
+pub factor::factor-returns-in_ok-inner-in-Set-clause-whole : goal.factor::factor-returns-in_ok-inner-in-Set-clause-whole
+factor::factor-returns-in_ok-inner-in-Set-clause-whole t c = ok_weaker c.set_elements.result c.set_elements.ensures.whole (λ f h. rw (h.1, c.position_of-position.ensures, c.in-Some.ensures.cases.0) (factor_set c.args.left _ _ _ _ _ _ c.in-Set.ensures c.in_ok-inner-in-Set.ensures.inside h.2))
+
+pub factor::factor-returns-in_ok-inner-in-Set-clause-shorter : goal.factor::factor-returns-in_ok-inner-in-Set-clause-shorter
+factor::factor-returns-in_ok-inner-in-Set-clause-shorter t c = ok_weaker c.set_elements.result c.set_elements.ensures.shorter (λ f h. omega (arith, h, c.in-Some.ensures.cases.1))
 
 pub factor::factor-returns-in-Designator-clause-whole : goal.factor::factor-returns-in-Designator-clause-whole
 factor::factor-returns-in-Designator-clause-whole t c = made_ok c.designator.result c.designated.result c.designated.ensures c.designator.ensures.whole (λ g f h made. rw (made.0, made.1) (factor_designated c.args.left _ _ _ h))
@@ -229,39 +226,51 @@ pub factor::set_elements-elements-requires : goal.factor::set_elements-elements-
 factor::set_elements-elements-requires t c = (omega arith, closes_set)
 
 pub factor::set_elements-returns-in-Some-clause-whole : goal.factor::set_elements-returns-in-Some-clause-whole
-factor::set_elements-returns-in-Some-clause-whole t c = rw c.new.ensures.items (set_empty c.args.left c.in-Some.ensures.mark.0 _ _ c.in-Some.ensures.mark.1)
+factor::set_elements-returns-in-Some-clause-whole t c = (_, c.set_node.ensures, rw c.new.ensures.items (set_empty c.args.left c.in-Some.ensures.mark.0 _ _ c.in-Some.ensures.mark.1))
 
 pub factor::set_elements-returns-in-None-clause-whole : goal.factor::set_elements-returns-in-None-clause-whole
-factor::set_elements-returns-in-None-clause-whole t c = ok_weaker c.elements.result c.elements.ensures.whole (λ f h. some_inside h)
+factor::set_elements-returns-in-None-clause-whole t c = made_ok c.elements.result c.set_factor.result c.set_factor.ensures c.elements.ensures.whole (λ rest f h made. (_, made.0, rw made.1 (some_inside h)))
+
+pub factor::set_elements-returns-in-None-clause-shorter : goal.factor::set_elements-returns-in-None-clause-shorter
+factor::set_elements-returns-in-None-clause-shorter t c = made_ok c.elements.result c.set_factor.result c.set_factor.ensures c.elements.ensures.shorter (λ rest f h made. rw made.1 h)
 
 pub factor::set_elements-returns-in-None-clause-refused : goal.factor::set_elements-returns-in-None-clause-refused
-factor::set_elements-returns-in-None-clause-refused t c = err_weaker c.elements.result c.elements.ensures.refused (λ e h. set_inside _ _ _ _ c.in-None.ensures.mark h)
+factor::set_elements-returns-in-None-clause-refused t c = made_err c.elements.result c.set_factor.result c.set_factor.ensures c.elements.ensures.refused (λ e h. out_of_memory h) (λ e h. set_inside _ _ _ _ c.in-None.ensures.mark h)
 
 -- ---- lists
 
-pub list::element-returns-in_err-first-clause-refused : goal.list::element-returns-in_err-first-clause-refused
-list::element-returns-in_err-first-clause-refused t c = passed c.from_residual.result c.from_residual.ensures.1 (λ y e. rw e (element_first c.args.left c.args.end _ _ c.in_err-first.ensures.refused))
+pub list::element-returns-clause-whole : goal.list::element-returns-clause-whole
+list::element-returns-clause-whole t c = judged_ok c.read_chain.result c.with_last.result c.with_last.ensures c.read_chain.ensures.whole (λ read rest h made. grown_as _ _ made.0 (λ x w. w _ h))
 
-pub list::element-returns-in_err-last-in-Some-clause-refused : goal.list::element-returns-in_err-last-in-Some-clause-refused
-list::element-returns-in_err-last-in-Some-clause-refused t c = passed c.from_residual-in_err-last-in-Some.result c.from_residual-in_err-last-in-Some.ensures.1 (λ y e. rw e (element_last c.args.left c.args.end _ _ _ _ _ _ c.in_ok-first.ensures.whole c.in-Some.ensures.mark.1 c.in_err-last-in-Some.ensures.refused))
+pub list::element-returns-clause-refused : goal.list::element-returns-clause-refused
+list::element-returns-clause-refused t c = judged_err c.read_chain.result c.with_last.result c.with_last.ensures c.read_chain.ensures.whole c.read_chain.ensures.refused (λ e h. out_of_memory h) (λ e h. element_first c.args.left c.args.end _ _ h) (λ read e h u. u _ h)
 
-pub list::element-returns-in_err-range-in-Some-clause-refused : goal.list::element-returns-in_err-range-in-Some-clause-refused
-list::element-returns-in_err-range-in-Some-clause-refused t c = passed c.from_residual-in_err-range-in-Some.result c.from_residual-in_err-range-in-Some.ensures.1 (λ y e. out_of_memory e)
+pub list::element-returns-clause-shorter : goal.list::element-returns-clause-shorter
+list::element-returns-clause-shorter t c = judged_ok c.read_chain.result c.with_last.result c.with_last.ensures c.read_chain.ensures.shorter (λ read rest h made. omega (arith, h, made.1))
 
-pub list::elements-returns-in_err-element-clause-refused : goal.list::elements-returns-in_err-element-clause-refused
-list::elements-returns-in_err-element-clause-refused t c = passed c.from_residual.result c.from_residual.ensures.1 (λ y e. rw e (listed_item (elements_list c.args.close c.requires) c.args.left c.args.end _ _ _ _ c.loop-elements.invariant.0 c.in_err-element.ensures.refused))
+pub list::with_last-returns-in_err-single-in-None : goal.list::with_last-returns-in_err-single-in-None
+list::with_last-returns-in_err-single-in-None t c = rw c.in-Ok.is (as_made (made_none _ c.from_residual.result c.from_residual.ensures.1))
 
-pub list::elements-returns-in_err-append-clause-refused : goal.list::elements-returns-in_err-append-clause-refused
-list::elements-returns-in_err-append-clause-refused t c = passed c.from_residual-in_err-append.result c.from_residual-in_err-append.ensures.1 (λ y e. out_of_memory e)
+pub list::with_last-returns-in_ok-single-in-None : goal.list::with_last-returns-in_ok-single-in-None
+list::with_last-returns-in_ok-single-in-None t c = rw c.in-Ok.is (as_made (made {y = c.in-Ok.rest} (grown_as _ _ c.in_ok-single-in-None.ensures (λ x w ks h. rw w (h, c.in-None.ensures.mark)), omega arith)))
 
-pub list::elements-loop-elements-preserved : goal.list::elements-loop-elements-preserved
-list::elements-loop-elements-preserved t c = (rw c.in_ok-append.ensures (listed_more (elements_list c.args.close c.requires) c.args.left c.args.end _ _ _ _ _ _ _ c.loop-elements.invariant.0 c.in_ok-element.ensures.whole c.in-Some.ensures.mark.1), omega (arith, c.loop-elements.invariant.1, c.in-Some.ensures.shorter, c.in_ok-element.ensures.shorter))
+pub list::with_last-returns-in-Some : goal.list::with_last-returns-in-Some
+list::with_last-returns-in-Some t c = rw c.in-Ok.is (judged_on {S = λ read e. ⊥} _ c.read_chain.result c.ranged.result (as_made c.ranged.ensures) (both_ok _ _ c.read_chain.result c.read_chain.ensures.whole c.read_chain.ensures.shorter) c.read_chain.ensures.refused (λ read rest h made. (grown_as _ _ made.0 (λ x w ks f. rw (w, made.1) (element_range c.args.left _ _ _ _ _ _ _ f c.in-Some.ensures.mark.1 h.0)), rw made.1 (omega (arith, h.1, c.in-Some.ensures.shorter)))) (λ e h ks f. element_last c.args.left c.args.end _ _ _ _ _ _ f c.in-Some.ensures.mark.1 h) (λ read e h u. absurd u))
 
-pub list::elements-returns-in_err-rest-in-None-clause-refused : goal.list::elements-returns-in_err-rest-in-None-clause-refused
-list::elements-returns-in_err-rest-in-None-clause-refused t c = passed c.from_residual-in_err-rest-in-None.result c.from_residual-in_err-rest-in-None.ensures.1 (λ y e. rw e (listed_close (elements_list c.args.close c.requires) c.args.left c.args.end _ _ _ _ _ _ c.loop-elements.invariant.0 c.in_ok-element.ensures.whole c.in-None.ensures.mark (c.in_err-rest-in-None.ensures.refused _)))
+pub list::with_last-returns-in-Err : goal.list::with_last-returns-in-Err
+list::with_last-returns-in-Err t c = rw c.in-Err.is (as_made (passed_on refl))
+
+pub list::elements-returns-in_err-behind-clause-refused : goal.list::elements-returns-in_err-behind-clause-refused
+list::elements-returns-in_err-behind-clause-refused t c = passed c.from_residual.result c.from_residual.ensures.1 (λ y e. rw e (listed_item (elements_list c.args.close c.requires) c.args.left c.args.end _ _ _ _ c.loop-behind.invariant.0 c.in_err-behind.ensures.refused))
+
+pub list::elements-loop-behind-preserved : goal.list::elements-loop-behind-preserved
+list::elements-loop-behind-preserved t c = (rw c.in_ok-behind.ensures.whole.1 (listed_more (elements_list c.args.close c.requires) c.args.left c.args.end _ _ _ _ _ _ _ c.loop-behind.invariant.0 c.in_ok-behind.ensures.whole.2 c.in-Some.ensures.mark.1), omega (arith, c.loop-behind.invariant.1, c.in-Some.ensures.shorter, c.in_ok-behind.ensures.shorter))
 
 pub list::elements-returns-in-None-clause-whole : goal.list::elements-returns-in-None-clause-whole
-list::elements-returns-in-None-clause-whole t c = rw (c.fitted.ensures, c.in_ok-append.ensures) (listed_ends (elements_list c.args.close c.requires) c.args.left c.args.end _ _ _ _ _ _ _ c.loop-elements.invariant.0 c.in_ok-element.ensures.whole c.in_ok-rest-in-None.ensures.mark.1)
+list::elements-returns-in-None-clause-whole t c = ok_weaker c.after_mark.result c.after_mark.ensures.mark (λ r h. rw c.in_ok-behind.ensures.whole.1 (listed_ends (elements_list c.args.close c.requires) c.args.left c.args.end _ _ _ _ _ _ _ c.loop-behind.invariant.0 c.in_ok-behind.ensures.whole.2 h.1))
+
+pub list::elements-returns-in-None-clause-refused : goal.list::elements-returns-in-None-clause-refused
+list::elements-returns-in-None-clause-refused t c = err_weaker c.after_mark.result c.after_mark.ensures.refused (λ e h. listed_close (elements_list c.args.close c.requires) c.args.left c.args.end _ _ _ _ _ _ c.loop-behind.invariant.0 c.in_ok-behind.ensures.whole.2 c.in-None.ensures.mark (h _))
 
 pub list::indices-returns-in_err-behind-clause-refused : goal.list::indices-returns-in_err-behind-clause-refused
 list::indices-returns-in_err-behind-clause-refused t c = passed c.from_residual.result c.from_residual.ensures.1 (λ y e. rw e (made_err c.read_chain.result _ c.in_err-behind.ensures c.read_chain.ensures.refused (λ e h. out_of_memory h) (λ e h. listed_item indices_list c.args.left c.args.end _ _ _ _ c.loop-behind.invariant.0 h)))

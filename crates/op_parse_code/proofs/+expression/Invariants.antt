@@ -16,9 +16,6 @@ height Relational = 9
 height Additive = 6
 height Multiplicative = 3
 
-abbrev pub decreases-chain::chain : goal.decreases-chain::chain
-decreases-chain::chain l = 32 * l.left + 11 + height l.level
-
 abbrev pub decreases-chain::read_chain : goal.decreases-chain::read_chain
 decreases-chain::read_chain l = 32 * l.left + 10 + height l.level
 
@@ -76,6 +73,9 @@ decreases-list::elements l = 32 * l.left + 25
 abbrev pub decreases-list::element : goal.decreases-list::element
 decreases-list::element l = 32 * l.left + 24
 
+abbrev pub decreases-list::with_last : goal.decreases-list::with_last
+decreases-list::with_last l = 32 * l.left + 23
+
 abbrev pub decreases-list::indices : goal.decreases-list::indices
 decreases-list::indices l = 32 * l.left + 25
 
@@ -97,11 +97,11 @@ invariant-list::arguments-loop-behind l = Reading add_argument ArgumentsBefore l
 abbrev pub decreases-list::arguments-loop-behind : goal.decreases-list::arguments-loop-behind
 decreases-list::arguments-loop-behind l = length l.rest
 
-abbrev pub invariant-list::elements-loop-elements : goal.invariant-list::elements-loop-elements
-invariant-list::elements-loop-elements l = Reading add_element (ElementsBefore l.fn.close) l.fn.left l.fn.end (terminals l.fn.tokens) l.elements.items (terminals l.rest) × (length l.rest ≤ length l.fn.tokens)
+abbrev pub invariant-list::elements-loop-behind : goal.invariant-list::elements-loop-behind
+invariant-list::elements-loop-behind l = Reading add_element (ElementsBefore l.fn.close) l.fn.left l.fn.end (terminals l.fn.tokens) l.list.items (terminals l.rest) × (length l.rest ≤ length l.fn.tokens)
 
-abbrev pub decreases-list::elements-loop-elements : goal.decreases-list::elements-loop-elements
-decreases-list::elements-loop-elements l = length l.rest
+abbrev pub decreases-list::elements-loop-behind : goal.decreases-list::elements-loop-behind
+decreases-list::elements-loop-behind l = length l.rest
 
 abbrev pub invariant-list::indices-loop-behind : goal.invariant-list::indices-loop-behind
 invariant-list::indices-loop-behind l = Reading add_index IndicesBefore l.fn.left l.fn.end (terminals l.fn.tokens) l.list.items (terminals l.rest) × (length l.rest ≤ length l.fn.tokens)

@@ -213,23 +213,23 @@ branch::case_statement-returns-in_ok-rest-in-Some-clause-whole t c = rw c.case_e
 pub branch::branches-returns-then-ends_list-clause-whole : goal.branch::branches-returns-then-ends_list-clause-whole
 branch::branches-returns-then-ends_list-clause-whole t c = rw c.fitted.ensures (led_ends branches_list c.args.left c.args.end _ _ _ c.loop-alloc.invariant.0 (sym c.ends_list.ensures ∙ c.if-ends_list.true))
 
-pub branch::branches-returns-in_err-labels-clause-refused : goal.branch::branches-returns-in_err-labels-clause-refused
-branch::branches-returns-in_err-labels-clause-refused t c = passed c.from_residual.result c.from_residual.ensures.1 (λ y e. rw e (led_lead branches_list c.args.left c.args.end _ _ _ _ c.loop-alloc.invariant.0 (sym c.ends_list.ensures ∙ c.if-ends_list.false) c.in_err-labels.ensures.refused))
+pub branch::branches-returns-in_err-after-clause-refused : goal.branch::branches-returns-in_err-after-clause-refused
+branch::branches-returns-in_err-after-clause-refused t c = passed c.from_residual.result c.from_residual.ensures.1 (λ y e. rw e (led_lead branches_list c.args.left c.args.end _ _ _ _ c.loop-alloc.invariant.0 (sym c.ends_list.ensures ∙ c.if-ends_list.false) c.in_err-after.ensures.refused))
 
 pub branch::branches-returns-in_err-body-clause-refused : goal.branch::branches-returns-in_err-body-clause-refused
-branch::branches-returns-in_err-body-clause-refused t c = passed c.from_residual-in_err-body.result c.from_residual-in_err-body.ensures.1 (λ y e. rw e (led_body branches_list c.args.left c.args.end _ _ _ _ _ _ c.loop-alloc.invariant.0 (sym c.ends_list.ensures ∙ c.if-ends_list.false) c.in_ok-labels.ensures.whole c.in_err-body.ensures.refused))
+branch::branches-returns-in_err-body-clause-refused t c = passed c.from_residual-in_err-body.result c.from_residual-in_err-body.ensures.1 (λ y e. rw e (led_body branches_list c.args.left c.args.end _ _ _ _ _ _ c.loop-alloc.invariant.0 (sym c.ends_list.ensures ∙ c.if-ends_list.false) c.in_ok-after.ensures.whole c.in_err-body.ensures.refused))
 
 pub branch::branches-returns-in_err-push-clause-refused : goal.branch::branches-returns-in_err-push-clause-refused
 branch::branches-returns-in_err-push-clause-refused t c = passed c.from_residual-in_err-push.result c.from_residual-in_err-push.ensures.1 (λ y e. out_of_memory e)
 
 pub branch::branches-loop-alloc-preserved : goal.branch::branches-loop-alloc-preserved
-branch::branches-loop-alloc-preserved t c = (rw c.in_ok-push.ensures.items (led_more branches_list c.args.left c.args.end _ _ _ _ _ _ _ _ c.loop-alloc.invariant.0 (sym c.ends_list.ensures ∙ c.if-ends_list.false) c.in_ok-labels.ensures.whole c.in_ok-body.ensures.whole c.in-Some.ensures.mark.1), omega (arith, c.loop-alloc.invariant.1, c.in-Some.ensures.shorter, c.in_ok-body.ensures.shorter, c.in_ok-labels.ensures.shorter))
+branch::branches-loop-alloc-preserved t c = (rw c.in_ok-push.ensures.items (led_more branches_list c.args.left c.args.end _ _ _ _ _ _ _ _ c.loop-alloc.invariant.0 (sym c.ends_list.ensures ∙ c.if-ends_list.false) (rw c.fitted-labels.ensures c.in_ok-after.ensures.whole) c.in_ok-body.ensures.whole c.in-Some.ensures.mark.1), omega (arith, c.loop-alloc.invariant.1, c.in-Some.ensures.shorter, c.in_ok-body.ensures.shorter, c.in_ok-after.ensures.shorter))
 
 pub branch::branches-returns-then-ends_list-2-clause-whole : goal.branch::branches-returns-then-ends_list-2-clause-whole
-branch::branches-returns-then-ends_list-2-clause-whole t c = rw (c.fitted-then-ends_list-2.ensures, c.in_ok-push.ensures.items) (led_last branches_list c.args.left c.args.end _ _ _ _ _ _ c.loop-alloc.invariant.0 c.in_ok-labels.ensures.whole c.in_ok-body.ensures.whole (sym c.ends_list-in-None.ensures ∙ c.if-ends_list-2.true))
+branch::branches-returns-then-ends_list-2-clause-whole t c = rw (c.fitted-then-ends_list-2.ensures, c.in_ok-push.ensures.items) (led_last branches_list c.args.left c.args.end _ _ _ _ _ _ c.loop-alloc.invariant.0 (rw c.fitted-labels.ensures c.in_ok-after.ensures.whole) c.in_ok-body.ensures.whole (sym c.ends_list-in-None.ensures ∙ c.if-ends_list-2.true))
 
 pub branch::branches-returns-in-None-clause-refused : goal.branch::branches-returns-in-None-clause-refused
-branch::branches-returns-in-None-clause-refused t c = led_stops branches_list c.args.left c.args.end _ _ _ _ _ _ _ _ c.loop-alloc.invariant.0 (sym c.ends_list.ensures ∙ c.if-ends_list.false) c.in_ok-labels.ensures.whole c.in_ok-body.ensures.whole c.in-None.ensures.mark (sym c.ends_list-in-None.ensures ∙ c.if-ends_list-2.false) c.syntax.ensures
+branch::branches-returns-in-None-clause-refused t c = led_stops branches_list c.args.left c.args.end _ _ _ _ _ _ _ _ c.loop-alloc.invariant.0 (sym c.ends_list.ensures ∙ c.if-ends_list.false) c.in_ok-after.ensures.whole c.in_ok-body.ensures.whole c.in-None.ensures.mark (sym c.ends_list-in-None.ensures ∙ c.if-ends_list-2.false) c.syntax.ensures
 
 pub handler::handlers-returns-then-ends_list-clause-whole : goal.handler::handlers-returns-then-ends_list-clause-whole
 handler::handlers-returns-then-ends_list-clause-whole t c = rw c.fitted.ensures (led_ends handlers_list c.args.left c.args.end _ _ _ c.loop-alloc.invariant.0 (sym c.ends_list.ensures ∙ c.if-ends_list.true))

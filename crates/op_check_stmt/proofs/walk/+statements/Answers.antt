@@ -1,4 +1,4 @@
-use Rattle.std.proofs.Common.{◌≡◌, ◌∷◌, [], ◌++◌, ◌+◌, IfOk, Option, Some, None, Result, List, drop, refl, ap, sym, subst, ◌∙◌}
+use Rattle.std.proofs.Common.{◌≡◌, ◌∷◌, ◌++◌, ◌+◌, IfOk, Option, Some, None, Result, List, drop, refl, ap, sym, subst, ◌∙◌}
 use Rattle.std.specs.Option.{option_map}
 use Rattle.op_check_expr.specs.Scopes.{Here, here_of}
 use Rattle.op_judgement.proofs.Computed.{Reports as ReportsOf, followed, paired as both}
