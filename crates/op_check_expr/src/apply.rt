@@ -11,7 +11,7 @@ ghost use Rattle.op_types.specs.Folding.{bound_means};
 ghost use Rattle.op_types.specs.Sorts.{sort_of};
 
 use crate::convert::{as_type, is_wider};
-use crate::operate::{Done, Valued};
+use crate::operate::{Done, Valued, put};
 use crate::scope::Checker;
 use crate::tree::{then, type_of};
 use crate::value::{Value, constant_value};
@@ -36,10 +36,11 @@ pub fn used(
 ) -> Done
     ensures { IfOk result (λ _. Reports (with_part (used setting.entry.core.now position what at) (option_map value_of a.old)) sink.old sink.new (option_map value_of a.new)) }
 {
-    *a = match a.take() {
+    let made = match a.take() {
         Some(a) => used_value(setting, sink, position, what, at, a)?,
         None => None,
     };
+    put(a, made);
     Ok(())
 }
 
@@ -80,7 +81,10 @@ impl<'a> Checker<'a> {
     )
         ensures { Reports (changed constant (bound_means (here_of self.now.scope).core function (of, at))) sink.old sink.new (option_map value_of out.new) }
     {
-        *out = constant_value(self.setting().bound(sink, function, of, at));
+        put(
+            out,
+            constant_value(self.setting().bound(sink, function, of, at)),
+        );
     }
 }
 

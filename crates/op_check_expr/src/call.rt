@@ -16,7 +16,7 @@ ghost use Rattle.op_types.specs.ConstantParts.{only_value};
 
 use crate::convert::stored;
 use crate::denoted::{Denoted, Meant};
-use crate::operate::Done;
+use crate::operate::{Done, put};
 use crate::place::variable_value;
 use crate::scope::Checker;
 use crate::tree::make_room;
@@ -158,10 +158,11 @@ impl<'a> Checker<'a> {
     {
         done?;
         let (Some(parameter), Some(value)) = (parameter, value) else {
-            *out = None;
+            put(out, None);
             return Ok(());
         };
-        *out = self.passed_value(sink, parameter, at, value)?;
+        let made = self.passed_value(sink, parameter, at, value)?;
+        put(out, made);
         Ok(())
     }
 
@@ -213,7 +214,7 @@ impl<'a> Checker<'a> {
         ensures { IfOk result (λ _. Behind done (option_map value_of out.new ≡ call_of (here_of self.now.scope) plan (option_map given_of given))) }
     {
         done?;
-        *out = self.call_value(plan, given);
+        put(out, self.call_value(plan, given));
         Ok(())
     }
 
@@ -322,6 +323,6 @@ pub fn add_given(given: &mut Given, done: Done, more: Option<CoreArgument>) -> D
     };
     make_room(&mut list)?;
     list.push(more)?;
-    *given = Some(list);
+    put(given, Some(list));
     Ok(())
 }

@@ -16,7 +16,7 @@ ghost use Rattle.op_types.specs.Names.{lower};
 use crate::call::given_first;
 use crate::convert::index_at;
 use crate::denoted::{Denoted, Meant, field_of, named};
-use crate::operate::{Done, Valued};
+use crate::operate::{Done, Valued, put};
 use crate::scope::Checker;
 use crate::tree::then;
 use crate::value::{Value, constant_value};
@@ -90,13 +90,14 @@ pub fn still_at(
     ensures { IfOk result (λ _. Behind done (option_map denoted_of out.new ≡ still_at_position position (option_map value_of value))) }
 {
     done?;
-    *out = match (position, value) {
+    let made = match (position, value) {
         (Some(position), Some(value)) => {
             let what = Meant::Value(value);
             Some(Denoted { position, what })
         }
         _ => None,
     };
+    put(out, made);
     Ok(())
 }
 
@@ -111,13 +112,14 @@ pub fn bracketed(
     ensures { IfOk result (λ _. Behind done (option_map denoted_of out.new ≡ option_map (λ v. valued position (in_brackets v)) (option_map value_of value))) }
 {
     done?;
-    *out = match value {
+    let made = match value {
         Some(v) => {
             let what = Meant::Value(v.in_brackets()?);
             Some(Denoted { position, what })
         }
         None => None,
     };
+    put(out, made);
     Ok(())
 }
 
@@ -133,7 +135,7 @@ pub fn text_denoted(
 {
     let value = Const::Text(CompactText::copy_of(alloc, text)?);
     let what = Meant::Value(Value::Constant(made(value, TypeId::STRING, nodes(1))));
-    *out = Some(Denoted { position, what });
+    put(out, Some(Denoted { position, what }));
     Ok(())
 }
 
@@ -143,11 +145,12 @@ impl<'a> Checker<'a> {
     pub fn text_alone(&self, text: &[u8], out: &mut Option<Value>) -> Done
         ensures { IfOk result (λ _. option_map value_of out.new ≡ Some (constant (text_constant text.now))) }
     {
-        *out = match self.setting().literal(text, &[])? {
+        let made = match self.setting().literal(text, &[])? {
             Some(Some(c)) => Some(Value::Constant(c)),
             Some(None) => None,
             None => None,
         };
+        put(out, made);
         Ok(())
     }
 
@@ -163,7 +166,10 @@ impl<'a> Checker<'a> {
     )
         ensures { Reports (changed constant (numeral at count n)) sink.old sink.new (option_map value_of out.new) }
     {
-        *out = constant_value(self.setting().numeral(sink, at, count, n));
+        put(
+            out,
+            constant_value(self.setting().numeral(sink, at, count, n)),
+        );
     }
 
     /// Puts there what a name stands for, spelled so, which is looked up as `key`.
@@ -179,7 +185,8 @@ impl<'a> Checker<'a> {
         ensures { IfOk result (λ _. Reports (name_denoted (here_of self.now.scope) (lower key.now) text.now position) sink.old sink.new (option_map denoted_of out.new)) }
     {
         let meaning = self.scope.visible.look_up(key)?;
-        *out = named(self.setting(), sink, text, position, meaning)?;
+        let made = named(self.setting(), sink, text, position, meaning)?;
+        put(out, made);
         Ok(())
     }
 
@@ -195,10 +202,11 @@ impl<'a> Checker<'a> {
         ensures { IfOk result (λ _. Behind done (Reports (with_part (settled (here_of self.now.scope)) (option_map denoted_of denoted)) sink.old sink.new (option_map value_of out.new))) }
     {
         done?;
-        *out = match denoted {
+        let made = match denoted {
             Some(denoted) => self.settled(sink, denoted)?,
             None => None,
         };
+        put(out, made);
         Ok(())
     }
 
@@ -240,10 +248,11 @@ impl<'a> Checker<'a> {
             }
             what => {
                 let position = front.position;
-                *denoted = match self.settled(sink, Denoted { position, what })? {
+                let made = match self.settled(sink, Denoted { position, what })? {
                     Some(v) => field_of(self.alloc, self.scope.core, sink, name, v)?,
                     None => None,
                 };
+                put(denoted, made);
                 Ok(())
             }
         }
@@ -263,7 +272,8 @@ impl<'a> Checker<'a> {
         ensures { IfOk result (λ _. Behind done (Reports (indexed (here_of self.now.scope).core bracket at (option_map value_of a.old) (option_map value_of index)) sink.old sink.new (option_map value_of a.new))) }
     {
         done?;
-        *a = self.element_at(sink, bracket, at, a.take(), index)?;
+        let made = self.element_at(sink, bracket, at, a.take(), index)?;
+        put(a, made);
         Ok(())
     }
 

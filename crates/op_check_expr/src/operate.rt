@@ -25,6 +25,14 @@ pub type Valued = Result<Option<Value>, NoMemory>;
 /// That something was put in its place.
 pub type Done = Result<(), NoMemory>;
 
+/// Puts a value in a place of the caller. What stood there is dropped here, and not written out in the caller's frame.
+#[inline(never)]
+pub fn put<T: Drop>(out: &mut Option<T>, value: Option<T>)
+    ensures { out.new ≡ value }
+{
+    *out = value;
+}
+
 /// Puts in the place of the first part what an operator at a position makes of both, in an expression that begins at `start`.
 #[inline(never)]
 pub fn operation_of(
@@ -43,7 +51,8 @@ pub fn operation_of(
     let (Some(left), Some(right)) = (a.take(), b) else {
         return Ok(());
     };
-    *a = operated(setting, sink, start, operator, position, left, right)?;
+    let made = operated(setting, sink, start, operator, position, left, right)?;
+    put(a, made);
     Ok(())
 }
 
@@ -194,10 +203,11 @@ pub fn prefix_of(
 ) -> Done
     ensures { IfOk result (λ _. Reports (with_part (prefix_of setting.entry.core.now operator position) (option_map value_of a.old)) sink.old sink.new (option_map value_of a.new)) }
 {
-    *a = match a.take() {
+    let made = match a.take() {
         Some(a) => prefix_value(setting, sink, operator, position, a)?,
         None => None,
     };
+    put(a, made);
     Ok(())
 }
 

@@ -15,7 +15,7 @@ ghost use Rattle.op_types.specs.ConstantParts.{no_members};
 ghost use Rattle.op_types.specs.Operators as table;
 
 use crate::convert::{as_type, base_of};
-use crate::operate::{Done, Valued};
+use crate::operate::{Done, Valued, put};
 use crate::value::{Value, constant_value};
 use op_base::{NoMemory, Place};
 use op_core::{Const, Core, CoreElement, CoreExpr, FirstRefusal, Root, TypeId};
@@ -38,10 +38,11 @@ pub fn alone(at: Place, done: Done, value: Option<Value>, out: &mut Option<Membe
     ensures { IfOk result (λ _. Behind done (option_map member_of out.new ≡ option_map (one at) (option_map value_of value))) }
 {
     done?;
-    *out = match value {
+    let made = match value {
         Some(v) => Some(Member::One(at, v)),
         None => None,
     };
+    put(out, made);
     Ok(())
 }
 
@@ -59,10 +60,10 @@ pub fn ranged(
     done.0?;
     done.1?;
     let (Some(a), Some(b)) = (a, b) else {
-        *out = None;
+        put(out, None);
         return Ok(());
     };
-    *out = Some(Member::Range(places.0, a, places.1, b));
+    put(out, Some(Member::Range(places.0, a, places.1, b)));
     Ok(())
 }
 
@@ -82,7 +83,7 @@ pub fn add_member(members: &mut Members, done: Done, more: Option<Member>) -> Do
         return Ok(());
     };
     list.push(more)?;
-    *members = Some(list);
+    put(members, Some(list));
     Ok(())
 }
 
@@ -99,10 +100,11 @@ pub fn set_of(
     ensures { IfOk result (λ _. Behind done (Reports (with_part (set_of setting.entry.core.now wanted) (option_map members_of members)) sink.old sink.new (option_map value_of out.new))) }
 {
     done?;
-    *out = match members {
+    let made = match members {
         Some(members) => set_value(setting, sink, wanted, members)?,
         None => None,
     };
+    put(out, made);
     Ok(())
 }
 

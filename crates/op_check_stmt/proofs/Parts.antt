@@ -4,7 +4,7 @@ use Rattle.std.specs.Option.{option_map}
 use Rattle.std.specs.Prelude.{Vec}
 use Rattle.std.specs.declared.alloc.Global.{Global}
 use Rattle.op_base.specs.declared.place.Place.{Place}
-use Rattle.op_check_expr.specs.Parts.{OfOk}
+use Rattle.op_check_expr.specs.Parts.{Behind, OfOk}
 use Rattle.op_check_stmt.specs.Labels.{once, repeated}
 use Rattle.op_check_stmt.specs.declared.case.Spot.{Spot}
 use Rattle.op_check_stmt.specs.Parts.{items_of, three_typed, with_last}
@@ -39,6 +39,36 @@ made {X} {Y} v w f a b old mid new x y p t h k e g =
 pub pairs : {X Y A B : Type 0} (v : X → A) (w : Y → B) (a : Checked A) (b : Checked B) (old mid new : FirstRefusal) (x : Option X) (y : Option Y) (p : Option (X × Y)) → Reports a old mid (option_map v x) → Reports b mid new (option_map w y) → p ≡ both_typed (λ x y. (x, y)) x y → Reports (paired a b) old new (option_map (both_views v w) p)
 pairs v w a b old mid new x y p h k e = made v w (λ a b. (a, b)) a b old mid new x y p (option_map (both_views v w) p) h k e refl
 
+-- the same behind an answer, where the second part is one
+pub made_of : {X Y A B C U E : Type 0} (v : X → A) (w : Y → B) (f : A → B → C) (done : Result U E) (x : Option X) (y : Result (Option Y) E) (p : Option (X × Y)) (t : Option C) → Behind done (OfOk y (λ y. p ≡ both_typed (λ x y. (x, y)) x y)) → t ≡ option_map (λ (p : X × Y). f (v p.0) (w p.1)) p → Behind done (OfOk y (λ y. t ≡ both_typed f (option_map v x) (option_map w y)))
+made_of {X} {Y} v w f (Ok u) x (Ok y) p t h e = e ∙ ap (option_map (λ (p : X × Y). f (v p.0) (w p.1))) h ∙ through v w f x y
+made_of v w f (Ok u) x (Err y) p t h e = h
+made_of v w f (Err u) x y p t h e = h
+
+-- the same behind two answers
+pub made_behind : {X Y A B C U E : Type 0} (v : X → A) (w : Y → B) (f : A → B → C) (first second : Result U E) (x : Option X) (y : Option Y) (p : Option (X × Y)) (t : Option C) → Behind first (Behind second (p ≡ both_typed (λ x y. (x, y)) x y)) → t ≡ option_map (λ (p : X × Y). f (v p.0) (w p.1)) p → Behind first (Behind second (t ≡ both_typed f (option_map v x) (option_map w y)))
+made_behind {X} {Y} v w f (Ok u) (Ok s) x y p t h e = e ∙ ap (option_map (λ (p : X × Y). f (v p.0) (w p.1))) h ∙ through v w f x y
+made_behind v w f (Ok u) (Err s) x y p t h e = h
+made_behind v w f (Err u) second x y p t h e = h
+
+-- the same of an answer and what stands behind another one
+pub made_front : {X Y A B C U E : Type 0} (v : X → A) (w : Y → B) (f : A → B → C) (x : Result (Option X) E) (done : Result U E) (y : Option Y) (p : Option (X × Y)) (t : Option C) → OfOk x (λ x. Behind done (p ≡ both_typed (λ x y. (x, y)) x y)) → t ≡ option_map (λ (p : X × Y). f (v p.0) (w p.1)) p → OfOk x (λ x. Behind done (t ≡ both_typed f (option_map v x) (option_map w y)))
+made_front {X} {Y} v w f (Ok x) (Ok u) y p t h e = e ∙ ap (option_map (λ (p : X × Y). f (v p.0) (w p.1))) h ∙ through v w f x y
+made_front v w f (Ok x) (Err u) y p t h e = h
+made_front v w f (Err x) done y p t h e = h
+
+three_through : {X Y Z A B C : Type 0} (v : X → A) (w : Y → B) (f : Z → A → B → C) (z : Option Z) (x : Option X) (y : Option Y) → both_typed (λ z (p : X × Y). f z (v p.0) (w p.1)) z (both_typed (λ x y. (x, y)) x y) ≡ three_typed f z (option_map v x) (option_map w y)
+three_through v w f None x y = refl
+three_through v w f (Some z) None y = refl
+three_through v w f (Some z) (Some x) None = refl
+three_through v w f (Some z) (Some x) (Some y) = refl
+
+-- three parts, of which two are answers
+pub made_three : {X Y Z A B C E : Type 0} (v : X → A) (w : Y → B) (f : Z → A → B → C) (z : Option Z) (x : Result (Option X) E) (y : Result (Option Y) E) (p : Option (X × Y)) (t : Option C) → OfOk x (λ x. OfOk y (λ y. p ≡ both_typed (λ x y. (x, y)) x y)) → t ≡ both_typed (λ z (p : X × Y). f z (v p.0) (w p.1)) z p → OfOk x (λ x. OfOk y (λ y. t ≡ three_typed f z (option_map v x) (option_map w y)))
+made_three {X} {Y} v w f z (Ok x) (Ok y) p t h e = e ∙ ap (both_typed (λ z (p : X × Y). f z (v p.0) (w p.1)) z) h ∙ three_through v w f z x y
+made_three v w f z (Ok x) (Err y) p t h e = h
+made_three v w f z (Err x) y p t h e = h
+
 -- three parts
 pub three : {A B C D : Type 0} (f : A → B → C → D) (a : Checked A) (b : Checked B) (c : Checked C) (old mid far new : FirstRefusal) (x : Option A) (y : Option B) (z : Option C) (t : Option D) → Reports a old mid x → Reports b mid far y → Reports c far new z → t ≡ three_typed f x y z → Reports (of_two (λ (p : A × B) c. f p.0 p.1 c) (paired a b) c) old new t
 three {A} {B} f a b c old mid far new x y z t h k l e =
@@ -55,6 +85,12 @@ pub behind_answer : {A V E R : Type 0} {P Q : A → Type 0} (answer : Result A E
 behind_answer (Ok a) (Ok v) h g k = k a h g
 behind_answer (Err e) (Ok v) h g k = absurd g
 behind_answer answer (Err e) h g k = g
+
+-- what is true of parts is true of what they are, behind two answers
+pub behind_same : {A U E : Type 0} (Q : A → Type 0) (first second : Result U E) (p a : A) → Behind first (Behind second (p ≡ a)) → Q p → Behind first (Behind second (Q a))
+behind_same Q (Ok u) (Ok s) p a h q = subst Q h q
+behind_same Q (Ok u) (Err s) p a h q = h
+behind_same Q (Err u) second p a h q = h
 
 -- ---- lists
 

@@ -15,7 +15,7 @@ use crate::repeated::repeated;
 use crate::unplaced::place_of_body;
 use crate::variable::host_of;
 use op_base::{NoMemory, Place};
-use op_check_expr::{Checker, Done, Value, as_type};
+use op_check_expr::{Checker, Done, Value, as_type, put};
 use op_core::{Const, Core, CoreExpr, FirstRefusal, Label, TypeId};
 use op_judgement::{Feature, LanguageRule, refuse};
 use op_tree::{Element, Expr};
@@ -46,10 +46,11 @@ pub fn check_selector(
 ) -> Done
     ensures { IfOk result (λ _. Reports (selector (here_of here.now.scope) (expr_of e.now)) sink.old sink.new (option_map typed_of out.new)) }
 {
-    *out = match here.value(sink, None, e)? {
+    let made = match here.value(sink, None, e)? {
         None => None,
         Some(value) => selected(here.alloc, here.scope.core, sink, start_of(e), value)?,
     };
+    put(out, made);
     Ok(())
 }
 

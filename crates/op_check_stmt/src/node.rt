@@ -11,7 +11,7 @@ ghost use Rattle.op_judgement.specs.Judgement.{both_typed};
 
 use crate::variable::Counter;
 use op_base::{NoMemory, Sequence};
-use op_check_expr::Done;
+use op_check_expr::{Done, put};
 use op_core::{CoreBranch, CoreExpr, CoreStmt, Label, VariableId};
 use op_tree::Direction;
 use std::alloc::Global;
@@ -25,7 +25,7 @@ pub type Typed = Result<Option<CoreStmt>, NoMemory>;
 pub fn empty(out: &mut Option<CoreStmt>)
     ensures { option_map stmt_of out.new ≡ Some empty }
 {
-    *out = Some(CoreStmt::Empty);
+    put(out, Some(CoreStmt::Empty));
 }
 
 #[inline(never)]
@@ -33,11 +33,17 @@ pub fn block(done: Done, statements: Option<Vec<CoreStmt>>, out: &mut Option<Cor
     ensures { IfOk result (λ _. Behind done (option_map stmt_of out.new ≡ option_map block (statements_in statements))) }
 {
     done?;
-    *out = match statements {
+    put(out, block_with(statements));
+    Ok(())
+}
+
+fn block_with(statements: Option<Vec<CoreStmt>>) -> Option<CoreStmt>
+    ensures { option_map stmt_of result ≡ option_map block (statements_in statements) }
+{
+    match statements {
         None => None,
         Some(statements) => Some(block_of(statements)),
-    };
-    Ok(())
+    }
 }
 
 /// Both parts, where both are typed.
@@ -51,6 +57,55 @@ pub fn pair<A: Drop, B: Drop>(a: Option<A>, b: Option<B>) -> Option<(A, B)>
     Some((a, b))
 }
 
+/// Both parts, where both are typed, behind an answer.
+fn paired<A: Drop, B: Drop>(
+    done: Done,
+    a: Option<A>,
+    b: Result<Option<B>, NoMemory>,
+) -> Result<Option<(A, B)>, NoMemory>
+    ensures { IfOk result (λ p. Behind done (OfOk b (λ b. p ≡ both_typed (λ a b. (a, b)) a b))) }
+{
+    done?;
+    Ok(pair(a, b?))
+}
+
+/// The same behind two answers.
+pub fn paired_behind<A: Drop, B: Drop>(
+    done: (Done, Done),
+    a: Option<A>,
+    b: Option<B>,
+) -> Result<Option<(A, B)>, NoMemory>
+    ensures { IfOk result (λ p. Behind done.0 (Behind done.1 (p ≡ both_typed (λ a b. (a, b)) a b))) }
+{
+    done.0?;
+    done.1?;
+    Ok(pair(a, b))
+}
+
+/// The same of two answers.
+fn paired_answers<A: Drop, B: Drop>(
+    a: Result<Option<A>, NoMemory>,
+    b: Result<Option<B>, NoMemory>,
+) -> Result<Option<(A, B)>, NoMemory>
+    ensures { IfOk result (λ p. OfOk a (λ a. OfOk b (λ b. p ≡ both_typed (λ a b. (a, b)) a b))) }
+{
+    let a = a?;
+    Ok(pair(a, b?))
+}
+
+/// The same of an answer and what stands behind another one.
+fn paired_in_front<A: Drop, B: Drop>(
+    a: Result<Option<A>, NoMemory>,
+    done: Done,
+    b: Option<B>,
+) -> Result<Option<(A, B)>, NoMemory>
+    ensures { IfOk result (λ p. OfOk a (λ a. Behind done (p ≡ both_typed (λ a b. (a, b)) a b))) }
+{
+    let a = a?;
+    done?;
+    Ok(pair(a, b))
+}
+
 /// What stands in front of an `else`.
 #[inline(never)]
 pub fn front(
@@ -61,8 +116,8 @@ pub fn front(
 ) -> Done
     ensures { IfOk result (λ _. Behind done (OfOk then (λ then. out.new ≡ both_typed (λ a b. (a, b)) condition then))) }
 {
-    done?;
-    *out = pair(condition, then?);
+    let parts = paired(done, condition, then)?;
+    put(out, parts);
     Ok(())
 }
 
@@ -91,13 +146,18 @@ pub fn if_then(
 ) -> Done
     ensures { IfOk result (λ _. Behind done (OfOk then (λ then. option_map stmt_of out.new ≡ both_typed if_then (option_map expr_of condition) (option_map boxed_of then)))) }
 {
-    done?;
-    let (Some(condition), Some(then)) = (condition, then?) else {
-        *out = None;
-        return Ok(());
-    };
-    *out = Some(CoreStmt::If { condition, then });
+    let parts = paired(done, condition, then)?;
+    put(out, if_with(parts));
     Ok(())
+}
+
+fn if_with(parts: Option<(CoreExpr, Box<CoreStmt>)>) -> Option<CoreStmt>
+    ensures { option_map stmt_of result ≡ option_map (λ p. if_then (expr_of p.0) (boxed_of p.1)) parts }
+{
+    match parts {
+        None => None,
+        Some((condition, then)) => Some(CoreStmt::If { condition, then }),
+    }
 }
 
 #[inline(never)]
@@ -109,17 +169,22 @@ pub fn if_else(
 ) -> Done
     ensures { IfOk result (λ _. Behind done (OfOk otherwise (λ otherwise. option_map stmt_of out.new ≡ both_typed (λ (f : Expression × Statement) s. if_else f.0 f.1 s) (option_map front_of front) (option_map boxed_of otherwise)))) }
 {
-    done?;
-    let (Some((condition, then)), Some(otherwise)) = (front, otherwise?) else {
-        *out = None;
-        return Ok(());
-    };
-    *out = Some(CoreStmt::IfElse {
-        condition,
-        then,
-        otherwise,
-    });
+    let parts = paired(done, front, otherwise)?;
+    put(out, if_else_with(parts));
     Ok(())
+}
+
+fn if_else_with(parts: Option<((CoreExpr, Box<CoreStmt>), Box<CoreStmt>)>) -> Option<CoreStmt>
+    ensures { option_map stmt_of result ≡ option_map (λ p. if_else (expr_of p.0.0) (boxed_of p.0.1) (boxed_of p.1)) parts }
+{
+    match parts {
+        None => None,
+        Some(((condition, then), otherwise)) => Some(CoreStmt::IfElse {
+            condition,
+            then,
+            otherwise,
+        }),
+    }
 }
 
 #[inline(never)]
@@ -131,13 +196,18 @@ pub fn while_do(
 ) -> Done
     ensures { IfOk result (λ _. Behind done (OfOk body (λ body. option_map stmt_of out.new ≡ both_typed while_do (option_map expr_of condition) (option_map boxed_of body)))) }
 {
-    done?;
-    let (Some(condition), Some(body)) = (condition, body?) else {
-        *out = None;
-        return Ok(());
-    };
-    *out = Some(CoreStmt::While { condition, body });
+    let parts = paired(done, condition, body)?;
+    put(out, while_with(parts));
     Ok(())
+}
+
+fn while_with(parts: Option<(CoreExpr, Box<CoreStmt>)>) -> Option<CoreStmt>
+    ensures { option_map stmt_of result ≡ option_map (λ p. while_do (expr_of p.0) (boxed_of p.1)) parts }
+{
+    match parts {
+        None => None,
+        Some((condition, body)) => Some(CoreStmt::While { condition, body }),
+    }
 }
 
 #[inline(never)]
@@ -151,7 +221,9 @@ pub fn for_to(
 ) -> Done
     ensures { IfOk result (λ _. OfOk bounds (λ bounds. OfOk body (λ body. option_map stmt_of out.new ≡ three_typed (for_statement direction) counter (option_map bounds_of bounds) (option_map boxed_of body)))) }
 {
-    *out = for_from(alloc, direction, counter, bounds?, body?)?;
+    let parts = paired_answers(bounds, body)?;
+    let made = for_from(alloc, direction, counter, parts)?;
+    put(out, made);
     Ok(())
 }
 
@@ -159,12 +231,11 @@ fn for_from(
     alloc: Global,
     direction: Direction,
     counter: Option<Counter>,
-    bounds: Option<(CoreExpr, CoreExpr)>,
-    body: Option<Box<CoreStmt>>,
+    parts: Option<((CoreExpr, CoreExpr), Box<CoreStmt>)>,
 ) -> Typed
-    ensures { IfOk result (λ s. option_map stmt_of s ≡ three_typed (for_statement direction) counter (option_map bounds_of bounds) (option_map boxed_of body)) }
+    ensures { IfOk result (λ s. option_map stmt_of s ≡ both_typed (λ c p. for_statement direction c (bounds_of p.0) (boxed_of p.1)) counter parts) }
 {
-    let (Some(counter), Some((first, last)), Some(body)) = (counter, bounds, body) else {
+    let (Some(counter), Some(((first, last), body))) = (counter, parts) else {
         return Ok(None);
     };
     let first = Box::new(alloc, first)?;
@@ -201,14 +272,22 @@ pub fn repeat_until(
 ) -> Done
     ensures { IfOk result (λ _. Behind done.0 (Behind done.1 (option_map stmt_of out.new ≡ both_typed repeat_until (statements_in body) (option_map expr_of condition)))) }
 {
-    done.0?;
-    done.1?;
-    let (Some(body), Some(condition)) = (body, condition) else {
-        *out = None;
-        return Ok(());
-    };
-    *out = Some(repeat_of(body, Box::new(alloc, condition)?));
+    let parts = paired_behind(done, body, condition)?;
+    let made = repeat_with(alloc, parts)?;
+    put(out, made);
     Ok(())
+}
+
+fn repeat_with(alloc: Global, parts: Option<(Vec<CoreStmt>, CoreExpr)>) -> Typed
+    ensures { IfOk result (λ s. option_map stmt_of s ≡ option_map (λ p. repeat_until (stmts_of p.0.items) (expr_of p.1)) parts) }
+{
+    match parts {
+        None => Ok(None),
+        Some((body, condition)) => {
+            let condition = Box::new(alloc, condition)?;
+            Ok(Some(repeat_of(body, condition)))
+        }
+    }
 }
 
 #[inline(never)]
@@ -220,14 +299,18 @@ pub fn try_finally(
 ) -> Done
     ensures { IfOk result (λ _. Behind done.0 (Behind done.1 (option_map stmt_of out.new ≡ both_typed try_finally (statements_in body) (statements_in finalization)))) }
 {
-    done.0?;
-    done.1?;
-    let (Some(body), Some(finalization)) = (body, finalization) else {
-        *out = None;
-        return Ok(());
-    };
-    *out = Some(finally_of(body, finalization));
+    let parts = paired_behind(done, body, finalization)?;
+    put(out, finally_with(parts));
     Ok(())
+}
+
+fn finally_with(parts: Option<(Vec<CoreStmt>, Vec<CoreStmt>)>) -> Option<CoreStmt>
+    ensures { option_map stmt_of result ≡ option_map (λ p. try_finally (stmts_of p.0.items) (stmts_of p.1.items)) parts }
+{
+    match parts {
+        None => None,
+        Some((body, finalization)) => Some(finally_of(body, finalization)),
+    }
 }
 
 #[inline(never)]
@@ -240,15 +323,22 @@ pub fn case_of(
 ) -> Done
     ensures { IfOk result (λ _. Behind done.0 (Behind done.1 (option_map stmt_of out.new ≡ both_typed case_statement (option_map head_of head) (statements_in otherwise)))) }
 {
-    done.0?;
-    done.1?;
-    let (Some((selector, branches)), Some(otherwise)) = (head, otherwise) else {
-        *out = None;
-        return Ok(());
-    };
-    let selector = Box::new(alloc, selector)?;
-    *out = Some(case_with(selector, branches, otherwise));
+    let parts = paired_behind(done, head, otherwise)?;
+    let made = case_from(alloc, parts)?;
+    put(out, made);
     Ok(())
+}
+
+fn case_from(alloc: Global, parts: Option<((CoreExpr, Vec<CoreBranch>), Vec<CoreStmt>)>) -> Typed
+    ensures { IfOk result (λ s. option_map stmt_of s ≡ option_map (λ p. case_of (expr_of p.0.0) (branches_of p.0.1.items) (stmts_of p.1.items)) parts) }
+{
+    match parts {
+        None => Ok(None),
+        Some(((selector, branches), otherwise)) => {
+            let selector = Box::new(alloc, selector)?;
+            Ok(Some(case_with(selector, branches, otherwise)))
+        }
+    }
 }
 
 #[inline(never)]
@@ -260,15 +350,9 @@ pub fn branch(
 ) -> Done
     ensures { IfOk result (λ _. OfOk labels (λ labels. Behind done (option_map branch_of out.new ≡ both_typed (λ l s. (l, s)) (items_of labels) (option_map stmt_of body)))) }
 {
-    done?;
-    *out = branch_from(labels?, body);
+    let parts = paired_in_front(labels, done, body)?;
+    put(out, branch_with(parts));
     Ok(())
-}
-
-fn branch_from(labels: Option<Vec<Label>>, body: Option<CoreStmt>) -> Option<CoreBranch>
-    ensures { option_map branch_of result ≡ both_typed (λ l s. (l, s)) (items_of labels) (option_map stmt_of body) }
-{
-    branch_with(pair(labels, body))
 }
 
 fn branch_with(parts: Option<(Vec<Label>, CoreStmt)>) -> Option<CoreBranch>

@@ -15,7 +15,7 @@ use crate::action::{change, count, unwritten, write};
 use crate::given::{Given, values};
 use crate::leaving::{Jump, in_finally, leaving};
 use op_base::NoMemory;
-use op_check_expr::{Checker, Done, position_of};
+use op_check_expr::{Checker, Done, position_of, put};
 use op_core::{Core, CoreStmt, FirstRefusal, RoutineId, TypeId};
 use op_judgement::{LanguageRule, refuse};
 use op_tree::{Argument, Designator, Direction, Name, Root, Selector};
@@ -40,10 +40,11 @@ pub fn call(
 ) -> Done
     ensures { IfOk result (λ _. Reports (call_means (here_of here.now.scope) (designator_of d.now)) sink.old sink.new (option_map stmt_of out.new)) }
 {
-    *out = match built_in(here.alloc, here.scope.visible, d)? {
+    let made = match built_in(here.alloc, here.scope.visible, d)? {
         None => plain_call(*here, sink, d)?,
         Some(c) => procedure(*here, sink, d, c)?,
     };
+    put(out, made);
     Ok(())
 }
 

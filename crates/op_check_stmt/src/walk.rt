@@ -20,12 +20,12 @@ ghost use Rattle.op_tree.specs.Statement.{block, case_of, designator_of, for_to,
 use crate::case::{Spot, branch_labels, check_selector, distinct};
 use crate::leaving::within;
 use crate::list::{begin, collect, fit};
-use crate::node::{self, pair};
+use crate::node::{self, pair, paired_behind};
 use crate::procedure::call;
 use crate::unplaced::place_of_body;
 use crate::variable::{Counter, check_counter};
 use op_base::{NoMemory, Place};
-use op_check_expr::{Around, Checker, Done, Scope, Value, as_type, type_of};
+use op_check_expr::{Around, Checker, Done, Scope, Value, as_type, put, type_of};
 use op_core::{CheckError, CoreBranch, CoreExpr, CoreStmt, FirstRefusal, TypeId, VariableId};
 use op_judgement::{Feature, LanguageRule, refuse};
 use op_tree::{Branch, Designator, Direction, Expr, Handler, Name, Position, Stmt};
@@ -181,7 +181,10 @@ fn handlers_left_out(
 fn left_out(sink: &mut FirstRefusal, feature: Feature, place: Place, out: &mut Option<CoreStmt>)
     ensures { Reports (refused (NotInProfile feature) place) sink.old sink.new (option_map typed_statement out.new) }
 {
-    *out = refuse(sink, LanguageRule::NotInProfile(feature), place);
+    put(
+        out,
+        refuse(sink, LanguageRule::NotInProfile(feature), place),
+    );
 }
 
 #[inline(never)]
@@ -443,9 +446,9 @@ fn head(
 ) -> Done
     ensures { IfOk result (λ _. Behind done.0 (Behind done.1 (Reports (distinct (both_typed (λ a b. (a, b)) selector branches) spots.items) sink.old sink.new out.new))) }
 {
-    done.0?;
-    done.1?;
-    *out = distinct(alloc, sink, spots.as_slice(), pair(selector, branches))?;
+    let parts = paired_behind(done, selector, branches)?;
+    let made = distinct(alloc, sink, spots.as_slice(), parts)?;
+    put(out, made);
     Ok(())
 }
 
@@ -513,10 +516,11 @@ fn check_condition(
 ) -> Done
     ensures { IfOk result (λ _. Reports (condition (here_of here.now.scope) (expr_of e.now)) sink.old sink.new (option_map typed_of out.new)) }
 {
-    *out = match here.value(sink, None, e)? {
+    let made = match here.value(sink, None, e)? {
         None => None,
         Some(value) => tested(here, sink, start_of(e), value)?,
     };
+    put(out, made);
     Ok(())
 }
 
@@ -590,6 +594,7 @@ fn assignment(
     let target = here.target(sink, target)?;
     let of = type_in(&target);
     let value = stored(here, sink, of, position.switches.r, value)?;
-    *out = node::assign(here.alloc, pair(target, value))?;
+    let made = node::assign(here.alloc, pair(target, value))?;
+    put(out, made);
     Ok(())
 }
