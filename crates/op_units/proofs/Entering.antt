@@ -14,7 +14,7 @@ use Rattle.op_parse_code.specs.declared.error.ParseError.TheVariants as parsed
 use Rattle.op_tree.specs.declared.file.Tree.{Tree}
 use Rattle.op_units.specs.Cycles.{ClosesAt, ClosingIs, EnterIs, FirstIs, FrameIs, RefusesBy, TooLargeIs, closing_at, use_at, uses_up_to, with_parts}
 use Rattle.op_units.specs.Names.{file_of_unit, implementation_uses, interface_uses, is_system, is_sysutils, name_of}
-use Rattle.op_units.specs.Walk.{AreVisited, are_all, are_front, by_name, by_text, by_uses, Enters, FileBreaks, IsNew, IsThere, IsTooLarge, Stops, UseBreaks, UseIs, Walked, Walks, breaks, is_known, is_missing, is_too_large, is_too_many, misnamed, nothing_read, main_breaks, own_names, path, refused, room, start_of, unit_name, used_again}
+use Rattle.op_units.specs.Walk.{AreVisited, are_all, are_front, by_name, by_text, by_uses, Enters, FileBreaks, FileBreaksAs, IsNew, IsThere, IsTooLarge, Stops, UseBreaks, UseIs, Walked, Walks, breaks, is_known, is_missing, is_too_large, is_too_many, misnamed, nothing_read, main_breaks, own_names, path, refused, room, start_of, unit_name, used_again}
 use Rattle.op_units.specs.Reading.{Breaks, BreaksAs, Reads}
 use Rattle.op_units.specs.declared.error.LoadError.{LoadError}
 use Rattle.op_units.specs.declared.error.LoadError.TheVariants as errors
@@ -70,17 +70,15 @@ closing_within w unit interface (Some k) c = subst (λ us. k < length us) (sym c
     length_front [] rest u = omega arith
     length_front (v ∷ front) rest u = omega (arith, length_front front rest u)
 
-pub file_breaks : (w : Walked) (number : ℕ) (unit : Option (List ℕ)) (bytes : List ℕ) (e : ParseError) (refusal : Refusal) → number ≡ length w.trees → BreaksAs number bytes e → e ≡ parsed.Refused refusal → FileBreaks (length w.trees) unit bytes refusal
-file_breaks w number unit bytes e refusal same h is = by_text (subst (λ n. Breaks n bytes refusal) same (subst (λ x. BreaksAs number bytes x) is h))
+pub file_breaks : (w : Walked) (number : ℕ) (unit : Option (List ℕ)) (bytes : List ℕ) (e : ParseError) (refusal : Refusal) → number ≡ length w.trees → FileBreaksAs number unit bytes e → e ≡ parsed.Refused refusal → FileBreaks (length w.trees) unit bytes refusal
+file_breaks w number unit bytes e refusal same h is = subst (λ n. FileBreaks n unit bytes refusal) same (subst (λ x. FileBreaksAs number unit bytes x) is h)
 
-pub name_differs : (w : Walked) (number : ℕ) (unit : Option (List ℕ)) (bytes : List ℕ) (t : Tree) (place : Place) (refusal : Refusal) → number ≡ length w.trees → Reads number bytes t → misnamed unit t ≡ Some place → refusal ≡ broken 12 place → FileBreaks (length w.trees) unit bytes refusal
-name_differs w number unit bytes t place refusal same reads m is = by_name t place (subst (λ n. Reads n bytes t) same reads) m is
+pub breaks_by_text : (number : ℕ) (unit : Option (List ℕ)) (bytes : List ℕ) (e : ParseError) → BreaksAs number bytes e → FileBreaksAs number unit bytes e
+breaks_by_text number unit bytes (parsed.Refused refusal) h = by_text h
+breaks_by_text number unit bytes parsed.NoMemory h = tt
 
 pub same_uses : (names own : List (List ℕ)) (first interface second implementation : List Use) → names ≡ own → first ≡ interface → second ≡ implementation → used_again names (first ++ second) ≡ used_again own (interface ++ implementation)
 same_uses names own first interface second implementation e f g = ap (λ n. used_again n (first ++ second)) e ∙ ap (λ us. used_again own (us ++ second)) f ∙ ap (λ us. used_again own (interface ++ us)) g
-
-pub used_twice : (w : Walked) (number : ℕ) (unit : Option (List ℕ)) (bytes : List ℕ) (t : Tree) (place : Place) (refusal : Refusal) → number ≡ length w.trees → Reads number bytes t → misnamed unit t ≡ None → used_again (own_names unit) (interface_uses t ++ implementation_uses t) ≡ Some place → refusal ≡ broken 17 place → FileBreaks (length w.trees) unit bytes refusal
-used_twice w number unit bytes t place refusal same reads m again is = by_uses t place (subst (λ n. Reads n bytes t) same reads) m again is
 
 -- ---- a name
 

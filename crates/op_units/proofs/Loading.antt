@@ -34,7 +34,7 @@ breaks_by_tokens number bytes tokens (Err parsed.NoMemory) s h = h
 -- ---- errors
 
 -- an error that is handed on by `?`
-pub handed_on : {T : Type 0} {R Q : LoadError → Type 0} (r : Result T LoadError) → IsErrAnd r R → ((e : LoadError) → R e → Q e) → IfErr r Q
+pub handed_on : {T E : Type 0} {R Q : E → Type 0} (r : Result T E) → IsErrAnd r R → ((e : E) → R e → Q e) → IfErr r Q
 handed_on (Ok x) h f = absurd h
 handed_on (Err e) h f = f e h
 

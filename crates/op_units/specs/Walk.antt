@@ -9,6 +9,8 @@ use Rattle.op_base.specs.declared.place.Place.{Place}
 use Rattle.op_base.specs.declared.rule.Refusal.{Refusal}
 use Rattle.op_core.specs.Faults.{broken}
 use Rattle.op_base.specs.Rule.{HasText}
+use Rattle.op_parse_code.specs.declared.error.ParseError.{ParseError}
+use Rattle.op_parse_code.specs.declared.error.ParseError.TheVariants as parsed
 use Rattle.op_tree.specs.declared.file.Tree.{Tree}
 use Rattle.op_tree.specs.declared.file.Tree.TheVariants as tree
 use Rattle.op_units.specs.Reading.{Breaks, Reads}
@@ -127,6 +129,18 @@ pub data FileBreaks (number : ℕ) (unit : Option (List ℕ)) (bytes : List ℕ)
   by_text : Breaks number bytes refusal → FileBreaks number unit bytes refusal
   by_name : (t : Tree) (place : Place) → Reads number bytes t → misnamed unit t ≡ Some place → refusal ≡ broken 12 place → FileBreaks number unit bytes refusal
   by_uses : (t : Tree) (place : Place) → Reads number bytes t → misnamed unit t ≡ None → used_again (own_names unit) (uses_of t) ≡ Some place → refusal ≡ broken 17 place → FileBreaks number unit bytes refusal
+
+-- the uses of a file in its interface part and behind it, where it has the right name and no name is used twice
+pub record AreUses (unit : Option (List ℕ)) (t : Tree) (interface implementation : List Use) : Type 0 where
+  pub named : misnamed unit t ≡ None
+  pub once : used_again (own_names unit) (interface ++ implementation) ≡ None
+  pub in_interface : interface ≡ interface_uses t
+  pub in_implementation : implementation ≡ implementation_uses t
+
+-- the first rule that a file breaks by itself, as parsing answers, but for want of memory
+abbrev pub FileBreaksAs : ℕ → Option (List ℕ) → List ℕ → ParseError → Type 0
+FileBreaksAs number unit bytes (parsed.Refused refusal) = FileBreaks number unit bytes refusal
+FileBreaksAs number unit bytes parsed.NoMemory = ⊤
 
 -- the tree of a file that breaks none
 pub record IsFile (number : ℕ) (unit : Option (List ℕ)) (bytes : List ℕ) (t : Tree) : Type 0 where

@@ -1,9 +1,10 @@
 //! How far the walk over the units of a program has come.
-ghost use Rattle.std.specs.Prelude.{◌≡◌, ◌≤◌, ◌<◌, ◌∷◌, ◌++◌, ℕ, [], None, Some, IfOk, IfErr, IfSome, length, map, option_map};
+ghost use Rattle.std.specs.Prelude.{◌≡◌, ◌≤◌, ◌<◌, ◌∷◌, ◌++◌, ℕ, List, [], None, Some, IfOk, IfErr, IfSome, length, map, option_map};
 ghost use Rattle.std.specs.Option.{option_copied};
 ghost use Rattle.op_units.specs.Cycles.{ClosingIs, EnterIs, IsFresh, Reached, TooLargeIs, with_names, with_parts};
 ghost use Rattle.op_units.specs.Names.{name_of};
-ghost use Rattle.op_units.specs.Walk.{IsForest, UseIs, interface_of, misnamed, nothing_read, placed, room, start_of, unit_name, walked_of};
+ghost use Rattle.op_units.specs.Reading.{Reads};
+ghost use Rattle.op_units.specs.Walk.{AreUses, FileBreaksAs, IsForest, UseIs, interface_of, misnamed, nothing_read, placed, room, start_of, unit_name, walked_of};
 
 use crate::frame::{Frame, frame_of};
 use crate::loader::{refused, tree_of};
@@ -72,6 +73,21 @@ pub struct Walk {
     order: Vec<Text>,
     /// The bytes of all files.
     size: usize,
+}
+
+/// The uses in the interface part of a file, of a program all, and those in its implementation part.
+#[derive(Drop)]
+struct FileUses {
+    interface: Vec<Use>,
+    implementation: Vec<Use>,
+}
+
+/// What is read of a file: its tree, its uses, and the number of the first one by which interface uses lead back to it.
+#[derive(Drop)]
+struct FileParts {
+    tree: Tree,
+    uses: FileUses,
+    closing: Option<usize>,
 }
 
 impl Walk {
@@ -179,21 +195,20 @@ impl Walk {
         let Ok(number) = u32::try_from(self.trees.len()) else {
             return Err(LoadError::NoMemory);
         };
-        let tree = match tree_of(alloc, number, bytes) {
-            Ok(tree) => tree,
+        let parts = match self.parts_of(alloc, number, bytes, &unit) {
+            Ok(parts) => parts,
             Err(ParseError::Refused(refusal)) => return Err(LoadError::Refused(refusal, file)),
             Err(ParseError::NoMemory) => return Err(LoadError::NoMemory),
         };
-        if let Some(place) = misnamed(alloc, &unit, &tree)? {
-            return Err(LoadError::Refused(broken(NAME_DIFFERS, place), file));
-        }
-        let interface = interface_uses(alloc, &tree)?;
-        let implementation = implementation_uses(alloc, &tree)?;
-        let names = own_names(alloc, &unit)?;
-        if let Some(place) = used_again(names, interface.as_slice(), implementation.as_slice())? {
-            return Err(LoadError::Refused(broken(USED_AGAIN, place), file));
-        }
-        let closing = self.closing(alloc, name_of(&unit), interface.as_slice())?;
+        let FileParts {
+            tree,
+            uses,
+            closing,
+        } = parts;
+        let FileUses {
+            interface,
+            implementation,
+        } = uses;
         self.keep(
             alloc,
             file.as_slice(),
@@ -203,6 +218,28 @@ impl Walk {
             interface.as_slice(),
         )?;
         Ok(frame_of(file, unit, closing, interface, implementation)?)
+    }
+
+    /// What is read of a file of these bytes, by its number in the order of reading.
+    fn parts_of(
+        &self,
+        alloc: Global,
+        number: u32,
+        bytes: &[u8],
+        unit: &Option<Text>,
+    ) -> Result<FileParts, ParseError>
+        requires { length bytes.now ≤ 4194304 }
+        ensures whole { IfOk result (λ p. Reads number bytes.now p.tree × AreUses unit.now p.tree p.uses.interface.items p.uses.implementation.items × ClosingIs (walked_of self.now) (unit_name unit.now) p.uses.interface.items p.closing) }
+        ensures refused { IfErr result (FileBreaksAs number unit.now bytes.now) }
+    {
+        let tree = tree_of(alloc, number, bytes)?;
+        let uses = uses_of(alloc, unit, &tree)?;
+        let closing = self.closing(alloc, name_of(unit), uses.interface.as_slice())?;
+        Ok(FileParts {
+            tree,
+            uses,
+            closing,
+        })
     }
 
     /// Keeps a file that was read, with the uses of its interface part.
@@ -218,6 +255,7 @@ impl Walk {
         requires fresh { IsFresh (walked_of self.old) unit.now }
         ensures { IfOk result (λ _. walked_of self.new ≡ with_parts (walked_of self.old) file.now unit.now size tree (map name_of interface.now)) }
     {
+        self.trees.push(tree)?;
         self.size = self.size.checked_add(size).ok_or(NoMemory)?;
         self.names.push(Text::copy_of(alloc, file)?)?;
         if let Some(unit) = unit {
@@ -225,7 +263,6 @@ impl Walk {
             self.interfaces
                 .push(Sequence::from(names_of(alloc, interface)?))?;
         }
-        self.trees.push(tree)?;
         Ok(())
     }
 
@@ -274,6 +311,26 @@ impl Walk {
         let names = self.interfaces.get(number)?;
         Some(names.as_slice())
     }
+}
+
+/// The uses of a file that is the one of this unit, or a program's, and uses no name twice.
+fn uses_of(alloc: Global, unit: &Option<Text>, tree: &Tree) -> Result<FileUses, ParseError>
+    ensures whole { IfOk result (λ us. AreUses unit.now tree.now us.interface.items us.implementation.items) }
+    ensures refused { IfErr result (λ e. (number : ℕ) (bytes : List ℕ) → Reads number bytes tree.now → FileBreaksAs number unit.now bytes e) }
+{
+    if let Some(place) = misnamed(alloc, unit, tree)? {
+        return Err(ParseError::Refused(broken(NAME_DIFFERS, place)));
+    }
+    let interface = interface_uses(alloc, tree)?;
+    let implementation = implementation_uses(alloc, tree)?;
+    let names = own_names(alloc, unit)?;
+    if let Some(place) = used_again(names, interface.as_slice(), implementation.as_slice())? {
+        return Err(ParseError::Refused(broken(USED_AGAIN, place)));
+    }
+    Ok(FileUses {
+        interface,
+        implementation,
+    })
 }
 
 fn add_all(seen: &mut NameSet, names: &[Text]) -> Result<(), NoMemory>
