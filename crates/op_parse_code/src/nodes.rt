@@ -117,20 +117,18 @@ pub fn inherited_node(
 }
 
 #[inline(never)]
-pub fn range_node(alloc: Global, first: Expr, last: Expr) -> Result<Element, NoMemory>
-    ensures { IfOk result (λ e. element_of e ≡ range (expr_of first) (expr_of last)) }
+pub fn range_node(alloc: Global, first: Expr, last: Box<Expr>) -> Result<Element, NoMemory>
+    ensures { IfOk result (λ e. element_of e ≡ range (expr_of first) (expr_of last.value)) }
 {
     let first = Box::new(alloc, first)?;
-    let last = Box::new(alloc, last)?;
     Ok(Element::Range(first, last))
 }
 
 #[inline(never)]
-pub fn padded_node(alloc: Global, value: Expr, width: Expr) -> Result<Argument, NoMemory>
-    ensures { IfOk result (λ a. argument_of a ≡ padded (expr_of value) (expr_of width)) }
+pub fn padded_node(alloc: Global, value: Expr, width: Box<Expr>) -> Result<Argument, NoMemory>
+    ensures { IfOk result (λ a. argument_of a ≡ padded (expr_of value) (expr_of width.value)) }
 {
     let value = Box::new(alloc, value)?;
-    let width = Box::new(alloc, width)?;
     Ok(Argument::Padded(value, width))
 }
 

@@ -1,5 +1,5 @@
-use Rattle.std.proofs.Common.{refl}
+use Rattle.std.proofs.Common.{refl, sym}
 use Rattle.op_parse_code.proofs.list.valued.Goals as goal
 
 pub returns : goal.returns
-returns c = (_, c.in_ok-append.ensures, refl)
+returns c = (_, c.in_ok-append.ensures, rw (sym c.replace-taken.ensures.value) refl)
