@@ -116,9 +116,6 @@ pub record Operating (l : Level) (d : ℕ) (end : Place) (all : List Terminal) (
   pub dies : (e : ParseError) → Refuses (SomeOperations l) d end rest e → Refuses (SomeOperations l) d end all e
   pub follows : NotTighter l rest
 
-pub operating_none : (l : Level) (d : ℕ) (end : Place) (all : List Terminal) → NotTighter l all → Operating l d end all [] all
-operating_none l d end all h = record { completes = λ more r x. x; dies = λ e x. x; follows = h }
-
 add_operation : (l : Level) (d : ℕ) (k : TokenKind) (o : Operator) (p : Position) (e : Expression) (more : Operations) (after m r : List Terminal) → operator_of k ≡ Some o → level_of o ≡ l → Operand l d e after m → SomeOperations l d more m r → SomeOperations l d (operation o p e more) (k at p ∷ after) r
 add_operation l d k o p e more after m r h q (f, w) (are_no_operations, n, t) = (are_operations h q f are_no_operations, n, operand_end l e _ w)
 add_operation l d k o p e more after m r h q (f, w) (are_operations h1 q1 a os, n, t) = (are_operations h q f (are_operations h1 q1 a os), n, t)

@@ -121,9 +121,6 @@ pub record Selecting (d : ℕ) (end : Place) (all : List Terminal) (xs : List Ru
   pub completes : (more : Selectors) (r : List Terminal) → SomeSelectors d more rest r → SomeSelectors d (selectors_before xs more) all r
   pub dies : (e : ParseError) → Refuses SomeSelectors d end rest e → Refuses SomeSelectors d end all e
 
-pub selecting_none : (d : ℕ) (end : Place) (all : List Terminal) → Selecting d end all [] all
-selecting_none d end all = record { completes = λ more r x. x; dies = λ e x. x }
-
 selector_stands : {d : ℕ} {s : Selector} {ks r : List Terminal} → IsSelector d s ks r → Begins begins_selector ks
 selector_stands is_member = refl
 selector_stands (is_index f) = refl

@@ -1,5 +1,5 @@
 -- Marks and other single tokens.
-use Rattle.std.proofs.Common.{◌≡◌, Some, refl, ap}
+use Rattle.std.proofs.Common.{◌≡◌, Some, ap}
 use Rattle.op_parse_code.specs.Opening.{mark_of, kind_of}
 use Rattle.op_parse_code.specs.declared.mark.Mark.{Mark}
 use Rattle.op_parse_code.specs.declared.mark.Mark.TheVariants as mark
@@ -47,43 +47,3 @@ mark_kind kind.Property m h = ap kind_of (some_same h)
 mark_kind kind.Unit m h = ap kind_of (some_same h)
 mark_kind kind.Type_ m h = ap kind_of (some_same h)
 mark_kind other m h = absurd cc
-
-pub mark_at : (m : Mark) → mark_of (kind_of m) ≡ Some m
-mark_at mark.Comma = refl
-mark_at mark.Colon = refl
-mark_at mark.Semicolon = refl
-mark_at mark.DotDot = refl
-mark_at mark.Dot = refl
-mark_at mark.Assign = refl
-mark_at mark.CloseParenthesis = refl
-mark_at mark.CloseBracket = refl
-mark_at mark.Then = refl
-mark_at mark.Else_ = refl
-mark_at mark.Of = refl
-mark_at mark.Do_ = refl
-mark_at mark.Until = refl
-mark_at mark.In_ = refl
-mark_at mark.Except = refl
-mark_at mark.Finally = refl
-mark_at mark.End = refl
-mark_at mark.Equal = refl
-mark_at mark.OpenParenthesis = refl
-mark_at mark.OpenBracket = refl
-mark_at mark.Array = refl
-mark_at mark.Record = refl
-mark_at mark.Set = refl
-mark_at mark.Case = refl
-mark_at mark.Const_ = refl
-mark_at mark.Var = refl
-mark_at mark.Inline = refl
-mark_at mark.Begin = refl
-mark_at mark.Interface = refl
-mark_at mark.Implementation = refl
-mark_at mark.Initialization = refl
-mark_at mark.Finalization = refl
-mark_at mark.Program = refl
-mark_at mark.Uses = refl
-mark_at mark.Class = refl
-mark_at mark.Property = refl
-mark_at mark.Unit = refl
-mark_at mark.Type_ = refl

@@ -15,7 +15,7 @@ use crate::error::{FLOATING_POINT, left_out};
 use crate::factor::factor;
 use crate::nodes::{append, chain_node};
 use crate::token::position_of;
-use op_base::Place;
+use op_base::{NoMemory, Place};
 use op_scan::{Switches, Token};
 use op_tree::{Expr, Level, Operation, Operator, Position, operator_of};
 use std::alloc::Global;
@@ -50,7 +50,14 @@ pub fn unread(end: Place) -> Expr {
     }
 }
 
-/// The same into a place of the caller's, so that the levels within one another keep no expressions on the stack.
+/// The same in a box.
+#[inline(never)]
+pub fn unread_boxed(alloc: Global, end: Place) -> Result<Box<Expr>, NoMemory> {
+    let boxed = Box::new(alloc, unread(end))?;
+    Ok(boxed)
+}
+
+/// The chain of a level into a place of the caller's, so that the levels within one another keep no expressions on the stack.
 #[cycle(expression)]
 #[inline(never)]
 pub fn read_chain<'a>(

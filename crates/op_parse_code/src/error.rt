@@ -107,12 +107,3 @@ pub fn told(feature: u8, end: Place, form: &[Token], error: ParseError) -> Parse
         ParseError::NoMemory => ParseError::NoMemory,
     }
 }
-
-/// A refusal, in place of what is read so far.
-#[inline(never)]
-pub fn refused<T: Drop, U>(error: ParseError, read: T) -> Result<U, ParseError>
-    ensures { result ≡ Err error }
-{
-    let _read = read;
-    Err(error)
-}

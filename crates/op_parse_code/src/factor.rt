@@ -4,7 +4,7 @@ ghost use Rattle.op_parse_code.specs.Opening.{spelled};
 ghost use Rattle.op_parse_code.specs.Refusal.{MadeOf, Refuses, refused_at};
 ghost use Rattle.op_parse_code.specs.Whole.{CannotEnter, Factor, InsideSet};
 ghost use Rattle.op_scan.specs.declared.token.TokenKind.TheVariants.{CharacterString, Inherited};
-ghost use Rattle.op_tree.specs.Expression.{Elements, designated, expr_of, set};
+ghost use Rattle.op_tree.specs.Expression.{Elements, designated, expr_of, inherited, set};
 ghost use Rattle.op_tree.specs.Operator.{prefix_operator_of};
 ghost use Rattle.op_tree.specs.Statement.{designator_of, elements_of};
 ghost use Rattle.op_tree.specs.Terminal.{terminal_of, terminals};
@@ -120,9 +120,25 @@ fn inherited<'a>(
     ensures shorter { IfOk result (λ f. length f.1.now ≤ length tokens.now) }
 {
     let position = position_of(first);
-    let (designator, rest) = designator(alloc, left, end, tokens)?;
-    let factor = inherited_node(alloc, position, designator)?;
-    Ok((factor, rest))
+    inherited_factor(designator(alloc, left, end, tokens), alloc, position)
+}
+
+/// The factor of a designator that was read behind `inherited` at a position.
+#[inline(never)]
+fn inherited_factor<'a>(
+    read: Result<(Designator, &'a [Token]), ParseError>,
+    alloc: Global,
+    position: Position,
+) -> Result<(Expr, &'a [Token]), ParseError>
+    ensures { MadeOf (λ g f. (expr_of f.0 ≡ inherited position (designator_of g.0)) × (f.1.now ≡ g.1.now)) read.entry result }
+{
+    match read {
+        Ok((designator, rest)) => {
+            let factor = inherited_node(alloc, position, designator)?;
+            Ok((factor, rest))
+        }
+        Err(error) => Err(error),
+    }
 }
 
 /// What stands behind a sign or `not`, with that token.

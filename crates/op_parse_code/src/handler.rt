@@ -1,6 +1,6 @@
 //! The statement `try` and its handlers.
-ghost use Rattle.std.specs.Prelude.{◌≡◌, ℕ, ◌≤◌, ◌<◌, IfOk, IfErr, length};
-ghost use Rattle.op_parse_code.specs.Refusal.{Refuses};
+ghost use Rattle.std.specs.Prelude.{◌≡◌, ◌∷◌, ◌++◌, [], ℕ, ◌≤◌, ◌<◌, IfOk, IfErr, length};
+ghost use Rattle.op_parse_code.specs.Refusal.{MadeOf, Refuses};
 ghost use Rattle.op_parse_code.specs.WholeStatement.{Behind, ClassTail, SomeExcept, SomeHandlers, SomeOn, begins_handler, class_of, rest_of};
 ghost use Rattle.op_scan.specs.declared.token.TokenKind.TheVariants.{Try_};
 ghost use Rattle.op_tree.specs.Lists.{handlers_of};
@@ -111,12 +111,12 @@ fn handlers<'a>(
             return Ok((fitted(handlers), rest));
         }
         let (variable, class, after) = on_clause(alloc, end, rest)?;
-        let (body, behind) = statement_at(alloc, left, end, after)?;
-        handlers.push(Handler {
+        let behind = handled(
+            statement_at(alloc, left, end, after),
             variable,
             class,
-            body,
-        })?;
+            &mut handlers,
+        )?;
         match behind_mark(Mark::Semicolon, behind) {
             Some(after) => rest = after,
             None => {
@@ -126,6 +126,29 @@ fn handlers<'a>(
                 return Err(syntax(end, behind));
             }
         }
+    }
+}
+
+/// Puts a handler whose statement was read behind those of a list.
+#[inline(never)]
+fn handled<'a>(
+    read: Result<(Stmt, &'a [Token]), ParseError>,
+    variable: Option<Name>,
+    class: QualifiedName,
+    list: &mut Vec<Handler>,
+) -> Result<&'a [Token], ParseError>
+    ensures { MadeOf (λ f rest. (list.new.items ≡ list.old.items ++ (record { variable = variable; class = class; body = f.0 } ∷ [])) × (rest.now ≡ f.1.now)) read.entry result }
+{
+    match read {
+        Ok((body, rest)) => {
+            list.push(Handler {
+                variable,
+                class,
+                body,
+            })?;
+            Ok(rest)
+        }
+        Err(error) => Err(error),
     }
 }
 

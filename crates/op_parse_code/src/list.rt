@@ -11,10 +11,10 @@ ghost use Rattle.op_tree.specs.declared.operator.Level.TheVariants.{Relational};
 ghost use Rattle.op_tree.specs.declared.position.Position.{Position};
 
 use crate::ParseError;
-use crate::chain::{read_chain, unread};
-use crate::error::{FRACTION_WIDTH, left_out, refused};
+use crate::chain::{read_chain, unread, unread_boxed};
+use crate::error::{FRACTION_WIDTH, left_out};
 use crate::mark::{Mark, after_mark, behind_mark};
-use crate::nodes::{append, appended, padded_node, range_node};
+use crate::nodes::{append, appended, range_node};
 use op_base::{NoMemory, Place};
 use op_scan::Token;
 use op_tree::{Argument, Element, Expr, Level};
@@ -95,9 +95,9 @@ fn with_last<'a>(
                 Ok(rest)
             }
             Some(after) => {
-                let mut last = unread(end);
+                let mut last = unread_boxed(alloc, end)?;
                 ranged(
-                    read_chain(alloc, Level::Relational, left, end, &mut last, after),
+                    read_chain(alloc, Level::Relational, left, end, &mut *last, after),
                     alloc,
                     end,
                     first,
@@ -127,10 +127,10 @@ fn ranged<'a>(
     alloc: Global,
     end: Place,
     first: &mut Expr,
-    last: Expr,
+    last: Box<Expr>,
     list: &mut Vec<Element>,
 ) -> Result<&'a [Token], ParseError>
-    ensures { MadeOf (λ behind rest. Grown list.old.items list.new.items (λ x. element_of x ≡ range (expr_of first.old) (expr_of last)) × (rest.now ≡ behind.now)) read.entry result }
+    ensures { MadeOf (λ behind rest. Grown list.old.items list.new.items (λ x. element_of x ≡ range (expr_of first.old) (expr_of last.value)) × (rest.now ≡ behind.now)) read.entry result }
 {
     match read {
         Ok(rest) => {
@@ -222,9 +222,9 @@ fn argument<'a>(
     ensures refused { IfErr result (Refuses SomeArgument left end (terminals tokens.now)) }
     ensures shorter { IfOk result (λ rest. length rest.now ≤ length tokens.now) }
 {
-    let mut shown = unread(end);
+    let mut shown = unread_boxed(alloc, end)?;
     with_width(
-        read_chain(alloc, Level::Relational, left, end, &mut shown, tokens),
+        read_chain(alloc, Level::Relational, left, end, &mut *shown, tokens),
         alloc,
         left,
         end,
@@ -241,12 +241,12 @@ fn with_width<'a>(
     alloc: Global,
     left: u32,
     end: Place,
-    shown: Expr,
+    shown: Box<Expr>,
     list: &mut Vec<Argument>,
 ) -> Result<&'a [Token], ParseError>
     ensures { MadeOrRefused
-        (λ behind rest. Grown list.old.items list.new.items (λ x. (ks : List Terminal) → Chain Relational left (expr_of shown) ks (terminals behind.now) → SomeArgument left (argument_of x) ks (terminals rest.now)) × (length rest.now ≤ length behind.now))
-        (λ behind e. (ks : List Terminal) → Chain Relational left (expr_of shown) ks (terminals behind.now) → Refuses SomeArgument left end ks e)
+        (λ behind rest. Grown list.old.items list.new.items (λ x. (ks : List Terminal) → Chain Relational left (expr_of shown.value) ks (terminals behind.now) → SomeArgument left (argument_of x) ks (terminals rest.now)) × (length rest.now ≤ length behind.now))
+        (λ behind e. (ks : List Terminal) → Chain Relational left (expr_of shown.value) ks (terminals behind.now) → Refuses SomeArgument left end ks e)
         read.entry result }
 {
     match read {
@@ -256,10 +256,9 @@ fn with_width<'a>(
                 Ok(rest)
             }
             Some(after) => {
-                let mut width = unread(end);
+                let mut width = unread_boxed(alloc, end)?;
                 padded(
-                    read_chain(alloc, Level::Relational, left, end, &mut width, after),
-                    alloc,
+                    read_chain(alloc, Level::Relational, left, end, &mut *width, after),
                     end,
                     shown,
                     width,
@@ -267,16 +266,17 @@ fn with_width<'a>(
                 )
             }
         },
-        Err(error) => refused(error, shown),
+        Err(error) => Err(error),
     }
 }
 
 /// Puts an expression behind the arguments of a list.
 #[inline(never)]
-fn valued(shown: Expr, list: &mut Vec<Argument>) -> Result<(), NoMemory>
-    ensures { IfOk result (λ _. Grown list.old.items list.new.items (λ x. argument_of x ≡ value (expr_of shown))) }
+fn valued(shown: Box<Expr>, list: &mut Vec<Argument>) -> Result<(), NoMemory>
+    ensures { IfOk result (λ _. Grown list.old.items list.new.items (λ x. argument_of x ≡ value (expr_of shown.value))) }
 {
-    append(list, Argument::Value(shown))?;
+    let argument = Argument::Value(Box::into_inner(shown));
+    append(list, argument)?;
     Ok(())
 }
 
@@ -284,22 +284,20 @@ fn valued(shown: Expr, list: &mut Vec<Argument>) -> Result<(), NoMemory>
 #[inline(never)]
 fn padded<'a>(
     read: Result<&'a [Token], ParseError>,
-    alloc: Global,
     end: Place,
-    shown: Expr,
-    width: Expr,
+    shown: Box<Expr>,
+    width: Box<Expr>,
     list: &mut Vec<Argument>,
 ) -> Result<&'a [Token], ParseError>
     ensures { MadeOrRefused
-        (λ behind rest. Grown list.old.items list.new.items (λ x. argument_of x ≡ padded (expr_of shown) (expr_of width)) × NoMark Colon (terminals behind.now) × (rest.now ≡ behind.now))
+        (λ behind rest. Grown list.old.items list.new.items (λ x. argument_of x ≡ padded (expr_of shown.value) (expr_of width.value)) × NoMark Colon (terminals behind.now) × (rest.now ≡ behind.now))
         (λ behind e. (e ≡ refused_at 13 35 end (terminals behind.now)) × ((p : Position) × (r : List Terminal) × Marked Colon 0 p (terminals behind.now) r))
         read.entry result }
 {
     match read {
         Ok(rest) => match behind_mark(Mark::Colon, rest) {
             None => {
-                let argument = padded_node(alloc, shown, width)?;
-                append(list, argument)?;
+                append(list, Argument::Padded(shown, width))?;
                 Ok(rest)
             }
             Some(_) => Err(left_out(FRACTION_WIDTH, end, rest)),

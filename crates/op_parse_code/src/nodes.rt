@@ -1,7 +1,7 @@
 //! The nodes of expressions, from their parts.
 ghost use Rattle.std.specs.Prelude.{◌≡◌, ◌∷◌, ◌++◌, [], IfOk};
 ghost use Rattle.op_parse_code.specs.Refusal.{MadeOf};
-ghost use Rattle.op_tree.specs.Expression.{argument_of, bracketed, call, designated, element_of, expr_of, index, inherited, literal, padded, prefixed, range, root_of, selector_of, set};
+ghost use Rattle.op_tree.specs.Expression.{bracketed, call, designated, element_of, expr_of, index, inherited, literal, prefixed, range, root_of, selector_of, set};
 ghost use Rattle.op_tree.specs.ExpressionGrammar.{chain_of};
 ghost use Rattle.op_tree.specs.Lists.{arguments_of, expressions_of, operations_of};
 ghost use Rattle.op_tree.specs.Statement.{designator_of, elements_of, selectors_of};
@@ -117,21 +117,11 @@ pub fn inherited_node(
 }
 
 #[inline(never)]
-pub fn range_node(alloc: Global, first: Expr, last: Expr) -> Result<Element, NoMemory>
-    ensures { IfOk result (λ e. element_of e ≡ range (expr_of first) (expr_of last)) }
+pub fn range_node(alloc: Global, first: Expr, last: Box<Expr>) -> Result<Element, NoMemory>
+    ensures { IfOk result (λ e. element_of e ≡ range (expr_of first) (expr_of last.value)) }
 {
     let first = Box::new(alloc, first)?;
-    let last = Box::new(alloc, last)?;
     Ok(Element::Range(first, last))
-}
-
-#[inline(never)]
-pub fn padded_node(alloc: Global, value: Expr, width: Expr) -> Result<Argument, NoMemory>
-    ensures { IfOk result (λ a. argument_of a ≡ padded (expr_of value) (expr_of width)) }
-{
-    let value = Box::new(alloc, value)?;
-    let width = Box::new(alloc, width)?;
-    Ok(Argument::Padded(value, width))
 }
 
 pub fn bracketed_node(alloc: Global, position: Position, inside: Expr) -> Result<Root, NoMemory>

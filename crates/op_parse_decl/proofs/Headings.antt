@@ -1,9 +1,9 @@
 -- Refusals of headings and their parameters, and the forms that show there.
-use Rattle.std.proofs.Common.{◌≡◌, ℕ, Bool, true, false, List, [], ◌∷◌, ◌++◌, Option, Some, None, codes, length, refl, sym, ap, ◌∙◌, subst}
+use Rattle.std.proofs.Common.{◌≡◌, ℕ, Bool, true, false, List, [], ◌∷◌, ◌++◌, Option, Some, None, codes, refl, sym, ap, ◌∙◌, subst}
 use Rattle.op_base.specs.declared.place.Place.{Place}
 use Rattle.op_parse_code.proofs.Cuts.{same_behind, same_not}
 use Rattle.op_parse_code.proofs.Factors.{same_begins}
-use Rattle.op_parse_code.proofs.Names.{none_left, word_kind}
+use Rattle.op_parse_code.proofs.Names.{word_kind}
 use Rattle.op_parse_code.proofs.Refusing.{Some_, dead_here, no_mark_same}
 use Rattle.op_parse_decl.proofs.Untold.{refuses_behind, refuses_map}
 use Rattle.op_parse_code.specs.Form.{Form, HasForm, is_array_of_const, is_default}
@@ -20,7 +20,6 @@ use Rattle.op_parse_decl.specs.Headings.{IsRoutineKind, is_routine_kind, NoOut, 
 use Rattle.op_parse_decl.specs.Known.{no_mark_by}
 use Rattle.op_parse_decl.specs.Properties.{word_is}
 use Rattle.op_parse_decl.specs.Types.{NoDot, SomeNames, SomeQualified}
-use Rattle.op_scan.specs.declared.token.Token.{Token}
 use Rattle.op_scan.specs.declared.token.TokenKind.{TokenKind}
 use Rattle.op_scan.specs.declared.token.TokenKind.TheVariants as kind
 use Rattle.op_tree.proofs.DenoterUnique.{names_begin, qualified_begins}
@@ -29,7 +28,7 @@ use Rattle.op_tree.proofs.StatementUnique.{both as apart, differ}
 use Rattle.op_tree.specs.Ends.{IsNot, begins_designator}
 use Rattle.op_tree.specs.HeadingGrammar.{routine_kind_of, IsMode, by_value, by_var, by_const, by_out, IsParameterType, is_named, is_string, AreParameters}
 use Rattle.op_tree.specs.NameGrammar.{AreNames, are_one_name, are_names, is_name, is_unqualified, is_qualified}
-use Rattle.op_tree.specs.Terminal.{Terminal, ◌at◌, IsWord, name, terminals}
+use Rattle.op_tree.specs.Terminal.{Terminal, ◌at◌, IsWord, name}
 use Rattle.op_tree.specs.declared.heading.ParameterMode.{ParameterMode}
 use Rattle.op_tree.specs.declared.heading.ParameterMode.TheVariants as mode
 use Rattle.op_tree.specs.declared.heading.ParameterType.{ParameterType}
@@ -136,9 +135,6 @@ const_mode {r = r} e = subst (λ z. IsMode mode.Const_ z r) (sym e) by_const
 
 pub out_mode : {k : TokenKind} {p : Position} {ks : List Terminal} → is_word (codes "out") k ≡ true → Begins is_identifier ks → SomeMode mode.Out (k at p ∷ ks) ks
 out_mode {k = k} {p = p} {ks = ks} h b = let w = word_kind (codes "out") k h in (subst (λ z. IsMode mode.Out (z at p ∷ ks) ks) (sym w.0) (by_out w.1), b)
-
-pub no_token_no_out : (ts : List Token) → length ts ≡ 0 → NoOut (terminals ts)
-no_token_no_out ts h = subst NoOut (sym (ap terminals (none_left ts h))) (λ r m b. elim m [ ])
 
 pub no_word_no_out : {k : TokenKind} {p : Position} {ks : List Terminal} → is_word (codes "out") k ≡ false → NoOut (k at p ∷ ks)
 no_word_no_out h r (by_out {out = out} w) b = word_is (codes "out") out w h

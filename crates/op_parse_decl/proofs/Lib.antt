@@ -18,4 +18,3 @@ pub mod Files
 pub mod Leaves
 pub mod Classes
 pub mod Untold
-pub mod Lives

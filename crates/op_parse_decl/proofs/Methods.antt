@@ -1,5 +1,5 @@
 -- Refusals of methods, and the directives behind a heading.
-use Rattle.std.proofs.Common.{◌≡◌, ℕ, List, [], ◌∷◌, ◌++◌, append_assoc, Some, refl, sym, ap, ◌∙◌, subst}
+use Rattle.std.proofs.Common.{◌≡◌, ℕ, List, [], ◌∷◌, ◌++◌, append_assoc, Some, sym, ap, ◌∙◌, subst}
 use Rattle.std.proofs.lemmas.List.{append-nil}
 use Rattle.op_base.specs.declared.place.Place.{Place}
 use Rattle.op_parse_code.proofs.Refusing.{Some_, Seq}
@@ -22,9 +22,6 @@ use Rattle.op_tree.specs.declared.position.Position.{Position}
 -- the directives that are read so far, and what is left
 pub record Directing (all : List Terminal) (ws : List Directive) (rest : List Terminal) : Type 0 where
   pub completes : (more : List Directive) (r : List Terminal) → AreDirectives more rest r → AreDirectives (ws ++ more) all r
-
-pub directing_none : (all : List Terminal) → Directing all [] all
-directing_none all = record { completes = λ more r x. x }
 
 pub directing_more : (all rest m : List Terminal) (ws : List Directive) (w : Directive) → Directing all ws rest → IsDirective w rest m → Directing all (ws ++ (w ∷ [])) m
 directing_more all rest m ws w so_far (are_directives e are_no_directives) = record {

@@ -201,14 +201,14 @@ factor::literal-returns-in_err-selectors-clause-refused t c = passed c.from_resi
 pub factor::literal-returns-clause-whole : goal.factor::literal-returns-clause-whole
 factor::literal-returns-clause-whole t c = rw (c.literal_node.ensures, c.in_ok-text.ensures, c.position_of-position.ensures) (factor_literal c.args.left _ _ _ _ _ _ c.requires c.in_ok-selectors.ensures.whole)
 
-pub factor::inherited-returns-in_err-designator-clause-refused : goal.factor::inherited-returns-in_err-designator-clause-refused
-factor::inherited-returns-in_err-designator-clause-refused t c = passed c.from_residual.result c.from_residual.ensures.1 (λ y e. rw e (inherited_refuses c.args.left c.args.end _ _ _ _ c.requires c.in_err-designator.ensures.refused))
-
-pub factor::inherited-returns-in_err-factor-clause-refused : goal.factor::inherited-returns-in_err-factor-clause-refused
-factor::inherited-returns-in_err-factor-clause-refused t c = passed c.from_residual-in_err-factor.result c.from_residual-in_err-factor.ensures.1 (λ y e. out_of_memory e)
+pub factor::inherited-returns-clause-refused : goal.factor::inherited-returns-clause-refused
+factor::inherited-returns-clause-refused t c = made_err c.designator.result c.inherited_factor.result c.inherited_factor.ensures c.designator.ensures.refused (λ e h. out_of_memory h) (λ e h. inherited_refuses c.args.left c.args.end _ _ _ _ c.requires h)
 
 pub factor::inherited-returns-clause-whole : goal.factor::inherited-returns-clause-whole
-factor::inherited-returns-clause-whole t c = rw (c.in_ok-factor.ensures, c.position_of-position.ensures) (factor_inherited c.args.left _ _ _ _ _ c.requires c.in_ok-designator.ensures.whole)
+factor::inherited-returns-clause-whole t c = made_ok c.designator.result c.inherited_factor.result c.inherited_factor.ensures c.designator.ensures.whole (λ g f h made. rw (made.0, made.1, c.position_of-position.ensures) (factor_inherited c.args.left _ _ _ _ _ c.requires h))
+
+pub factor::inherited-returns-clause-shorter : goal.factor::inherited-returns-clause-shorter
+factor::inherited-returns-clause-shorter t c = made_ok c.designator.result c.inherited_factor.result c.inherited_factor.ensures c.designator.ensures.shorter (λ g f h made. rw made.1 (omega (arith, h)))
 
 pub factor::prefixed-returns-in_err-inner-clause-refused : goal.factor::prefixed-returns-in_err-inner-clause-refused
 factor::prefixed-returns-in_err-inner-clause-refused t c = passed c.from_residual.result c.from_residual.ensures.1 (λ y e. rw e (prefix_too_deep c.args.left c.args.end _ _ _ _ _ c.requires c.in_err-inner.ensures.refused))
@@ -254,8 +254,11 @@ list::with_last-returns-in_err-single-in-None t c = rw c.in-Ok.is (as_made (made
 pub list::with_last-returns-in_ok-single-in-None : goal.list::with_last-returns-in_ok-single-in-None
 list::with_last-returns-in_ok-single-in-None t c = rw c.in-Ok.is (as_made (made {y = c.in-Ok.rest} (grown_as _ _ c.in_ok-single-in-None.ensures (λ x w ks h. rw w (h, c.in-None.ensures.mark)), omega arith)))
 
-pub list::with_last-returns-in-Some : goal.list::with_last-returns-in-Some
-list::with_last-returns-in-Some t c = rw c.in-Ok.is (judged_on {S = λ read e. ⊥} _ c.read_chain.result c.ranged.result (as_made c.ranged.ensures) (both_ok _ _ c.read_chain.result c.read_chain.ensures.whole c.read_chain.ensures.shorter) c.read_chain.ensures.refused (λ read rest h made. (grown_as _ _ made.0 (λ x w ks f. rw (w, made.1) (element_range c.args.left _ _ _ _ _ _ _ f c.in-Some.ensures.mark.1 h.0)), rw made.1 (omega (arith, h.1, c.in-Some.ensures.shorter)))) (λ e h ks f. element_last c.args.left c.args.end _ _ _ _ _ _ f c.in-Some.ensures.mark.1 h) (λ read e h u. absurd u))
+pub list::with_last-returns-in_err-last-in-Some : goal.list::with_last-returns-in_err-last-in-Some
+list::with_last-returns-in_err-last-in-Some t c = rw c.in-Ok.is (as_made (made_none _ c.from_residual-in_err-last-in-Some.result c.from_residual-in_err-last-in-Some.ensures.1))
+
+pub list::with_last-returns-in_ok-last-in-Some : goal.list::with_last-returns-in_ok-last-in-Some
+list::with_last-returns-in_ok-last-in-Some t c = rw c.in-Ok.is (judged_on {S = λ read e. ⊥} _ c.read_chain.result c.ranged.result (as_made c.ranged.ensures) (both_ok _ _ c.read_chain.result c.read_chain.ensures.whole c.read_chain.ensures.shorter) c.read_chain.ensures.refused (λ read rest h made. (grown_as _ _ made.0 (λ x w ks f. rw (w, made.1) (element_range c.args.left _ _ _ _ _ _ _ f c.in-Some.ensures.mark.1 h.0)), rw made.1 (omega (arith, h.1, c.in-Some.ensures.shorter)))) (λ e h ks f. element_last c.args.left c.args.end _ _ _ _ _ _ f c.in-Some.ensures.mark.1 h) (λ read e h u. absurd u))
 
 pub list::with_last-returns-in-Err : goal.list::with_last-returns-in-Err
 list::with_last-returns-in-Err t c = rw c.in-Err.is (as_made (passed_on refl))
@@ -290,6 +293,9 @@ list::indices-returns-in-None-clause-refused t c = err_weaker c.after_mark.resul
 pub list::indices-returns-in-None-clause-shorter : goal.list::indices-returns-in-None-clause-shorter
 list::indices-returns-in-None-clause-shorter t c = ok_weaker c.after_mark.result c.after_mark.ensures.shorter (λ r f. made_as c.read_chain.result _ c.in_ok-behind.ensures c.read_chain.ensures.shorter (λ read h made. omega (arith, h, c.loop-behind.invariant.1, rw made.1 at f)))
 
+pub list::argument-returns-in_err-shown-clause-refused : goal.list::argument-returns-in_err-shown-clause-refused
+list::argument-returns-in_err-shown-clause-refused t c = passed c.from_residual.result c.from_residual.ensures.1 (λ y e. out_of_memory e)
+
 pub list::argument-returns-clause-whole : goal.list::argument-returns-clause-whole
 list::argument-returns-clause-whole t c = judged_ok c.read_chain.result c.with_width.result c.with_width.ensures c.read_chain.ensures.whole (λ read rest h made. grown_as _ _ made.0 (λ x w. w _ h))
 
@@ -305,11 +311,14 @@ list::with_width-returns-in_err-valued-in-None t c = rw c.in-Ok.is (as_made (mad
 pub list::with_width-returns-in_ok-valued-in-None : goal.list::with_width-returns-in_ok-valued-in-None
 list::with_width-returns-in_ok-valued-in-None t c = rw c.in-Ok.is (as_made (made {y = c.in-Ok.rest} (grown_as _ _ c.in_ok-valued-in-None.ensures (λ x w ks h. rw w (h, c.in-None.ensures.mark)), omega arith)))
 
-pub list::with_width-returns-in-Some : goal.list::with_width-returns-in-Some
-list::with_width-returns-in-Some t c = rw c.in-Ok.is (judged_on _ c.read_chain.result c.padded.result c.padded.ensures (both_ok _ _ c.read_chain.result c.read_chain.ensures.whole c.read_chain.ensures.shorter) c.read_chain.ensures.refused (λ read rest h made. (grown_as _ _ made.0 (λ x w ks f. rw (w, made.2) (argument_padded c.args.left _ _ _ _ _ _ _ f c.in-Some.ensures.mark.1 h.0 made.1)), rw made.2 (omega (arith, h.1, c.in-Some.ensures.shorter)))) (λ e h ks f. argument_width c.args.left c.args.end _ _ _ _ _ _ f c.in-Some.ensures.mark.1 h) (λ read e h u ks f. argument_digits c.args.left c.args.end _ _ _ _ _ _ _ _ _ _ f c.in-Some.ensures.mark.1 h.0 u.1.2 u.0))
+pub list::with_width-returns-in_err-width-in-Some : goal.list::with_width-returns-in_err-width-in-Some
+list::with_width-returns-in_err-width-in-Some t c = rw c.in-Ok.is (as_made (made_none _ c.from_residual-in_err-width-in-Some.result c.from_residual-in_err-width-in-Some.ensures.1))
+
+pub list::with_width-returns-in_ok-width-in-Some : goal.list::with_width-returns-in_ok-width-in-Some
+list::with_width-returns-in_ok-width-in-Some t c = rw c.in-Ok.is (judged_on _ c.read_chain.result c.padded.result c.padded.ensures (both_ok _ _ c.read_chain.result c.read_chain.ensures.whole c.read_chain.ensures.shorter) c.read_chain.ensures.refused (λ read rest h made. (grown_as _ _ made.0 (λ x w ks f. rw (w, made.2) (argument_padded c.args.left _ _ _ _ _ _ _ f c.in-Some.ensures.mark.1 h.0 made.1)), rw made.2 (omega (arith, h.1, c.in-Some.ensures.shorter)))) (λ e h ks f. argument_width c.args.left c.args.end _ _ _ _ _ _ f c.in-Some.ensures.mark.1 h) (λ read e h u ks f. argument_digits c.args.left c.args.end _ _ _ _ _ _ _ _ _ _ f c.in-Some.ensures.mark.1 h.0 u.1.2 u.0))
 
 pub list::with_width-returns-in-Err : goal.list::with_width-returns-in-Err
-list::with_width-returns-in-Err t c = rw (c.in-Err.is, c.refused.ensures) (as_made (passed_on refl))
+list::with_width-returns-in-Err t c = rw c.in-Err.is (as_made (passed_on refl))
 
 pub list::arguments-returns-in-Some-clause-whole : goal.list::arguments-returns-in-Some-clause-whole
 list::arguments-returns-in-Some-clause-whole t c = rw c.emptied.ensures (call_empty c.args.left c.in-Some.ensures.mark.0 _ _ c.in-Some.ensures.mark.1)

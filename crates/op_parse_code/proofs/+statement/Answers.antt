@@ -1,7 +1,7 @@
 use Rattle.std.proofs.Common.{refl, sym, ◌∙◌, arith}
 use Rattle.op_parse_code.proofs.Branches.{fits_branches, of_heads, branches_list, led_ends, led_lead, led_body, led_stops, led_more, led_last, case_whole, case_else_whole, CaseBranches, case_refuses, list_first, list_end, list_else}
 use Rattle.op_parse_code.proofs.Calls.{designator_statement}
-use Rattle.op_parse_code.proofs.Errors.{passed, ok_weaker, err_weaker}
+use Rattle.op_parse_code.proofs.Errors.{passed, ok_weaker, err_weaker, made_err, made_as, both_ok}
 use Rattle.op_parse_code.proofs.Handlers.{fits_handlers, handlers_list, except_whole, except_on_whole, except_else_whole, try_body, try_except_missing, try_except_refuses, try_finally_whole, try_except_whole, except_statements, except_handlers, try_finally_refuses}
 use Rattle.op_parse_code.proofs.Names.{empty_not}
 use Rattle.op_parse_code.proofs.Statements.{if_heads, do_heads, statement_none, statement_too_deep, word_refuses, word_whole, word_begins, call_whole, call_statement_refuses, sequencing_item, sequencing_more, sequencing_ends, block_whole, if_otherwise, if_whole, if_else_whole, while_refuses, while_whole, repeat_body, repeat_open, repeat_condition, repeat_whole, for_variable, for_in_missing, for_in_refuses, for_first, for_direction, for_last, for_to_whole, for_in_whole, block_refuses, end_body, end_open, headed_first, headed_mark, headed_rest, IfBody, if_body, if_refuses}
@@ -237,20 +237,23 @@ handler::handlers-returns-then-ends_list-clause-whole t c = rw c.fitted.ensures 
 pub handler::handlers-returns-in_err-variable-clause-refused : goal.handler::handlers-returns-in_err-variable-clause-refused
 handler::handlers-returns-in_err-variable-clause-refused t c = passed c.from_residual.result c.from_residual.ensures.1 (λ y e. rw e (led_lead handlers_list c.args.left c.args.end _ _ _ _ c.loop-alloc.invariant.0 (sym c.ends_list.ensures ∙ c.if-ends_list.false) (c.in_err-variable.ensures.refused _)))
 
-pub handler::handlers-returns-in_err-body-clause-refused : goal.handler::handlers-returns-in_err-body-clause-refused
-handler::handlers-returns-in_err-body-clause-refused t c = passed c.from_residual-in_err-body.result c.from_residual-in_err-body.ensures.1 (λ y e. rw e (led_body handlers_list c.args.left c.args.end (_, _) _ _ _ _ _ c.loop-alloc.invariant.0 (sym c.ends_list.ensures ∙ c.if-ends_list.false) c.in_ok-variable.ensures.whole c.in_err-body.ensures.refused))
+pub handler::handlers-returns-in_err-behind-clause-refused : goal.handler::handlers-returns-in_err-behind-clause-refused
+handler::handlers-returns-in_err-behind-clause-refused t c = passed c.from_residual-in_err-behind.result c.from_residual-in_err-behind.ensures.1 (λ y e. rw e (made_err c.statement_at.result _ c.in_err-behind.ensures c.statement_at.ensures.refused (λ e h. out_of_memory h) (λ e h. led_body handlers_list c.args.left c.args.end (_, _) _ _ _ _ _ c.loop-alloc.invariant.0 (sym c.ends_list.ensures ∙ c.if-ends_list.false) c.in_ok-variable.ensures.whole h)))
 
-pub handler::handlers-returns-in_err-push-clause-refused : goal.handler::handlers-returns-in_err-push-clause-refused
-handler::handlers-returns-in_err-push-clause-refused t c = passed c.from_residual-in_err-push.result c.from_residual-in_err-push.ensures.1 (λ y e. out_of_memory e)
+pub handler::handlers-loop-alloc-smaller : goal.handler::handlers-loop-alloc-smaller
+handler::handlers-loop-alloc-smaller t c = made_as c.statement_at.result _ c.in_ok-behind.ensures c.statement_at.ensures.shorter (λ f h made. let same = made.1 in omega (arith, h, c.in_ok-variable.ensures.shorter, rw same at c.in-Some.ensures.shorter))
 
 pub handler::handlers-loop-alloc-preserved : goal.handler::handlers-loop-alloc-preserved
-handler::handlers-loop-alloc-preserved t c = (rw c.in_ok-push.ensures.items (led_more handlers_list c.args.left c.args.end _ _ _ _ _ _ _ _ c.loop-alloc.invariant.0 (sym c.ends_list.ensures ∙ c.if-ends_list.false) c.in_ok-variable.ensures.whole c.in_ok-body.ensures.whole c.in-Some.ensures.mark.1), omega (arith, c.loop-alloc.invariant.1, c.in-Some.ensures.shorter, c.in_ok-body.ensures.shorter, c.in_ok-variable.ensures.shorter))
+handler::handlers-loop-alloc-preserved t c = made_as c.statement_at.result _ c.in_ok-behind.ensures (both_ok _ _ c.statement_at.result c.statement_at.ensures.whole c.statement_at.ensures.shorter) (λ f h made. (rw made.0 (led_more handlers_list c.args.left c.args.end _ _ _ _ _ _ _ _ c.loop-alloc.invariant.0 (sym c.ends_list.ensures ∙ c.if-ends_list.false) c.in_ok-variable.ensures.whole h.0 (rw made.1 at c.in-Some.ensures.mark.1)), omega (arith, c.loop-alloc.invariant.1, rw made.1 at c.in-Some.ensures.shorter, h.1, c.in_ok-variable.ensures.shorter)))
 
 pub handler::handlers-returns-then-ends_list-2-clause-whole : goal.handler::handlers-returns-then-ends_list-2-clause-whole
-handler::handlers-returns-then-ends_list-2-clause-whole t c = rw (c.fitted-then-ends_list-2.ensures, c.in_ok-push.ensures.items) (led_last handlers_list c.args.left c.args.end _ _ _ _ _ _ c.loop-alloc.invariant.0 c.in_ok-variable.ensures.whole c.in_ok-body.ensures.whole (sym c.ends_list-in-None.ensures ∙ c.if-ends_list-2.true))
+handler::handlers-returns-then-ends_list-2-clause-whole t c = made_as c.statement_at.result _ c.in_ok-behind.ensures c.statement_at.ensures.whole (λ f h made. rw (c.fitted-then-ends_list-2.ensures, made.0) (led_last handlers_list c.args.left c.args.end _ _ _ _ _ _ c.loop-alloc.invariant.0 c.in_ok-variable.ensures.whole (rw (sym made.1) at h) (sym c.ends_list-in-None.ensures ∙ c.if-ends_list-2.true)))
+
+pub handler::handlers-returns-then-ends_list-2-clause-shorter : goal.handler::handlers-returns-then-ends_list-2-clause-shorter
+handler::handlers-returns-then-ends_list-2-clause-shorter t c = made_as c.statement_at.result _ c.in_ok-behind.ensures c.statement_at.ensures.shorter (λ f h made. let same = made.1 in rw same (omega (arith, h, c.loop-alloc.invariant.1, c.in_ok-variable.ensures.shorter)))
 
 pub handler::handlers-returns-in-None-clause-refused : goal.handler::handlers-returns-in-None-clause-refused
-handler::handlers-returns-in-None-clause-refused t c = led_stops handlers_list c.args.left c.args.end (_, _) _ _ _ _ _ _ _ c.loop-alloc.invariant.0 (sym c.ends_list.ensures ∙ c.if-ends_list.false) c.in_ok-variable.ensures.whole c.in_ok-body.ensures.whole c.in-None.ensures.mark (sym c.ends_list-in-None.ensures ∙ c.if-ends_list-2.false) c.syntax.ensures
+handler::handlers-returns-in-None-clause-refused t c = made_as c.statement_at.result _ c.in_ok-behind.ensures c.statement_at.ensures.whole (λ f h made. led_stops handlers_list c.args.left c.args.end (_, _) _ _ _ _ _ _ _ c.loop-alloc.invariant.0 (sym c.ends_list.ensures ∙ c.if-ends_list.false) c.in_ok-variable.ensures.whole h (rw made.1 at c.in-None.ensures.mark) (sym (rw made.1 at c.ends_list-in-None.ensures) ∙ c.if-ends_list-2.false) (rw made.1 at c.syntax.ensures))
 
 pub branch::branches-elements-requires : goal.branch::branches-elements-requires
 branch::branches-elements-requires t c = closes_labels
