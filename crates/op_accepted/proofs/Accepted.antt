@@ -17,7 +17,7 @@ use Rattle.op_accepted.proofs.Programs.{program_fits}
 use Rattle.op_accepted.proofs.Solid.{predefined_at}
 use Rattle.op_accepted.specs.Fit.{AreFitStatements, IsFitType, any_text}
 use Rattle.op_accepted.specs.State.{AreTreesFit, IsFit, IsFitState, IsOfItself, IsOuterRow, IsPlainRow, Keeps, faulty, kept}
-use Rattle.op_check_unit.proofs.WholeSound.{all_rows, bared, from_begun, from_placed}
+use Rattle.op_sound.proofs.Sound.{all_rows, bared, from_begun, from_placed}
 use Rattle.op_check_unit.specs.Checking.{CheckIs, Fills, bare, body_in}
 use Rattle.op_check_unit.specs.FirstValues.{bare_variable, begins_with}
 use Rattle.op_check_unit.specs.Programs.{program_means, with_units}

@@ -10,7 +10,7 @@ use Rattle.op_accepted.specs.State.{AreFitNames, AreTreesFit, IsFit, IsFitState,
 use Rattle.op_check_expr.specs.Naming.{feature_of_type}
 use Rattle.op_check_unit.specs.Programs.{blank_unit, with_units}
 use Rattle.op_check_unit.specs.System.{beginning, character_names, class_names, floating_names, function_names, integer_names, meaning_of_known, native_names, other_names, pointer_names, rest_names, short_names, sized_names, statement_names, string_names, system_core, system_names, system_unit, text_names, type_names, value_names, with_known, with_left_out, with_table}
-use Rattle.op_check_unit.specs.Tables.{known_types}
+use Rattle.op_sound.specs.Tables.{known_types}
 use Rattle.op_check_unit.specs.declared.system.Known.{Known}
 use Rattle.op_check_unit.specs.declared.system.Known.TheVariants.{Named as Type_, Form, Value}
 use Rattle.op_core.specs.declared.program.Core.{Core}

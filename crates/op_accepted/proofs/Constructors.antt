@@ -16,8 +16,8 @@ use Rattle.op_core.specs.declared.program.Core.{Core}
 use Rattle.op_core.specs.declared.types.CoreType.{CoreType}
 use Rattle.op_core.specs.declared.types.CoreType.TheVariants as type
 use Rattle.op_plain.specs.Plain.{are_plain_elements, is_plain_element, is_plain_expression}
-use Rattle.op_types.proofs.Sorting.{stands_as}
-use Rattle.op_types.proofs.TypeFacts.{one_or_elements}
+use Rattle.op_typed.proofs.Sorting.{stands_as}
+use Rattle.op_typed.proofs.TypeFacts.{one_or_elements}
 use Rattle.op_judgement.specs.Judgement.{checked}
 use Rattle.op_types.specs.Assignable.{assignable, fits}
 use Rattle.op_types.specs.Operators as table

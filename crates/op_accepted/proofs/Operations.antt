@@ -21,8 +21,8 @@ use Rattle.op_tree.specs.declared.operator.Operator.{Operator}
 use Rattle.op_tree.specs.declared.operator.Operator.TheVariants.{Equal, NotEqual, Less, Greater, LessEqual, GreaterEqual, In_, Is, Add, Subtract, Or, Xor, Multiply, Slash, Div, Mod_, And, Shl, Shr, As_}
 use Rattle.op_tree.specs.declared.operator.PrefixOperator.{PrefixOperator}
 use Rattle.op_tree.specs.declared.position.Position.{Position}
-use Rattle.op_types.proofs.TypeFacts.{rooted}
-use Rattle.op_types.proofs.Sorting.{stands_as}
+use Rattle.op_typed.proofs.TypeFacts.{rooted}
+use Rattle.op_typed.proofs.Sorting.{stands_as}
 use Rattle.op_types.specs.Operators as table
 use Rattle.op_types.specs.Sets.{common_set, set_over}
 use Rattle.op_types.specs.Sorts.{is_text, sort_by, sort_of}

@@ -11,7 +11,8 @@ use Rattle.op_accepted.proofs.Units.{completes_fits, interface_fits, program_dec
 use Rattle.op_accepted.specs.Fit.{IsFitMeaning}
 use Rattle.op_accepted.specs.State.{AreTreesFit, IsFitExport, IsFitState, IsLater, Keeps, faulty, kept}
 use Rattle.op_base.specs.declared.rule.Refusal.{Refusal}
-use Rattle.op_check_unit.proofs.WholeUnits.{all_same_count, fault_behind, own_fault, same_count, units_fault}
+use Rattle.op_check_unit.proofs.Outlines.{all_same_count, same_count}
+use Rattle.op_sound.proofs.Units.{fault_behind, own_fault, units_fault}
 use Rattle.op_check_unit.specs.Interfaces.{interface_order, unit_at}
 use Rattle.op_check_unit.specs.Programs.{Outline, all_outlined, blank_outline, faulted, faults_among, files_mean, in_unit, interface_faults, interface_faults_by, interface_means, outline, outline_faults, outlined, outlined_by, parts_of_program, program_declared, program_means, unit_completes, units_mean, with_interface, with_units}
 use Rattle.op_check_unit.specs.Steps.{Given, Here}

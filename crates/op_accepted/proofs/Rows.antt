@@ -4,7 +4,7 @@ use Rattle.std.proofs.lemmas.List.Elements.{All-append, All-cons, All-nil, All-p
 use Rattle.op_accepted.proofs.Grown.{all_solid_on, if_solid_on, names_on, predefined_on, types_on, units_on, values_on}
 use Rattle.op_accepted.specs.Fit.{AreFitStatements, IsFitMeaning, IsFitTables, IsFitType}
 use Rattle.op_accepted.specs.State.{AreFitNames, AreTreesFit, GivesAlike, IsFit, IsFitState, IsLater, IsOfItself, IsOuterRow, IsPlainRow}
-use Rattle.op_check_unit.proofs.WholeTypes.{behind_front, wide}
+use Rattle.op_sound.proofs.Types.{behind_front, wide}
 use Rattle.op_check_unit.specs.Steps.{Here}
 use Rattle.op_core.proofs.Growing.{front_itself, front_same, stay_front, stay_set}
 use Rattle.op_core.specs.Growing.{IsFrontOf}

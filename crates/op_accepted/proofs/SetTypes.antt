@@ -9,7 +9,7 @@ use Rattle.op_core.specs.declared.ids.TypeId.{TypeId}
 use Rattle.op_core.specs.declared.program.Core.{Core}
 use Rattle.op_core.specs.declared.types.CoreType.{CoreType}
 use Rattle.op_core.specs.declared.types.CoreType.TheVariants as type
-use Rattle.op_types.proofs.Sorting.{stands_as}
+use Rattle.op_typed.proofs.Sorting.{stands_as}
 use Rattle.op_types.specs.Operators as table
 use Rattle.op_types.specs.Sets.{behind, common_by, common_set, is_set_of, set_behind, set_over, widest_of, widest_set}
 use Rattle.op_types.specs.Sorts.{kind_of, sort_of}

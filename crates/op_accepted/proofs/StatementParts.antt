@@ -39,7 +39,7 @@ use Rattle.op_core.specs.declared.types.CoreType.{CoreType}
 use Rattle.op_core.specs.declared.types.CoreType.TheVariants as type
 use Rattle.op_plain.specs.Plain.{are_nodes, are_plain_branches, are_plain_labels, is_plain_amount, is_plain_bare, is_plain_root}
 use Rattle.op_tree.specs.declared.position.Name.{Name}
-use Rattle.op_types.proofs.Sorting.{stands_as}
+use Rattle.op_typed.proofs.Sorting.{stands_as}
 use Rattle.op_types.specs.Names.{lower, meaning_of}
 use Rattle.op_types.specs.Sorts.{sort_of}
 use Rattle.op_types.specs.declared.constant.Constant.{Constant}

@@ -16,8 +16,8 @@ use Rattle.op_core.specs.declared.program.Core.{Core}
 use Rattle.op_core.specs.declared.types.CoreType.TheVariants as type
 use Rattle.op_plain.specs.Plain.{are_apart, are_plain_steps, is_plain_constant, is_plain_root, is_plain_step}
 use Rattle.op_sizes.specs.Written.{is_implied}
-use Rattle.op_types.proofs.Sorting.{stands_as}
-use Rattle.op_types.proofs.TypeFacts.{one_or_elements}
+use Rattle.op_typed.proofs.Sorting.{stands_as}
+use Rattle.op_typed.proofs.TypeFacts.{one_or_elements}
 use Rattle.op_types.specs.Assignable.{assignable, fits}
 use Rattle.op_types.specs.Sorts.{is_reference, sort_by, sort_of}
 use Rattle.op_types.specs.Values.{contains, in_range, within}
@@ -27,7 +27,7 @@ use Rattle.op_types.specs.declared.sort.Sort.TheVariants as sort
 use Rattle.op_typing.specs.Simple.{IsSolidType, is_solid, is_text, text_after}
 use Rattle.op_accepted.specs.Fit.{IsFitConstant, IsFitTables, IsFitTree, IsFitValue, any_text, ends_implied, ends_text, ends_written, stays_text}
 use Rattle.op_accepted.proofs.SetTypes.{sort_solid}
-use Rattle.op_check_expr.proofs.Trees.{type_then}
+use Rattle.op_typed.proofs.Trees.{type_then}
 use Rattle.op_core.proofs.Agreeing.{none_is, some_is}
 
 -- ---- with a step more

@@ -12,7 +12,7 @@ use Rattle.op_accepted.specs.Fit.{IfTyped, IsFitMeaning, IsFitTables, IsFitType}
 use Rattle.op_accepted.specs.State.{AreFitNames, AreTreesFit, IsFitState, Keeps}
 use Rattle.op_base.specs.declared.place.Place.{Place}
 use Rattle.op_check_expr.specs.Naming.{feature_of_type}
-use Rattle.op_check_unit.proofs.WholeTypes.{behind_front, wide, with_types_is}
+use Rattle.op_sound.proofs.Types.{behind_front, wide, with_types_is}
 use Rattle.op_check_unit.specs.Naming.{declared, entered_name, has_room, is_declared, is_name, own_type, qualified, told_by, type_meant, type_named, type_of_unit, with_name}
 use Rattle.op_check_unit.specs.Steps.{Here, gives}
 use Rattle.op_check_unit.specs.Types.{bounds, constant_part, has_few_elements, in_core, is_kind, is_small, lower_of, most_bytes, number_of_next, row, sized_row, subrange_of, whole_type}
@@ -27,8 +27,8 @@ use Rattle.op_core.specs.declared.types.Extent.{Extent}
 use Rattle.op_tree.specs.Expression.{Expression}
 use Rattle.op_tree.specs.declared.position.Name.{Name}
 use Rattle.op_tree.specs.declared.position.QualifiedName.{QualifiedName}
-use Rattle.op_types.proofs.Entered.{Stand}
-use Rattle.op_types.proofs.TypeFacts.{Rooted, rooted}
+use Rattle.op_typed.proofs.Entered.{Stand}
+use Rattle.op_typed.proofs.TypeFacts.{Rooted, rooted}
 use Rattle.op_judgement.specs.Judgement.{checked, fine, refused}
 use Rattle.op_judgement.specs.declared.rules.Feature.{Feature}
 use Rattle.op_judgement.specs.declared.rules.LanguageRule.TheVariants.{DeclaredTwice, EmptyRange, NotAssignable, NotOrdinal, TooManyNames, TypeTooLarge, WrongKindOfName}

@@ -1,6 +1,6 @@
 -- An error ends the program: its line goes to the error stream, and its number is the status.
 use Rattle.std.proofs.Common.{◌≡◌, ◌≤◌, ◌<◌, inl, inr, ℕ, ◌+◌, List, [], ◌∷◌, ◌++◌, length, Some, None, refl, sym, ap, ap₂, ◌∙◌, subst, arith}
-use Rattle.std.specs.Prelude.{◌^◌, ◌%◌, Bool, true, false, ◌&&◌, codes, nat_lt, slice_get, if◌then◌else◌}
+use Rattle.std.specs.Prelude.{◌^◌, ◌%◌, true, ◌&&◌, codes, nat_lt, slice_get, if◌then◌else◌}
 use Rattle.std.proofs.lemmas.Bool.{cond-true}
 use Rattle.std.proofs.lemmas.Bool.Decides.{nat_tests}
 use Rattle.op_compute.specs.Bank.{error_block_of, place_of_error}
@@ -32,7 +32,7 @@ use Rattle.op_agreement.proofs.Standing.{here}
 use Rattle.op_agreement.specs.Chart.{Floor}
 use Rattle.op_agreement.specs.Fitting.{IsFitting, LiteralStands}
 use Rattle.op_agreement.specs.Settings.{Setting}
-use Rattle.op_agreement.specs.Stands.{CallersStand, HaveEnded, Stands, StandsBy, Stays}
+use Rattle.op_agreement.specs.Stands.{CallersStand, Stands, Stays}
 
 -- ---- the stack lies above what is placed
 
@@ -57,9 +57,6 @@ line_there g DivisionByZero = refl
 line_there g RangeCheck = refl
 line_there g StackOverflow = refl
 line_there g IntegerOverflow = refl
-
-line_short : (e : RuntimeError) → length (error_line (number_of_error e)) ≡ 18
-line_short e = refl
 
 small_number : (e : RuntimeError) → number_of_error e % 2 ^ 8 ≡ number_of_error e
 small_number DivisionByZero = refl

@@ -1,7 +1,5 @@
 -- The caller of a routine that begins waits: what is said of it, and of the callers below it, with the new activation above them.
 use Rattle.std.proofs.Common.{◌≡◌, ◌≤◌, ◌<◌, inl, ℕ, suc, ◌+◌, ◌-◌, List, [], ◌∷◌, length, None, refl, sym, ap, ◌∙◌, subst, arith}
-use Rattle.std.specs.Prelude.{false, ◌&&◌, nat_eq, if◌then◌else◌}
-use Rattle.std.proofs.lemmas.Bool.Decides.{nat_tests}
 use Rattle.op_compute.specs.Bank.{scratch_of}
 use Rattle.op_compute.specs.Meaning.{IsWordOf}
 use Rattle.op_constants.proofs.TypesArranged.{some_at}
@@ -9,12 +7,8 @@ use Rattle.op_core.specs.declared.ids.RoutineId.{RoutineId}
 use Rattle.op_expand.specs.Calls.{receiver_of, result_address, runtime}
 use Rattle.op_low.specs.State.{Activation, Caller, State, routine_of, space}
 use Rattle.op_low.specs.declared.instruction.Instruction.{Instruction as LowInstruction}
-use Rattle.op_meaning.specs.Calls.{Handed, a_place, a_value, cleared, entered, given_all, given_one, no_temps}
-use Rattle.op_meaning.specs.Frames.{Program}
 use Rattle.op_meaning.specs.Items.{Receiver, nowhere, to_temp, to_place}
-use Rattle.op_meaning.specs.Shapes.{type_of_local, zero_of}
-use Rattle.op_meaning.specs.Values.{Value, Holder, local, temporary, Place, number_in, put}
-use Rattle.op_meaning.specs.World.{World}
+use Rattle.op_meaning.specs.Values.{Value, Holder, local, temporary, Place, number_in}
 use Rattle.op_mir.specs.Machine.{MirState, mir_caller_of}
 use Rattle.op_mir.specs.View.{view_receiver}
 use Rattle.op_mir.specs.declared.instruction.Call.{Call as Operands}
@@ -38,37 +32,6 @@ use Rattle.op_agreement.specs.Stands.{ActivationStands, CallersStand, Position, 
 pub record SameUpTo (depth : ℕ) (values new_values : Holder → Value) (bound new_bound : ℕ → ℕ → Place) : Type 0 where
   pub variables : (d v : ℕ) → d ≤ depth → new_values (local d v) ≡ values (local d v)
   pub places : (d v : ℕ) → d ≤ depth → new_bound d v ≡ bound d v
-
--- no level below is that of the new activation
-other_level : (d e : ℕ) → d ≤ e → nat_eq d (suc e) ≡ false
-other_level d e low = grind (arith, nat_tests)
-
--- parameters are of the new activation alone
-same_given : (depth k : ℕ) (xs : List Handed) (w : World) → SameUpTo depth w.memory (given_all (suc depth) k xs w).memory w.bound (given_all (suc depth) k xs w).bound
-same_given depth k [] w = record { variables = λ d v low. refl; places = λ d v low. refl }
-same_given depth k (a_value x ∷ xs) w =
-    let later = same_given depth (suc k) xs (given_one (suc depth) k (a_value x) w) in
-    record {
-      variables = λ d v low. later.variables d v low ∙ ap (λ b. if b && nat_eq v k then put [] x (w.memory (local d v)) else w.memory (local d v)) (other_level d depth low);
-      places = λ d v low. later.places d v low;
-    }
-same_given depth k (a_place q ∷ xs) w =
-    let later = same_given depth (suc k) xs (given_one (suc depth) k (a_place q) w) in
-    record {
-      variables = λ d v low. later.variables d v low;
-      places = λ d v low. later.places d v low ∙ ap (λ b. if b && nat_eq v k then q else w.bound d v) (other_level d depth low);
-    }
-
--- the world that an activation begins with
-pub entered_same : (p : Program) (r : ℕ) (xs : List Handed) (w : World) → SameUpTo w.depth w.memory (entered p r xs w).memory w.bound (entered p r xs w).bound
-entered_same p r xs w =
-    let first = cleared p.core r (suc w.depth) w.memory in
-    let begun = record w { temps = no_temps; made = []; depth = suc w.depth; memory = first } in
-    let given = same_given w.depth 0 xs begun in
-    record {
-      variables = λ d v low. given.variables d v low ∙ ap (λ b. if b then zero_of p.core (type_of_local p.core r v) else w.memory (local d v)) (other_level d w.depth low);
-      places = given.places;
-    }
 
 -- ---- the caller waits
 

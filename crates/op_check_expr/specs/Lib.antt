@@ -7,5 +7,4 @@ pub mod Parts
 pub mod Phrases
 pub mod Places
 pub mod Scopes
-pub mod Settled
 pub mod Values

@@ -7,6 +7,5 @@ pub mod Parts
 pub mod Procedure
 pub mod Seen
 pub mod Statement
-pub mod Surrounding
 pub mod Unplaced
 pub mod Variable

@@ -1,13 +1,10 @@
--- Parts that break no rule, and what comes behind them.
+-- Parts that break no rule, and those that break one: what is kept of them.
 use Rattle.std.proofs.Common.{◌≡◌, Bool, true, false, Option, Some, None, is_some, refl, sym, ap, ◌∙◌}
 use Rattle.std.proofs.lemmas.Bool.{and_parts}
 use Rattle.op_base.specs.declared.rule.Refusal.{Refusal}
-use Rattle.op_check_unit.proofs.WholeSteps.{from_after}
-use Rattle.op_check_unit.specs.Complete.{From, faulty, settled}
-use Rattle.op_check_unit.specs.Steps.{Given, Here, followed, is_clear, unless, unless_faulty}
-use Rattle.op_core.specs.Faults.{Faults, both, front, kept, none, one}
-use Rattle.op_core.specs.Relations.{Filled, filled}
-use Rattle.op_judgement.proofs.Clear.{by_first, some_fault}
+use Rattle.op_check_unit.specs.Steps.{is_clear}
+use Rattle.op_core.specs.Faults.{Faults, both, kept, none, one}
+use Rattle.op_judgement.proofs.Clear.{by_first}
 
 -- ---- what is kept
 
@@ -56,19 +53,3 @@ not_clear_is f q e = by_test (is_clear f) refl
     by_test : (x : Bool) → is_clear f ≡ x → is_clear f ≡ false
     by_test false h = h
     by_test true h = absurd (no (sym (kept_clear f None h) ∙ e))
-
--- ---- what comes behind such a part
-
-pub from_unless : {A B : Type 0} {R : A → Here → Type 0} {Q : B → Here → Type 0} (g : Given A) (f : Here → Given B) → From R g → ((a : A) (h : Here) → R a h → From Q (f h)) → From Q (unless_faulty g f)
-from_unless {A} {B} {R} {Q} g f d k = by_test (is_clear g.faults) refl
-  where
-    alone : {o : Option A} → Filled (λ a. R a g.here) o → From Q (f g.here)
-    alone (filled a r) = k a g.here r
-
-    behind_it : From R g → From Q (followed g (λ t h. f h))
-    behind_it (settled p) = from_after g.faults (f g.here) (alone p)
-    behind_it (faulty r i) = faulty r (front i)
-
-    by_test : (b : Bool) → is_clear g.faults ≡ b → From Q (unless b g f)
-    by_test true e = behind_it d
-    by_test false e = let s = some_fault g.faults e in faulty s.0 s.1

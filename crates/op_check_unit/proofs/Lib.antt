@@ -7,16 +7,4 @@ pub mod Visiting
 pub mod UnitSteps
 pub mod Law
 pub mod Told
-pub mod Tables
-pub mod Filled
-pub mod WholeGrowth
-pub mod WholeSteps
-pub mod WholeConstants
-pub mod WholeTypes
-pub mod WholeDeclaring
-pub mod WholeHeadings
-pub mod WholeRoutines
-pub mod Whole
-pub mod WholeUnits
 pub mod Outlines
-pub mod WholeSound

@@ -1,11 +1,8 @@
 -- What is exported tells the first rule that an interface part breaks.
-use Rattle.std.proofs.Common.{◌≡◌, ℕ, zero, suc, Bool, true, false, if◌then◌else◌, List, [], ◌∷◌, length, nat_eq, replicate, slice_get, slice_set, Option, Some, None, Result, Ok, Err, IfOk, refl, sym, ap, ap₂, subst, ◌∙◌, arith}
+use Rattle.std.proofs.Common.{◌≡◌, ℕ, zero, suc, Bool, true, false, if◌then◌else◌, List, [], ◌∷◌, length, length-set, nat_eq, replicate, slice_get, slice_set, Option, Some, None, Result, Ok, Err, IfOk, refl, sym, ap, ap₂, subst, ◌∙◌, arith}
 use Rattle.std.proofs.lemmas.Option.{slice_get_within}
 use Rattle.op_base.specs.declared.memory_error.NoMemory.{NoMemory}
-use Rattle.op_check_expr.proofs.LeafWhole.{there_is}
 use Rattle.op_check_unit.proofs.Law.{other_number, same_number}
-use Rattle.op_check_unit.proofs.WholeUnits.{all_same_count}
-use Rattle.op_check_unit.proofs.WholeRoutines.{set_apart, set_there}
 use Rattle.op_check_unit.specs.Interfaces.{interface_order, unit_at}
 use Rattle.op_check_unit.specs.Outlines.{AllTell, Tells, is_blank, outline_of}
 use Rattle.op_check_unit.specs.Programs.{Outline, all_outlined, blank_outline, faults_among, files_mean, in_unit, interface_faults_by, interface_means, outline, outline_faults, outlined, outlined_by, parts_of_program, with_interface, with_units}
@@ -14,9 +11,24 @@ use Rattle.op_check_unit.specs.Uses.{exported}
 use Rattle.op_check_unit.specs.declared.declarer.Declarer.{Declarer}
 use Rattle.op_check_unit.specs.declared.uses.Export.{Export}
 use Rattle.op_core.proofs.Agreeing.{some_is as some_eq}
+use Rattle.op_core.proofs.Rows.{set_apart, set_there, there_is}
 use Rattle.op_core.specs.Faults.{Faults, both, kept, none}
 use Rattle.op_judgement.specs.Steps.{done}
 use Rattle.op_tree.specs.File.{File, Program, UnitFile, program}
+
+-- ---- how many units there are
+
+pub same_count : (k : ℕ) (e : Option (Option Export)) (u : Option UnitFile) (o : Outline) → length (outlined_by k e u o).exports ≡ length o.exports
+same_count k (Some None) (Some u) o = length-set o.exports k _
+same_count k (Some None) None o = refl
+same_count k (Some (Some e)) u o = refl
+same_count k None u o = refl
+
+pub all_same_count : (order : List (List ℕ)) (fs : List File) (ks : List ℕ) (o : Outline) → length (all_outlined order fs ks o).exports ≡ length o.exports
+all_same_count order fs [] o = refl
+all_same_count order fs (k ∷ ks) o = all_same_count order fs ks (outlined order fs k o) ∙ same_count k (slice_get o.exports k) (unit_at order fs k) o
+
+-- ---- what each tells
 
 tells_same : (e : Option Export) (f g : Faults) → kept None f ≡ kept None g → Tells e f → Tells e g
 tells_same None f g same t = sym same ∙ t

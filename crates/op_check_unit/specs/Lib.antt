@@ -11,10 +11,8 @@ pub mod Headings
 pub mod Routines
 pub mod Uses
 pub mod System
-pub mod Tables
 pub mod Interfaces
 pub mod Programs
 pub mod Outlines
 pub mod Checking
 pub mod Rules
-pub mod Complete

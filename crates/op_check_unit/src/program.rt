@@ -9,7 +9,6 @@ ghost use Rattle.op_check_unit.specs.Programs.{all_completed, all_declared, awai
 ghost use Rattle.op_check_unit.specs.Rules.{Obeys, ProgramBreaks};
 ghost use Rattle.op_check_unit.specs.Steps.{Declared, Declares, Leaves, here_of};
 ghost use Rattle.op_core.specs.Faults.{Faults, kept};
-ghost use Rattle.op_core.specs.Sound.{IsSound, IsSoundNesting};
 ghost use Rattle.op_judgement.specs.Judgement.{RefusalHasText, checked};
 ghost use Rattle.op_tree.specs.Declaration.{declaration_of, declarations_of};
 ghost use Rattle.op_tree.specs.File.{file_of, program as program_tree, program_of};
@@ -41,7 +40,6 @@ pub fn check(alloc: Global, trees: &[Tree], order: &[Text]) -> Result<Core, Chec
     ensures means { CheckIs (program_means (map file_of trees.now) order.now) result }
     ensures law { Obeys (ProgramBreaks (map file_of trees.now) order.now) result }
     ensures told { IfErr result RefusalHasText }
-    ensures sound { IfOk result (λ core. IsSound core × IsSoundNesting core) }
 {
     let mut declarer = Declarer::new(alloc)?;
     declarer.files(trees, order)?;

@@ -2,9 +2,6 @@ pub mod Agreeing
 pub mod FieldIndex
 pub mod First
 pub mod Growing
-pub mod GrowingRows
-pub mod GrowingStatements
-pub mod GrowingTrees
-pub mod GrowingTypes
 pub mod Nodes
 pub mod OneType
+pub mod Rows

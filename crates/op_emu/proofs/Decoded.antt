@@ -139,9 +139,6 @@ module _ (ss : List Segment) (k : ℕ) (s : Segment) (inside : k < length ss) (h
         stand = λ j below i stands. word_stands j i (has.rows_of j i stands);
       }
 
-pub none_decoded : (rs : List Region) → AreDecoded rs 0 []
-none_decoded rs = record { near = omega arith; last = refl; stand = λ k below. absurd (omega arith) }
-
 -- one more code
 pub one_more_code : (rs : List Region) (codes : List Code) (code : Code) → AllDecoded rs codes → AreDecoded rs code.base code.rows.items → AllDecoded rs (codes ++ code ∷ [])
 one_more_code rs codes code all more k d below at =

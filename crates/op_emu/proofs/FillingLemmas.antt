@@ -38,10 +38,6 @@ fills_more a b c at n k i i' i'' p q =
       written = written_then a b c at p.bytes q.bytes p.written (subst (λ m. IsWritten b c (at + m) q.bytes) (sym p.many) q.written);
     }
 
-pub fills_kept : (a b c : List Region) (at n : ℕ) (i i' i'' : Option (List ℕ)) → Fills n a b at i i' → c ≡ b → i'' ≡ i' → Fills n a c at i i''
-fills_kept a b c at n i i' i'' p same kept =
-    subst (λ c. Fills n a c at i i'') (sym same) (subst (λ i''. Fills n a b at i i'') (sym kept) p)
-
 -- what was asked of at most n bytes was asked of at most as many and more
 pub FrontIs-most : (got : Got) (old new : List Region) (at n m : ℕ) (i i' : Option (List ℕ)) (f f' : ℕ) → n ≤ m → FrontIs got old new at n i i' f f' → FrontIs got old new at m i i' f f'
 FrontIs-most (Gave k) old new at n m i i' f f' within is = (is.0, omega (arith, is.1, within), is.2)

@@ -85,9 +85,6 @@ no_output : (i i' o o' o'' e e' e'' : Option (List ℕ)) → o'' ≡ o' → e'' 
 no_output i i' o o' o'' e e' e'' output errors =
     ap (λ o'. streams i i' o o' e e') (sym output) ∙ ap (λ e'. streams i i' o o'' e e') (sym errors)
 
-counted_once : (steps m s : ℕ) → s ≡ m → steps ≡ one_more s → s < 2 ^ 64 - 1 → steps ≡ m + 1
-counted_once steps m s is counted below = omega arith
-
 -- steps that touch no stream, within a run that goes on
 pub glides : (m n : ℕ) (old mid new : Machine) (i i' o o' e e' : Option (List ℕ)) → DoesSteps m old mid (streams i i' o o' e e') → mid.last ≡ stepped.Went → new.last ≡ stepped.Went → new.steps ≡ mid.steps + n → Leads (after n) mid.hart (moment new.hart Running) → DoesSteps (m + n) old new (streams i i' o o' e e')
 glides m n old mid new i i' o o' e e' does goes last counted leads =

@@ -1,9 +1,9 @@
 -- What is made of items is what each item makes.
-use Rattle.std.proofs.Common.{◌≡◌, ◌<◌, ◌≤◌, ℕ, zero, suc, ◌+◌, pos, Bool, true, false, List, [], ◌∷◌, ◌++◌, length, None, refl, sym, ap, ◌∙◌, subst, arith, length-append, if◌then◌else◌}
+use Rattle.std.proofs.Common.{◌≡◌, ◌<◌, ◌≤◌, ℕ, zero, suc, ◌+◌, pos, Bool, true, false, List, [], ◌∷◌, ◌++◌, length, None, refl, arith, length-append, if◌then◌else◌}
 use Rattle.op_meaning.specs.Actions.{constant}
 use Rattle.op_meaning.specs.Items.{Item, act, also, choose, select, loop, body_first, protect, leave, enter, finish, attempt, throw, rethrow, halt, construct, free, Items, none, then_do, Turns, turns, Cases, no_cases, cases}
-use Rattle.op_mir.specs.Code.{Arm, Instr, do_act, do_call, jump, when, unless, switch, dispatch, stop, ret, branch_if, branch_unless, Exits, is_jump, continued, loop_exits, finally_exits, routine_exits, code, code_item, code_loop, code_cases, blocks_of}
-use Rattle.op_frames.specs.Made.{Every, IsLast, Leaves, IsCode, ArmsOf, AreMade, IsMade, AreMadeTurns, AreMadeCases}
+use Rattle.op_mir.specs.Code.{Instr, do_act, jump, dispatch, ret, branch_if, Exits, is_jump, continued, loop_exits, finally_exits, routine_exits, code, code_item, code_loop, code_cases, blocks_of}
+use Rattle.op_frames.specs.Made.{Every, IsCode, ArmsOf, AreMade, IsMade, AreMadeTurns, AreMadeCases}
 
 -- ---- lists
 
@@ -12,9 +12,6 @@ every_append Q [] ys a b = b
 every_append Q (x ∷ xs) ys a b = (a.0, every_append Q xs ys a.1 b)
 
 -- ---- code
-
-leaves_more : (i j : Instr) (is : List Instr) → Leaves (j ∷ is) → Leaves (i ∷ j ∷ is)
-leaves_more i j is l = l
 
 -- an instruction in front of code
 pub in_front : (Q : Instr → Type 0) (i : Instr) (is : List Instr) → Q i → IsCode Q is → IsCode Q (i ∷ is)

@@ -1,17 +1,16 @@
 -- Routines whose blocks have their operands in range are valid.
-use Rattle.std.proofs.Common.{◌≡◌, ◌<◌, ◌≤◌, ℕ, zero, suc, pos, ◌+◌, ◌*◌, ◌-◌, ◌%◌, ◌^◌, max, Bool, true, false, ◌&&◌, List, [], ◌∷◌, ◌++◌, length, map, nat_eq, nat_le, nat_lt, slice_get, fold, Option, Some, None, refl, sym, ap, ◌∙◌, subst, arith, le_refl, if◌then◌else◌}
+use Rattle.std.proofs.Common.{◌≡◌, ◌<◌, ◌≤◌, ℕ, zero, suc, ◌+◌, ◌-◌, ◌%◌, ◌^◌, max, Bool, true, ◌&&◌, List, [], ◌∷◌, length, map, nat_eq, nat_le, nat_lt, slice_get, fold, refl, sym, ap, subst, arith, le_refl}
 use Rattle.std.proofs.Math.Nat.{le-max_left, le-max_right}
 use Rattle.std.proofs.lemmas.Bool.Decides.{nat_tests}
 use Rattle.std.specs.List.{list_all}
 use Rattle.op_constants.specs.Literals.{literals_in}
 use Rattle.op_core.specs.declared.program.Core.{Core}
-use Rattle.op_expand.specs.Calls.{left, result_address}
 use Rattle.op_expand.specs.Frames.{frame_of}
 use Rattle.op_expand.specs.Registers.{greatest_in, registers_in, with_block, with_instruction}
-use Rattle.op_expand.specs.Routines.{instruction_code, code_of, behind_code, behind_blocks, blocks_of, error_block, error_blocks, error_code, routine_with}
+use Rattle.op_expand.specs.Routines.{code_of, behind_code, behind_blocks, blocks_of, error_block, error_blocks, routine_with}
 use Rattle.op_frames.proofs.CodeFine.{CanDo, Ends, ends_behind, code_ends, instruction_fine}
 use Rattle.op_frames.proofs.ComputingFine.{joined}
-use Rattle.op_frames.proofs.Fine.{Bounds, Below, IsFine, AreFine, greatest_below, valid_instruction}
+use Rattle.op_frames.proofs.Fine.{Bounds, AreFine, greatest_below, valid_instruction}
 use Rattle.op_frames.proofs.MovesFine.{HasRuntime}
 use Rattle.op_frames.proofs.PlacesFine.{IsFrame, Temporaries}
 use Rattle.op_frames.specs.Made.{Every, Leaves}
@@ -112,9 +111,6 @@ errors_fine m enough two = (
 )
 
 -- ---- registers
-
-NamesBelow : ℕ → LowInstruction → Type 0
-NamesBelow k i = greatest_in i ≤ k
 
 code_over : (k : ℕ) (code : List LowInstruction) → (k ≤ fold with_instruction k code) × ((top : ℕ) → fold with_instruction k code ≤ top → Every (λ i. greatest_in i ≤ top) code)
 code_over k [] = (le_refl k, λ top less. tt)

@@ -1,19 +1,14 @@
 -- How far the code goes: by at least four bytes an item, and furthest if every item has its longest form.
 use Rattle.std.proofs.Common.{◌≡◌, ℕ, suc, ◌+◌, ◌*◌, ◌%◌, ◌≤◌, length, List, [], ◌∷◌, refl, ◌∙◌, arith}
 use Rattle.std.proofs.lemmas.List.Sums.{sum_by-cons}
-use Rattle.op_layout.specs.declared.layout.Layout.{Layout}
 use Rattle.op_rv.specs.declared.objects.Item.{Item}
 use Rattle.op_rv.specs.declared.objects.Item.TheVariants.{Plain, Address, Branch, Jump, Call, CallAt}
 use Rattle.op_rv.specs.declared.objects.ObjectBlock.{ObjectBlock}
 use Rattle.op_rv.specs.declared.objects.ObjectRoutine.{ObjectRoutine}
-use Rattle.op_rv.specs.declared.objects.Objects.{Objects}
-use Rattle.op_link.specs.declared.memory_map.Settings.{Settings}
 use Rattle.op_link.specs.declared.place.RoutinePlace.{RoutinePlace}
 use Rattle.op_link.specs.declared.place.Spot.{Spot}
 use Rattle.op_link.specs.declared.reach.Reach.{Reach}
 use Rattle.op_link.specs.declared.reach.Reach.TheVariants.{Direct, OverJump, ByRegister}
-use Rattle.op_link.specs.Linking.{linked_size, linked_size_by, settled, sizes_of}
-use Rattle.op_link.specs.Memory.{constants_size, initial_size}
 use Rattle.op_link.specs.Reach.{size_of, branch_size, jump_size, reach_of, branch_reach, jump_reach, block_in, head_in}
 use Rattle.op_link.specs.Placing.{behind, behind_items, behind_blocks, behind_routine, behind_routines, first_spot, placement_by, items_in_blocks, items_in_routine, items_in_routines}
 
@@ -81,12 +76,6 @@ routines_grow known r spot (routine ∷ routines) =
 pub code_end : (known : List RoutinePlace) (routines : List ObjectRoutine) → Grows 0x00010018 (placement_by known routines).end (items_in_routines routines)
 unfolding placement_by
 code_end known routines = routines_grow known 0 first_spot routines
-
--- so the limit does not come for little code
-pub linked_size_at_most : (objects : Objects) (layout : Layout) (settings : Settings) → linked_size objects layout settings ≤ 24 + 12 * items_in_routines objects.routines + constants_size layout + initial_size objects.globals
-unfolding linked_size linked_size_by sizes_of
-linked_size_at_most objects layout settings =
-    let end = (code_end (settled layout objects settings) objects.routines).most in omega (arith, end)
 
 -- ---- at most the longest form
 

@@ -1,5 +1,5 @@
 -- What is made of the parts of an item is what the definition of code says of the item.
-use Rattle.std.proofs.Common.{◌≡◌, ℕ, suc, ◌+◌, ◌<◌, Bool, List, [], ◌∷◌, ◌++◌, length, map, sym, ap, ◌∙◌, arith, append_assoc, pos, None, ◌≤◌, Result, Ok, Err, IfOk, reverse}
+use Rattle.std.proofs.Common.{◌≡◌, ℕ, suc, ◌+◌, ◌<◌, Bool, List, [], ◌∷◌, ◌++◌, length, map, sym, ap, ◌∙◌, arith, append_assoc, None, ◌≤◌, Result, Ok, Err, IfOk, reverse}
 use Rattle.std.proofs.lemmas.List.{append-nil, map-append, map-set, length-map, length-append, length-set, length_push, reverse-append, take-set, take_all, take_more}
 use Rattle.std.proofs.Math.Nat.{add-zero}
 use Rattle.std.proofs.Math.Seq.{set-append_seam}
@@ -19,15 +19,14 @@ use Rattle.op_lower.specs.Made.{Adds, Makes, MakesArms, Completes, CompletesArms
 use Rattle.op_lower.specs.Seen.{seen, seen_blocks}
 use Rattle.op_lower.specs.declared.exits.Exits.{Exits}
 use Rattle.op_meaning.specs.Items.{Items, none, then_do, Cases, ◌&◌, only, Item as MeantItem, also, choose, select, loop, body_first, protect}
-use Rattle.op_mir.specs.Code.{Instr, jump, unless, switch, dispatch, Made, Exits as MeantExits, code, code_item, code_cases, Arm as MeantArm, loop_exits, finally_exits, continued, branch_unless, branch_if}
-use Rattle.op_mir.specs.View.{view_arm, view_block, view_instruction}
-use Rattle.op_mir.specs.declared.action.Action.TheVariants.{Constant}
+use Rattle.op_mir.specs.Code.{Instr, jump, unless, switch, dispatch, Made, Exits as MeantExits, code, code_item, code_cases, Arm as MeantArm, loop_exits, continued, branch_unless, branch_if}
+use Rattle.op_mir.specs.View.{view_arm, view_block}
 use Rattle.op_mir.specs.declared.code.Block.{Block}
 use Rattle.op_mir.specs.declared.ids.BlockId.{BlockId}
 use Rattle.op_mir.specs.declared.ids.TemporaryId.{TemporaryId}
 use Rattle.op_mir.specs.declared.instruction.Arm.{Arm}
 use Rattle.op_mir.specs.declared.instruction.Instruction.{Instruction}
-use Rattle.op_mir.specs.declared.instruction.Instruction.TheVariants.{Act, Jump, Switch, Dispatch}
+use Rattle.op_mir.specs.declared.instruction.Instruction.TheVariants.{Jump, Switch, Dispatch}
 
 abbrev pub Blocks : Type 0
 Blocks = List (List Instr)
@@ -205,21 +204,6 @@ finally_adds exits t items behind block old b1 b2 b3 on now put h adds makes f =
     seen_filled core r b2 b3 block.0 now V [] (ways ++ b.blocks) (m.1 ∙ append_assoc V ([] ∷ ways) b.blocks) (h ∙ sym (length-map old (view_block core r))) f
     ∙ ap (λ x. V ++ (x ∷ ways ++ b.blocks)) m.0
 
-pub protect_makes : (exits within : Exits) (t : TemporaryId) (keep : ℕ) (items finalization : List Item) (behind : List Instruction) (block : BlockId) (old b1 b2 : List Block) (i : Instruction) (now front : List Instruction) → front ≡ i ∷ now → block.0 ≡ length old → Adds (finally_made exits t finalization old behind) old b1 → exits_of within ≡ finally_exits t.0 block.0 → Makes (items_made within items b1 (Jump block ∷ [])) b1 b2 now → i ≡ Act (Constant t (pos 0)) None → Makes (item_made exits (λ core r. protect t.0 keep (items_view core r items) (items_view core r finalization)) old behind) old b2 front
-protect_makes exits within t keep items finalization behind block old b1 b2 i now front put h adds w makes e = λ core r.
-    let V = seen_blocks core r old in
-    let B = seen core r behind in
-    let k = length old in
-    let out : MeantExits = exits_of exits in
-    let b = code out (items_view core r finalization) (k + 4) (dispatch t.0 k ∷ B) in
-    let parts : Blocks = b.now ∷ out 1 ∷ out 2 ∷ out 3 ∷ b.blocks in
-    let counted : length b1 ≡ k + suc (suc (suc (suc (length b.blocks)))) = count_seen core r old b1 parts (adds core r) in
-    let n : length b1 ≡ k + 4 + length b.blocks = omega (arith, counted) in
-    let made : MeantExits → ℕ → List Instr → Made = λ o. code o (items_view core r items) in
-    let a = made (finally_exits t.0 k) (k + 4 + length b.blocks) (jump k ∷ []) in
-    let m = as_made (made (exits_of within) (length b1) (jump block.0 ∷ [])) a (seen core r now) (seen_blocks core r b2) (seen_blocks core r b1) (V ++ parts) (three made (w ∙ ap (finally_exits t.0) h) n (ap (λ j. jump j ∷ []) h)) (adds core r) (makes core r) in
-    (ap (seen core r) put ∙ both ◌∷◌ (ap (view_instruction core r) e) m.0, m.1 ∙ append_assoc V parts a.blocks)
-
 -- ---- items from the last one on
 
 -- what is made of items of which the last one is done first
@@ -262,13 +246,6 @@ item_done exits whole items rest i old b1 b2 behind now e completes makes = λ c
     let same : code out R (length b2) (seen core r now) ≡ a = both (code out R) n m.0 in
     let h = completes core r in
     (ap (λ x. x.now) same ∙ sym (ap (λ x. x.now) split) ∙ h.0, both (λ v x. v ++ x.blocks) m.1 same ∙ append_assoc V b.blocks a.blocks ∙ sym (ap (λ x. V ++ x.blocks) split) ∙ h.1)
-
--- all are done
-pub items_done : (exits : Exits) (whole : Core → ℕ → Made) (items : List Item) (old new : List Block) (now : List Instruction) → items ≡ [] → Completes whole (items_made exits items new now) old new → Makes whole old new now
-items_done exits whole items old new now e completes = λ core r.
-    let none_left : code (exits_of exits) (items_view core r items) (length new) (seen core r now) ≡ record { now = seen core r now; blocks = [] } = ap (λ xs. code (exits_of exits) (items_view core r xs) (length new) (seen core r now)) e in
-    let h = completes core r in
-    (sym (ap (λ x. x.now) none_left) ∙ h.0, sym (append-nil (seen_blocks core r new)) ∙ sym (ap (λ x. seen_blocks core r new ++ x.blocks) none_left) ∙ h.1)
 
 -- three blocks of code, put in turn behind one that is reserved
 pub three_put : (core : Core) (r : ℕ) (old b1 b2 b3 b4 : List Block) (x y z : List Instruction) (o1 o2 o3 : List Instr) → b1 ≡ old ++ block_of [] ∷ [] → b2 ≡ b1 ++ block_of x ∷ [] → b3 ≡ b2 ++ block_of y ∷ [] → b4 ≡ b3 ++ block_of z ∷ [] → seen core r x ≡ o1 → seen core r y ≡ o2 → seen core r z ≡ o3 → seen_blocks core r b4 ≡ seen_blocks core r old ++ [] ∷ o1 ∷ o2 ∷ o3 ∷ []
@@ -327,13 +304,6 @@ arm_done exits whole cs rest c on block old b1 b2 arms more e completes at adds 
       both (λ x xs. x.0 ++ xs) same first ∙ sym (append_assoc b.0 (arm ∷ []) (map view_arm arms)) ∙ sym (ap (λ x. x.0 ++ map view_arm arms) split) ∙ h.0,
       both (λ v x. v ++ x.1) (adds core r) same ∙ append_assoc V front b.1 ∙ sym (ap (λ x. V ++ x.1) split) ∙ h.1,
     )
-
--- all are done
-pub arms_done : (exits : Exits) (whole : Core → ℕ → List MeantArm × Blocks) (cs : List Case) (on : BlockId) (old new : List Block) (arms : List Arm) → cs ≡ [] → CompletesArms whole (arms_made exits cs new on) old new arms → MakesArms whole old new arms
-arms_done exits whole cs on old new arms e completes = λ core r.
-    let none_left : code_cases (exits_of exits) (cases_view core r cs) (length new) (jump on.0 ∷ []) ≡ ([], []) = ap (λ xs. code_cases (exits_of exits) (cases_view core r xs) (length new) (jump on.0 ∷ [])) e in
-    let h = completes core r in
-    (sym (ap (λ x. x.0 ++ map view_arm arms) none_left) ∙ h.0, sym (append-nil (seen_blocks core r new)) ∙ sym (ap (λ x. seen_blocks core r new ++ x.1) none_left) ∙ h.1)
 
 -- ---- numbers
 

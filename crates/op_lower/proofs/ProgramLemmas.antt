@@ -58,9 +58,6 @@ routines_more core rs new x e are is = λ k y h.
     let bound : k < length rs + 1 = omega (arith, within, length_push rs x) in
     last_or_before core rs x y k are is bound (get_or_from_slice_get (rs ++ x ∷ []) k y y found) (eqb_tells k (length rs))
 
-pub no_routines : (core : Core) → AreRoutines core []
-no_routines core = λ k y h. elim (slice_get_within [] k y h) [ ]
-
 -- ---- the program
 
 -- where there is no row, nothing is done and nothing is charged

@@ -21,7 +21,7 @@ use Rattle.op_meaning.specs.Items.{Given, by_value, by_reference, by_place, by_c
 use Rattle.op_meaning.specs.Numbers.{between}
 use Rattle.op_meaning.specs.Paths.{Path, Step, field as part_field, element as part_element, in_temporary, path_to, with_step, root_of}
 use Rattle.op_meaning.specs.Sets.{set_of, set_of_elements}
-use Rattle.op_meaning.specs.Shapes.{Shape, single, composite, shape_of, no_type, field_number}
+use Rattle.op_meaning.specs.Shapes.{Shape, single, composite, shape_of, field_number}
 use Rattle.op_tree.specs.declared.operator.Operator.{Operator}
 use Rattle.op_tree.specs.declared.operator.Operator.TheVariants.{Equal, NotEqual, Less, Greater, LessEqual, GreaterEqual, In_, Add, Subtract, Or, Multiply, And}
 use Rattle.op_tree.specs.declared.operator.PrefixOperator.{PrefixOperator}
@@ -113,10 +113,6 @@ counted_by of _ = of
 
 abbrev pub counted_of : Core → TypeId → TypeId
 counted_of core of = counted_by of (type_at core of)
-
-abbrev pub base_type : Option CoreType → TypeId
-base_type (Some (Set base)) = base
-base_type _ = no_type
 
 -- ---- selections ("Record types" and "Arrays")
 

@@ -37,11 +37,6 @@ places_in y p v = if names v y then p ∷ [] else []
 
 -- ---- what holds
 
--- the temporaries of an activation, in order of making; of one value, by a holder without a type
-abbrev pub temporary_place : ℕ → Temporary → Holder
-temporary_place d (one n) = temporary d no_type n
-temporary_place d (whole of n) = temporary d of n
-
 abbrev pub holders_in_temporaries : World → ℕ → ℕ → (ℕ → Value) → List Temporary → List Place
 holders_in_temporaries w y d temps [] = []
 holders_in_temporaries w y d temps (one n ∷ made) = holders_in_temporaries w y d temps made ++ places_in y (all_of (temporary d no_type n)) (temps n)

@@ -122,9 +122,6 @@ simplified live way facts known (i ∷ is) =
 abbrev pub nothing_of : Routine → VirtualRegister
 nothing_of routine = record { 0 = routine.registers }
 
-abbrev pub thorough_way : Routine → Way
-thorough_way routine = record { thorough = true; nothing = nothing_of routine }
-
 -- all stays
 abbrev pub plain_way : Routine → Way
 plain_way routine = record { thorough = false; nothing = nothing_of routine }

@@ -1,6 +1,5 @@
 -- Quoted parts of strings, byte by byte.
-use Rattle.std.proofs.Common.{◌≡◌, ℕ, Bool, true, false, cond, eqb, ◌||◌, List, [], ◌∷◌, ◌++◌, take, length, refl, sym, ap, ◌∙◌, subst, append_assoc}
-use Rattle.std.proofs.Math.Seq.{take-append_seam}
+use Rattle.std.proofs.Common.{◌≡◌, ℕ, Bool, true, false, cond, eqb, ◌||◌, List, [], ◌∷◌, ◌++◌, refl, sym, ap, ◌∙◌, subst, append_assoc}
 use Rattle.std.proofs.lemmas.Bool.{eqb-true, eqb-false, eq-eqb, false≢true}
 use Rattle.std.proofs.lemmas.Grind.{flat_map-append}
 use Rattle.std.proofs.lemmas.List.Folds.{list_any-append}
@@ -39,9 +38,6 @@ not_empty (x ∷ xs) rest q = never (eqb x 39) q.spelled
     never : (test : Bool) → [] ≡ (cond test (39 ∷ 39 ∷ []) (x ∷ []) ++ doubled xs) ++ 39 ∷ rest → ⊥
     never true e = cc
     never false e = cc
-
-quote_true : eqb 39 39 ≡ true
-quote_true = refl
 
 -- ---- the bytes so far
 
@@ -120,13 +116,6 @@ module _ (bytes rest old new : List ℕ) (h : QuotedSoFar bytes rest old new) (b
     is_quoted = record { spelled = h.spelled ∙ ap (λ xs. doubled h.done ++ xs) (front ∙ ap (λ x. x ∷ after) b); one_line = h.one_line; last = a };
     added = h.added;
   }
-
-pub text_ends : (bytes rest old new : List ℕ) → QuotedSoFar bytes rest old new → rest ≡ [] → (text r : List ℕ) → IsQuoted bytes text r → ⊥
-text_ends bytes rest old new h e text r q =
-    let d = h.dies text r q in not_empty d.0 r (subst (λ xs. IsQuoted xs d.0 r) e d.1)
-
-pub keeps_old : (bytes rest old new : List ℕ) → QuotedSoFar bytes rest old new → take (length old) new ≡ old
-keeps_old bytes rest old new h = ap (take (length old)) h.added ∙ take-append_seam old h.done
 
 -- ---- a quoted part is told by its bytes
 

@@ -1,5 +1,5 @@
 -- Parts of strings: each is told by its bytes, and so is a run of them.
-use Rattle.std.proofs.Common.{◌≡◌, ◌≢◌, ℕ, ◌+◌, ◌<◌, ◌≤◌, Bool, true, false, cond, eqb, List, [], ◌∷◌, ◌++◌, take, drop, length, min, Option, Some, None, MatchOption, ◌⊎◌, ⊎_elim, refl, sym, ap, ◌∙◌, subst, append_assoc, length-append, arith}
+use Rattle.std.proofs.Common.{◌≡◌, ◌≢◌, ℕ, ◌+◌, ◌≤◌, Bool, true, false, cond, eqb, List, [], ◌∷◌, ◌++◌, take, drop, length, Option, Some, None, MatchOption, refl, sym, ap, ◌∙◌, subst, append_assoc, arith}
 use Rattle.std.proofs.lemmas.Bool.{eqb-false, false≢true}
 use Rattle.std.proofs.lemmas.List.{take-append-drop, length-take}
 use Rattle.std.specs.List.{prefix_len, take_while}
@@ -132,13 +132,6 @@ parts_end bytes rest old new h n = record {
   added = h.added;
 }
 
-pub part_shortens : (rest after old new : List ℕ) → AddsPart rest after old new → length after < length rest
-part_shortens rest after old new h = at h.piece h.front (part_not_empty h.piece after h.text h.is_part)
-  where
-    at : (piece : List ℕ) → rest ≡ piece ++ after → piece ≢ [] → length after < length rest
-    at [] e n = absurd (n refl)
-    at (x ∷ xs) e n = omega (arith, ap length e, length-append (x ∷ xs) after)
-
 -- ---- the parts in the code
 
 pub quoted_part_found : (bytes rest old new : List ℕ) → AddsQuoted bytes rest old new → AddsPart (39 ∷ bytes) rest old new
@@ -149,13 +142,6 @@ quoted_part_found bytes rest old new h = record {
   is_part = quoted h.is_quoted.one_line h.is_quoted.last;
   added = h.added;
 }
-
-pub quoted_part_missing : (bytes : List ℕ) → ((text rest : List ℕ) → IsQuoted bytes text rest → ⊥) → NoPart (39 ∷ bytes)
-quoted_part_missing bytes n piece rest text e p = elim (part_cases 39 bytes piece rest text e p) [
-  | in_quotes f q ↦ n text rest q
-  | by_decimal ds f a h x ↦ 39≢35 39 refl f
-  | by_hexadecimal ds f a h x ↦ 39≢35 39 refl f
-]
 
 pub hexadecimal_missing : (digits : List ℕ) → ((ds rest : List ℕ) → digits ≡ ds ++ rest → IsCharacter Hexadecimal ds rest → ⊥) → NoPart (35 ∷ 36 ∷ digits)
 hexadecimal_missing digits n piece rest text e p = elim (part_cases 35 (36 ∷ digits) piece rest text e p) [
@@ -194,12 +180,3 @@ decimal_found bytes rest byte h =
 
 pub hexadecimal_no_part : (bytes : List ℕ) → bytes ≡ 36 ∷ drop 1 bytes → ((ds rest : List ℕ) → drop 1 bytes ≡ ds ++ rest → IsCharacter Hexadecimal ds rest → ⊥) → NoPart (35 ∷ bytes)
 hexadecimal_no_part bytes b n = subst (λ xs. NoPart (35 ∷ xs)) (sym b) (hexadecimal_missing (drop 1 bytes) n)
-
--- a character that is too great, or has no digits
-pub character_missing : (base : Base) (bytes : List ℕ) (n value : ℕ) → n ≡ prefix_len (is_digit_in base) bytes → value ≡ min (value_of base (take n bytes)) 2147483649 → (n ≡ 0) ⊎ (255 < value) → (ds rest : List ℕ) → bytes ≡ ds ++ rest → IsCharacter base ds rest → ⊥
-character_missing base bytes n value e v why ds rest b h =
-    let same : ds ≡ take n bytes = digits_are base bytes ds rest b h.are_digits ∙ ap (λ k. take k bytes) (sym e) in
-    ⊎_elim
-    (λ zero. h.are_digits.some (same ∙ ap (λ k. take k bytes) zero))
-    (λ great. let le : value_of base (take n bytes) ≤ 255 = subst (λ z. value_of base z ≤ 255) same h.in_range in omega arith)
-    why

@@ -242,10 +242,6 @@ abbrev spare : (implied : Bool) → ℕ
 spare true = 0
 spare false = 5
 
-spare_some : (implied : Bool) → spare implied ≤ 5
-spare_some true = omega arith
-spare_some false = omega arith
-
 second_small : (env : Env) (here : Here) (goes : Option Bool) (e : Expression) (n : ℕ) → items_size (make env (past 1 here) e).items ≤ n → items_size (make env here e).items ≤ n → items_size (make env (second_here goes here) e).items ≤ n
 second_small env here None e n a b = a
 second_small env here (Some truth) e n a b = b

@@ -1,8 +1,7 @@
 -- The code of items comes to no more than what the items do: what stands behind them is there once.
-use Rattle.std.proofs.Common.{◌≡◌, ◌≤◌, ℕ, zero, suc, ◌+◌, ◌*◌, Bool, true, false, List, [], ◌∷◌, ◌++◌, length, refl, arith, if◌then◌else◌}
-use Rattle.op_core.specs.declared.statement.Label.{Label}
+use Rattle.std.proofs.Common.{◌≡◌, ◌≤◌, ℕ, zero, suc, ◌+◌, Bool, true, false, List, [], ◌∷◌, ◌++◌, length, refl, arith, if◌then◌else◌}
 use Rattle.op_meaning.specs.Items.{Item, act, also, choose, select, loop, body_first, protect, leave, enter, finish, attempt, throw, rethrow, halt, construct, free, Items, none, then_do, Turns, turns, Cases, no_cases, cases}
-use Rattle.op_mir.specs.Code.{Arm, Instr, do_act, do_call, jump, when, unless, switch, dispatch, make_due, stop, ret, branch_if, branch_unless, Exits, is_jump, continued, loop_exits, finally_exits, routine_exits, code, code_item, code_loop, code_cases, blocks_of}
+use Rattle.op_mir.specs.Code.{Instr, do_act, do_call, jump, when, unless, switch, dispatch, make_due, stop, ret, branch_if, branch_unless, Exits, is_jump, continued, loop_exits, finally_exits, routine_exits, code, code_item, code_loop, code_cases, blocks_of}
 use Rattle.op_sizes.specs.Sizes.{instruction_size, arms_size, code_size, blocks_size, items_size, item_size, turns_size, cases_size}
 
 -- ---- lists
@@ -56,10 +55,6 @@ finally_leaves : (t k : ℕ) → LeaveBy (finally_exits t k)
 finally_leaves t k reason = omega arith
 
 -- ---- code
-
--- a list of arms is the one of the cases
-arms_more : (labels : List Label) (k : ℕ) (arms : List Arm) → arms_size (record { labels = labels; block = k } ∷ arms) ≡ 4 * length labels + arms_size arms
-arms_more labels k arms = refl
 
 mutual
   pub code_small : (out : Exits) (items : Items) (k : ℕ) (behind : List Instr) → LeaveBy out → code_size (code out items k behind).now + blocks_size (code out items k behind).blocks ≤ code_size behind + items_size items

@@ -8,11 +8,11 @@ ghost use Rattle.op_tool.specs.Compiles.{FailsAs, FailsToCheck, HasNoImage, IsIm
 
 use op_base::{Files, NoMemory, Place, Refusal, Rule, Text};
 use op_build::{BuildError, build};
-use op_check_unit::check;
 use op_core::{CheckError, Core};
 use op_link::Settings;
 use op_managed::middle;
 use op_plain::is_plain;
+use op_sound::check;
 use op_units::{Forest, LoadError, load};
 use std::alloc::Global;
 

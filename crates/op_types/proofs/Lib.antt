@@ -1,13 +1,8 @@
 pub mod Assigning
 pub mod ConstantLaw
 pub mod ConstantValue
-pub mod ConstantWhole
-pub mod Entered
 pub mod Extents
-pub mod Fitting
 pub mod Folding
 pub mod Index
 pub mod Members
-pub mod Sorting
-pub mod TypeFacts
 pub mod Wide

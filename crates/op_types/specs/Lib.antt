@@ -7,5 +7,4 @@ pub mod Names
 pub mod Operators
 pub mod Sets
 pub mod Sorts
-pub mod Standing
 pub mod Values

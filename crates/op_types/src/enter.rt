@@ -49,7 +49,7 @@ fn enter(core: &mut Core, of: CoreType) -> Result<TypeId, NoMemory>
 }
 
 /// Of which values of a type there are sets.
-enum Sets {
+pub enum Sets {
     None,
     OfAll,
     /// Of its first 32 values.

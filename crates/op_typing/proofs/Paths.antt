@@ -76,9 +76,6 @@ element_reaches core sound of at each t is =
 
 -- ---- variables
 
-parameter_row : ParameterRow → RoleAndType
-parameter_row p = (Parameter p.mode, p.of)
-
 block_is_own : (role : Role) → is_of_block role ≡ true → is_reference role ≡ false
 block_is_own Plain h = refl
 block_is_own Constant h = refl

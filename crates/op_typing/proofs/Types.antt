@@ -215,7 +215,3 @@ set_kind core _ h = absurd h
 
 pub set_single : (core : Core) (of : TypeId) → IsSet core of → IsSingle core of Signed32
 set_single core of h = set_kind core (type_at core of) h
-
-pub some_unit : {A : Type 0} (o : Option A) (P : A → Type 0) → IsSomeAnd o P → IsSomeAnd o (λ x. Unit {0})
-some_unit None P h = absurd h
-some_unit (Some x) P h = tt

@@ -1,0 +1,12 @@
+pub mod Tables
+pub mod Filled
+pub mod Growth
+pub mod Steps
+pub mod Constants
+pub mod Types
+pub mod Declaring
+pub mod Headings
+pub mod Routines
+pub mod Beginning
+pub mod Units
+pub mod Sound

@@ -1,0 +1,15 @@
+pub mod GrowingTypes
+pub mod GrowingRows
+pub mod GrowingTrees
+pub mod GrowingStatements
+pub mod Sorting
+pub mod TypeFacts
+pub mod Fitting
+pub mod Constants
+pub mod Entered
+pub mod Trees
+pub mod Operations
+pub mod Leaves
+pub mod Expressions
+pub mod Hosts
+pub mod Statements

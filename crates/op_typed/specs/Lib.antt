@@ -1,0 +1,4 @@
+pub mod Standing
+pub mod Settled
+pub mod Surrounding
+pub mod Claims
