@@ -3,6 +3,7 @@ use Rattle.std.proofs.Common.{◌≡◌, ◌<◌, ℕ, zero, suc, ◌+◌, Bool,
 use Rattle.std.proofs.lemmas.Bool.Decides.{nat_tests}
 use Rattle.std.proofs.lemmas.List.{length-replicate, length-set}
 use Rattle.std.specs.List.{list_any}
+use Rattle.op_core.proofs.Rows.{set_there}
 use Rattle.op_core.proofs.OneType.{stays_front}
 use Rattle.op_core.specs.declared.ids.VariableId.{VariableId}
 use Rattle.op_core.specs.declared.program.Core.{Core}
@@ -15,11 +16,6 @@ use Rattle.op_agreement.specs.Typed.{IsGlobal}
 -- ---- an element that is set
 
 -- what is set within the list stands there
-set_there : {A : Type 0} (xs : List A) (k : ℕ) (x : A) → k < length xs → slice_get (slice_set xs k x) k ≡ Some x
-set_there [] k x less = absurd (omega arith)
-set_there (y ∷ xs) zero x less = refl
-set_there (y ∷ xs) (suc k) x less = let less' : suc k < suc (length xs) = less in set_there xs k x (omega (arith, less'))
-
 -- an element stays if what is set in its place is the same
 set_keeps : {A : Type 0} (xs : List A) (k n : ℕ) (x a : A) → slice_get xs n ≡ Some a → (n ≡ k → x ≡ a) → slice_get (slice_set xs k x) n ≡ Some a
 set_keeps [] k n x a is same = absurd (cc)

@@ -5,6 +5,7 @@ pub mod Growing
 pub mod Heading
 pub mod Initial
 pub mod Members
+pub mod Needs
 pub mod Nodes
 pub mod Relations
 pub mod Roles

@@ -3,15 +3,19 @@ use Rattle.std.specs.Prelude.{◌≡◌, ℕ, suc, pos, ◌+◌, ◌<◌, ◌≤
 use Rattle.std.specs.Char.{to_ascii_lowercase}
 use Rattle.std.specs.List.{All, Contains, filter, flat_map, sum_by}
 use Rattle.std.specs.Option.{option_and_then, option_map, option_to_list}
+use Rattle.std.proofs.Common.{refl}
+use Rattle.std.proofs.lemmas.Bool.{false≢true}
+use Rattle.op_core.specs.Needs.{Fact, always, both, class_such, fields_such, has_form, four, interface_such, of_kind, has_part, type_there, where_so, IsSo}
 use Rattle.op_core.specs.Heading.{is_same_heading}
 use Rattle.op_core.specs.Initial.{FirstValue, constant, parts, FirstValues, no_values, values, first_value_of}
 use Rattle.op_core.specs.Members.{There, Kind, InRun, Descends, AsksFor, HasMethod}
+pub use Rattle.op_core.specs.Rows.{Fit, Row}
 use Rattle.op_core.specs.Rows.{rows}
 use Rattle.op_core.specs.Sizes.{type_at, range_of, values_of, extent_of, KeepsExtents}
 use Rattle.op_core.specs.Statement.{stmts_of}
 use Rattle.op_core.specs.StatementTyping.{AreStatements, Here}
 use Rattle.op_core.specs.Types.{id, predefined}
-use Rattle.op_core.specs.Typing.{Sees, Fits, IsOrdinal, Within, element_of}
+use Rattle.op_core.specs.Typing.{Sees, Fits, Within, element_of, ordinal}
 use Rattle.op_core.specs.declared.class.Accessor.{Accessor}
 use Rattle.op_core.specs.declared.class.Accessor.TheVariants.{Field as ByField, Method as ByMethod}
 use Rattle.op_core.specs.declared.class.Binding.TheVariants.{Static, Override}
@@ -41,12 +45,6 @@ use Rattle.op_tree.specs.declared.heading.RoutineKind.TheVariants.{Destructor}
 
 -- ---- ids in range
 
-abbrev pub Row : {A : Type 0} → List A → ℕ → Type 0
-Row table n = n < length table
-
-abbrev pub Fit : {A : Type 0} → List A → Run → Type 0
-Fit table run = run.first + run.count ≤ length table
-
 -- this holds of each row, by its number
 abbrev pub Each : {A : Type 0} → List A → (ℕ → A → Type 0) → Type 0
 Each {A} table P = (n : ℕ) (a : A) → slice_get table n ≡ Some a → P n a
@@ -72,8 +70,9 @@ enclosing_of core n = option_and_then (λ x. option_map (λ a. a.0) x.enclosing)
 
 -- ---- types
 
-abbrev pub IsRange : Core → ℕ → TypeId → Type 0
-IsRange core n base = (base.0 < n) × IsOrdinal core base
+-- of a row in front of that one, and ordinal
+abbrev pub range_row : ℕ → TypeId → Fact
+range_row n base = both (always (base.0 < n)) (ordinal base)
 
 -- what subranges are of: the type of all values of a kind
 abbrev pub is_whole : Option CoreType → Bool
@@ -83,25 +82,31 @@ is_whole (Some Char) = true
 is_whole (Some (Enumeration count)) = true
 is_whole _ = false
 
+abbrev pub type_row : ℕ → CoreType → Fact
+type_row n (Enumeration count) = always ((0 < count) × (count ≤ 65536))
+type_row n (Subrange base low high) = four (range_row n base) (has_part range_of refl base (λ r. always (Within r low × Within r high))) (always (low ≤ℤ high)) (has_form (λ t. IsTrue (is_whole t)) false≢true base)
+type_row n (Set base) = both (range_row n base) (has_part range_of refl base (λ r. always ((pos 0 ≤ℤ r.0) × (r.1 ≤ℤ pos 31))))
+type_row n (Record fields) = fields_such fields (λ f. f.of.0 < n)
+type_row n (Array index element) = both (range_row n index) (always (element.0 < n))
+type_row n (DynamicArray element) = type_there element
+type_row n (OpenArray element) = type_there element
+type_row n (Class c) = class_such c (λ x. x.of.0 ≡ n)
+type_row n (Interface i) = interface_such i (λ x. x.of.0 ≡ n)
+type_row n Broken = always ⊥
+type_row n _ = always (Unit {0})
+
 abbrev pub IsTypeRow : Core → ℕ → CoreType → Type 0
-IsTypeRow core n (Enumeration count) = (0 < count) × (count ≤ 65536)
-IsTypeRow core n (Subrange base low high) = IsRange core n base × IsSomeAnd (range_of (type_at core base)) (λ r. Within r low × Within r high) × (low ≤ℤ high) × IsTrue (is_whole (type_at core base))
-IsTypeRow core n (Set base) = IsRange core n base × IsSomeAnd (range_of (type_at core base)) (λ r. (pos 0 ≤ℤ r.0) × (r.1 ≤ℤ pos 31))
-IsTypeRow core n (Record fields) = Fit core.fields fields × All (λ f. f.of.0 < n) (rows core.fields fields)
-IsTypeRow core n (Array index element) = IsRange core n index × (element.0 < n)
-IsTypeRow core n (DynamicArray element) = Row core.types element.0
-IsTypeRow core n (OpenArray element) = Row core.types element.0
-IsTypeRow core n (Class c) = There core.classes c.0 (λ x. x.of.0 ≡ n)
-IsTypeRow core n (Interface i) = There core.interfaces i.0 (λ x. x.of.0 ≡ n)
-IsTypeRow core n Broken = ⊥
-IsTypeRow core n _ = Unit {0}
+IsTypeRow core n t = IsSo core (type_row n t)
 
 -- Right behind an enumeration or a subrange within 0 to 31 stands its set type, behind a larger enumeration the subrange of its
 -- first 32 values.
+abbrev pub set_behind : ℕ → CoreType → Fact
+set_behind n (Enumeration count) = of_kind (id (n + 1)) (if nat_le count 32 then Set (id n) else Subrange (id n) (pos 0) (pos 31))
+set_behind n (Subrange base low high) = where_so (pos 0 ≤ℤ low) (where_so (high ≤ℤ pos 31) (of_kind (id (n + 1)) (Set (id n))))
+set_behind n _ = always (Unit {0})
+
 abbrev pub HasSet : Core → ℕ → CoreType → Type 0
-HasSet core n (Enumeration count) = type_at core (id (n + 1)) ≡ Some (if nat_le count 32 then Set (id n) else Subrange (id n) (pos 0) (pos 31))
-HasSet core n (Subrange base low high) = pos 0 ≤ℤ low → high ≤ℤ pos 31 → type_at core (id (n + 1)) ≡ Some (Set (id n))
-HasSet core n _ = Unit {0}
+HasSet core n t = IsSo core (set_behind n t)
 
 -- the second is a part of the first through records and arrays alone
 pub data Holds (core : Core) : TypeId → TypeId → Type 0 where

@@ -1,11 +1,13 @@
 -- Which typed statements are such, and where they may stand (Free Pascal Reference Guide, "Statements").
-use Rattle.std.specs.Prelude.{◌≡◌, Bool, true, false, Option, Some, None, IsTrue, IsSomeAnd, ◌≤ℤ◌, ◌⊎◌}
-use Rattle.std.specs.List.{All}
+use Rattle.std.specs.Prelude.{◌≡◌, Bool, true, false, Option, Some, None, IsTrue, IsSomeAnd, ◌≤ℤ◌}
+use Rattle.std.proofs.Common.{refl}
+use Rattle.op_core.specs.Needs.{Fact, always, both, either, some, of_kind, has_part, part_is, hosted, one_type, exception, placed, IsSo, row, Need, fact, two_of, three_of, four_of, each, of_option, may_name, value_of, IsMet}
+pub use Rattle.op_core.specs.Needs.{host}
 use Rattle.op_core.specs.Expression.{Expression}
-use Rattle.op_core.specs.Members.{There, Kind, Descends}
+use Rattle.op_core.specs.Members.{There}
 use Rattle.op_core.specs.Sizes.{type_at, range_of}
 use Rattle.op_core.specs.Statement.{Item, plain, padded, Target, BuiltIn, write, read, count, set_length, include, exclude, val, str, free, destroy, Statement, empty, block, if_then, if_else, case_of, while_do, repeat_until, for_to, for_in, try_finally, try_on, try_on_else, raise, reraise, call, assign, exit, exit_with, break, continue, halt, built_in, Statements, no_statements, statements, Branches, no_branches, branches, Handlers, no_handlers, handlers}
-use Rattle.op_core.specs.Typing.{Sees, IsTyped, type_of, IsValue, IsInteger, IsBoolean, IsString, IsOrdinal, IsSet, IsObject, Within, Converts, OneType, base_of, element_of, is_place}
+use Rattle.op_core.specs.Typing.{Sees, IsTyped, typed, type_of, value_as, integer, boolean, string, ordinal, a_set, an_object, Within, converts, base_of, element_of, is_place}
 use Rattle.op_core.specs.declared.ids.ClassId.{ClassId}
 use Rattle.op_core.specs.declared.ids.TypeId.{TypeId}
 use Rattle.op_core.specs.declared.ids.VariableId.{VariableId}
@@ -31,23 +33,8 @@ in_handler here = record here { handler = true }
 abbrev pub in_finally : Here → Here
 in_finally here = record here { loop = false; routine = false }
 
--- the class descends from Exception
-abbrev pub IsException : Core → ClassId → Type 0
-IsException core c = IsSomeAnd core.exceptions (λ x. Descends core c x.exception)
-
-abbrev pub IsRaised : Core → TypeId → Type 0
-IsRaised core of = (c : ClassId) × Kind core of (Class c) × IsException core c
-
-abbrev pub Has : (Core → TypeId → Type 0) → Core → Sees → Expression → Type 0
-Has Q core sees e = IsTyped core sees e × Q core (type_of e)
-
-abbrev pub IsTargetOf : Bool → (Core → TypeId → Type 0) → Core → Sees → Expression → Type 0
-IsTargetOf chars Q core sees e = Has Q core sees e × IsTrue (is_place chars core e)
-
--- the type that a subrange is of, or the type itself
-abbrev pub host : Core → Option CoreType → Option CoreType
-host core (Some (Subrange base low high)) = type_at core base
-host core t = t
+abbrev pub raised : TypeId → Fact
+raised of = some (λ c. both (of_kind of (Class c)) (exception c))
 
 abbrev pub is_text : Option CoreType → Bool
 is_text (Some (Integer kind)) = true
@@ -57,18 +44,111 @@ is_text (Some String) = true
 is_text _ = false
 
 -- what is read or written: integers, Booleans, Chars and strings
-abbrev pub IsText : Core → TypeId → Type 0
-IsText core of = IsTrue (is_text (host core (type_at core of)))
+abbrev pub text : TypeId → Fact
+text of = hosted is_text refl of
 
 -- what the bounds of a loop over a variable of a type are: Integers, values of a subrange's base, or else of that type
-abbrev pub Bounds : Core → TypeId → Option CoreType → TypeId → Type 0
-Bounds core at (Some (Integer kind)) of = IsInteger core of
-Bounds core at (Some (Subrange base low high)) of = base ≡ of
-Bounds core at t of = (at ≡ of) × IsOrdinal core of
+abbrev pub bounds_by : TypeId → TypeId → CoreType → Fact
+bounds_by at of (Integer kind) = integer of
+bounds_by at of (Subrange base low high) = always (base ≡ of)
+bounds_by at of t = both (always (at ≡ of)) (ordinal of)
 
-abbrev pub IsItem : Core → Sees → Item → Type 0
-IsItem core sees (plain e) = Has IsText core sees e
-IsItem core sees (padded e width) = Has IsText core sees e × Has IsInteger core sees width
+-- what has a length that can be set
+abbrev pub with_length : TypeId → Fact
+with_length of = either (string of) (some (λ element. of_kind of (DynamicArray element)))
+
+-- what `for in` goes over, with its elements' type
+abbrev pub gives_elements : TypeId → TypeId → Fact
+gives_elements of element = either (part_is element_of refl of element) (either (part_is base_of refl of element) (both (string of) (of_kind element Char)))
+
+abbrev pub has : (TypeId → Fact) → Expression → Need
+has f e = two_of (typed e) (fact (f (type_of e)))
+
+abbrev pub target_of : Bool → (TypeId → Fact) → Expression → Need
+target_of chars f e = two_of (has f e) (fact (placed chars e))
+
+abbrev pub target_as : (TypeId → Fact) → Target → Need
+target_as f target = target_of true f target.place
+
+abbrev pub item_as : Item → Need
+item_as (plain e) = has text e
+item_as (padded e width) = two_of (has text e) (has integer width)
+
+abbrev pub element_and_set : Expression → Expression → Need
+element_and_set set e = three_of (target_of false a_set set) (typed e) (fact (has_part base_of refl (type_of set) (λ base. one_type (type_of e) base)))
+
+abbrev pub built_in_as : BuiltIn → Need
+built_in_as (write items ends_line) = each items item_as
+built_in_as (read targets ends_line) = each targets (target_as text)
+built_in_as (count direction target amount checked) = two_of (target_as ordinal target) (has integer amount)
+built_in_as (set_length target e) = two_of (target_of false with_length target) (has integer e)
+built_in_as (include set e) = element_and_set set e
+built_in_as (exclude set e) = element_and_set set e
+built_in_as (val text v code) = three_of (has string text) (target_as ordinal v) (target_as ordinal code)
+built_in_as (str v target) = two_of (item_as v) (target_of false string target)
+built_in_as (free object empties) = has an_object object
+built_in_as (destroy object) = has an_object object
+
+abbrev pub label_of : TypeId → Label → Need
+label_of of label = fact (both (has_part range_of refl of (λ r. always (Within r label.first × Within r label.last))) (always (label.first ≤ℤ label.last)))
+
+abbrev pub caught_as : ClassId → Option VariableId → Need
+caught_as c None = fact (always (Unit {0}))
+caught_as c (Some id) = may_name id (λ of role. of_kind of (Class c))
+
+abbrev mutual
+  pub statement_as : Here → Statement → Need
+  statement_as here empty = fact (always (Unit {0}))
+  statement_as here (block ss) = statements_as here ss
+  statement_as here (if_then e s) = two_of (has boolean e) (statement_as here s)
+  statement_as here (if_else e s t) = three_of (has boolean e) (statement_as here s) (statement_as here t)
+  statement_as here (case_of e bs ss) = three_of (has ordinal e) (branches_as here (type_of e) bs) (statements_as here ss)
+  statement_as here (while_do e s) = two_of (has boolean e) (statement_as (in_loop here) s)
+  statement_as here (repeat_until ss e) = two_of (statements_as (in_loop here) ss) (has boolean e)
+  statement_as here (for_to id e direction f s) = four_of (may_name id (λ of role. row of (bounds_by of (type_of e)))) (typed e) (value_of (value_as f) (type_of e)) (statement_as (in_loop here) s)
+  statement_as here (for_in id store e s) = three_of (typed e) (may_name id (λ of role. some (λ element. both (gives_elements (type_of e) element) (converts store element of)))) (statement_as (in_loop here) s)
+  statement_as here (try_finally ss ts) = two_of (statements_as here ss) (statements_as (in_finally here) ts)
+  statement_as here (try_on ss hs) = two_of (statements_as here ss) (handlers_as (in_handler here) hs)
+  statement_as here (try_on_else ss hs ts) = three_of (statements_as here ss) (handlers_as (in_handler here) hs) (statements_as (in_handler here) ts)
+  statement_as here (raise e) = has raised e
+  statement_as here reraise = fact (always (here.handler ≡ true))
+  statement_as here (call e) = typed e
+  statement_as here (assign target e) = three_of (typed target) (fact (placed true target)) (value_of (value_as e) (type_of target))
+  statement_as here exit = fact (always (here.routine ≡ true))
+  statement_as here (exit_with e) = two_of (fact (always (here.routine ≡ true))) (of_option here.result (λ of. value_of (value_as e) of))
+  statement_as here break = fact (always (here.loop ≡ true))
+  statement_as here continue = fact (always (here.loop ≡ true))
+  statement_as here (halt e) = has integer e
+  statement_as here (built_in action) = built_in_as action
+
+  pub statements_as : Here → Statements → Need
+  statements_as here no_statements = fact (always (Unit {0}))
+  statements_as here (statements s ss) = two_of (statement_as here s) (statements_as here ss)
+
+  pub branches_as : Here → TypeId → Branches → Need
+  branches_as here of no_branches = fact (always (Unit {0}))
+  branches_as here of (branches labels s bs) = three_of (each labels (label_of of)) (statement_as here s) (branches_as here of bs)
+
+  pub handlers_as : Here → Handlers → Need
+  handlers_as here no_handlers = fact (always (Unit {0}))
+  handlers_as here (handlers v c s hs) = four_of (fact (exception c)) (caught_as c v) (statement_as here s) (handlers_as here hs)
+
+-- ---- as they are read of a program
+
+abbrev pub IsText : Core → TypeId → Type 0
+IsText core of = IsSo core (text of)
+
+abbrev pub Bounds : Core → TypeId → Option CoreType → TypeId → Type 0
+Bounds core at o of = IsSomeAnd o (λ t. IsSo core (bounds_by at of t))
+
+abbrev pub GivesElements : Core → TypeId → TypeId → Type 0
+GivesElements core of element = IsSo core (gives_elements of element)
+
+abbrev pub Has : (Core → TypeId → Type 0) → Core → Sees → Expression → Type 0
+Has Q core sees e = IsTyped core sees e × Q core (type_of e)
+
+abbrev pub IsTargetOf : Bool → (Core → TypeId → Type 0) → Core → Sees → Expression → Type 0
+IsTargetOf chars Q core sees e = Has Q core sees e × IsTrue (is_place chars core e)
 
 abbrev pub IsTarget : (Core → TypeId → Type 0) → Core → Sees → Target → Type 0
 IsTarget Q core sees target = IsTargetOf true Q core sees target.place
@@ -76,69 +156,23 @@ IsTarget Q core sees target = IsTargetOf true Q core sees target.place
 abbrev pub IsVariable : Sees → Core → VariableId → (TypeId → Type 0) → Type 0
 IsVariable sees core id Q = sees.variable id × There core.variables id.0 (λ v. Q v.of)
 
-abbrev pub IsElementOf : Core → Sees → Expression → Expression → Type 0
-IsElementOf core sees set e = IsTargetOf false IsSet core sees set × IsTyped core sees e × IsSomeAnd (base_of (type_at core (type_of set))) (λ base. OneType core (type_of e) base)
+abbrev pub IsItem : Core → Sees → Item → Type 0
+IsItem core sees x = IsMet core sees (item_as x)
 
--- what has a length that can be set
-abbrev pub IsLength : Core → TypeId → Type 0
-IsLength core of = IsString core of ⊎ ((element : TypeId) × Kind core of (DynamicArray element))
+abbrev pub IsElementOf : Core → Sees → Expression → Expression → Type 0
+IsElementOf core sees set e = IsMet core sees (element_and_set set e)
 
 abbrev pub IsBuiltIn : Core → Sees → BuiltIn → Type 0
-IsBuiltIn core sees (write items ends_line) = All (IsItem core sees) items
-IsBuiltIn core sees (read targets ends_line) = All (IsTarget IsText core sees) targets
-IsBuiltIn core sees (count direction target amount checked) = IsTarget IsOrdinal core sees target × Has IsInteger core sees amount
-IsBuiltIn core sees (set_length target e) = IsTargetOf false IsLength core sees target × Has IsInteger core sees e
-IsBuiltIn core sees (include set e) = IsElementOf core sees set e
-IsBuiltIn core sees (exclude set e) = IsElementOf core sees set e
-IsBuiltIn core sees (val text v code) = Has IsString core sees text × IsTarget IsOrdinal core sees v × IsTarget IsOrdinal core sees code
-IsBuiltIn core sees (str v target) = IsItem core sees v × IsTargetOf false IsString core sees target
-IsBuiltIn core sees (free object empties) = Has IsObject core sees object
-IsBuiltIn core sees (destroy object) = Has IsObject core sees object
+IsBuiltIn core sees x = IsMet core sees (built_in_as x)
 
 abbrev pub IsLabel : Core → TypeId → Label → Type 0
 IsLabel core of label = IsSomeAnd (range_of (type_at core of)) (λ r. Within r label.first × Within r label.last) × (label.first ≤ℤ label.last)
 
-abbrev pub IsCaught : Core → Sees → ClassId → Option VariableId → Type 0
-IsCaught core sees c None = Unit {0}
-IsCaught core sees c (Some id) = IsVariable sees core id (λ of. Kind core of (Class c))
+abbrev pub IsStatement : Core → Sees → Here → Statement → Type 0
+IsStatement core sees here s = IsMet core sees (statement_as here s)
 
--- what `for in` goes over, with its elements' type
-abbrev pub GivesElements : Core → TypeId → TypeId → Type 0
-GivesElements core of element = (element_of (type_at core of) ≡ Some element) ⊎ (base_of (type_at core of) ≡ Some element) ⊎ (IsString core of × Kind core element Char)
+abbrev pub AreStatements : Core → Sees → Here → Statements → Type 0
+AreStatements core sees here ss = IsMet core sees (statements_as here ss)
 
-abbrev mutual
-  pub IsStatement : Core → Sees → Here → Statement → Type 0
-  IsStatement core sees here empty = Unit {0}
-  IsStatement core sees here (block ss) = AreStatements core sees here ss
-  IsStatement core sees here (if_then e s) = Has IsBoolean core sees e × IsStatement core sees here s
-  IsStatement core sees here (if_else e s t) = Has IsBoolean core sees e × IsStatement core sees here s × IsStatement core sees here t
-  IsStatement core sees here (case_of e bs ss) = Has IsOrdinal core sees e × AreBranches core sees here (type_of e) bs × AreStatements core sees here ss
-  IsStatement core sees here (while_do e s) = Has IsBoolean core sees e × IsStatement core sees (in_loop here) s
-  IsStatement core sees here (repeat_until ss e) = AreStatements core sees (in_loop here) ss × Has IsBoolean core sees e
-  IsStatement core sees here (for_to id e direction f s) = IsVariable sees core id (λ of. Bounds core of (type_at core of) (type_of e)) × IsTyped core sees e × IsValue core sees (type_of e) f × IsStatement core sees (in_loop here) s
-  IsStatement core sees here (for_in id store e s) = IsTyped core sees e × IsVariable sees core id (λ of. (element : TypeId) × GivesElements core (type_of e) element × Converts core store element of) × IsStatement core sees (in_loop here) s
-  IsStatement core sees here (try_finally ss ts) = AreStatements core sees here ss × AreStatements core sees (in_finally here) ts
-  IsStatement core sees here (try_on ss hs) = AreStatements core sees here ss × AreHandlers core sees (in_handler here) hs
-  IsStatement core sees here (try_on_else ss hs ts) = AreStatements core sees here ss × AreHandlers core sees (in_handler here) hs × AreStatements core sees (in_handler here) ts
-  IsStatement core sees here (raise e) = Has IsRaised core sees e
-  IsStatement core sees here reraise = here.handler ≡ true
-  IsStatement core sees here (call e) = IsTyped core sees e
-  IsStatement core sees here (assign target e) = IsTyped core sees target × IsTrue (is_place true core target) × IsValue core sees (type_of target) e
-  IsStatement core sees here exit = here.routine ≡ true
-  IsStatement core sees here (exit_with e) = (here.routine ≡ true) × IsSomeAnd here.result (λ of. IsValue core sees of e)
-  IsStatement core sees here break = here.loop ≡ true
-  IsStatement core sees here continue = here.loop ≡ true
-  IsStatement core sees here (halt e) = Has IsInteger core sees e
-  IsStatement core sees here (built_in action) = IsBuiltIn core sees action
-
-  pub AreStatements : Core → Sees → Here → Statements → Type 0
-  AreStatements core sees here no_statements = Unit {0}
-  AreStatements core sees here (statements s ss) = IsStatement core sees here s × AreStatements core sees here ss
-
-  pub AreBranches : Core → Sees → Here → TypeId → Branches → Type 0
-  AreBranches core sees here of no_branches = Unit {0}
-  AreBranches core sees here of (branches labels s bs) = All (IsLabel core of) labels × IsStatement core sees here s × AreBranches core sees here of bs
-
-  pub AreHandlers : Core → Sees → Here → Handlers → Type 0
-  AreHandlers core sees here no_handlers = Unit {0}
-  AreHandlers core sees here (handlers v c s hs) = IsException core c × IsCaught core sees c v × IsStatement core sees here s × AreHandlers core sees here hs
+abbrev pub AreBranches : Core → Sees → Here → TypeId → Branches → Type 0
+AreBranches core sees here of bs = IsMet core sees (branches_as here of bs)

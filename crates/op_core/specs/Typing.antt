@@ -1,18 +1,18 @@
 -- Which typed trees are such: each part has the type written at it (Free Pascal Reference Guide, "Expressions" and "Statements").
-use Rattle.std.specs.Prelude.{◌≡◌, ℕ, ℤ, pos, ◌≤ℤ◌, ◌⊎◌, Bool, true, false, ◌&&◌, List, [], ◌∷◌, Option, Some, None, IsSomeAnd, IsTrue}
+use Rattle.std.specs.Prelude.{◌≡◌, ℕ, ℤ, pos, ◌≤ℤ◌, Bool, true, false, List, [], Option, Some, None, IsSomeAnd, IsTrue}
 use Rattle.std.specs.List.{All}
+use Rattle.std.proofs.Common.{refl}
+use Rattle.std.proofs.lemmas.Bool.{false≢true}
 use Rattle.op_core.specs.Expression.{Expression, expression, Root, constant, variable, object, call, construct, set, eof, eoln, Steps, no_steps, steps, Action, convert, bracket, field, index, method, prefixed, operate, is, apply, copy, Elements, no_elements, elements, Element, one, range, Arguments, no_arguments, arguments, Argument, value, place, array, listed, Expressions, no_expressions, expressions}
-use Rattle.op_core.specs.Members.{There, Kind, Descends, Extends, Implements, HasField, HasMethod, AsksFor, InRun}
-use Rattle.op_core.specs.Rows.{rows}
-use Rattle.op_core.specs.Sizes.{type_at, range_of}
-use Rattle.op_core.specs.Types.{is_one_type}
+use Rattle.op_core.specs.Needs.{Fact, always, both, three, either, some, of_given, of_kind, has_form, has_part, part_is, hosted, one_type, field_of, class_such, descends, extends, implements, has_field, has_method, asks_for, IsSo, row, Need, fact, two_of, three_of, of_part, may_name, may_call, calls, value_of, plain_routine, constructor, method_giving, Valued, valued, Passing, by_value, by_place, as_array, as_list, Passings, no_passings, passings, IsMet, IsValued, IsPassed, ArePassed}
+pub use Rattle.op_core.specs.Needs.{Sees, OneType, GivesType, element_of, is_place, is_place_after, is_variable, leads_on, takes_place}
+use Rattle.op_core.specs.Members.{InRun}
+use Rattle.op_core.specs.Sizes.{range_of}
 use Rattle.op_core.specs.declared.constant.Const.{Const}
 use Rattle.op_core.specs.declared.constant.Const.TheVariants.{Ordinal, Text, Set as SetOf, Nil as NilOf}
-use Rattle.op_core.specs.declared.ids.ClassId.{ClassId}
 use Rattle.op_core.specs.declared.ids.FieldId.{FieldId}
 use Rattle.op_core.specs.declared.ids.RoutineId.{RoutineId}
 use Rattle.op_core.specs.declared.ids.TypeId.{TypeId}
-use Rattle.op_core.specs.declared.ids.VariableId.{VariableId}
 use Rattle.op_core.specs.declared.operation.Conversion.{Conversion}
 use Rattle.op_core.specs.declared.operation.Conversion.TheVariants.{Keep, LowBits, Check, ToString, ToInterface, Instance}
 use Rattle.op_core.specs.declared.operation.Function.{Function}
@@ -20,24 +20,15 @@ use Rattle.op_core.specs.declared.operation.Function.TheVariants.{Length, Low, H
 use Rattle.op_core.specs.declared.operation.Dispatch.{Dispatch}
 use Rattle.op_core.specs.declared.operation.Dispatch.TheVariants.{Direct, Virtual, Interface as ByInterface}
 use Rattle.op_core.specs.declared.program.Core.{Core}
-use Rattle.op_core.specs.declared.routine.Owner.TheVariants.{Unit as OfUnit}
 use Rattle.op_core.specs.declared.routine.Parameter.{Parameter}
 use Rattle.op_core.specs.declared.routine.Role.TheVariants.{Object as ObjectRole}
 use Rattle.op_core.specs.declared.types.CoreType.{CoreType}
-use Rattle.op_core.specs.declared.types.CoreType.TheVariants.{Integer, Boolean, Char, String, Subrange, Set, Record, Array, DynamicArray, OpenArray, Class, Interface, Nil, EmptySet, Nothing}
+use Rattle.op_core.specs.declared.types.CoreType.TheVariants.{Integer, Boolean, Char, String, Set, Record, Array, DynamicArray, OpenArray, Class, Interface, Nil, EmptySet}
 use Rattle.op_core.specs.declared.types.IntegerKind.TheVariants.{Signed32}
-use Rattle.op_tree.specs.declared.heading.ParameterMode.{ParameterMode}
-use Rattle.op_tree.specs.declared.heading.ParameterMode.TheVariants.{Value, Var, Const_, Out}
-use Rattle.op_tree.specs.declared.heading.RoutineKind.TheVariants.{Constructor}
 use Rattle.op_tree.specs.declared.operator.Operator.{Operator}
 use Rattle.op_tree.specs.declared.operator.Operator.TheVariants.{Equal, NotEqual, Less, Greater, LessEqual, GreaterEqual, In_, Add, Subtract, Or, Xor, Multiply, Div, Mod_, And, Shl, Shr}
 use Rattle.op_tree.specs.declared.operator.PrefixOperator.{PrefixOperator}
 use Rattle.op_tree.specs.declared.operator.PrefixOperator.TheVariants.{Not, Plus, Minus}
-
--- what a body may name
-pub record Sees : Type 1 where
-  pub variable : VariableId → Type 0
-  pub routine : RoutineId → Type 0
 
 -- ---- types
 
@@ -48,39 +39,33 @@ type_after of (steps action next others) = type_after next others
 abbrev pub type_of : Expression → TypeId
 type_of (expression root of others) = type_after of others
 
-abbrev pub IsInteger : Core → TypeId → Type 0
-IsInteger core of = Kind core of (Integer Signed32)
+abbrev pub integer : TypeId → Fact
+integer of = of_kind of (Integer Signed32)
 
-abbrev pub IsBoolean : Core → TypeId → Type 0
-IsBoolean core of = Kind core of Boolean
+abbrev pub boolean : TypeId → Fact
+boolean of = of_kind of Boolean
 
-abbrev pub IsString : Core → TypeId → Type 0
-IsString core of = Kind core of String
+abbrev pub string : TypeId → Fact
+string of = of_kind of String
+
+abbrev pub is_character : Option CoreType → Bool
+is_character (Some Char) = true
+is_character _ = false
 
 -- Chars, and subranges of them
-abbrev pub IsChar : Core → TypeId → Type 0
-IsChar core of = Kind core of Char ⊎ ((base : TypeId) × (low : ℤ) × (high : ℤ) × Kind core of (Subrange base low high) × Kind core base Char)
+abbrev pub character : TypeId → Fact
+character of = hosted is_character refl of
 
-abbrev pub IsOrdinal : Core → TypeId → Type 0
-IsOrdinal core of = IsSomeAnd (range_of (type_at core of)) (λ r. Unit {0})
+abbrev pub ordinal : TypeId → Fact
+ordinal of = has_part range_of refl of (λ r. always (Unit {0}))
 
-abbrev pub OneType : Core → TypeId → TypeId → Type 0
-OneType core a b = IsTrue (is_one_type core.types a b)
-
-abbrev pub IsObject : Core → TypeId → Type 0
-IsObject core of = (c : ClassId) × Kind core of (Class c)
+abbrev pub an_object : TypeId → Fact
+an_object of = some (λ c. of_kind of (Class c))
 
 -- the base of a set
 abbrev pub base_of : Option CoreType → Option TypeId
 base_of (Some (Set base)) = Some base
 base_of _ = None
-
--- the elements of an array
-abbrev pub element_of : Option CoreType → Option TypeId
-element_of (Some (Array at element)) = Some element
-element_of (Some (DynamicArray element)) = Some element
-element_of (Some (OpenArray element)) = Some element
-element_of _ = None
 
 -- classes, interfaces and dynamic arrays
 abbrev pub is_reference : Option CoreType → Bool
@@ -90,23 +75,23 @@ is_reference (Some (DynamicArray element)) = true
 is_reference (Some Nil) = true
 is_reference _ = false
 
-abbrev pub IsReference : Core → TypeId → Type 0
-IsReference core of = IsTrue (is_reference (type_at core of))
+abbrev pub reference : TypeId → Fact
+reference of = has_form (λ t. IsTrue (is_reference t)) false≢true of
 
 abbrev pub Within : ℤ × ℤ → ℤ → Type 0
 Within r n = (r.0 ≤ℤ n) × (n ≤ℤ r.1)
 
 -- they are values of the base of the set type
-abbrev pub AreMembers : Core → List ℕ → Option CoreType → Type 0
-AreMembers core [] (Some EmptySet) = Unit {0}
-AreMembers core members of = IsSomeAnd (base_of of) (λ base. IsSomeAnd (range_of (type_at core base)) (λ r. All (λ n. Within r (pos n)) members))
+abbrev pub members_of : List ℕ → CoreType → Fact
+members_of [] EmptySet = always (Unit {0})
+members_of members t = of_given (base_of (Some t)) (λ base. has_part range_of refl base (λ r. always (All (λ n. Within r (pos n)) members)))
 
 -- the constant is a value of the type
-abbrev pub Fits : Core → Const → TypeId → Type 0
-Fits core (Ordinal n) of = IsSomeAnd (range_of (type_at core of)) (λ r. Within r n)
-Fits core (Text bytes) of = IsString core of
-Fits core (SetOf members) of = AreMembers core members (type_at core of)
-Fits core NilOf of = IsReference core of
+abbrev pub fits : Const → TypeId → Fact
+fits (Ordinal n) of = has_part range_of refl of (λ r. always (Within r n))
+fits (Text bytes) of = string of
+fits (SetOf members) of = row of (members_of members)
+fits NilOf of = reference of
 
 -- ---- conversions and operations
 
@@ -117,16 +102,15 @@ is_set (Some EmptySet) = true
 is_set _ = false
 
 -- one type to another of the same values, where no test is needed
-abbrev pub IsUp : Core → Option CoreType → Option CoreType → Type 0
-IsUp core (Some (Class c)) (Some (Class d)) = Descends core c d
-IsUp core (Some (Interface i)) (Some (Interface j)) = Extends core i j
-IsUp core (Some Nil) (Some t) = IsTrue (is_reference (Some t))
-IsUp core (Some EmptySet) (Some t) = IsTrue (is_set (Some t))
-IsUp core _ _ = ⊥
+abbrev pub up : CoreType → CoreType → Fact
+up (Class c) (Class d) = descends c d
+up (Interface i) (Interface j) = extends i j
+up Nil t = always (IsTrue (is_reference (Some t)))
+up EmptySet t = always (IsTrue (is_set (Some t)))
+up _ _ = always ⊥
 
-abbrev pub IsWider : Option (ℤ × ℤ) → Option (ℤ × ℤ) → Type 0
-IsWider (Some r) (Some q) = Within q r.0 × Within q r.1
-IsWider _ _ = ⊥
+abbrev pub wider : TypeId → TypeId → Fact
+wider from to = has_part range_of refl from (λ r. has_part range_of refl to (λ q. always (Within q r.0 × Within q r.1)))
 
 abbrev pub IsInstance : Option CoreType → Type 0
 IsInstance (Some (Class c)) = Unit {0}
@@ -134,215 +118,262 @@ IsInstance (Some (Interface i)) = Unit {0}
 IsInstance (Some Nil) = Unit {0}
 IsInstance _ = ⊥
 
-abbrev pub IsImplemented : Core → Option CoreType → Option CoreType → Type 0
-IsImplemented core (Some (Class c)) (Some (Interface i)) = Implements core c i
-IsImplemented core _ _ = ⊥
+abbrev pub instance : TypeId → Fact
+instance of = has_form IsInstance (λ never. never) of
+
+abbrev pub implemented : CoreType → CoreType → Fact
+implemented (Class c) (Interface i) = implements c i
+implemented _ _ = always ⊥
 
 -- sets of one type of elements, whose bases need not have the same elements
-abbrev pub IsSet : Core → TypeId → Type 0
-IsSet core of = IsSomeAnd (base_of (type_at core of)) (λ base. Unit {0})
+abbrev pub a_set : TypeId → Fact
+a_set of = has_part base_of refl of (λ base. always (Unit {0}))
 
-abbrev pub Converts : Core → Conversion → TypeId → TypeId → Type 0
-Converts core Keep from to = OneType core from to ⊎ IsUp core (type_at core from) (type_at core to) ⊎ IsWider (range_of (type_at core from)) (range_of (type_at core to))
-Converts core LowBits from to = IsOrdinal core from × IsOrdinal core to
-Converts core Check from to = (IsOrdinal core from × IsOrdinal core to) ⊎ (IsSet core from × IsSet core to)
-Converts core ToString from to = IsChar core from × IsString core to
-Converts core ToInterface from to = IsImplemented core (type_at core from) (type_at core to)
-Converts core Instance from to = IsInstance (type_at core from) × IsInstance (type_at core to)
+abbrev pub converts : Conversion → TypeId → TypeId → Fact
+converts Keep from to = either (one_type from to) (either (row from (λ t. row to (up t))) (wider from to))
+converts LowBits from to = both (ordinal from) (ordinal to)
+converts Check from to = either (both (ordinal from) (ordinal to)) (both (a_set from) (a_set to))
+converts ToString from to = both (character from) (string to)
+converts ToInterface from to = row from (λ t. row to (implemented t))
+converts Instance from to = both (instance from) (instance to)
 
 -- both sides and what comes out
-abbrev pub All3 : (TypeId → Type 0) → TypeId → TypeId → TypeId → Type 0
-All3 Q a b to = Q a × Q b × Q to
+abbrev pub all_three : (TypeId → Fact) → TypeId → TypeId → TypeId → Fact
+all_three f a b to = three (f a) (f b) (f to)
 
-abbrev pub OnSets : Core → TypeId → TypeId → TypeId → Type 0
-OnSets core a b to = IsTrue (is_set (type_at core a)) × (a ≡ b) × (a ≡ to)
+abbrev pub set_or_empty : TypeId → Fact
+set_or_empty of = has_form (λ t. IsTrue (is_set t)) false≢true of
 
-abbrev pub Both : (TypeId → Type 0) → TypeId → TypeId → Type 0
-Both Q a b = Q a × Q b
+abbrev pub on_sets : TypeId → TypeId → TypeId → Fact
+on_sets a b to = three (set_or_empty a) (always (a ≡ b)) (always (a ≡ to))
 
-abbrev pub AreOrdered : Core → TypeId → TypeId → Type 0
-AreOrdered core a b = Both (IsOrdinal core) a b ⊎ Both (IsString core) a b
+abbrev pub ordered : TypeId → TypeId → Fact
+ordered a b = either (both (ordinal a) (ordinal b)) (both (string a) (string b))
 
-abbrev pub AreSets : Core → TypeId → TypeId → Type 0
-AreSets core a b = IsTrue (is_set (type_at core a)) × (a ≡ b)
+abbrev pub sets : TypeId → TypeId → Fact
+sets a b = both (set_or_empty a) (always (a ≡ b))
 
-abbrev pub Equates : Core → TypeId → TypeId → TypeId → Type 0
-Equates core a b to = (AreOrdered core a b ⊎ AreSets core a b ⊎ Both (IsReference core) a b) × IsBoolean core to
+abbrev pub equated : TypeId → TypeId → TypeId → Fact
+equated a b to = both (either (ordered a b) (either (sets a b) (both (reference a) (reference b)))) (boolean to)
 
-abbrev pub Includes : Core → TypeId → TypeId → TypeId → Type 0
-Includes core a b to = (AreOrdered core a b ⊎ AreSets core a b) × IsBoolean core to
+abbrev pub included : TypeId → TypeId → TypeId → Fact
+included a b to = both (either (ordered a b) (sets a b)) (boolean to)
 
-abbrev pub Combines : Core → TypeId → TypeId → TypeId → Type 0
-Combines core a b to = All3 (IsInteger core) a b to ⊎ All3 (IsBoolean core) a b to
+abbrev pub combined : TypeId → TypeId → TypeId → Fact
+combined a b to = either (all_three integer a b to) (all_three boolean a b to)
 
-abbrev pub Operates : Core → Operator → TypeId → TypeId → TypeId → Type 0
-Operates core Add a b to = All3 (IsInteger core) a b to ⊎ All3 (IsString core) a b to ⊎ OnSets core a b to
-Operates core Subtract a b to = All3 (IsInteger core) a b to ⊎ OnSets core a b to
-Operates core Multiply a b to = All3 (IsInteger core) a b to ⊎ OnSets core a b to
-Operates core Div a b to = All3 (IsInteger core) a b to
-Operates core Mod_ a b to = All3 (IsInteger core) a b to
-Operates core Shl a b to = All3 (IsInteger core) a b to
-Operates core Shr a b to = All3 (IsInteger core) a b to
-Operates core And a b to = Combines core a b to
-Operates core Or a b to = Combines core a b to
-Operates core Xor a b to = Combines core a b to
-Operates core Equal a b to = Equates core a b to
-Operates core NotEqual a b to = Equates core a b to
-Operates core LessEqual a b to = Includes core a b to
-Operates core GreaterEqual a b to = Includes core a b to
-Operates core Less a b to = AreOrdered core a b × IsBoolean core to
-Operates core Greater a b to = AreOrdered core a b × IsBoolean core to
-Operates core In_ a b to = IsOrdinal core a × IsSet core b × IsBoolean core to
-Operates core _ a b to = ⊥
+abbrev pub operates : Operator → TypeId → TypeId → TypeId → Fact
+operates Add a b to = either (all_three integer a b to) (either (all_three string a b to) (on_sets a b to))
+operates Subtract a b to = either (all_three integer a b to) (on_sets a b to)
+operates Multiply a b to = either (all_three integer a b to) (on_sets a b to)
+operates Div a b to = all_three integer a b to
+operates Mod_ a b to = all_three integer a b to
+operates Shl a b to = all_three integer a b to
+operates Shr a b to = all_three integer a b to
+operates And a b to = combined a b to
+operates Or a b to = combined a b to
+operates Xor a b to = combined a b to
+operates Equal a b to = equated a b to
+operates NotEqual a b to = equated a b to
+operates LessEqual a b to = included a b to
+operates GreaterEqual a b to = included a b to
+operates Less a b to = both (ordered a b) (boolean to)
+operates Greater a b to = both (ordered a b) (boolean to)
+operates In_ a b to = three (ordinal a) (a_set b) (boolean to)
+operates _ a b to = always ⊥
 
-abbrev pub Prefixes : Core → PrefixOperator → TypeId → Type 0
-Prefixes core Not of = IsInteger core of ⊎ IsBoolean core of
-Prefixes core Plus of = IsInteger core of
-Prefixes core Minus of = IsInteger core of
+abbrev pub prefixes : PrefixOperator → TypeId → Fact
+prefixes Not of = either (integer of) (boolean of)
+prefixes Plus of = integer of
+prefixes Minus of = integer of
 
 -- Low of an array is of its index type, or an Integer; that of an ordinal value is of the value's type
 abbrev pub bound_of : Option CoreType → Option TypeId
 bound_of (Some (Array at element)) = Some at
 bound_of _ = None
 
-abbrev pub IsSequence : Core → TypeId → Type 0
-IsSequence core of = IsString core of ⊎ IsSomeAnd (element_of (type_at core of)) (λ element. Unit {0})
+abbrev pub sequence : TypeId → Fact
+sequence of = either (string of) (has_part element_of refl of (λ element. always (Unit {0})))
 
-abbrev pub HasBounds : Core → TypeId → TypeId → Type 0
-HasBounds core from to = IsSequence core from × (IsInteger core to ⊎ (bound_of (type_at core from) ≡ Some to))
+abbrev pub bounds : TypeId → TypeId → Fact
+bounds from to = either (both (sequence from) (either (integer to) (part_is bound_of refl from to))) (both (ordinal from) (always (from ≡ to)))
 
-abbrev pub Applies : Core → Function → TypeId → TypeId → Type 0
-Applies core Length from to = IsSequence core from × IsInteger core to
-Applies core Low from to = HasBounds core from to ⊎ (IsOrdinal core from × (from ≡ to))
-Applies core High from to = HasBounds core from to ⊎ (IsOrdinal core from × (from ≡ to))
-Applies core Ord from to = IsOrdinal core from × IsInteger core to
-Applies core Succ from to = IsOrdinal core from × (from ≡ to)
-Applies core Pred from to = IsOrdinal core from × (from ≡ to)
-Applies core Abs from to = IsInteger core from × (from ≡ to)
-Applies core Sqr from to = IsInteger core from × (from ≡ to)
-Applies core Odd from to = IsInteger core from × IsBoolean core to
-Applies core Assigned from to = IsReference core from × IsBoolean core to
-Applies core UpCase from to = Kind core from Char × (from ≡ to)
-Applies core Whole from to = IsSequence core from × (from ≡ to)
-Applies core ClassName from to = IsObject core from × IsString core to
+abbrev pub applies : Function → TypeId → TypeId → Fact
+applies Length from to = both (sequence from) (integer to)
+applies Low from to = bounds from to
+applies High from to = bounds from to
+applies Ord from to = both (ordinal from) (integer to)
+applies Succ from to = both (ordinal from) (always (from ≡ to))
+applies Pred from to = both (ordinal from) (always (from ≡ to))
+applies Abs from to = both (integer from) (always (from ≡ to))
+applies Sqr from to = both (integer from) (always (from ≡ to))
+applies Odd from to = both (integer from) (boolean to)
+applies Assigned from to = both (reference from) (boolean to)
+applies UpCase from to = both (of_kind from Char) (always (from ≡ to))
+applies Whole from to = both (sequence from) (always (from ≡ to))
+applies ClassName from to = both (an_object from) (string to)
 
 -- ---- members and indices
 
-abbrev pub HoldsField : Core → Option CoreType → FieldId → Type 0
-HoldsField core (Some (Record fields)) f = InRun fields f.0
-HoldsField core (Some (Class c)) f = HasField core c f
-HoldsField core _ f = ⊥
+abbrev pub field_in : FieldId → CoreType → Fact
+field_in f (Record fields) = always (InRun fields f.0)
+field_in f (Class c) = has_field c f
+field_in f _ = always ⊥
 
-abbrev pub HoldsMethod : Core → Option CoreType → Dispatch → RoutineId → Type 0
-HoldsMethod core (Some (Class c)) Direct r = HasMethod core c r
-HoldsMethod core (Some (Class c)) Virtual r = HasMethod core c r
-HoldsMethod core (Some (Interface i)) ByInterface r = AsksFor core i r
-HoldsMethod core _ dispatch r = ⊥
+abbrev pub method_in : Dispatch → RoutineId → CoreType → Fact
+method_in Direct r (Class c) = has_method c r
+method_in Virtual r (Class c) = has_method c r
+method_in ByInterface r (Interface i) = asks_for i r
+method_in dispatch r _ = always ⊥
 
 -- A value of the type, at an index of this type, gives one of the last. An index of a static array has any ordinal type: whether
 -- it is one of the array's is tested where the place is followed.
-abbrev pub Indexes : Core → Option CoreType → TypeId → TypeId → Type 0
-Indexes core (Some (Array at element)) i to = IsOrdinal core i × (element ≡ to)
-Indexes core (Some (DynamicArray element)) i to = IsInteger core i × (element ≡ to)
-Indexes core (Some (OpenArray element)) i to = IsInteger core i × (element ≡ to)
-Indexes core (Some String) i to = IsInteger core i × Kind core to Char
-Indexes core _ i to = ⊥
-
--- ---- places
-
--- Whether a step leads to a place. A field of an instance and an element of a dynamic array are places by themselves, a part
--- of a record or a static array is one where that is. A character of a string is one only where characters are asked for.
-abbrev pub leads_on : Bool → Option CoreType → Action → Bool → Bool
-leads_on chars (Some (Class c)) (field f) so_far = true
-leads_on chars (Some (Record fields)) (field f) so_far = so_far
-leads_on chars (Some (Array at element)) (index i) so_far = so_far
-leads_on chars (Some (OpenArray element)) (index i) so_far = so_far
-leads_on chars (Some (DynamicArray element)) (index i) so_far = true
-leads_on chars (Some String) (index i) so_far = chars && so_far
-leads_on chars _ _ so_far = false
-
-abbrev pub is_place_after : Bool → Core → TypeId → Steps → Bool → Bool
-is_place_after chars core of no_steps so_far = so_far
-is_place_after chars core of (steps action next others) so_far =
-    is_place_after chars core next others (leads_on chars (type_at core of) action so_far)
-
-abbrev pub is_variable : Root → Bool
-is_variable (variable id) = true
-is_variable _ = false
-
-abbrev pub is_place : Bool → Core → Expression → Bool
-is_place chars core (expression root of others) = is_place_after chars core of others (is_variable root)
-
--- whether an argument is a place
-abbrev pub takes_place : ParameterMode → Bool
-takes_place Value = false
-takes_place Var = true
-takes_place Const_ = false
-takes_place Out = true
-
--- an array of this type may be given for an open array of that one
-abbrev pub Opens : Core → TypeId → TypeId → Type 0
-Opens core outer of = IsSomeAnd (element_of (type_at core outer)) (λ a. IsSomeAnd (element_of (type_at core of)) (λ b. OneType core a b))
+abbrev pub indexed : TypeId → TypeId → CoreType → Fact
+indexed i to (Array at element) = both (ordinal i) (always (element ≡ to))
+indexed i to (DynamicArray element) = both (integer i) (always (element ≡ to))
+indexed i to (OpenArray element) = both (integer i) (always (element ≡ to))
+indexed i to String = both (integer i) (of_kind to Char)
+indexed i to _ = always ⊥
 
 -- ---- expressions
 
--- what a call gives
-abbrev pub GivesType : Core → Option TypeId → TypeId → Type 0
-GivesType core None of = Kind core of Nothing
-GivesType core (Some result) of = OneType core result of
-
 abbrev mutual
-  pub IsTyped : Core → Sees → Expression → Type 0
-  IsTyped core sees (expression root of others) = IsRoot core sees root of × AreSteps core sees of others
+  pub typed : Expression → Need
+  typed (expression root of others) = two_of (root_as root of) (steps_from of others)
 
-  pub IsRoot : Core → Sees → Root → TypeId → Type 0
-  IsRoot core sees (constant v nodes words) of = Fits core v of
-  IsRoot core sees (variable id) of = sees.variable id × There core.variables id.0 (λ v. v.of ≡ of)
-  IsRoot core sees (object id) of = sees.variable id × There core.variables id.0 (λ v. (v.of ≡ of) × (v.role ≡ ObjectRole))
-  IsRoot core sees (call id given) of = sees.routine id × There core.routines id.0 (λ r. (r.owner ≡ OfUnit) × GivesType core r.result of × AreArguments core sees (rows core.parameters r.parameters) given)
-  IsRoot core sees (construct c id given) of = There core.classes c.0 (λ x. x.of ≡ of) × HasMethod core c id × There core.routines id.0 (λ r. (r.kind ≡ Constructor) × AreArguments core sees (rows core.parameters r.parameters) given)
-  IsRoot core sees (set es) of = IsSomeAnd (base_of (type_at core of)) (λ base. AreElements core sees base es)
-  IsRoot core sees eof of = IsBoolean core of
-  IsRoot core sees eoln of = IsBoolean core of
+  pub root_as : Root → TypeId → Need
+  root_as (constant v nodes words) of = fact (fits v of)
+  root_as (variable id) of = may_name id (λ own role. always (own ≡ of))
+  root_as (object id) of = may_name id (λ own role. always ((own ≡ of) × (role ≡ ObjectRole)))
+  root_as (call id given) of = two_of (may_call id) (calls id (plain_routine of) (passed given))
+  root_as (construct c id given) of = three_of (fact (class_such c (λ x. x.of ≡ of))) (fact (has_method c id)) (calls id constructor (passed given))
+  root_as (set es) of = of_part base_of refl of (λ base. elements_as base es)
+  root_as eof of = fact (boolean of)
+  root_as eoln of = fact (boolean of)
 
-  pub AreSteps : Core → Sees → TypeId → Steps → Type 0
-  AreSteps core sees of no_steps = Unit {0}
-  AreSteps core sees of (steps action next others) = IsAction core sees of action next × AreSteps core sees next others
+  pub steps_from : TypeId → Steps → Need
+  steps_from of no_steps = fact (always (Unit {0}))
+  steps_from of (steps action next others) = two_of (action_as of action next) (steps_from next others)
 
-  pub IsAction : Core → Sees → TypeId → Action → TypeId → Type 0
-  IsAction core sees from (convert conversion origin) to = Converts core conversion from to
-  IsAction core sees from bracket to = from ≡ to
-  IsAction core sees from (field f) to = HoldsField core (type_at core from) f × There core.fields f.0 (λ x. x.of ≡ to)
-  IsAction core sees from (index e) to = IsTyped core sees e × Indexes core (type_at core from) (type_of e) to
-  IsAction core sees from (method id dispatch given) to = HoldsMethod core (type_at core from) dispatch id × There core.routines id.0 (λ r. GivesType core r.result to × AreArguments core sees (rows core.parameters r.parameters) given)
-  IsAction core sees from (prefixed operator checked) to = Prefixes core operator from × (from ≡ to)
-  IsAction core sees from (operate operator checked e) to = IsTyped core sees e × Operates core operator from (type_of e) to
-  IsAction core sees from (is of) to = IsInstance (type_at core from) × IsInstance (type_at core of) × IsBoolean core to
-  IsAction core sees from (apply function checked) to = Applies core function from to
-  IsAction core sees from (copy e e') to = IsTyped core sees e × IsInteger core (type_of e) × IsTyped core sees e' × IsInteger core (type_of e') × IsSequence core from × (from ≡ to)
+  pub action_as : TypeId → Action → TypeId → Need
+  action_as from (convert conversion origin) to = fact (converts conversion from to)
+  action_as from bracket to = fact (always (from ≡ to))
+  action_as from (field f) to = two_of (fact (row from (field_in f))) (fact (field_of f to))
+  action_as from (index e) to = two_of (typed e) (fact (row from (indexed (type_of e) to)))
+  action_as from (method id dispatch given) to = two_of (fact (row from (method_in dispatch id))) (calls id (method_giving to) (passed given))
+  action_as from (prefixed operator checked) to = two_of (fact (prefixes operator from)) (fact (always (from ≡ to)))
+  action_as from (operate operator checked e) to = two_of (typed e) (fact (operates operator from (type_of e) to))
+  action_as from (is of) to = fact (three (instance from) (instance of) (boolean to))
+  action_as from (apply function checked) to = fact (applies function from to)
+  action_as from (copy e e') to = three_of (two_of (typed e) (fact (integer (type_of e)))) (two_of (typed e') (fact (integer (type_of e')))) (fact (both (sequence from) (always (from ≡ to))))
 
-  pub AreElements : Core → Sees → TypeId → Elements → Type 0
-  AreElements core sees base no_elements = Unit {0}
-  AreElements core sees base (elements e es) = IsElement core sees base e × AreElements core sees base es
+  pub elements_as : TypeId → Elements → Need
+  elements_as base no_elements = fact (always (Unit {0}))
+  elements_as base (elements e es) = two_of (element_as base e) (elements_as base es)
 
-  pub IsElement : Core → Sees → TypeId → Element → Type 0
-  IsElement core sees base (one e) = IsValue core sees base e
-  IsElement core sees base (range e e') = IsValue core sees base e × IsValue core sees base e'
+  pub element_as : TypeId → Element → Need
+  element_as base (one e) = value_of (value_as e) base
+  element_as base (range e e') = two_of (value_of (value_as e) base) (value_of (value_as e') base)
 
-  pub IsValue : Core → Sees → TypeId → Expression → Type 0
-  IsValue core sees of (expression root from others) = IsRoot core sees root from × AreSteps core sees from others × OneType core (type_after from others) of
+  pub value_as : Expression → Valued
+  value_as (expression root from others) = valued (root_as root from) (steps_from from others) (type_after from others)
 
-  pub AreValues : Core → Sees → TypeId → Expressions → Type 0
-  AreValues core sees of no_expressions = Unit {0}
-  AreValues core sees of (expressions e es) = IsValue core sees of e × AreValues core sees of es
+  pub values_as : TypeId → Expressions → Need
+  values_as of no_expressions = fact (always (Unit {0}))
+  values_as of (expressions e es) = two_of (value_of (value_as e) of) (values_as of es)
 
-  pub AreArguments : Core → Sees → List Parameter → Arguments → Type 0
-  AreArguments core sees [] no_arguments = Unit {0}
-  AreArguments core sees (p ∷ ps) (arguments a others) = IsArgument core sees p a × AreArguments core sees ps others
-  AreArguments core sees _ _ = ⊥
+  pub passed : Arguments → Passings
+  passed no_arguments = no_passings
+  passed (arguments a others) = passings (argument_as a) (passed others)
 
-  pub IsArgument : Core → Sees → Parameter → Argument → Type 0
-  IsArgument core sees p (value e) = IsValue core sees p.of e × (takes_place p.mode ≡ false)
-  IsArgument core sees p (place e) = IsValue core sees p.of e × (takes_place p.mode ≡ true) × IsTrue (is_place false core e)
-  IsArgument core sees p (array e) = IsTyped core sees e × Opens core p.of (type_of e)
-  IsArgument core sees p (listed of es) = OneType core p.of of × (takes_place p.mode ≡ false) × IsSomeAnd (element_of (type_at core of)) (λ element. AreValues core sees element es)
+  pub argument_as : Argument → Passing
+  argument_as (value e) = by_value (value_as e)
+  argument_as (place e) = by_place (value_as e) e
+  argument_as (array e) = as_array (typed e) (type_of e)
+  argument_as (listed of es) = as_list of (of_part element_of refl of (λ element. values_as element es))
+
+-- ---- as they are read of a program
+
+abbrev pub IsInteger : Core → TypeId → Type 0
+IsInteger core of = IsSo core (integer of)
+
+abbrev pub IsBoolean : Core → TypeId → Type 0
+IsBoolean core of = IsSo core (boolean of)
+
+abbrev pub IsString : Core → TypeId → Type 0
+IsString core of = IsSo core (string of)
+
+abbrev pub IsChar : Core → TypeId → Type 0
+IsChar core of = IsSo core (character of)
+
+abbrev pub IsOrdinal : Core → TypeId → Type 0
+IsOrdinal core of = IsSo core (ordinal of)
+
+abbrev pub IsReference : Core → TypeId → Type 0
+IsReference core of = IsSo core (reference of)
+
+abbrev pub IsSet : Core → TypeId → Type 0
+IsSet core of = IsSo core (a_set of)
+
+abbrev pub IsSequence : Core → TypeId → Type 0
+IsSequence core of = IsSo core (sequence of)
+
+abbrev pub Fits : Core → Const → TypeId → Type 0
+Fits core v of = IsSo core (fits v of)
+
+abbrev pub AreMembers : Core → List ℕ → Option CoreType → Type 0
+AreMembers core members o = IsSomeAnd o (λ t. IsSo core (members_of members t))
+
+abbrev pub IsUp : Core → Option CoreType → Option CoreType → Type 0
+IsUp core o p = IsSomeAnd o (λ t. IsSomeAnd p (λ u. IsSo core (up t u)))
+
+abbrev pub IsWider : Option (ℤ × ℤ) → Option (ℤ × ℤ) → Type 0
+IsWider o p = IsSomeAnd o (λ r. IsSomeAnd p (λ q. Within q r.0 × Within q r.1))
+
+abbrev pub IsImplemented : Core → Option CoreType → Option CoreType → Type 0
+IsImplemented core o p = IsSomeAnd o (λ t. IsSomeAnd p (λ u. IsSo core (implemented t u)))
+
+abbrev pub Converts : Core → Conversion → TypeId → TypeId → Type 0
+Converts core conversion from to = IsSo core (converts conversion from to)
+
+abbrev pub Operates : Core → Operator → TypeId → TypeId → TypeId → Type 0
+Operates core operator a b to = IsSo core (operates operator a b to)
+
+abbrev pub Prefixes : Core → PrefixOperator → TypeId → Type 0
+Prefixes core operator of = IsSo core (prefixes operator of)
+
+abbrev pub Applies : Core → Function → TypeId → TypeId → Type 0
+Applies core function from to = IsSo core (applies function from to)
+
+abbrev pub HoldsField : Core → Option CoreType → FieldId → Type 0
+HoldsField core o f = IsSomeAnd o (λ t. IsSo core (field_in f t))
+
+abbrev pub Indexes : Core → Option CoreType → TypeId → TypeId → Type 0
+Indexes core o i to = IsSomeAnd o (λ t. IsSo core (indexed i to t))
+
+abbrev pub IsTyped : Core → Sees → Expression → Type 0
+IsTyped core sees e = IsMet core sees (typed e)
+
+abbrev pub IsRoot : Core → Sees → Root → TypeId → Type 0
+IsRoot core sees root of = IsMet core sees (root_as root of)
+
+abbrev pub AreSteps : Core → Sees → TypeId → Steps → Type 0
+AreSteps core sees of others = IsMet core sees (steps_from of others)
+
+abbrev pub IsAction : Core → Sees → TypeId → Action → TypeId → Type 0
+IsAction core sees from action to = IsMet core sees (action_as from action to)
+
+abbrev pub AreElements : Core → Sees → TypeId → Elements → Type 0
+AreElements core sees base es = IsMet core sees (elements_as base es)
+
+abbrev pub IsElement : Core → Sees → TypeId → Element → Type 0
+IsElement core sees base e = IsMet core sees (element_as base e)
+
+abbrev pub IsValue : Core → Sees → TypeId → Expression → Type 0
+IsValue core sees of e = IsValued core sees of (value_as e)
+
+abbrev pub AreArguments : Core → Sees → List Parameter → Arguments → Type 0
+AreArguments core sees ps given = ArePassed core sees ps (passed given)
+
+abbrev pub IsArgument : Core → Sees → Parameter → Argument → Type 0
+IsArgument core sees p a = IsPassed core sees p (argument_as a)

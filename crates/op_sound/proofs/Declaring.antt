@@ -5,7 +5,7 @@ use Rattle.std.proofs.lemmas.List.Elements.{All-cons, All-head, All-nil, All-tai
 use Rattle.std.proofs.lemmas.List.Sums.{sum_by_push}
 use Rattle.op_core.proofs.Rows.{there_is}
 use Rattle.op_sound.proofs.Constants.{constant_whole, first_whole}
-use Rattle.op_sound.proofs.Growth.{Wider, contains_on, counts_on, or_on, people_on, some_is}
+use Rattle.op_sound.proofs.Growth.{Wider, contains_on, counts_on, or_on, people_on, some_is, first_lasts}
 use Rattle.op_sound.proofs.Steps.{Moves, founded, from_after, from_breaks, from_checked, from_followed, from_gives, from_so, from_then, from_where, if_counts, later_ahead, later_itself, later_through, lead_followed, leads, leads_on, moves_each, settled_ahead, settled_all_ahead, settled_in, settled_valued, wider}
 use Rattle.op_sound.proofs.Types.{Denotes, IsType, behind_front, declared_settled, denoted_settled, entered_from, first_behind, with_declared_core, with_declared_settled}
 use Rattle.op_sound.proofs.Tables.{tabled_beside}
@@ -14,7 +14,6 @@ use Rattle.op_check_unit.specs.Declaring.{constant_by, constant_declared, consta
 use Rattle.op_check_unit.specs.Naming.{all_ahead, declared, ended, is_declared, with_ahead}
 use Rattle.op_check_unit.specs.Steps.{Here}
 use Rattle.op_core.proofs.Growing.{front_itself, front_row, grows_behind, some_and}
-use Rattle.op_typed.proofs.GrowingRows.{first_grows}
 use Rattle.op_core.specs.Faults.{none}
 use Rattle.op_core.specs.Growing.{Grows}
 use Rattle.op_core.specs.Initial.{FirstValue}
@@ -193,7 +192,7 @@ fit_settled role of n (Some v) h e x t b =
     grows = grows_behind (founded x).routines (front_itself h.core.types) (front_itself h.core.extents) (front_itself h.core.fields) (front_itself h.core.parameters) (behind_front h.core.variables (record { name = n; of = of; role = role; first_value = None } ∷ [])) (front_itself h.core.routines) refl refl refl refl refl
 
     begins : Begins (with_row role of n h).core of v
-    begins = let q = some_is (type_at h.core of) b in some_and (λ u. IsFirst (with_row role of n h).core u of v) q.1 (first_grows grows (founded x) q.0 of v of.0 q.1 q.2)
+    begins = let q = some_is (type_at h.core of) b in some_and (λ u. IsFirst (with_row role of n h).core u of v) q.1 (first_lasts grows (founded x) q.0 of v of.0 q.1 q.2)
 
 row_settled : {s : Stage} (role : Role) (of : TypeId) (i : Option Initial) (n : Name) (h : Here) → is_counted role ≡ true → Settled s h → IsType of h.core → From (Leads s h (IsNext s h)) (done (row_entered role of i n h))
 row_settled role of None n h e x t = from_after none (done (globals_fit n.position.place (with_row role of n (with_first None h)))) (fit_settled role of n None h e x t tt)

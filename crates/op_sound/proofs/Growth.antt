@@ -1,5 +1,5 @@
 -- What is so of a state is so where tables have grown.
-use Rattle.std.proofs.Common.{◌≡◌, inl, inr, ◌⊎◌, ◌<◌, ◌≤◌, ℕ, ◌+◌, Bool, true, false, cond, List, [], ◌∷◌, ◌++◌, All, Contains, IfSome, IsSomeAnd, drop, filter, flat_map, length, length-append, map, option_to_list, slice_get, unwrap_or, Option, Some, None, refl, sym, ap, ap₂, subst, ◌∙◌, arith}
+use Rattle.std.proofs.Common.{◌≡◌, inl, inr, ◌⊎◌, ◌<◌, ◌≤◌, ℕ, ◌+◌, Bool, true, false, cond, List, [], ◌∷◌, ◌++◌, replicate, All, Contains, IfSome, IsSomeAnd, drop, filter, flat_map, length, length-append, map, option_to_list, slice_get, unwrap_or, Option, Some, None, refl, sym, ap, ap₂, subst, ◌∙◌, arith}
 use Rattle.std.proofs.lemmas.List.Elements.{All-append, All-cons, All-drop, All-head, All-nil, All-take, All-tail, All-weaker, Contains-append_left}
 use Rattle.std.proofs.lemmas.List.Sums.{sum_by-cons}
 use Rattle.std.proofs.lemmas.Option.{slice_get_within}
@@ -9,18 +9,16 @@ use Rattle.op_check_unit.specs.Declaring.{most_global_bytes}
 use Rattle.op_check_unit.specs.Routines.{most_bytes}
 use Rattle.op_sound.specs.Tables.{IsTabled}
 use Rattle.op_check_unit.specs.declared.uses.Export.{Export}
-use Rattle.op_core.proofs.Growing.{all_at, front_fit, front_row, front_rows, front_stays, some_and}
-use Rattle.op_typed.proofs.GrowingRows.{first_grows}
-use Rattle.op_typed.proofs.GrowingStatements.{statements_grow}
-use Rattle.op_typed.proofs.GrowingTypes.{fits_grows}
+use Rattle.op_core.proofs.Growing.{all_at, front_fit, front_row, front_rows, front_stays, of_some, some_and}
+use Rattle.op_typed.proofs.Lasting.{need_lasts, fact_lasts}
 use Rattle.op_core.specs.Growing.{Grows, IsFrontOf, SeesMore}
-use Rattle.op_core.specs.Initial.{FirstValue}
+use Rattle.op_core.specs.Initial.{FirstValue, constant, parts, FirstValues, no_values, values}
 use Rattle.op_core.specs.Rows.{rows}
-use Rattle.op_core.specs.Sizes.{KeepsExtents, plain, type_at}
-use Rattle.op_core.specs.Sound.{HasRows, IsFirst, IsFounded, Row, at_start, bytes_of, first_rows, globals_of, is_declared, object_in, role_and_type, size_of}
+use Rattle.op_core.specs.Sizes.{KeepsExtents, plain, range_of, type_at, values_of}
+use Rattle.op_core.specs.Sound.{AreFirst, HasRows, IsFirst, IsFounded, Row, at_start, bytes_of, first_rows, globals_of, is_declared, object_in, role_and_type, size_of}
 use Rattle.op_core.specs.Statement.{Statements}
-use Rattle.op_core.specs.StatementTyping.{AreStatements}
-use Rattle.op_core.specs.Typing.{Sees}
+use Rattle.op_core.specs.StatementTyping.{AreStatements, statements_as}
+use Rattle.op_core.specs.Typing.{Sees, fits}
 use Rattle.op_core.specs.declared.ids.RoutineId.{RoutineId}
 use Rattle.op_core.specs.declared.ids.TypeId.{TypeId}
 use Rattle.op_core.specs.declared.ids.VariableId.{VariableId}
@@ -30,6 +28,8 @@ use Rattle.op_core.specs.declared.routine.Parameter.{Parameter}
 use Rattle.op_core.specs.declared.routine.Role.TheVariants.{Parameter as ParameterRole, Result}
 use Rattle.op_core.specs.declared.routine.Routine.{Routine}
 use Rattle.op_core.specs.declared.routine.Variable.{Variable}
+use Rattle.op_core.specs.declared.types.CoreType.{CoreType}
+use Rattle.op_core.specs.declared.types.CoreType.TheVariants.{Array, Record}
 use Rattle.op_types.proofs.Extents.{front}
 use Rattle.op_types.specs.Names.{Named}
 use Rattle.op_typed.specs.Standing.{AllStand, StandsFor}
@@ -79,7 +79,7 @@ broader {old} {new} apart w = record { grows = w.grows; variables = w.variables;
 
 pub stands_on : {apart next : List VariableId} {old new : Core} {less more : Sees} → Broader apart next old new → SeesMore less more → (m : Meaning) → StandsFor old less m → StandsFor new more m
 stands_on w m meaning.Spoiled s = s
-stands_on w m (meaning.Constant c) s = fits_grows w.grows c.value c.of s
+stands_on w m (meaning.Constant c) s = fact_lasts w.grows (fits c.value c.of) s
 stands_on w m (meaning.Variable id writable) s = (m.variable id s.0, front_row w.variables s.1)
 stands_on w m (meaning.TypeName of) s = front_row w.grows.types s
 stands_on w m (meaning.Routine id) s = let lt = s.1 in let more = w.routines in (m.routine id s.0, omega (arith, lt, more))
@@ -126,7 +126,31 @@ pub units_on : (old new : Core) (start : ℕ) (current next : Option ℕ) (place
 units_on old new start current next places later k us a = All-weaker (IsDone old start current places) (IsDone new start next later)
     (λ u x. record { globals = x.globals; initialization = part_on old new current next places later k u.initialization x.initialization; finalization = part_on old new current next places later k u.finalization x.finalization }) us a
 
--- ---- bodies and first values
+-- ---- first values
+
+same_range : {old new : Core} → Grows old new → (of : TypeId) → IsSomeAnd (range_of (type_at old of)) (λ r. Unit {0}) → type_at new of ≡ type_at old of
+same_range {old} {new} g of h = one (type_at old of) refl h
+  where
+    one : (t : Option CoreType) → type_at old of ≡ t → IsSomeAnd (range_of t) (λ r. Unit {0}) → type_at new of ≡ type_at old of
+    one None e h = absurd h
+    one (Some t) e h = front_stays g.types of.0 t e ∙ sym e
+
+mutual
+  pub first_lasts : {old new : Core} → Grows old new → IsFounded old → (t : CoreType) (of : TypeId) (v : FirstValue) → (n : ℕ) → slice_get old.types n ≡ Some t → IsFirst old t of v → IsFirst new t of v
+  first_lasts g f t of (constant v) n e h = fact_lasts g (fits v of) h
+  first_lasts {old} {new} g f (Record fields) of (parts vs) n e h =
+      subst (λ fs. AreFirst new (map (λ f. f.of) fs) vs) (sym (front_rows fields g.fields (f.types n (Record fields) e).0)) (are_first_last g f (map (λ f. f.of) (rows old.fields fields)) vs h)
+  first_lasts {old} {new} g f (Array at element) of (parts vs) n e h =
+      subst (λ t. AreFirst new (replicate (values_of (range_of t)) element) vs) (sym (same_range g at (f.types n (Array at element) e).0.1)) (are_first_last g f (replicate (values_of (range_of (type_at old at))) element) vs h)
+  first_lasts g f _ of (parts vs) n e h = absurd h
+
+  are_first_last : {old new : Core} → Grows old new → IsFounded old → (ofs : List TypeId) (vs : FirstValues) → AreFirst old ofs vs → AreFirst new ofs vs
+  are_first_last g f [] no_values h = tt
+  are_first_last {old} {new} g f (of ∷ ofs) (values v vs) h = (of_some _ _ (type_at old of) (λ t e k. some_and (λ t. IsFirst new t of v) (front_stays g.types of.0 t e) (first_lasts g f t of v of.0 e k)) h.0, are_first_last g f ofs vs h.1)
+  are_first_last g f [] (values v vs) h = absurd h
+  are_first_last g f (of ∷ ofs) no_values h = absurd h
+
+-- ---- bodies
 
 body_scope : {apart next : List VariableId} {old new : Core} (r : Routine) → Broader apart next old new → SeesMore (scope_of apart old r) (scope_of next new r)
 body_scope r w = record { variable = λ v x. or_on (λ g. w.knows v g) x; routine = λ q x. let more = w.routines in omega (arith, x, more) }
@@ -146,7 +170,7 @@ pub body_known : (apart next : List VariableId) {old new : Core} → Broader apa
 body_known apart next {old} {new} w p b e t =
     let x = some_is (slice_get old.routines b.0.0) t in
     some_and (λ r. HasRows new r × AreStatements new (scope_of next new r) (at_start r) b.1) (e ∙ x.1)
-    (rows_on w x.0 (all_at (IsBareRoutine old) old.routines b.0.0 x.0 p.routines x.1) x.2.0, statements_grow w.grows (body_scope x.0 w) (at_start x.0) b.1 x.2.1)
+    (rows_on w x.0 (all_at (IsBareRoutine old) old.routines b.0.0 x.0 p.routines x.1) x.2.0, need_lasts w.grows (body_scope x.0 w) (statements_as (at_start x.0) b.1) x.2.1)
 
 pub body_on : (apart : List VariableId) {old new : Core} → Wider old new → IsPeopled old → (b : RoutineId × Statements) → slice_get new.routines b.0.0 ≡ slice_get old.routines b.0.0 → IsTypedBody apart old b → IsTypedBody apart new b
 body_on apart w p b e t = body_known apart apart (broader apart w) p b e t
@@ -156,7 +180,7 @@ value_known {old = old} {new = new} w f b t =
     let x = some_is (slice_get old.variables b.0.0) t in
     let y = some_is (type_at old x.0.of) x.2 in
     subst (λ o. IsSomeAnd o (λ v. IsSomeAnd (type_at new v.of) (λ u. IsFirst new u v.of b.1))) (sym (front_stays w.variables b.0.0 x.0 x.1))
-    (subst (λ o. IsSomeAnd o (λ u. IsFirst new u x.0.of b.1)) (sym (front_stays w.grows.types x.0.of.0 y.0 y.1)) (first_grows w.grows f y.0 x.0.of b.1 x.0.of.0 y.1 y.2))
+    (subst (λ o. IsSomeAnd o (λ u. IsFirst new u x.0.of b.1)) (sym (front_stays w.grows.types x.0.of.0 y.0 y.1)) (first_lasts w.grows f y.0 x.0.of b.1 x.0.of.0 y.1 y.2))
 
 pub value_on : {old new : Core} → Wider old new → IsFounded old → (b : VariableId × FirstValue) → IsTypedFirst old b → IsTypedFirst new b
 value_on w f b t = value_known (broader [] w) f b t

@@ -11,7 +11,7 @@ use Rattle.op_core.proofs.Rows.{set_there, there_is}
 use Rattle.op_sound.proofs.Filled.{filled_grows}
 use Rattle.op_sound.proofs.Tables.{if_none, tabled_beside, tabled_sound}
 use Rattle.op_sound.proofs.Units.{Finished, all_have_bodies, files_settled}
-use Rattle.op_sound.proofs.Growth.{some_is}
+use Rattle.op_sound.proofs.Growth.{some_is, first_lasts}
 use Rattle.op_sound.proofs.Routines.{rows_typed}
 use Rattle.op_sound.proofs.Steps.{founded_in}
 use Rattle.op_sound.proofs.Types.{if_some}
@@ -24,8 +24,7 @@ use Rattle.op_check_unit.specs.System.{beginning}
 use Rattle.op_sound.specs.Tables.{IsTabled}
 use Rattle.op_core.proofs.Agreeing.{some_is as some_eq}
 use Rattle.op_core.proofs.Growing.{all_at, some_and}
-use Rattle.op_typed.proofs.GrowingRows.{first_grows}
-use Rattle.op_typed.proofs.GrowingStatements.{statements_grow}
+use Rattle.op_typed.proofs.Lasting.{need_lasts}
 use Rattle.op_core.specs.Faults.{FirstIs}
 use Rattle.op_core.specs.Growing.{SeesMore}
 use Rattle.op_core.specs.Initial.{FirstValue, first_value_of}
@@ -35,7 +34,7 @@ use Rattle.op_core.specs.Rows.{rows}
 use Rattle.op_core.specs.Sizes.{type_at}
 use Rattle.op_core.specs.Sound.{HasRows, IsBody, IsFirst, IsOwner, IsPart, IsRoutine, IsSound, IsSoundNesting, IsUnit, IsVariableRow, Row, at_start, bytes_of, everything, is_declared, itself, role_and_type, size_of, top, within}
 use Rattle.op_core.specs.Statement.{Statements, stmts_of}
-use Rattle.op_core.specs.StatementTyping.{AreStatements}
+use Rattle.op_core.specs.StatementTyping.{AreStatements, statements_as}
 use Rattle.op_core.specs.Typing.{Sees}
 use Rattle.op_core.specs.declared.constant.Initial.{Initial}
 use Rattle.op_core.specs.declared.error.CheckError.{CheckError}
@@ -249,7 +248,7 @@ variable_sound {h} {core} k n v e =
     first : (t : CoreType) → slice_get core.types v.of.0 ≡ Some t → (i : FirstValue) → IsSomeAnd (type_at core v.of) (λ t. IsFirst (bared core) t v.of i) → IsFirst core t v.of i
     first t f i s =
         let q = some_is (type_at core v.of) s in
-        first_grows (filled_grows core) (founded_in k.tables k.people) t v.of i v.of.0 f (subst (λ t. IsFirst (bared core) t v.of i) (some_eq (sym q.1 ∙ f)) q.2)
+        first_lasts (filled_grows core) (founded_in k.tables k.people) t v.of i v.of.0 f (subst (λ t. IsFirst (bared core) t v.of i) (some_eq (sym q.1 ∙ f)) q.2)
 
 rows_map : {A B : Type 0} (f : A → B) (xs : List A) (run : Run) → rows (map f xs) run ≡ map f (rows xs run)
 rows_map f xs run = ap (take run.count) (drop-map f run.first xs) ∙ take-map f run.count (drop run.first xs)
@@ -331,7 +330,7 @@ sees_within {core = core} k n r e = record { variable = λ v x. one v x; routine
     alone q lt = let a = there_is core.routines q.0 (row_of bare core.routines q.0 lt) in some_and _ a.1 (inl (bare_at k q.0 a.0 a.1).enclosing)
 
 body_sound : {h : Here} {core : Core} {sees : Sees} → Known h core → (n : ℕ) (r : Routine) → slice_get core.routines n ≡ Some r → SeesMore (scope_of [] (bared core) (bare r)) sees → IsBody core sees r
-body_sound {core = core} k n r e m = if_some r.body (λ b f. statements_grow (filled_grows core) m (at_start r) (stmts_of b.statements.items) (typed_at k n r (stmts_of b.statements.items) e (ap (option_map (λ b. stmts_of b.statements.items)) f)).1)
+body_sound {core = core} k n r e m = if_some r.body (λ b f. need_lasts (filled_grows core) m (statements_as (at_start r) (stmts_of b.statements.items)) (typed_at k n r (stmts_of b.statements.items) e (ap (option_map (λ b. stmts_of b.statements.items)) f)).1)
 
 there_of : {A B : Type 0} (P : B → Type 0) (Q : A → Type 0) (f : A → B) (xs : List A) (n : ℕ) → ((a : A) → P (f a) → Q a) → IsSomeAnd (slice_get (map f xs) n) P → IsSomeAnd (slice_get xs n) Q
 there_of P Q f [] n k h = h

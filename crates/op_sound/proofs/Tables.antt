@@ -12,12 +12,12 @@ use Rattle.op_sound.specs.Tables.{IsBelow, IsPlain, IsSystem, IsTabled, known_ty
 use Rattle.op_check_unit.specs.Types.{whole_type}
 use Rattle.op_core.proofs.Agreeing.{some_is}
 use Rattle.op_core.proofs.Growing.{EachFrom, each_behind, front_itself, front_rows, grows_tables}
-use Rattle.op_typed.proofs.GrowingRows.{has_set_grows, type_row_grows}
+use Rattle.op_typed.proofs.Lasting.{fact_lasts}
 use Rattle.op_core.specs.Growing.{Grows}
 use Rattle.op_core.specs.Members.{AsksFor, Kind, There, methods_of}
 use Rattle.op_core.specs.Rows.{rows}
 use Rattle.op_core.specs.Sizes.{IsBehind, KeepsExtents, extent_by, extent_of, in_order, range_of, type_at}
-use Rattle.op_core.specs.Sound.{top, below as under, Each, HasSet, Holds, IsClass, IsFounded, IsInterface, IsTypeRow, ancestor_of, is_whole, size_of}
+use Rattle.op_core.specs.Sound.{top, below as under, Each, HasSet, Holds, IsClass, IsFounded, IsInterface, IsTypeRow, ancestor_of, is_whole, size_of, set_behind, type_row}
 use Rattle.op_core.specs.Types.{id, predefined}
 use Rattle.op_core.specs.Typing.{Within, element_of}
 use Rattle.op_core.specs.declared.ids.InterfaceId.{InterfaceId}
@@ -116,12 +116,12 @@ extent_fields core fs n t h = refl
 pub tabled_fields : {core : Core} (fs : List Field) → IsTabled core → IsTabled (record core { fields = core.fields ++ fs })
 tabled_fields {core} fs s = let g = fields_grow core fs in record {
   system = system_grows g refl s.system;
-  types = λ n t e. type_row_grows g n t (s.types n t e);
+  types = λ n t e. fact_lasts g (type_row n t) (s.types n t e);
   below = s.below;
-  sets = λ n t e. has_set_grows g n t (s.sets n t e);
+  sets = λ n t e. fact_lasts g (set_behind n t) (s.sets n t e);
   extents = record {
     count = s.extents.count;
-    behind = λ n t e. is_behind (record core { fields = core.fields ++ fs }) n t (type_row_grows g n t (s.types n t e));
+    behind = λ n t e. is_behind (record core { fields = core.fields ++ fs }) n t (fact_lasts g (type_row n t) (s.types n t e));
     each = λ n t e. s.extents.each n t e ∙ ap Some (extent_fields core fs n t (s.extents.behind n t e));
   };
   sizes = s.sizes;

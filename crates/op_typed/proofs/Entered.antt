@@ -5,11 +5,11 @@ use Rattle.std.proofs.lemmas.Int.{ints}
 use Rattle.std.proofs.lemmas.Option.{slice_get_within}
 use Rattle.std.specs.Prelude.{unwrap_or}
 use Rattle.op_core.proofs.Growing.{EachFrom, each_behind, each_stands, front_itself, front_stays, of_some, grows_itself, grows_tables, grows_through}
-use Rattle.op_typed.proofs.GrowingRows.{has_set_grows, type_row_grows}
+use Rattle.op_typed.proofs.Lasting.{fact_lasts}
 use Rattle.op_core.specs.Growing.{Grows}
 use Rattle.op_core.specs.Members.{Kind, There}
 use Rattle.op_core.specs.Sizes.{IsBehind, KeepsExtents, extent_by, extent_of, plain, range_of, type_at}
-use Rattle.op_core.specs.Sound.{Each, HasSet, IsTypeRow, is_whole, size_of}
+use Rattle.op_core.specs.Sound.{Each, HasSet, IsTypeRow, is_whole, set_behind, size_of, type_row}
 use Rattle.op_core.specs.Types.{id}
 use Rattle.op_core.specs.Typing.{IsOrdinal, Within}
 use Rattle.op_core.specs.declared.ids.TypeId.{TypeId}
@@ -114,7 +114,7 @@ set_rows new n t OfFirst e k =
 pub entered_types : (core : Core) (t : CoreType) → Each core.types (IsTypeRow core) → IsTypeRow core (length core.types) t → Each (entered core t).types (IsTypeRow (entered core t))
 entered_types core t f h =
     let g = entered_grows core t in
-    each_entered core t (IsTypeRow (entered core t)) (λ n u e. type_row_grows g n u (f n u e)) (type_row_grows g (length core.types) t h, set_rows (entered core t) (length core.types) t (sets_of t) refl (entered_stand core t))
+    each_entered core t (IsTypeRow (entered core t)) (λ n u e. fact_lasts g (type_row n u) (f n u e)) (fact_lasts g (type_row (length core.types) t) h, set_rows (entered core t) (length core.types) t (sets_of t) refl (entered_stand core t))
 
 -- ---- sets behind types
 
@@ -140,7 +140,7 @@ pub entered_sets : (core : Core) (t : CoreType) → Each core.types (HasSet core
 entered_sets core t f =
     let g = entered_grows core t in
     let k = entered_stand core t in
-    each_entered core t (HasSet (entered core t)) (λ n u e. has_set_grows g n u (f n u e)) (own_set (entered core t) (length core.types) t k, sets_behind (entered core t) (length core.types) (sets_of t) k.1)
+    each_entered core t (HasSet (entered core t)) (λ n u e. fact_lasts g (set_behind n u) (f n u e)) (own_set (entered core t) (length core.types) t k, sets_behind (entered core t) (length core.types) (sets_of t) k.1)
 
 -- ---- sizes
 

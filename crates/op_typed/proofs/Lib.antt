@@ -1,7 +1,4 @@
-pub mod GrowingTypes
-pub mod GrowingRows
-pub mod GrowingTrees
-pub mod GrowingStatements
+pub mod Lasting
 pub mod Sorting
 pub mod TypeFacts
 pub mod Fitting

@@ -3,6 +3,7 @@ use Rattle.std.proofs.Common.{◌≡◌, ◌⊎◌, inl, inr, ℕ, zero, suc, �
 use Rattle.std.proofs.lemmas.Bool.{and_parts, or_cases}
 use Rattle.std.specs.Prelude.{nat_lt, position}
 use Rattle.std.specs.Option.{IsSomeAnd, option_and_then, option_map}
+use Rattle.op_core.specs.Needs.{IsSo}
 use Rattle.op_core.specs.Expression.{Expression as Tree, convert, field, index as index_step, prefixed, operate, apply, then as with_step}
 use Rattle.op_core.specs.FieldNames.{is_named}
 use Rattle.op_core.specs.Members.{InRun, Kind, There}
@@ -10,7 +11,7 @@ use Rattle.op_core.specs.Rows.{rows}
 use Rattle.op_core.specs.Sizes.{range_of, type_at}
 use Rattle.op_core.specs.Sound.{IsFounded, is_whole}
 use Rattle.op_core.specs.Typing as typing
-use Rattle.op_core.specs.Typing.{All3, Applies, AreOrdered, AreSets, Converts, HoldsField, Indexes, IsBoolean, IsInteger, IsOrdinal, IsReference, IsSequence, IsSet, IsTyped, IsValue, Operates, Prefixes, Sees}
+use Rattle.op_core.specs.Typing.{Applies, Converts, HoldsField, Indexes, IsBoolean, IsInteger, IsOrdinal, IsReference, IsSequence, IsSet, IsTyped, IsValue, Operates, Prefixes, Sees}
 use Rattle.op_core.specs.declared.ids.FieldId.{FieldId}
 use Rattle.op_core.specs.declared.ids.Run.{Run}
 use Rattle.op_core.specs.declared.ids.TypeId.{TypeId}
@@ -119,13 +120,13 @@ kinds_typed core sees a b j k p o checked to h =
     operated core sees o checked (as_type core true (type_of_kind j) a) (as_type core true (type_of_kind k) b) (type_of_kind j) (type_of_kind k) to
     (kind_operand core sees a j p.founded p.first p.sort) (kind_operand core sees b k p.founded p.second p.other) h
 
-arithmetic_typed : (core : Core) (sees : Sees) (a b : Value) (s t : Sort) → Pair core sees a b s t → (o : Operator) (checked : Bool) (to : TypeId) → (All3 (IsInteger core) table.integer table.integer table.integer → Operates core o table.integer table.integer table.integer) → table.arithmetic s t ≡ Some to → IsTyped core sees (tree core o checked a b s t to)
+arithmetic_typed : (core : Core) (sees : Sees) (a b : Value) (s t : Sort) → Pair core sees a b s t → (o : Operator) (checked : Bool) (to : TypeId) → (IsSo core (typing.all_three typing.integer table.integer table.integer table.integer) → Operates core o table.integer table.integer table.integer) → table.arithmetic s t ≡ Some to → IsTyped core sees (tree core o checked a b s t to)
 arithmetic_typed core sees a b (Ordinal Integer) (Ordinal Integer) p o checked to put e =
     let k = integer_kind p.founded in
     subst (λ to. IsTyped core sees (tree core o checked a b (Ordinal Integer) (Ordinal Integer) to)) (some_is e) (kinds_typed core sees a b Integer Integer p o checked table.integer (put (k, k, k)))
 arithmetic_typed core sees a b s t p o checked to put e = absurd (cc)
 
-logic_typed : (core : Core) (sees : Sees) (a b : Value) (s t : Sort) → Pair core sees a b s t → (o : Operator) (checked : Bool) (to : TypeId) → (All3 (IsInteger core) table.integer table.integer table.integer → Operates core o table.integer table.integer table.integer) → (All3 (IsBoolean core) table.boolean table.boolean table.boolean → Operates core o table.boolean table.boolean table.boolean) → table.logic s t ≡ Some to → IsTyped core sees (tree core o checked a b s t to)
+logic_typed : (core : Core) (sees : Sees) (a b : Value) (s t : Sort) → Pair core sees a b s t → (o : Operator) (checked : Bool) (to : TypeId) → (IsSo core (typing.all_three typing.integer table.integer table.integer table.integer) → Operates core o table.integer table.integer table.integer) → (IsSo core (typing.all_three typing.boolean table.boolean table.boolean table.boolean) → Operates core o table.boolean table.boolean table.boolean) → table.logic s t ≡ Some to → IsTyped core sees (tree core o checked a b s t to)
 logic_typed core sees a b (Ordinal Boolean) (Ordinal Boolean) p o checked to put bits e =
     let k = boolean_kind p.founded in
     subst (λ to. IsTyped core sees (tree core o checked a b (Ordinal Boolean) (Ordinal Boolean) to)) (some_is e) (kinds_typed core sees a b Boolean Boolean p o checked table.boolean (bits (k, k, k)))
@@ -174,7 +175,7 @@ sets_typed core sees a b s t p o checked to h put =
     (subst (λ x. Of core sees sets (as_type core true x b)) (sym q.1) (operand core sees sets b t c.sort p.second p.other c.is c.exact c.right))
     (put c.set)
 
-set_arithmetic_typed : (core : Core) (sees : Sees) (a b : Value) (s t : Sort) → Pair core sees a b s t → (o : Operator) (checked : Bool) (to : TypeId) → let sets = common_set core (type_of a) (type_of b) in (All3 (IsInteger core) table.integer table.integer table.integer → Operates core o table.integer table.integer table.integer) → (typing.OnSets core sets sets sets → Operates core o sets sets sets) → table.set_arithmetic s t sets ≡ Some to → IsTyped core sees (tree core o checked a b s t to)
+set_arithmetic_typed : (core : Core) (sees : Sees) (a b : Value) (s t : Sort) → Pair core sees a b s t → (o : Operator) (checked : Bool) (to : TypeId) → let sets = common_set core (type_of a) (type_of b) in (IsSo core (typing.all_three typing.integer table.integer table.integer table.integer) → Operates core o table.integer table.integer table.integer) → (IsSo core (typing.on_sets sets sets sets) → Operates core o sets sets sets) → table.set_arithmetic s t sets ≡ Some to → IsTyped core sees (tree core o checked a b s t to)
 set_arithmetic_typed core sees a b s t p o checked to put joined e = go (are_sets s t) refl e
   where
     sets : TypeId
@@ -207,7 +208,7 @@ are_ordinals s t m h = let q = and_parts (is_text s) (is_text t) h in absurd (cc
 all_of_kind : (core : Core) (v : Value) (k : OrdinalKind) → IsFounded core → sort_of core (type_of v) ≡ Ordinal k → IsOrdinal core (type_of_kind k)
 all_of_kind core v k f e = (stands_as core (type_of_kind k) (Ordinal k) (kind_sort core k f (rooted core (type_of v) k (stands_as core (type_of v) (Ordinal k) e).1))).0
 
-ordered_typed : (core : Core) (sees : Sees) (a b : Value) (s t : Sort) → Pair core sees a b s t → (o : Operator) (checked : Bool) (to : TypeId) → mixes s t ≡ false → table.ordered s t ≡ true → ((x y : TypeId) → AreOrdered core x y → Operates core o x y to) → IsTyped core sees (tree core o checked a b s t to)
+ordered_typed : (core : Core) (sees : Sees) (a b : Value) (s t : Sort) → Pair core sees a b s t → (o : Operator) (checked : Bool) (to : TypeId) → mixes s t ≡ false → table.ordered s t ≡ true → ((x y : TypeId) → IsSo core (typing.ordered x y) → Operates core o x y to) → IsTyped core sees (tree core o checked a b s t to)
 ordered_typed core sees a b s t p o checked to m h put = go p (are_ordinals s t m h)
   where
     go : {s t : Sort} → Pair core sees a b s t → Ordinals s t → IsTyped core sees (tree core o checked a b s t to)
@@ -233,14 +234,14 @@ compared_typed : (core : Core) (of : TypeId) (b : Bool) (P : TypeId → Type 0) 
 compared_typed core of true P f e put = subst P (some_is e) (put refl (boolean_kind f))
 compared_typed core of false P f e put = absurd (cc)
 
-included_typed : (core : Core) (sees : Sees) (a b : Value) (s t : Sort) → Pair core sees a b s t → (o : Operator) (checked : Bool) (to : TypeId) → mixes s t ≡ false → table.included s t ≡ true → ((x y : TypeId) → AreOrdered core x y ⊎ AreSets core x y → Operates core o x y to) → IsTyped core sees (tree core o checked a b s t to)
+included_typed : (core : Core) (sees : Sees) (a b : Value) (s t : Sort) → Pair core sees a b s t → (o : Operator) (checked : Bool) (to : TypeId) → mixes s t ≡ false → table.included s t ≡ true → ((x y : TypeId) → IsSo core (typing.ordered x y) ⊎ IsSo core (typing.sets x y) → Operates core o x y to) → IsTyped core sees (tree core o checked a b s t to)
 included_typed core sees a b s t p o checked to m h put = go (or_cases (are_sets s t) (table.ordered s t) h)
   where
     go : (are_sets s t ≡ true) ⊎ (table.ordered s t ≡ true) → IsTyped core sees (tree core o checked a b s t to)
     go (inl e) = let sets = common_set core (type_of a) (type_of b) in sets_typed core sees a b s t p o checked to e (λ k. put sets sets (inr (k, refl)))
     go (inr e) = ordered_typed core sees a b s t p o checked to m e (λ x y k. put x y (inl k))
 
-equated_typed : (core : Core) (sees : Sees) (a b : Value) (s t : Sort) → Pair core sees a b s t → (o : Operator) (checked : Bool) (to : TypeId) → mixes s t ≡ false → table.equated s t ≡ true → ((x y : TypeId) → AreOrdered core x y ⊎ AreSets core x y ⊎ (IsReference core x × IsReference core y) → Operates core o x y to) → IsTyped core sees (tree core o checked a b s t to)
+equated_typed : (core : Core) (sees : Sees) (a b : Value) (s t : Sort) → Pair core sees a b s t → (o : Operator) (checked : Bool) (to : TypeId) → mixes s t ≡ false → table.equated s t ≡ true → ((x y : TypeId) → IsSo core (typing.ordered x y) ⊎ IsSo core (typing.sets x y) ⊎ (IsReference core x × IsReference core y) → Operates core o x y to) → IsTyped core sees (tree core o checked a b s t to)
 equated_typed core sees a b s t p o checked to m h put = go (or_cases (table.included s t) (is_reference s && is_reference t) h)
   where
     some : {A B C : Type 0} → A ⊎ B → A ⊎ B ⊎ C
@@ -410,14 +411,14 @@ length_typed core sees checked v to f h e = go (index_type (type_at core of)) re
         (own_applied core sees Length checked v to h (sequence core of (type_at core of) index refl q, subst (IsInteger core) (some_is e) (integer_kind f)))
     go None q e = alone (sort_of core of) refl e
 
-bound_typed : (core : Core) (of to : TypeId) → IsFounded core → bound_type (index_type (type_at core of)) (sort_of core of) of ≡ Some to → typing.HasBounds core of to ⊎ (IsOrdinal core of × (of ≡ to))
+bound_typed : (core : Core) (of to : TypeId) → IsFounded core → bound_type (index_type (type_at core of)) (sort_of core of) of ≡ Some to → IsSo core (typing.bounds of to)
 bound_typed core of to f e = go (index_type (type_at core of)) refl e
   where
     alone : (s : Sort) → Stands core of s → type_if (is_ordinal s) of ≡ Some to → IsOrdinal core of × (of ≡ to)
     alone (Ordinal kind) h e = (h.0, some_is e)
     alone s h e = absurd (none_is e)
 
-    go : (o : Option TypeId) → index_type (type_at core of) ≡ o → bound_type o (sort_of core of) of ≡ Some to → typing.HasBounds core of to ⊎ (IsOrdinal core of × (of ≡ to))
+    go : (o : Option TypeId) → index_type (type_at core of) ≡ o → bound_type o (sort_of core of) of ≡ Some to → IsSo core (typing.bounds of to)
     go (Some index) q e =
         let g : index_type (type_at core of) ≡ Some to = q ∙ e in
         inl (sequence core of (type_at core of) to refl g, bounded core of (type_at core of) to f refl g)

@@ -1,5 +1,5 @@
 -- Typed trees with a step more, and values as values of another type.
-use Rattle.std.proofs.Common.{◌≡◌, ◌⊎◌, inl, inr, ℕ, ℤ, pos, negsuc, Bool, true, false, not, ◌||◌, List, [], ◌∷◌, Option, Some, None, if◌then◌else◌, refl, ap, subst, arith}
+use Rattle.std.proofs.Common.{◌≡◌, ◌⊎◌, inl, inr, ℕ, ℤ, pos, negsuc, Bool, true, false, not, ◌||◌, List, [], ◌∷◌, Option, Some, None, if◌then◌else◌, refl, ap, subst, ◌∙◌, arith}
 use Rattle.std.proofs.lemmas.Bool.{and_parts}
 use Rattle.std.proofs.lemmas.List.Elements.{All-nil, All-cons}
 use Rattle.std.specs.List.{All, list_all}
@@ -7,6 +7,7 @@ use Rattle.std.specs.Prelude.{int_le, is_some}
 use Rattle.std.proofs.lemmas.Int.{ints}
 use Rattle.std.specs.Option.{IsSomeAnd}
 use Rattle.op_core.proofs.OneType.{one_itself}
+use Rattle.op_core.specs.Needs.{host}
 use Rattle.op_core.specs.Expression.{Expression as Tree, expression, Steps, no_steps, steps, Action, convert, behind, then as with_step}
 use Rattle.op_core.specs.Members.{Kind}
 use Rattle.op_core.specs.Sizes.{range_of, type_at}
@@ -143,8 +144,8 @@ char_of core of h = go (type_at core of) refl
     root r t h = absurd (cc)
 
     go : (t : Option CoreType) → type_at core of ≡ t → IsChar core of
-    go (Some (type.Subrange base low high)) e = inr (base, low, high, e, root base (type_at core base) (rw e at h))
-    go t e = inl (root of (type_at core of) (rw e at h))
+    go (Some (type.Subrange base low high)) e = ap (λ t. typing.is_character (host core t)) e ∙ ap typing.is_character (root base (type_at core base) (rw e at h))
+    go t e = ap (λ t. typing.is_character (host core t)) (root of (type_at core of) (rw e at h))
 
 wider : (a b : Option (ℤ × ℤ)) → is_wider a b ≡ true → IsWider a b
 wider (Some r) (Some q) h = let a = and_parts (contains q r.0) (contains q r.1) h in (within_range q r.0 a.0, within_range q r.1 a.1)

@@ -77,10 +77,10 @@ module _ (core : Core) (sound : IsSound core) (simple : IsSimpleProgram core) (r
         (both core r (make (env_at core r) (past 1 here) f).items turns (made f (past 1 here) last.0 p.1)
         (for_typed core sound simple r x is_there here id v kind direction (work_of (env_at core r) (past 3 here) s) h.0.0 is_row is_single body))
     statement_typed (for_in id into e s) around here same h p =
-        let (v, is_row, gives) = some_and (slice_get core.variables id.0) (λ v. (element : TypeId) × GivesElements core (type_of e) element × Converts core into element v.of) h.1.1 in
+        let (v, is_row, gives) = some_and (slice_get core.variables id.0) (λ v. (element : TypeId) × (GivesElements core (type_of e) element × Converts core into element v.of)) h.1.1 in
         let body = statement_typed s (in_loop around) (in_turn here) same h.2 p.1 in
         both core r (make (env_at core r) here e).items (in_collection (env_at core r) here (type_of e) (type_at core (type_of e)) id into (work_of (env_at core r) (in_turn here) s)) (made e here h.0 p.0)
-        (collection_typed core sound simple r x is_there here (type_of e) gives.0 id v into (work_of (env_at core r) (in_turn here) s) gives.1 h.1.0 is_row gives.2 body)
+        (collection_typed core sound simple r x is_there here (type_of e) gives.0 id v into (work_of (env_at core r) (in_turn here) s) gives.1.0 h.1.0 is_row gives.1.1 body)
     statement_typed (try_finally ss ts) around here same h p =
         ((statements_typed ss around (past 2 here) same h.0 p.0, statements_typed ts (in_finally around) (past 2 here) same h.1 p.1), tt)
     statement_typed (try_on ss hs) around here same h p = (tt, tt)

@@ -156,7 +156,7 @@ module _ (core : Core) (sound : IsSound core) (simple : IsSimpleProgram core) (r
     step_typed (operate o checked e) here false of next f h s k = operate_found core sound simple r of next here f o checked (make (env_at core r) (second_here (goes_on_at o (type_at core of)) here) e).items k (make_typed e (second_here (goes_on_at o (type_at core of)) here) h.0 s.0).0 s.1
     step_typed (is to) here false of next f h s k = absurd (instance_not_solid (type_at core of) k.1.0 h.0)
     step_typed (apply function checked) here false of next f h s k = apply_found core sound simple r of next here f function checked k h s
-    step_typed (copy e e') here false of next f h s k = (k.0, (s, subst (λ of. NowIs core r of f.now) h.5 k.1.1))
+    step_typed (copy e e') here false of next f h s k = (k.0, (s, subst (λ of. NowIs core r of f.now) h.2.1 k.1.1))
     step_typed bracket here true of next f h s k = subst (λ g. FoundIs core r true next g) (sym (own_text core sound simple r of here f k)) k
     step_typed (index e) here true of next f h s k = pick_found core sound simple r of next here f (make (env_at core r) (past f.used (past_whole here)) e).items k s.1 (make_typed e (past f.used (past_whole here)) h.0 s.0).0
     step_typed (apply function checked) here true of next f h s k = measure_found core sound simple r of next here f function checked k s.0 s.1

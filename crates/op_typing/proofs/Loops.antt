@@ -1,5 +1,5 @@
 -- The items of loops that count, and of loops over collections, are typed.
-use Rattle.std.proofs.Common.{◌≡◌, ◌⊎◌, inl, inr, ℕ, ◌+◌, [], ◌∷◌, Option, Some, slice_get, refl, sym, ap, subst, arith}
+use Rattle.std.proofs.Common.{◌≡◌, ◌⊎◌, inl, inr, ℕ, ◌+◌, [], ◌∷◌, Option, Some, None, slice_get, refl, sym, ap, subst, arith}
 use Rattle.std.proofs.lemmas.Int.{ints}
 use Rattle.std.proofs.lemmas.Option.{slice_get_within}
 use Rattle.op_constants.proofs.SoundFirst.{small_type}
@@ -39,6 +39,7 @@ use Rattle.op_typing.specs.Typed.{AreTyped, AreTypedTurns, IsComposite, IsSingle
 bounds_kind : (core : Core) (at of : TypeId) (o : Option CoreType) → type_at core at ≡ o → Bounds core at o of → (kind : IntegerKind) × (shape_by core o ≡ single kind)
 bounds_kind core at of (Some (Integer kind)) e h = (kind, refl)
 bounds_kind core at of (Some (Subrange base low high)) e h = (Signed32, refl)
+bounds_kind core at of None e h = absurd h
 bounds_kind core at of o e h = subst (λ o. (kind : IntegerKind) × (shape_by core o ≡ single kind)) e (ordinal_single core at (subst (IsOrdinal core) (sym h.0) h.1))
 
 pub bounds_single : (core : Core) (at of : TypeId) → Bounds core at (type_at core at) of → (kind : IntegerKind) × IsSingle core at kind

@@ -90,11 +90,15 @@ up_solid core (Some (Class c)) (Some (Class d)) solid whole h = not_true solid
 up_solid core (Some (Interface i)) (Some (Interface j)) solid whole h = not_true solid
 up_solid core (Some Nil) (Some t) solid whole h = nil_up (Some t) solid h
 up_solid core (Some EmptySet) (Some t) solid whole h = set_up core (Some t) whole h
-up_solid core _ _ solid whole h = h
+up_solid core (Some t) (Some u) solid whole h = h
+up_solid core (Some t) None solid whole h = h
+up_solid core None to solid whole h = h
 
 interface_solid : (core : Core) (from to : Option CoreType) → is_solid to ≡ true → IsImplemented core from to → ⊥
 interface_solid core (Some (Class c)) (Some (Interface i)) solid h = not_true solid
-interface_solid core _ _ solid h = h
+interface_solid core (Some t) (Some u) solid h = h
+interface_solid core (Some t) None solid h = h
+interface_solid core None to solid h = h
 
 instance_solid : (o : Option CoreType) → is_solid o ≡ true → IsInstance o → ⊥
 instance_solid (Some (Class c)) h i = not_true h

@@ -169,14 +169,14 @@ module _ (core : Core) (r : ℕ) (wholes : List Root) (blocks : ℕ) (sees : See
         three wholes blocks (make (env_at core r) here e).items (make (env_at core r) (past 1 here) f).items (for_items (env_at core r) here id direction (work_of (env_at core r) (past 3 here) s)) first last (turns_in core r wholes blocks here id direction (work_of (env_at core r) (past 3 here) s) body)
     statement_in (for_in id into e s) around here h p c w =
         let n = here.whole in
-        let (v, row, gives) = some_and (slice_get core.variables id.0) (λ v. (element : TypeId) × GivesElements core (type_of e) element × Converts core into element v.of) h.1.1 in
+        let (v, row, gives) = some_and (slice_get core.variables id.0) (λ v. (element : TypeId) × (GivesElements core (type_of e) element × Converts core into element v.of)) h.1.1 in
         let counter = counter_wholes core (n + 1) (slice_get core.variables id.0) in
         let rest = back_listed wholes (wholes_of core n e) (counter ++ statement_wholes core (n + 1) s) w in
         let collection = make_in core r wholes blocks sees e here h.0 p.0 c.0 (front_listed wholes (wholes_of core n e) (counter ++ statement_wholes core (n + 1) s) w) in
         let own_next = own_of core wholes (n + 1) v.of (subst (λ o. AreListed wholes (counter_wholes core (n + 1) o)) row (front_listed wholes counter (statement_wholes core (n + 1) s) rest)) in
         let body = statement_in s (in_loop around) (in_turn here) h.2 p.1 c.1 (back_listed wholes counter (statement_wholes core (n + 1) s) rest) in
         both wholes blocks (make (env_at core r) here e).items (in_collection (env_at core r) here (type_of e) (type_at core (type_of e)) id into (work_of (env_at core r) (in_turn here) s)) collection.0
-        (collection_in core r wholes blocks here (type_of e) gives.0 id v into (work_of (env_at core r) (in_turn here) s) gives.1 row gives.2 collection.1 own_next body)
+        (collection_in core r wholes blocks here (type_of e) gives.0 id v into (work_of (env_at core r) (in_turn here) s) gives.1.0 row gives.1.1 collection.1 own_next body)
     statement_in (try_finally ss ts) around here h p c w =
         let a = statements_in ss around (past 2 here) h.0 p.0 c.0 (front_listed wholes (wholes_of_statements core here.whole ss) (wholes_of_statements core here.whole ts) w) in
         let b = statements_in ts (in_finally around) (past 2 here) h.1 p.1 c.1 (back_listed wholes (wholes_of_statements core here.whole ss) (wholes_of_statements core here.whole ts) w) in

@@ -1,10 +1,11 @@
 -- Types whose values have parts: what is converted to one, or from one, is a value of it, and its parts are asked for where a step leads to
 -- them.
-use Rattle.std.proofs.Common.{◌≡◌, inl, inr, ℕ, ℤ, true, false, List, [], ◌∷◌, Option, Some, refl, sym, ap, ◌∙◌}
-use Rattle.std.specs.Prelude.{IsSomeAnd}
+use Rattle.std.proofs.Common.{◌≡◌, inl, inr, ℕ, ℤ, true, false, List, [], ◌∷◌, Option, Some, None, refl, sym, ap, ◌∙◌}
+use Rattle.std.specs.Prelude.{IsSomeAnd, IsTrue}
 use Rattle.op_constants.specs.Shapes.{is_composite}
+use Rattle.op_core.specs.Needs.{host}
 use Rattle.op_core.specs.Sizes.{range_of, type_at}
-use Rattle.op_core.specs.Typing.{AreMembers, Converts, Fits, HoldsField, Indexes, IsChar, IsImplemented, IsInstance, IsUp, IsWider, OneType, Within, base_of, is_reference}
+use Rattle.op_core.specs.Typing.{AreMembers, Converts, Fits, HoldsField, Indexes, IsImplemented, IsInstance, IsUp, IsWider, OneType, Within, base_of, is_character, is_reference}
 use Rattle.op_core.specs.declared.constant.Const.{Const}
 use Rattle.op_core.specs.declared.constant.Const.TheVariants.{Ordinal, Text, Set as SetOf, Nil as NilOf}
 use Rattle.op_core.specs.declared.ids.FieldId.{FieldId}
@@ -61,14 +62,18 @@ instance_apart core _ h e = h
 
 implemented_apart : (core : Core) (o p : Option CoreType) → IsImplemented core o p → is_composite (shape_by core o) ≡ true → ⊥
 implemented_apart core (Some (Class c)) (Some (Interface i)) h e = not_true e
-implemented_apart core _ _ h e = h
+implemented_apart core (Some t) (Some u) h e = h
+implemented_apart core (Some t) None h e = h
+implemented_apart core None p h e = h
 
 up_apart : (core : Core) (o p : Option CoreType) → IsUp core o p → is_composite (shape_by core o) ≡ true → ⊥
 up_apart core (Some (Class c)) (Some (Class d)) h e = not_true e
 up_apart core (Some (Interface i)) (Some (Interface j)) h e = not_true e
 up_apart core (Some Nil) (Some t) h e = not_true e
 up_apart core (Some EmptySet) (Some t) h e = not_true e
-up_apart core _ _ h e = h
+up_apart core (Some t) (Some u) h e = h
+up_apart core (Some t) None h e = h
+up_apart core None p h e = h
 
 wider_first : (q r : Option (ℤ × ℤ)) → IsWider q r → IsSomeAnd q (λ range. Unit {0})
 wider_first (Some q) (Some r) h = tt
@@ -104,9 +109,10 @@ constant_apart core NilOf of h e = reference_apart core (type_at core of) h e
 
 -- ---- conversions
 
-char_apart : (core : Core) (of : TypeId) → IsChar core of → IsWhole core of → ⊥
-char_apart core of (inl h) e = kind_apart core (type_at core of) Char refl h e
-char_apart core of (inr (base, low, high, h, inner)) e = kind_apart core (type_at core of) (Subrange base low high) refl h e
+char_apart : (core : Core) (o : Option CoreType) → IsTrue (is_character (host core o)) → is_composite (shape_by core o) ≡ true → ⊥
+char_apart core (Some (Record fields)) h e = not_true h
+char_apart core (Some (Array at element)) h e = not_true h
+char_apart core _ h e = not_true e
 
 -- from values with parts, and to such, there are none
 pub converts_from : (core : Core) (c : Conversion) (from to : TypeId) → Converts core c from to → IsWhole core from → from ≡ to
@@ -116,7 +122,7 @@ converts_from core Keep from to (inr (inr h)) e = absurd (ordinal_apart core (ty
 converts_from core LowBits from to h e = absurd (ordinal_apart core (type_at core from) h.0 e)
 converts_from core Check from to (inl h) e = absurd (ordinal_apart core (type_at core from) h.0 e)
 converts_from core Check from to (inr h) e = absurd (set_apart core (type_at core from) h.0 e)
-converts_from core ToString from to h e = absurd (char_apart core from h.0 e)
+converts_from core ToString from to h e = absurd (char_apart core (type_at core from) h.0 e)
 converts_from core ToInterface from to h e = absurd (implemented_apart core (type_at core from) (type_at core to) h e)
 converts_from core Instance from to h e = absurd (instance_apart core (type_at core from) h.0 e)
 
