@@ -1,4 +1,4 @@
-{ not as Free Pascal: there it is -1. Pred of the Byte 0 is error 201: it is checked against the operand's type. }
+{ not as Free Pascal: there it is 255. Pred of the Byte 0 is error 201: it is checked against the operand's type. }
 program PredecessorOfByte;
 var
   Small: Byte;
