@@ -2,7 +2,7 @@
 # Times (user and system) of opc's emulator, of two plain C interpreters (beside this file, cc -O2) and of qemu-riscv32 where it is
 # installed, on images of at least 300 million steps: interpreter.c looks up segments and rights as opc does, flat.c has one array
 # and tests nothing. Also how many times as fast as each C interpreter opc is, and qemu-riscv32 as opc; the time to load an image
-# with 400 MiB of segments; and that of an image of one instruction. Run at the top of the repository, after ./opc has built the
+# with 400 MiB of segments; and that of an image of one instruction. Run at the top of the repository, after rt ci has built the
 # compiler; OPC names another one. The programs are those of tests/images; it takes riscv64-unknown-elf-gcc.
 set -eu
 opc=${OPC:-crates/opc/out/opc}
